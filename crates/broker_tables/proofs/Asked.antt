@@ -14,9 +14,9 @@ use Rattle.table_access.proofs.Steps.{Means, answered, shown_answers, shown_unch
 use Rattle.table_access.proofs.Answered.{Runs, refusal_ends, list_ends, number_ends, text_ends, first_has, permuted_has, take_has, pair_shown, first_pair_shown}
 use Rattle.broker_core.specs.{declared.command.Version.{Version}, State.{State as Broker}}
 use Rattle.broker_tables.specs.{Schema.{broker_schema}, Numbers.{number_of}, Holds.{Holds, IsBroker, IsRead}}
-use Rattle.broker_tables.specs.{Calm.{Serves, HasFailedOrMemory, CalmQueriesBetween, CalmQueriesInPlaceBetween, IfNoVersionBetween}, Readable.{IsReadable}}
-use Rattle.broker_tables.proofs.{Frames.{meant, runs_here, held_still}, NoVersion.{no_items, no_answer, no_first}}
-use Rattle.broker_tables.proofs.{QueryLemmas.{read_out, looked_up, else_memory}, ReadableRows.{IsLow, number_cell}}
+use Rattle.broker_tables.specs.{Calm.{Serves, HasFailedOrMemory, CalmQueriesBetween, IfNoVersionBetween}, Readable.{IsReadable}}
+use Rattle.broker_tables.proofs.{Frames.{meant, runs_here, held_still}, NoVersion.{no_items, no_answer, no_first}, QueryLemmas.{read_out, else_memory}}
+use Rattle.broker_tables.proofs.ReadableRows.{IsLow, number_cell}
 
 -- The text asks this query of the broker's tables, and can be run with these parameters: `refl` finds each field of both,
 -- under `unfolding understood everything`, also where the parameters are variables.
@@ -124,7 +124,7 @@ module _ {sql : List ℕ} {params : Row} {query : Query} (asked : Asked sql para
   pub lists : {A B : Type 0} {items : A → List B} {Reads : Row → B → Type 0} {FailsAs : Row → StoreFault → Type 0} {r : Result A StoreFault}
       {P : A → Broker → Type 0} {Is : Row → Type 0} → FailsOnly FailsAs Is → Tells (λ list rows. AreRead Reads rows (items list)) P
       → EachReads asked old.now Is → CallsTablesBetween old new r (Was (λ list rows. AreRead Reads rows (items list)))
-      → FailsFor r (FailsToRead Reads FailsAs sql params old new) → CalmQueriesBetween old new r P
+      → FailsFor r (FailsToRead Reads FailsAs sql params old new) → CalmQueriesBetween true old new r P
   lists {r = r} {P = P} only tells each = read_out old new r _ P _ (told _ P tells) (why_list only each)
 
   -- a number, or none without a row
@@ -132,8 +132,8 @@ module _ {sql : List ℕ} {params : Row} {query : Query} (asked : Asked sql para
   IsFirst found rows = (option_map (λ n. Int (pos n)) found ≡ option_map (λ row. column row 0) (slice_get rows 0))
 
   pub looks_up : {r : Result (Option ℕ) StoreFault} {P : Option ℕ → Broker → Type 0} → Tells IsFirst P → EachReads asked old.now IsNumberRow
-      → CallsStoreBetween old new r (Was IsFirst) → FailsFor r (FailsToTake TellsNumber sql params old new) → CalmQueriesInPlaceBetween old new r P
-  looks_up {r = r} {P = P} tells each = looked_up old new r _ P _ (told IsFirst P tells) (why_number each)
+      → CallsStoreBetween old new r (Was IsFirst) → FailsFor r (FailsToTake TellsNumber sql params old new) → CalmQueriesBetween false old new r P
+  looks_up {r = r} {P = P} tells each = read_out old new r _ P _ (told IsFirst P tells) (why_number each)
 
   -- a text, or none without a row
   abbrev IsFirstText : {A : Type 0} → (A → List ℕ) → Option A → List Row → Type 0
@@ -142,7 +142,7 @@ module _ {sql : List ℕ} {params : Row} {query : Query} (asked : Asked sql para
   pub looks_up_text : {A : Type 0} {view : A → List ℕ} {r : Result (Option A) StoreFault} {P : Option A → Broker → Type 0} → Tells (IsFirstText view) P
       → FirstReads asked old.now (IsTextAt 0)
       → CallsTablesBetween old new r (λ found. (rows : List Row) × Shown sql params old new rows × IsFirstText view found rows × BeginsWithText rows)
-      → FailsFor r (FailsToTake TellsText sql params old new) → CalmQueriesBetween old new r P
+      → FailsFor r (FailsToTake TellsText sql params old new) → CalmQueriesBetween true old new r P
   looks_up_text {view = view} {r = r} {P = P} tells first =
       read_out old new r _ P _ (λ found h. told (IsFirstText view) P tells found (h.0, h.1, h.2)) (why_text first)
 
@@ -151,8 +151,8 @@ module _ {sql : List ℕ} {params : Row} {query : Query} (asked : Asked sql para
   IsThere has rows = (has ≡ is_some (slice_get rows 0))
 
   pub looks_for : {r : Result Bool StoreFault} {P : Bool → Broker → Type 0} → Tells IsThere P → CallsStoreBetween old new r (Was IsThere)
-      → FailsFor r (IsRefusedAs sql params old new) → CalmQueriesInPlaceBetween old new r P
-  looks_for {r = r} {P = P} tells = looked_up old new r _ P _ (told _ P tells) why_refused
+      → FailsFor r (IsRefusedAs sql params old new) → CalmQueriesBetween false old new r P
+  looks_for {r = r} {P = P} tells = read_out old new r _ P _ (told _ P tells) why_refused
 
   -- ---- where no version has the number
 
@@ -165,12 +165,12 @@ module _ {sql : List ℕ} {params : Row} {query : Query} (asked : Asked sql para
       → IfNoVersionBetween old new r number (λ found. found ≡ None)
   looks_up_none {r = r} none call clean s held free =
       IfOk-weaker r _ _ (λ found h. no_answer (λ k. Int (pos k)) (λ row. column row 0) h.0 found (none s held free h.0 (reads s held h.0 h.1).0) h.2)
-      (call.call.ok clean)
+      (call.ok clean)
 
   pub looks_for_none : {r : Result Bool StoreFault} {number : ℕ} → NoneFor asked old.now number → CallsStoreBetween old new r (Was IsThere)
       → IfNoVersionBetween old new r number (λ has. has ≡ false)
   looks_for_none {r = r} none call clean s held free =
-      IfOk-weaker r _ _ (λ has h. h.2 ∙ ap is_some (no_first h.0 (none s held free h.0 (reads s held h.0 h.1).0))) (call.call.ok clean)
+      IfOk-weaker r _ _ (λ has h. h.2 ∙ ap is_some (no_first h.0 (none s held free h.0 (reads s held h.0 h.1).0))) (call.ok clean)
 
 -- ---- what is so of each row that is shown
 

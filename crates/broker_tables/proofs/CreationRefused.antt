@@ -1,9 +1,9 @@
 -- CREATE TABLE and CREATE INDEX are refused by nothing while the store works, if the text defines what it makes, the names
 -- are free and the schema has room.
 use Rattle.std.specs.{Prelude.{IsUtf8}, List.{list_any, list_all}}
-use Rattle.std.proofs.Common.{◌≡◌, ◌⊎◌, inl, inr, ◌≤◌, ◌<◌, ◌+◌, ◌*◌, ◌^◌, ℕ, List, [], ◌∷◌, length, slice_get, codes, true, false, not, ◌&&◌, nat_lt, Some, None, Option, Ok, Err, refl, sym, ap, subst, ◌∙◌, ◌==◌, arith}
-use Rattle.std.proofs.{lemmas.Bool.{both_ways, ltb-true}, lemmas.Nat.Bits.{bit_at-zero}, lemmas.List.Elements.{All-from_recursion}}
-use Rattle.std.proofs.{lemmas.Str.{IsUtf8-from_ascii}, lemmas.Str.Ascii.{IsAscii-from_all}}
+use Rattle.std.proofs.Common.{◌≡◌, ◌⊎◌, inl, inr, ◌≤◌, ◌<◌, ◌+◌, ◌*◌, ◌^◌, ℕ, List, [], length, slice_get, codes, true, false, not, ◌&&◌, nat_lt, Some, None, Option, Ok, Err, refl, sym, ap, subst, ◌∙◌, ◌==◌, arith}
+use Rattle.std.proofs.{lemmas.Bool.{both_ways, ltb-true}, lemmas.List.Elements.{All-from_recursion}, lemmas.Str.{IsUtf8-from_ascii}}
+use Rattle.std.proofs.lemmas.Str.Ascii.{IsAscii-from_all}
 use Rattle.sqlite.specs.{Order.{Row}, Schema.{Schema}, Table.{Table}, Command.{Command}, Command.TheVariants.{CreateTable, CreateIndex}}
 use Rattle.sqlite.specs.{Compile.{table_defined_by}, declared.error.Error.{Error}, declared.types.Value.TheVariants.{Text}}
 use Rattle.sqlite.specs.{Effect.{Database, IsDatabase, is_query}, Change.{next_tree, is_used, is_reserved, automatics, created, indexed}}
@@ -17,9 +17,9 @@ use Rattle.sqlite_schema.specs.{declared.schema.Index.{Index}, declared.schema.C
 use Rattle.sqlite_schema.specs.Rules.{Keeps, guards, clashes, table_reals, index_reals}
 use Rattle.sqlite_trees.specs.View.{IsStorable}
 use Rattle.sqlite_sql.specs.Catalog.{entry_of}
-use Rattle.broker_core.specs.Text.{same_text}
 use Rattle.table_access.proofs.{Answered.{is_whole}, Refused.{stopped, caused_by, in_place, is_anywhere, change_fails, Ends}, SoundLemmas.{all_of, at_has}}
-use Rattle.table_access.proofs.Steps.{Means}
+use Rattle.table_access.proofs.{Steps.{Means}, Storable.{no_reals, entry_fits}}
+use Rattle.broker_tables.specs.{Schema.{all_indexes}, Making.{AreShortKeys}}
 
 -- ---- a statement whose text is known
 
@@ -47,10 +47,6 @@ text_fails sql old new command it quiet plain anywhere never e h =
 utf8 : (text : List ℕ) → list_all (λ c. nat_lt c 128) text ≡ true → IsUtf8 text
 utf8 text low = IsUtf8-from_ascii text (IsAscii-from_all text (All-from_recursion _ text (all_of (λ c. c < 128) text (λ c has. ltb-true c 128 (test_has (λ c. nat_lt c 128) text c low has)))))
 
-no_reals : (columns : List ℕ) → index_reals 0 columns ≡ 0
-no_reals [] = refl
-no_reals (c ∷ columns) = omega (arith, bit_at-zero c, no_reals columns)
-
 -- The text and the name are short and of ASCII letters, the name is free and none of SQLite's own, and the schema has room.
 -- Each field is `refl` for what is written out, under `unfolding everything`.
 pub record IsNew (schema : Schema) (sql name : List ℕ) (more : ℕ) : Type 0 where
@@ -72,7 +68,7 @@ pub record DefinesTable (schema : Schema) (sql : List ℕ) (table : Table) : Typ
   pub fit : is_fit (Text (codes "table")) (Text table.name) (Text table.name) (Text sql) ≡ true
   pub whole_numbers : table_reals table ≡ 0
 
--- likewise the index of this table
+-- likewise the index of this table, which is one of the broker's and has few columns
 pub record DefinesIndex (schema : Schema) (sql : List ℕ) (one : Table × Index) : Type 0 where
   pub at : ℕ
   pub alone : IsAlone schema sql (CreateIndex at)
@@ -83,7 +79,8 @@ pub record DefinesIndex (schema : Schema) (sql : List ℕ) (one : Table × Index
   pub fit : is_fit (Text (codes "index")) (Text one.1.name) (Text one.0.name) (Text sql) ≡ true
   pub whole_numbers : table_reals one.0 ≡ 0
   pub repeats : one.1.is_unique ≡ false
-  pub other : same_text one.0.name (codes "meta") ≡ false
+  pub known : Has all_indexes one
+  pub few : nat_lt (length one.1.columns) 12 ≡ true
 
 -- ---- CREATE TABLE
 
@@ -134,7 +131,7 @@ module _ (sql : List ℕ) (old new : State) (table : Table) (it : DefinesTable o
 
 -- ---- CREATE INDEX
 
-module _ (sql : List ℕ) (old new : State) (one : Table × Index) (it : DefinesIndex old.now.schema sql one) (sound : IsDatabase old.now) (none : old.now.trees one.0.tree ≡ []) where
+module _ (sql : List ℕ) (old new : State) (one : Table × Index) (it : DefinesIndex old.now.schema sql one) (sound : IsDatabase old.now) (short : AreShortKeys old.now.trees one) where
   of_index : (P : Index → Type 0) → (i : Index) × (index_defined_by one.0 sql ≡ Ok i) × P i → P one.1
   of_index P (i, is, p) = let both : Ok i ≡ Ok one.1 = sym is ∙ it.defined in let same : i ≡ one.1 = cc in subst P same p
 
@@ -166,7 +163,7 @@ module _ (sql : List ℕ) (old new : State) (one : Table × Index) (it : Defines
   index_not_stopped : (stop : Option Error) → ¬ MakesIndex sql old.now one.0 (Err stop)
   index_not_stopped None h = elim (of_index (λ i. (10 ^ 9 ≤ length i.name + length one.0.name + length sql + 200) ⊎ ((row : Row) × Has (old.now.trees one.0.tree) row × ¬ IsStorable (index_reals (table_reals one.0) i.columns) (entry_of i.columns row))) h) [
     | inl long ↦ omega (arith, long, ltb-true (2 * length one.1.name + length sql) 10000 it.new.short, ltb-true (next_tree old.now.schema + length one.0.name) 65536 it.new.room)
-    | inr row ↦ absurd (subst (λ rows. Has rows row.0) none row.1)
+    | inr row ↦ row.2 (entry_fits one.0 one.1.columns row.0 it.whole_numbers (ltb-true _ 12 it.few) (at_has _ (old.now.trees one.0.tree) row.0 short row.1))
   ]
   index_not_stopped (Some e) (inl bad) = bad.0 (utf8 sql it.new.written)
   index_not_stopped (Some e) (inr refused) = index_not_refused refused.0 refused.1

@@ -1,5 +1,5 @@
 -- The texts that make the tables and the indexes define them.
-use Rattle.std.proofs.Common.{ℕ, List, refl, take}
+use Rattle.std.proofs.Common.{ℕ, List, refl, take, inl, inr}
 use Rattle.sqlite.specs.{Listing.{understood}, Table.{Table}}
 use Rattle.sqlite_tied.specs.Compute.{everything}
 use Rattle.sqlite_trees.specs.Sound.{fits_kind, is_free_name, same_name, begins}
@@ -56,19 +56,19 @@ each_table = (
 
 contents_by_digest_text : DefinesIndex (indexed_by (schema_of all_tables) (take 0 all_indexes)) CONTENTS_BY_DIGEST.now schema.contents_by_digest
 unfolding understood everything listed
-contents_by_digest_text = record { at = 7; alone = record { means = record { is = refl; plain = (refl, refl); unlisted = refl }; whole = refl; text = refl }; there = refl; defined = refl; new = record { written = refl; named = refl; free = refl; own = refl; room = refl; short = refl }; parent = refl; fit = refl; whole_numbers = refl; repeats = refl; other = refl }
+contents_by_digest_text = record { at = 7; alone = record { means = record { is = refl; plain = (refl, refl); unlisted = refl }; whole = refl; text = refl }; there = refl; defined = refl; new = record { written = refl; named = refl; free = refl; own = refl; room = refl; short = refl }; parent = refl; fit = refl; whole_numbers = refl; repeats = refl; known = inl refl; few = refl }
 
 contracts_by_content_text : DefinesIndex (indexed_by (schema_of all_tables) (take 1 all_indexes)) CONTRACTS_BY_CONTENT.now schema.contracts_by_content
 unfolding understood everything listed
-contracts_by_content_text = record { at = 8; alone = record { means = record { is = refl; plain = (refl, refl); unlisted = refl }; whole = refl; text = refl }; there = refl; defined = refl; new = record { written = refl; named = refl; free = refl; own = refl; room = refl; short = refl }; parent = refl; fit = refl; whole_numbers = refl; repeats = refl; other = refl }
+contracts_by_content_text = record { at = 8; alone = record { means = record { is = refl; plain = (refl, refl); unlisted = refl }; whole = refl; text = refl }; there = refl; defined = refl; new = record { written = refl; named = refl; free = refl; own = refl; room = refl; short = refl }; parent = refl; fit = refl; whole_numbers = refl; repeats = refl; known = inr (inl refl); few = refl }
 
 latest_by_provider_version_text : DefinesIndex (indexed_by (schema_of all_tables) (take 2 all_indexes)) LATEST_BY_PROVIDER_VERSION.now schema.latest_by_provider_version
 unfolding understood everything listed
-latest_by_provider_version_text = record { at = 10; alone = record { means = record { is = refl; plain = (refl, refl); unlisted = refl }; whole = refl; text = refl }; there = refl; defined = refl; new = record { written = refl; named = refl; free = refl; own = refl; room = refl; short = refl }; parent = refl; fit = refl; whole_numbers = refl; repeats = refl; other = refl }
+latest_by_provider_version_text = record { at = 10; alone = record { means = record { is = refl; plain = (refl, refl); unlisted = refl }; whole = refl; text = refl }; there = refl; defined = refl; new = record { written = refl; named = refl; free = refl; own = refl; room = refl; short = refl }; parent = refl; fit = refl; whole_numbers = refl; repeats = refl; known = inr (inr (inl refl)); few = refl }
 
 versions_by_pacticipant_text : DefinesIndex (indexed_by (schema_of all_tables) (take 3 all_indexes)) VERSIONS_BY_PACTICIPANT.now schema.versions_by_pacticipant
 unfolding understood everything listed
-versions_by_pacticipant_text = record { at = 3; alone = record { means = record { is = refl; plain = (refl, refl); unlisted = refl }; whole = refl; text = refl }; there = refl; defined = refl; new = record { written = refl; named = refl; free = refl; own = refl; room = refl; short = refl }; parent = refl; fit = refl; whole_numbers = refl; repeats = refl; other = refl }
+versions_by_pacticipant_text = record { at = 3; alone = record { means = record { is = refl; plain = (refl, refl); unlisted = refl }; whole = refl; text = refl }; there = refl; defined = refl; new = record { written = refl; named = refl; free = refl; own = refl; room = refl; short = refl }; parent = refl; fit = refl; whole_numbers = refl; repeats = refl; known = inr (inr (inr (inl refl))); few = refl }
 
 pub tables_defined : AreDefinedTables no_schema table_texts
 tables_defined =

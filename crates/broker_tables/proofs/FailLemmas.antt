@@ -1,24 +1,24 @@
 -- Why a call fails that comes after a query, and what the failure of a call is to another.
-use Rattle.std.{specs.List.{AllByRecursion}, proofs.Common.{◌≡◌, ◌≤◌, ◌+◌, ℕ, List, true, ◌∙◌, sym, subst, inl, inr, Ok, Err, Result, arith}}
-use Rattle.std.proofs.lemmas.Result.{IfErr-weaker}
-use Rattle.sqlite.specs.State.{State, HasCleanDisk}
-use Rattle.table_access.{specs.{declared.StoreFault.{StoreFault}, Calls.{CallsTablesBetween}}, proofs.CallLemmas.{ended_since, ended_with}}
 use Rattle.broker_core.specs.State.{State as Broker}
-use Rattle.broker_tables.specs.{Holds.{Holds, QueriesBetween, AnswersTakingBetween}, Calm.{Serves, IsCalmFromBetween, FailsFromBetween}}
+use Rattle.broker_tables.specs.{Calm.{FailsFromBetween, IsCalmFromBetween}, Holds.{AnswersTakingBetween, Holds, QueriesBetween}}
 use Rattle.broker_tables.specs.{Refusals.{IsCalmTakingBetween, IsCalmUnlessBetween}, Room.{HasRoomFor, enough}}
-use Rattle.broker_tables.proofs.{QueryLemmas.{serves_on, ended_or_memory}, RoomLemmas.{is_counted, numbers_of, room_for}}
+use Rattle.broker_tables.proofs.{QueryLemmas.{ended_or_memory, serves_on}, RoomLemmas.{is_counted, numbers_of, room_for}}
+use Rattle.sqlite.specs.State.{HasCleanDisk, State}
+use Rattle.std.{specs.List.{AllByRecursion}, proofs.Common.{Bool, Err, List, Ok, Result, arith, inl, inr, subst, sym, true, ℕ, ◌+◌, ◌∙◌, ◌≡◌, ◌≤◌}}
+use Rattle.std.proofs.lemmas.Result.{IfErr-weaker}
+use Rattle.table_access.{specs.{Calls.{CallsBetween}, declared.StoreFault.{StoreFault}}, proofs.CallLemmas.{ended_since, ended_with}}
 
-module _ {A B : Type 0} (old mid new : State) (a : A) (r : Result B StoreFault) (P : A → Broker → Type 0) (Q : B → Type 0) (First Then : Broker → Type 0) where
+module _ {A B : Type 0} {any takes : Bool} (old mid new : State) (a : A) (r : Result B StoreFault) (P : A → Broker → Type 0) (Q : B → Type 0) (First Then : Broker → Type 0) where
   -- a query tells that the state allows the next call
-  pub calm_after : ((s : Broker) → Holds old.now s → First s → P a s → Then s) → QueriesBetween old mid (Ok a) P → CallsTablesBetween mid new r Q → IsCalmFromBetween mid new r Then → IsCalmFromBetween old new r First
+  pub calm_after : ((s : Broker) → Holds old.now s → First s → P a s → Then s) → QueriesBetween any old mid (Ok a) P → CallsBetween takes mid new r Q → IsCalmFromBetween mid new r Then → IsCalmFromBetween old new r First
   calm_after more one two why clean s here may =
       let mid_clean : HasCleanDisk mid = omega (arith, two.survives.clean, clean) in
       let read = one.ok mid_clean s here.held in
       IfErr-weaker r _ _ (λ e is. ended_or_memory old mid new e (one.goes_on mid_clean here.inside) one.survives.counts is) (why clean s (serves_on old mid a P mid_clean one s here) (more s here.held may read.0))
 
-module _ {A B : Type 0} (TooBig : Type 0) (old mid new : State) (a : A) (r : Result B StoreFault) (P : A → Broker → Type 0) (Q : B → Type 0) (First Then : Broker → Type 0) where
+module _ {A B : Type 0} {any takes : Bool} (TooBig : Type 0) (old mid new : State) (a : A) (r : Result B StoreFault) (P : A → Broker → Type 0) (Q : B → Type 0) (First Then : Broker → Type 0) where
   -- and what the change of the next call is to the first state
-  pub fails_after : (Changes Made : Broker → Type 0) → ((s : Broker) → Holds old.now s → First s → P a s → Then s × (Made s → Changes s)) → QueriesBetween old mid (Ok a) P → CallsTablesBetween mid new r Q → FailsFromBetween mid new r TooBig Then Made → FailsFromBetween old new r TooBig First Changes
+  pub fails_after : (Changes Made : Broker → Type 0) → ((s : Broker) → Holds old.now s → First s → P a s → Then s × (Made s → Changes s)) → QueriesBetween any old mid (Ok a) P → CallsBetween takes mid new r Q → FailsFromBetween mid new r TooBig Then Made → FailsFromBetween old new r TooBig First Changes
   fails_after Changes Made more one two why clean s here may =
       let mid_clean : HasCleanDisk mid = omega (arith, two.survives.clean, clean) in
       let read = one.ok mid_clean s here.held in
@@ -60,19 +60,19 @@ fails_taking TooBig old new (Err e) taken few Allows First Changes more why clea
     inr (go.1, λ room. why clean s (record { inside = here.inside; unlimited = here.unlimited; held = here.held }) go.0 (room_for taken enough few old.now room))
 
 -- the same of a change after a query
-pub fails_changing : {A B : Type 0} (TooBig : Type 0) (old mid new : State) (a : A) (r : Result B StoreFault) (P : A → Broker → Type 0) (Q : B → Type 0) (taken : ℕ) → taken ≤ enough → (Allows First Changes : Broker → Type 0)
-    → ((s : Broker) → Holds old.now s → First s → P a s → Allows s × Changes s) → QueriesBetween old mid (Ok a) P → CallsTablesBetween mid new r Q → IsCalmTakingBetween taken mid new r TooBig Allows → FailsFromBetween old new r TooBig First Changes
+pub fails_changing : {A B : Type 0} {any takes : Bool} (TooBig : Type 0) (old mid new : State) (a : A) (r : Result B StoreFault) (P : A → Broker → Type 0) (Q : B → Type 0) (taken : ℕ) → taken ≤ enough → (Allows First Changes : Broker → Type 0)
+    → ((s : Broker) → Holds old.now s → First s → P a s → Allows s × Changes s) → QueriesBetween any old mid (Ok a) P → CallsBetween takes mid new r Q → IsCalmTakingBetween taken mid new r TooBig Allows → FailsFromBetween old new r TooBig First Changes
 fails_changing TooBig old mid new a r P Q taken few Allows First Changes more one two why =
     fails_after TooBig old mid new a r P Q First (λ s. Allows s × Changes s) Changes Changes (λ s held may read. let go = more s held may read in (go, λ made. made)) one two
     (fails_taking TooBig mid new r taken few Allows (λ s. Allows s × Changes s) Changes (λ s held go. go) why)
 
 -- a change after another
-pub taking_then : {A B : Type 0} (TooBig : Type 0) (old mid new : State) (a : A) (r : Result B StoreFault) (one two : ℕ) (Q : B → Type 0) (First : Broker → Type 0) (Next : A → Broker → Broker → Type 0) (Then : Broker → Type 0)
-    → ((s : Broker) → First s → (t : Broker) → Next a s t → Then t) → AnswersTakingBetween one old mid (Ok a) First Next → CallsTablesBetween mid new r Q
+pub taking_then : {A B : Type 0} {takes : Bool} (TooBig : Type 0) (old mid new : State) (a : A) (r : Result B StoreFault) (one two : ℕ) (Q : B → Type 0) (First : Broker → Type 0) (Next : A → Broker → Broker → Type 0) (Then : Broker → Type 0)
+    → ((s : Broker) → First s → (t : Broker) → Next a s t → Then t) → AnswersTakingBetween one old mid (Ok a) First Next → CallsBetween takes mid new r Q
     → IsCalmTakingBetween two mid new r TooBig Then → IsCalmTakingBetween (two + one) old new r TooBig First
 taking_then TooBig old mid new a r one two Q First Next Then more first second why clean s here may room =
     let mid_clean : HasCleanDisk mid = omega (arith, second.survives.clean, clean) in
-    let on = first.call.goes_on mid_clean here.inside in
-    let next = first.call.ok mid_clean s here.held may in
-    IfErr-weaker r _ _ (λ e is. ended_since old mid new e on first.call.survives.counts is)
-    (why clean next.0 (record { inside = on.0; unlimited = first.call.survives.limit ∙ here.unlimited; held = next.2.0 }) (more s may next.0 next.1) (next.2.1 two room))
+    let on = first.goes_on mid_clean here.inside in
+    let next = first.ok mid_clean s here.held may in
+    IfErr-weaker r _ _ (λ e is. ended_since old mid new e on first.survives.counts is)
+    (why clean next.0 (record { inside = on.0; unlimited = first.survives.limit ∙ here.unlimited; held = next.2.0 }) (more s may next.0 next.1) (next.2.1 two room))

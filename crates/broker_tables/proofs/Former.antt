@@ -1,15 +1,23 @@
 -- A database of format 1, as it becomes one of format 2.
 use Rattle.std.specs.{List.{AllByRecursion, enumerate_from}, Cmp.Lexicographic.{nat_list_cmp_total}}
-use Rattle.std.proofs.Common.{◌≡◌, ◌≢◌, ◌+◌, ℕ, ℤ, pos, List, [], ◌∷◌, ◌++◌, map, false, codes, refl, sym, ap, subst, subst₂, ◌∙◌, arith}
-use Rattle.sqlite.specs.{Table.{Table}, Tree.{Trees}, Schema.{Schema}, Order.{Row}, Change.{created, next_tree, KeepsRows}, Effect.{Database}}
-use Rattle.table_access.specs.{Columns.{text, whole_at}, Sound.{IsKept}, Statements.{Creates, MakesIndexes, indexed_by}}
+use Rattle.std.proofs.Common.{◌≡◌, ◌≢◌, ◌+◌, ◌≤◌, ◌^◌, ℕ, ℤ, pos, List, [], ◌∷◌, ◌++◌, map, length, slice_get, false, Some, codes, refl, sym, ap, subst, subst₂, ◌∙◌, arith}
+use Rattle.std.proofs.{lemmas.Bool.{and_parts, leb-true}, lemmas.List.Elements.{All-contains}}
+use Rattle.hex.{specs.Hex.{encode_lower, lower_digits}, proofs.HexLemmas.{length-encode_with}}
+use Rattle.sha2.{specs.Sha256.{sha256}, proofs.Facts256.{length-sha256}}
+use Rattle.sqlite.specs.{Table.{Table}, Tree.{Trees, rowid}, Schema.{Schema}, Order.{Row, column}, Change.{created, next_tree, KeepsRows}, Effect.{Database}}
+use Rattle.sqlite_sql.specs.Catalog.{entry_of}
+use Rattle.sqlite_schema.specs.declared.schema.Index.{Index}
+use Rattle.sqlite_rules.{specs.Lists.{Has}, proofs.TableLemmas.{int_is}}
+use Rattle.table_access.specs.{Columns.{text, whole_at, Words}, Sound.{IsKept, IsShortValue}, Statements.{Creates, MakesIndexes, indexed_by}}
 use Rattle.table_access.proofs.{Creation.{made_kept, all_front}, Indexing.{indexes_schema, indexes_keep, indexes_kept}, Maps.{find_has}}
+use Rattle.table_access.proofs.{Members.{map_has, has_contains}, SoundLemmas.{at_has, all_of, has_place, text_at, whole_in}}
 use Rattle.sqlite_keyed.proofs.ListLemmas.{all_weaker}
-use Rattle.broker_core.specs.{declared.command.Marks.{Marks}, declared.command.Version.{Version}, State.{State as Broker, Verification}}
-use Rattle.broker_tables.specs.Schema.{schema_of, all_tables, all_indexes, checked_results, strict_environments, in_meta, in_environments, in_results, in_checked_results, in_strict_environments}
-use Rattle.broker_tables.specs.Rows.{rows_of}
-use Rattle.broker_tables.specs.Holds.{Holds, IsMeta, format, AreTeams, ArePacticipants, AreVersions, AreBranches, AreEnvironments, AreGrants, AreContents, AreContracts, AreResults, AreLatest, AreDeployed, AreReleased, ResultRow, result_in, result_of, marks_in}
-use Rattle.broker_tables.{specs.Former.{HoldsUnmarked, IsUnmarked, former_tables, added_tables}, proofs.Orders.{exact_texts}}
+use Rattle.broker_core.specs.{declared.command.Marks.{Marks}, declared.command.Version.{Version}, State.{State as Broker, Verification}, Name.{is_name}}
+use Rattle.broker_core.specs.Text.{version}
+use Rattle.broker_tables.specs.Schema.{schema_of, all_tables, all_indexes, checked_results, strict_environments, in_meta, in_versions, in_environments, in_contents, in_results, in_checked_results, in_strict_environments, contents_by_digest, contracts_by_content, latest_by_provider_version, versions_by_pacticipant}
+use Rattle.broker_tables.specs.{Making.{AreShortKeys, HasShortKeys}, Readable.{IsReadable, IsNamed}, Rows.{rows_of}}
+use Rattle.broker_tables.specs.Holds.{Holds, IsMeta, format, AreTeams, ArePacticipants, AreVersions, AreBranches, AreEnvironments, AreGrants, AreContents, AreContracts, AreResults, AreLatest, AreDeployed, AreReleased, ResultRow, result_in, result_of, marks_in, with_digest}
+use Rattle.broker_tables.{specs.Former.{HoldsUnmarked, IsUnmarked, former_tables, added_tables}, proofs.{Orders.{exact_texts}, References.{row_entry}}}
 
 -- ---- the tables of format 1 keep their rows
 
@@ -111,3 +119,43 @@ unmarked n more db s held = record {
       let row = find_has nat_list_cmp_total exact_texts (text in_environments.name) (marks_in []) e marks (rows_of db (codes "environments")) (held.environments e ∙ is) in
       sym (ap (λ (m : Marks). m.strict) row.3);
 }
+
+-- ---- the entries of the indexes
+
+module _ (n : ℕ) (db : Database) (s : Broker) (readable : IsReadable s) (held : HoldsUnmarked n added_tables db s) where
+  -- the keys of an index are short if the columns that it takes are, where the row's number is
+  keys_at : (at : ℕ) (one : Table × Index) → slice_get (schema_of (former_tables ++ added_tables)).tables at ≡ Some one.0
+      → (Has db.schema.tables one.0 → (r : Row) → Has (db.trees one.0.tree) r → IsShortValue (column r 0) → AllByRecursion IsShortValue (entry_of one.1.columns r))
+      → AreShortKeys db.trees one
+  keys_at at one there short =
+      let known = has_place db.schema.tables at one.0 (ap (λ (c : Schema). slice_get c.tables at) held.schema ∙ there) in
+      let ids = (at_has _ db.schema.tables one.0 held.kept.numbered known).1 in
+      all_of _ (db.trees one.0.tree) (λ r has. short known r has (subst IsShortValue (sym (int_is (rowid r) (at_has _ (db.trees one.0.tree) r ids has))) tt))
+
+  digest_length : (r : Row) → Has (db.trees in_contents.tree) r → length (text in_contents.digest r) ≤ 10 ^ 7
+  digest_length r has =
+      let one = row_entry (λ x. (text in_contents.digest x, text in_contents.body x)) (db.trees in_contents.tree) _ 1 held.contents r has in
+      let it = map_has with_digest s.contents (text in_contents.digest r, text in_contents.body r) one in
+      let same : text in_contents.digest r ≡ encode_lower (sha256 it.0) = ap (λ (e : Words × Words). e.0) it.2 in
+      omega (arith, ap length same, length-encode_with lower_digits (sha256 it.0), length-sha256 it.0)
+
+  name_length : (r : Row) → Has (db.trees in_versions.tree) r → length (text in_versions.pacticipant r) ≤ 10 ^ 7
+  unfolding is_name
+  name_length r has =
+      let one = row_entry (λ x. version (text in_versions.pacticipant x) (text in_versions.version x)) (db.trees in_versions.tree) s.versions 1 held.versions r has in
+      let both = All-contains (λ (v : Version). IsNamed v.pacticipant × IsNamed v.name) s.versions _ readable.versions (has_contains s.versions _ one) in
+      omega (arith, leb-true (length (text in_versions.pacticipant r)) 100 (and_parts _ _ (and_parts _ _ both.0.1).0).1)
+
+  -- the keys of the indexes to be made are short: they are numbers, digests, and names that can be read back
+  pub unmarked_keys : HasShortKeys db
+  unmarked_keys =
+      let sound = held.kept.sound in
+      let digests = keys_at 7 contents_by_digest refl
+      (λ known r has id. (subst IsShortValue (sym (text_at db sound _ known r has 1 _ refl refl refl refl refl)) (digest_length r has), (id, tt))) in
+      let contents = keys_at 8 contracts_by_content refl
+      (λ known r has id. (subst IsShortValue (sym (whole_in db sound _ known r has 2 _ refl refl refl refl refl)) tt, (id, tt))) in
+      let providers = keys_at 10 latest_by_provider_version refl
+      (λ known r has id. (subst IsShortValue (sym (whole_in db sound _ known r has 1 _ refl refl refl refl refl)) tt, (id, tt))) in
+      let names = keys_at 3 versions_by_pacticipant refl
+      (λ known r has id. (subst IsShortValue (sym (text_at db sound _ known r has 1 _ refl refl refl refl refl)) (name_length r has), (id, (id, tt)))) in
+      record { kept = held.kept; short = (digests, (contents, (providers, (names, tt)))) }

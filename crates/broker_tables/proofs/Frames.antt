@@ -96,7 +96,7 @@ module _ (changed : List (List ℕ)) (old new : Database) where
   abbrev KnownOfBoth : List ℕ → List ℕ → (List Row → List Row → Type 0) → (List Row → List Row → Type 0) → Type 0
   KnownOfBoth one two Was Is = MatchBool (is_other changed one && is_other changed two) (Was (rows_of old one) (rows_of old two) → Is (rows_of old one) (rows_of old two)) (Is (rows_of new one) (rows_of new two))
 
-  abbrev Stays : List ℕ → Type 0
+  abbrev pub Stays : List ℕ → Type 0
   Stays name = is_other changed name ≡ true → rows_of new name ≡ rows_of old name
 
   known : (name : List ℕ) (Was Is : List Row → Type 0) (b : Bool) → is_other changed name ≡ b → MatchBool b (Was (rows_of old name) → Is (rows_of old name)) (Is (rows_of new name)) → Stays name → Was (rows_of old name) → Is (rows_of new name)

@@ -1,35 +1,33 @@
 -- Why an INSERT of one row into a table of the broker fails: if the row suits its table, only as the store fails.
-use Rattle.std.specs.{Prelude.{is_some}, List.{AllByRecursion, list_all}, Ordering.{int_cmp, eq_by_cmp, is_eq}}
-use Rattle.std.specs.{Cmp.{Equal-is, eq_by_cmp_equiv, int_cmp_total, IsTotalOrder}, Cmp.Lexicographic.{nat_list_cmp_total}, FinMap.{int_cmp-IsAntisymmetric}}
-use Rattle.std.proofs.Common.{◌≡◌, inl, inr, ℕ, ℤ, List, [], ◌∷◌, map, filter, length, slice_get, Bool, true, false, not, ◌&&◌, nat_lt, refl, sym, ap, subst, ◌∙◌, ◌<◌, ◌≤◌, ◌⊎◌, ◌/◌, arith, Some, None, Option, Ok, Err, append-nil, ◌+◌, pos, IsTrue, Ordering, codes}
-use Rattle.std.proofs.lemmas.Bool.{false_from_ne_true, and_parts, or_right, ltb-true, and_from}
-use Rattle.sqlite.specs.{declared.types.Value.TheVariants.{Int, Text}, declared.error.Error.{Error}, Cast.{cast_row}, Term.{Term}, Command.TheVariants.{Insert}}
-use Rattle.sqlite.specs.{Source.TheVariants.{Values}, Listing.{understood}, Order.{Row, column, value_cmp}, Tree.{rowid, IsAscending}, Schema.{Schema}}
-use Rattle.sqlite.specs.{Table.{Table}, Effect.{Database, value_rows}, Rows.{Written, Inserts, Edited}, Does.{due}, State.{State, Executes, Fails, mode_of}}
-use Rattle.sqlite.specs.{View.{is_int}, declared.types.Value.{Value}, Edit.{next_rowid, with_rowid}, Collation.TheVariants.{Binary}}
-use Rattle.sqlite_value.{specs.{Keys.{plain, first_key}, declared.keys.Order.{Order}}, proofs.OrderLemmas.{value_cmp-Int}}
-use Rattle.sqlite_sql.specs.Ops.{fits_i64, binary}
-use Rattle.sqlite_schema.specs.{declared.schema.Keys.{Keys}, declared.schema.Keys.TheVariants.{Enforced, Deferred, Off}, declared.schema.Index.{Index}}
-use Rattle.sqlite_schema.specs.declared.schema.Among.TheVariants.{All}
-use Rattle.sqlite_schema.specs.{Rules.{agree, guards, Refers, has_parent, is_held, parent_key, is_key_of, equal, table_reals}, Names.{is_key}}
-use Rattle.sqlite_schema.specs.declared.schema.Column.{Column}
-use Rattle.sqlite_rules.specs.{Lists.{Has}, Steps.{PassAlone}, Edit.{Edit, IsOversized, id_in, is_taken, is_referred, edit_of, with_rowid}}
-use Rattle.sqlite_rules.{specs.declared.error.Rowids.TheVariants.{Chosen}, proofs.{ListLemmas.{some_has, some_from, test_has, has_kept}, TableLemmas.{int_is}}}
-use Rattle.sqlite_rules.proofs.PlaceLemmas.{next_is_free}
-use Rattle.sqlite_typing.specs.Types.{accepts_terms}
+use Rattle.broker_core.specs.{State.{State as Broker}, declared.command.Version.{Version}}
+use Rattle.broker_tables.specs.{Holds.{Holds, IsBroker, marks_in}, Numbers.{number_of, numbered}, Refusals.{AreShort}, Rows.{rows_of, stands_at, value_at}}
+use Rattle.broker_tables.{specs.Schema.{broker_schema, in_environments, in_pacticipants, in_teams, in_versions, to}, proofs.Frames.{meant}}
+use Rattle.broker_tables.proofs.{Orders.{exact_texts}, Placed.{calm, environments, pacticipants, teams}}
+use Rattle.broker_tables.proofs.References.{LeadsTo, environment_names, leads, pacticipant_names, row_number, team_names}
+use Rattle.broker_tables.proofs.VersionRows.{find_version, version_number}
+use Rattle.sqlite.specs.{Cast.{cast_row}, Collation.TheVariants.{Binary}, Command.TheVariants.{Insert}, Does.{due}, Edit.{next_rowid, with_rowid}}
+use Rattle.sqlite.specs.{Effect.{Database, value_rows}, Listing.{understood}, Order.{Row, column, value_cmp}, Rows.{Edited, Inserts, Written}, Schema.{Schema}}
+use Rattle.sqlite.specs.{Source.TheVariants.{Values}, State.{Executes, Fails, State, mode_of}, Table.{Table}, Term.{Term}, Tree.{IsAscending, rowid}}
+use Rattle.sqlite.specs.{View.{is_int}, declared.error.Error.{Error}, declared.types.Value.{Value}, declared.types.Value.TheVariants.{Int, Text}}
+use Rattle.sqlite_rules.specs.{Edit.{Edit, IsOversized, edit_of, id_in, is_referred, is_taken, with_rowid}, Lists.{Has}, Steps.{PassAlone}}
+use Rattle.sqlite_rules.{specs.declared.error.Rowids.TheVariants.{Chosen}, proofs.ListLemmas.{has_kept, some_from, some_has, test_has}}
+use Rattle.sqlite_rules.proofs.{PlaceLemmas.{next_is_free}, TableLemmas.{int_is}}
+use Rattle.sqlite_schema.specs.{Rules.{Refers, agree, equal, guards, has_parent, is_held, is_key_of, table_reals}, declared.schema.Among.TheVariants.{All}}
+use Rattle.sqlite_schema.specs.{declared.schema.Index.{Index}, declared.schema.Keys.{Keys}, declared.schema.Keys.TheVariants.{Off}}
+use Rattle.sqlite_sql.specs.Ops.{binary, fits_i64}
 use Rattle.sqlite_tied.specs.Compute.{everything}
-use Rattle.table_access.specs.{declared.StoreFault.{StoreFault}, Calls.{EndsBy, FailsToRun, fault_of}, Statements.{plain_table, ChangesOnly, IsAdded}}
-use Rattle.table_access.{specs.{Columns.{text, text_cmp, whole_at, by_both}, Sound.{IsNumbered}}, proofs.Answered.{is_whole}}
-use Rattle.table_access.proofs.{Edits.{Suits as EditSuits, goes, refers, one_unique}, Storable.{IsShortRow, IsShortValue, short_fits}, UpsertRefused.{key_of}}
-use Rattle.table_access.proofs.{Members.{has_map, map_has}, Refused.{insert_fails, caused_by}, SoundLemmas.{has_place, at_has, all_of, text_at}}
-use Rattle.table_access.proofs.{Steps.{Means, inserts, went, same_value}, Maps.{find_has}, Parts.{Part, text_part, whole_part, agree_last, agree_and}}
-use Rattle.table_access.proofs.Values.{same_texts, same_ints}
-use Rattle.broker_tables.specs.{Schema.{broker_schema, to, in_teams, in_pacticipants, in_versions, in_environments}, Holds.{IsBroker, Holds, marks_in}}
-use Rattle.broker_tables.{specs.{Refusals.{AreShort}, Numbers.{numbered, number_of}, Rows.{rows_of, value_at, stands_at}}, proofs.Frames.{meant}}
-use Rattle.broker_tables.proofs.{Placed.{calm, teams, teams_there, pacticipants, pacticipants_there, environments, environments_there}, References.{row_number}}
-use Rattle.broker_tables.proofs.{Orders.{exact_texts}, VersionRows.{find_version, version_number}}
-use Rattle.broker_core.specs.{declared.command.Version.{Version}, State.{State as Broker}}
-use Rattle.sqlite.specs.Kind.TheVariants as kind
+use Rattle.sqlite_typing.specs.Types.{accepts_terms}
+use Rattle.sqlite_value.{specs.{Keys.{first_key, plain}, declared.keys.Order.{Order}}, proofs.OrderLemmas.{value_cmp-Int}}
+use Rattle.std.specs.{Cmp.{Equal-is, IsTotalOrder, eq_by_cmp_equiv, int_cmp_total}, Cmp.Lexicographic.{nat_list_cmp_total}, FinMap.{int_cmp-IsAntisymmetric}}
+use Rattle.std.specs.{List.{AllByRecursion, list_all}, Ordering.{eq_by_cmp, int_cmp, is_eq}, Prelude.{is_some}}
+use Rattle.std.proofs.Common.{Bool, Err, IsTrue, List, None, Ok, Option, Ordering, Some, [], ap, append-nil, arith, codes, false, filter, inl, inr, length, map, nat_lt, not, pos, refl, slice_get, subst, sym, true, ℕ, ℤ, ◌&&◌, ◌+◌, ◌/◌, ◌<◌, ◌∙◌, ◌∷◌, ◌≡◌, ◌≤◌, ◌⊎◌}
+use Rattle.std.proofs.lemmas.Bool.{and_from, and_parts, false_from_ne_true, ltb-true, or_right}
+use Rattle.table_access.specs.{Calls.{EndsBy, FailsToRun, fault_of}, Columns.{by_both, text, text_cmp, whole_at}, Sound.{IsNumbered, IsShortValue}}
+use Rattle.table_access.{specs.{Statements.{ChangesOnly, IsAdded, plain_table}, declared.StoreFault.{StoreFault}}, proofs.Answered.{is_whole}}
+use Rattle.table_access.proofs.{Edits.{Suits as EditSuits, goes, one_unique, refers}, Maps.{find_has}, Members.{has_map, map_has}}
+use Rattle.table_access.proofs.{Parts.{Part, agree_and, agree_last, text_part, whole_part}, Refused.{caused_by, insert_fails}}
+use Rattle.table_access.proofs.{SoundLemmas.{all_of, at_has, has_place}, Steps.{Means, inserts, same_value, went}, Storable.{IsShortRow, short_fits}}
+use Rattle.table_access.proofs.{UpsertRefused.{key_of}, Values.{same_ints, same_texts}}
 
 -- ---- the tables of a broker
 
@@ -113,9 +111,8 @@ module _ (db : Database) (broker : IsBroker db) (t : Table) (listed : Has db.sch
       places = map_has (λ ps. (plain, ps)) t.uniques (key_of i) (subst (λ keys. Has keys (key_of i)) (ap (λ (x : Need). x.1) (ready_at db broker t listed)) (has_map key_of _ i (has_kept (λ i. guards i t) db.schema.indexes i known guard)))
 
   referred : (keys : Keys) → is_referred db.schema keys (putting t made) ≡ true
-  referred Enforced = ap (λ (x : Need). x.2 && true) (ready_at db broker t listed)
-  referred Deferred = ap (λ (x : Need). x.2 && true) (ready_at db broker t listed)
   referred Off = refl
+  referred _ = ap (λ (x : Need). x.2 && true) (ready_at db broker t listed)
 
   -- so the edit that puts it in suits the table
   edit_suits : (keys : Keys) → EditSuits (¬ AreShort texts) db.schema keys db.trees (putting t made)
@@ -239,51 +236,39 @@ module _ (rows : List Row) (made : Row) where
 
 -- ---- what it refers to
 
--- the reference leads to this column of the table at this tree
-abbrev IsTo : ℕ → List ℕ → List ℕ → ℕ → ℕ → Type 0
-IsTo p parent key tree place = (o : Order) × (parent_key broker_schema.tables (to p parent key) ≡ Some (tree, place ∷ [], o)) × ((first_key o).collation ≡ Binary)
-
-leads : (p : ℕ) → IsTo p (codes "teams") (codes "name") in_teams.tree in_teams.name
-    × IsTo p (codes "pacticipants") (codes "name") in_pacticipants.tree in_pacticipants.name
-    × IsTo p (codes "environments") (codes "name") in_environments.tree in_environments.name
-    × IsTo p (codes "versions") (codes "number") in_versions.tree in_versions.number
-unfolding everything
-leads p = ((_, refl, refl), (_, refl, refl), (_, refl, refl), (_, refl, refl))
-
-module _ (db : Database) (s : Broker) (held : Holds db s) (made : Row) (p : ℕ) where
+module _ (db : Database) (made : Row) (p : ℕ) where
   abbrev IsThere : List ℕ → List ℕ → Type 0
   IsThere parent key = has_parent broker_schema.tables db.trees made (to p parent key) ≡ true
 
-  stands : (parent key : List ℕ) (tree place : ℕ) → IsTo p parent key tree place → (r : Row) → Has (db.trees tree) r → equal Binary (column r place) (column made p) ≡ true → IsThere parent key
+  -- the row is there that it leads to
+  pub stands : (parent key : List ℕ) (tree place : ℕ) → LeadsTo p parent key tree place → (r : Row) → Has (db.trees tree) r → equal Binary (column r place) (column made p) ≡ true → IsThere parent key
   stands parent key tree place (o, keyed, binary) r has ties =
       let tied : equal (first_key o).collation (column r place) (column made p) ≡ true = ap (λ c. equal c (column r place) (column made p)) binary ∙ ties in
       or_right _ _ (ap (is_held db.trees (p ∷ []) made) keyed ∙ some_from (λ x. agree o (place ∷ []) x (p ∷ []) made) (db.trees tree) r has (and_from _ _ tied refl))
 
-  names : (at i : ℕ) (t : Table) → slice_get db.schema.tables at ≡ Some t → (c : Column) → slice_get t.columns i ≡ Some c → is_key t.key i ≡ false → c.is_strict ≡ true → c.not_null ≡ true → c.kind ≡ kind.Text → (r : Row) → Has (db.trees t.tree) r → column r (i + 1) ≡ Text (text (i + 1) r)
-  names at i t there c first free strict needed is r has = text_at db held.broker.kept.sound t (has_place _ at t there) r has i c first free strict needed is
-
-  named : {V : Type 0} (parent : List ℕ) (tree place : ℕ) → IsTo p parent (codes "name") tree place → ((r : Row) → Has (db.trees tree) r → column r place ≡ Text (text place r)) → (value : Row → V) (name : List ℕ) (found : Option V)
+  named : {V : Type 0} (parent : List ℕ) (tree place : ℕ) → LeadsTo p parent (codes "name") tree place → ((r : Row) → Has (db.trees tree) r → column r place ≡ Text (text place r)) → (value : Row → V) (name : List ℕ) (found : Option V)
       → value_at text_cmp (text place) value (db.trees tree) name ≡ found → IsTrue (is_some found) → column made p ≡ Text name → IsThere parent (codes "name")
   named parent tree place leads typed value name None is has refer = absurd cc
   named parent tree place leads typed value name (Some v) is has refer =
       let row = find_has nat_list_cmp_total exact_texts (text place) value name v (db.trees tree) is in
       stands parent (codes "name") tree place leads row.0 row.1 (ap (λ v. equal Binary v (column made p)) (typed row.0 row.1 ∙ ap Text (sym row.2)) ∙ ap (equal Binary (Text name)) refer ∙ same_texts name name ∙ (eq_by_cmp_equiv nat_list_cmp_total).refl name)
 
+module _ (db : Database) (s : Broker) (held : Holds db s) (made : Row) (p : ℕ) where
   -- a team that is there has the row that a reference to its name leads to
-  pub team_there : (name : List ℕ) → IsTrue (is_some (s.teams name)) → column made p ≡ Text name → IsThere (codes "teams") (codes "name")
-  team_there name = named (codes "teams") in_teams.tree in_teams.name (leads p).0 (names 1 0 teams (teams_there db held.broker) _ refl refl refl refl refl) (text in_teams.token_digest) name (s.teams name) (held.teams name)
+  pub team_there : (name : List ℕ) → IsTrue (is_some (s.teams name)) → column made p ≡ Text name → IsThere db made p (codes "teams") (codes "name")
+  team_there name = named db made p (codes "teams") in_teams.tree in_teams.name (leads p).5 (team_names db held.broker) (text in_teams.token_digest) name (s.teams name) (held.teams name)
 
   -- and so do a pacticipant, an environment, and a version for its number
-  pub pacticipant_there : (name : List ℕ) → IsTrue (is_some (s.pacticipants name)) → column made p ≡ Text name → IsThere (codes "pacticipants") (codes "name")
-  pacticipant_there name = named (codes "pacticipants") in_pacticipants.tree in_pacticipants.name (leads p).1 (names 2 0 pacticipants (pacticipants_there db held.broker) _ refl refl refl refl refl) (text in_pacticipants.team) name (s.pacticipants name) (held.pacticipants name)
+  pub pacticipant_there : (name : List ℕ) → IsTrue (is_some (s.pacticipants name)) → column made p ≡ Text name → IsThere db made p (codes "pacticipants") (codes "name")
+  pacticipant_there name = named db made p (codes "pacticipants") in_pacticipants.tree in_pacticipants.name (leads p).4 (pacticipant_names db held.broker) (text in_pacticipants.team) name (s.pacticipants name) (held.pacticipants name)
 
-  pub environment_there : (name : List ℕ) → IsTrue (is_some (s.environments name)) → column made p ≡ Text name → IsThere (codes "environments") (codes "name")
-  environment_there name = named (codes "environments") in_environments.tree in_environments.name (leads p).2 (names 5 0 environments (environments_there db held.broker) _ refl refl refl refl refl) (marks_in (rows_of db (codes "strict_environments"))) name (s.environments name) (held.environments name)
+  pub environment_there : (name : List ℕ) → IsTrue (is_some (s.environments name)) → column made p ≡ Text name → IsThere db made p (codes "environments") (codes "name")
+  environment_there name = named db made p (codes "environments") in_environments.tree in_environments.name (leads p).3 (environment_names db held.broker) (marks_in (rows_of db (codes "strict_environments"))) name (s.environments name) (held.environments name)
 
-  pub version_there : (v : Version) (n : ℕ) → number_of s.versions v ≡ Some n → column made p ≡ Int (pos n) → IsThere (codes "versions") (codes "number")
+  pub version_there : (v : Version) (n : ℕ) → number_of s.versions v ≡ Some n → column made p ≡ Int (pos n) → IsThere db made p (codes "versions") (codes "number")
   version_there v n is refer =
       let row = find_version db held.broker s.versions v n held.versions is in
-      stands (codes "versions") (codes "number") in_versions.tree in_versions.number (leads p).3 row.0 row.1
+      stands db made p (codes "versions") (codes "number") in_versions.tree in_versions.number (leads p).0 row.0 row.1
       (ap (λ x. equal Binary x (column made p)) (version_number db held.broker row.0 row.1 ∙ ap Int row.4) ∙ ap (equal Binary (Int (pos n))) refer ∙ same_ints (pos n) (pos n) ∙ (eq_by_cmp_equiv int_cmp_total).refl (pos n))
 
 -- ---- numbers

@@ -25,5 +25,6 @@ pub mod RoomLemmas
 pub mod FailLemmas
 pub mod Inserted
 pub mod Upserted
+pub mod Removed
 mod CreationRefused
 pub mod MakingFails

@@ -16,12 +16,11 @@ use Rattle.broker_core.{specs.Listing.{Lists}, proofs.Lists.{contains_none, cont
 -- where rows are read into items one by one, each item is read of a row of the list
 pub read_has : {A B : Type 0} (reads : A → B → Type 0) (rows : List A) (items : List B) (x : B) → AreRead reads rows items → Contains items x → (row : A) × Has rows row × reads row x
 read_has reads [] [] x read c = absurd (contains_none x c)
-read_has reads [] (y ∷ items) x read c = absurd read
-read_has reads (r ∷ rows) [] x read c = absurd read
 read_has {A} {B} reads (r ∷ rows) (y ∷ items) x read c = elim (contains_cases y items x c) [
   | inl same ↦ (r, inl refl, subst (reads r) same read.0)
   | inr there ↦ let rest = read_has reads rows items x read.1 there in (rest.0, inr rest.1, rest.2)
 ]
+read_has reads _ _ x read c = absurd read
 
 -- where rows are read into items one by one, each row is read into an item of the list
 pub has_read : {A B : Type 0} (reads : A → B → Type 0) (rows : List A) (items : List B) (row : A) → AreRead reads rows items → Has rows row → (x : B) × Contains items x × reads row x
@@ -32,9 +31,8 @@ has_read reads (r ∷ rows) (y ∷ items) row read (inr there) = let rest = has_
 
 pub read_of_map : {A B X : Type 0} (reads : A → B → Type 0) (show : X → A) (xs : List X) (items : List B) → AreRead reads (map show xs) items → AreRead (λ x. reads (show x)) xs items
 read_of_map reads show [] [] read = tt
-read_of_map reads show [] (y ∷ items) read = absurd read
-read_of_map reads show (x ∷ xs) [] read = absurd read
 read_of_map reads show (x ∷ xs) (y ∷ items) read = (read.0, read_of_map reads show xs items read.1)
+read_of_map reads show _ _ read = absurd read
 
 -- ---- a list in order is read into a list in order
 
@@ -42,16 +40,14 @@ module _ {M Y : Type 0} (by : M → M → Ordering) (P : M → Type 0) (reads : 
     (sound : (m : M) (x : Y) → P m → reads m x → Q x) (whole : (x : Y) → Q x → (m : M) × P m × ((y : Y) → reads m y → y ≡ x)) where
   above : (m : M) (x : Y) → P m → reads m x → (ns : List M) (ys : List Y) → ((n : M) → Has ns n → P n) → AllByRecursion (λ n. by m n ≡ Less) ns → AreRead reads ns ys → AllByRecursion (λ y. R x y ≡ Less) ys
   above m x there is [] [] each low read = tt
-  above m x there is [] (y ∷ ys) each low read = absurd read
-  above m x there is (n ∷ ns) [] each low read = absurd read
   above m x there is (n ∷ ns) (y ∷ ys) each low read = (less m n x y there (each n (inl refl)) is read.0 low.0, above m x there is ns ys (λ o has. each o (inr has)) low.1 read.1)
+  above m x there is _ _ each low read = absurd read
 
   read_rises : (ms : List M) (items : List Y) → ((m : M) → Has ms m → P m) → IsStrictlySortedBy by ms → AreRead reads ms items → IsStrictlySortedBy R items
   unfolding IsStrictlySortedBy
   read_rises [] [] each up read = tt
-  read_rises [] (y ∷ ys) each up read = absurd read
-  read_rises (m ∷ ms) [] each up read = absurd read
   read_rises (m ∷ ms) (x ∷ items) each up read = (above m x (each m (inl refl)) read.0 ms items (λ n has. each n (inr has)) up.0 read.1, read_rises ms items (λ n has. each n (inr has)) up.1 read.1)
+  read_rises _ _ each up read = absurd read
 
   -- what is read of a list of what meets P lists what meets Q
   pub lists_read : (ms : List M) (items : List Y) → Lists by P ms → AreRead reads ms items → Lists R Q items

@@ -27,23 +27,21 @@ module _ {X : Type 0} (entry : Row → X) where
   last_number n r [] x [] is =
       let pair : ◌≡◌ {A = ℤ × X} (listed r) (pos n, x) = cc in
       ap (λ (p : ℤ × X). p.0) pair ∙ ap pos (let e : n ≡ n + 0 = omega arith in e)
-  last_number n r [] x (y ∷ ys) is = absurd (let e = ap length is in cc)
-  last_number n r (s ∷ rows) x [] is = absurd (let e = ap length is in cc)
   last_number n r (s ∷ rows) x (y ∷ ys) is =
       let rest : map listed (s ∷ rows) ≡ map (λ e. (pos e.0, e.1)) (enumerate_from (n + 1) (y ∷ ys)) = cc in
       last_number (n + 1) s rows y ys rest ∙ ap pos (let e : n + 1 + length ys ≡ n + length (y ∷ ys) = omega arith in e)
+  last_number n r _ x _ is = absurd (let e = ap length is in cc)
 
   -- What is listed from the row with the greatest number on: none where there is no row, and 0 stands for it.
   pub newest : (rows : List Row) (xs : List X) (found : Option ℕ) → map listed rows ≡ numbered xs → option_map pos found ≡ option_map (whole_at 0) (slice_get (reverse rows) 0) → unwrap_or found 0 ≡ length xs
   newest [] [] None is read = refl
   newest [] [] (Some n) is read = absurd cc
-  newest [] (x ∷ xs) found is read = absurd (let e = is in cc)
-  newest (r ∷ rows) [] found is read = absurd (let e = is in cc)
   newest (r ∷ rows) (x ∷ xs) None is read = absurd (let e : None ≡ Some (whole_at 0 (last_of r rows)) = read ∙ ap (option_map (whole_at 0)) (last_first r rows) in cc)
   newest (r ∷ rows) (x ∷ xs) (Some n) is read =
       let e : Some (pos n) ≡ Some (pos (1 + length xs)) = read ∙ ap (option_map (whole_at 0)) (last_first r rows) ∙ ap Some (last_number 1 r rows x xs is) in
       let same : n ≡ 1 + length xs = cc in
       same ∙ (let f : 1 + length xs ≡ length (x ∷ xs) = omega arith in f)
+  newest _ _ found is read = absurd (let e = is in cc)
 
 -- how many results there are
 pub newest_result : (versions : List Version) (results : List Verification) (rows checked : List Row) (found : Option ℕ) → AreResults versions results rows checked → option_map pos found ≡ option_map (whole_at in_results.number) (slice_get (reverse rows) 0)

@@ -1,18 +1,17 @@
 -- The rows of a state that can be read back: numbers are low, names are names, and marks are 0 or 1.
-use Rattle.std.specs.{Prelude.{IsUtf8}, Ordering.{eq_by_cmp}, Cmp.Lexicographic.{nat_list_cmp_total}}
-use Rattle.std.proofs.Common.{◌≡◌, ◌∙◌, ◌<◌, ◌≤◌, ◌^◌, ℕ, ℤ, pos, List, map, length, true, false, refl, sym, ap, subst, codes, slice_get, arith}
-use Rattle.std.proofs.{lemmas.List.{length-map}, lemmas.List.Elements.{All-contains}}
-use Rattle.sqlite.specs.{declared.types.Value.TheVariants.{Int, Text as SqlText}, Order.{Row, column}, Schema.{Schema}, Table.{Table}, Tree.{IsAscending}}
-use Rattle.sqlite.specs.Effect.{Database}
+use Rattle.std.specs.{Prelude.{IsUtf8}, Cmp.Lexicographic.{nat_list_cmp_total}}
+use Rattle.std.proofs.{Common.{◌≡◌, ◌∙◌, ◌<◌, ◌≤◌, ◌^◌, ℕ, ℤ, pos, List, map, length, true, refl, sym, ap, subst, codes, arith}, lemmas.List.{length-map}}
+use Rattle.std.proofs.lemmas.List.Elements.{All-contains}
+use Rattle.sqlite.specs.{declared.types.Value.TheVariants.{Int, Text as SqlText}, Order.{Row, column}, Table.{Table}, Effect.{Database}}
 use Rattle.sqlite_rules.specs.Lists.{Has}
 use Rattle.sqlite_keyed.proofs.RuleLemmas.{first_of_both}
-use Rattle.table_access.{specs.{Columns.{text, text_cmp, whole_at}, Reading.{IsNumberAt}}, proofs.{Keys.{apart_by, text_keys}, Maps.{has_find}}}
-use Rattle.table_access.proofs.{Members.{map_has, has_contains}, SoundLemmas.{whole_in, checks_hold, has_place}}
+use Rattle.table_access.{specs.{Columns.{text, whole_at}, Reading.{IsNumberAt}}, proofs.{Maps.{has_find}, Members.{map_has, has_contains}}}
+use Rattle.table_access.proofs.SoundLemmas.{whole_in, checks_hold, has_place}
 use Rattle.broker_core.specs.{declared.command.Version.{Version}, Limit.{limit}, Text.{Text, version}, State.{State as Broker}}
 use Rattle.broker_tables.specs.{Schema.{to, in_pacticipants, in_versions, in_contents, in_results, in_checked_results}, Rows.{IsTruthAt}, Names.{IsNameAt}}
 use Rattle.broker_tables.specs.{Numbers.{numbered}, Holds.{Holds, with_digest, result_in, result_of}, Readable.{IsReadable, IsNamed, AreFew}}
-use Rattle.broker_tables.proofs.{Orders.{exact_texts}, Placed.{pacticipants, pacticipants_there, results, results_there}}
-use Rattle.broker_tables.proofs.References.{row_number, row_entry, refers_version, refers_content, refers_result, refers_pacticipant, pacticipant_names}
+use Rattle.broker_tables.proofs.{Orders.{exact_texts}, Placed.{pacticipants, results, results_there}}
+use Rattle.broker_tables.proofs.References.{row_number, row_entry, refers_version, refers_content, refers_result, refers_pacticipant, pacticipant_keys}
 use Rattle.broker_tables.proofs.TruthLemmas.{is_low}
 
 -- it is a number below 2^32
@@ -73,13 +72,10 @@ module _ (db : Database) (s : Broker) (held : Holds db s) (readable : IsReadable
       let same : text in_contents.body r ≡ it.0 = ap (λ (e : Text × Text). e.1) it.2 in
       subst IsUtf8 (sym same) (All-contains IsUtf8 s.contents it.0 readable.contents (has_contains s.contents it.0 it.1))
 
-  pacticipant_keys : IsAscending (λ a b. eq_by_cmp text_cmp (text in_pacticipants.name a) (text in_pacticipants.name b) ≡ false) (db.trees in_pacticipants.tree)
-  pacticipant_keys = text_keys (db.trees in_pacticipants.tree) in_pacticipants.name (pacticipant_names db held.broker) (apart_by db held.broker.kept pacticipants 2 (pacticipants_there db held.broker) _ 2 (ap (λ (x : Schema). slice_get x.indexes 2) held.broker.schema) refl)
-
   -- the name of a pacticipant
   pub pacticipant_named : (r : Row) → Has (db.trees in_pacticipants.tree) r → IsNamed (text in_pacticipants.name r)
   pacticipant_named r has =
-      let found = has_find nat_list_cmp_total exact_texts (text in_pacticipants.name) (text in_pacticipants.team) (db.trees in_pacticipants.tree) r pacticipant_keys has in
+      let found = has_find nat_list_cmp_total exact_texts (text in_pacticipants.name) (text in_pacticipants.team) (db.trees in_pacticipants.tree) r (pacticipant_keys db held.broker) has in
       (readable.pacticipants (text in_pacticipants.name r) (text in_pacticipants.team r) (sym (held.pacticipants (text in_pacticipants.name r)) ∙ found)).0
 
   -- a name that refers to one

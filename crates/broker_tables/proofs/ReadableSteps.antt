@@ -1,7 +1,7 @@
 -- A state that can be read back stays such.
-use Rattle.std.specs.{Prelude.{Option, Some, None, IfSome, IsUtf8, All}, Option.{option_map_or}, List.{list_any}}
+use Rattle.std.specs.{Prelude.{Option, Some, None, IfSome, IsUtf8}, Option.{option_map_or}, List.{list_any}}
 use Rattle.std.proofs.Common.{◌≡◌, ◌⊎◌, ◌∷◌, [], ◌++◌, ◌<◌, ℕ, List, refl, sym, ap, subst, inl, inr, Bool, true, false, ◌&&◌, ◌||◌, if◌then◌else◌, arith}
-use Rattle.std.proofs.{lemmas.List.{length_push}, lemmas.Bool.Decides.{nat_tests}, lemmas.List.Elements.{All-nil, All-cons, All-append}}
+use Rattle.std.proofs.{lemmas.List.{length_push}, lemmas.Bool.Decides.{nat_tests}, lemmas.List.Elements.{All-nil, All-push}}
 use Rattle.std.proofs.{lemmas.Str.{IsUtf8-nil, IsUtf8-from_ascii}, lemmas.Str.Ascii.{IsAscii-from_all}}
 use Rattle.broker_core.specs.declared.command.Command.{Command}
 use Rattle.broker_core.specs.declared.command.Command.TheVariants.{PutTeam, PutPacticipant, PutEnvironment, PutGrant, DeleteGrant, PutVersion, PutPact, GetPact, GetBranchPact, PostResult, PostReplies, Deploy, Undeploy, Release, EndSupport, GetEnvironment, CanIDeploy, GetMatrix, Malformed}
@@ -38,9 +38,6 @@ at_none {K} {X} same table key q x h =
     elim (same q key) as (λ b. (if b then None else table q) ≡ Some x → table q ≡ Some x) [ true ↦ λ none. absurd (cc) | false ↦ λ there. there ] h
 
 -- ---- one more in a list
-
-one_more : {X : Type 0} (P : X → Type 0) (xs : List X) (x : X) → All P xs → P x → All P (xs ++ x ∷ [])
-one_more P xs x all is = All-append P xs (x ∷ []) all (All-cons P x [] is (All-nil P))
 
 still_few : {X : Type 0} (xs : List X) (x : X) → has_room xs ≡ true → AreFew (xs ++ x ∷ [])
 still_few xs x room = let more = length_push xs x in grind (arith, nat_tests, more)
@@ -89,7 +86,7 @@ module _ (s : Broker) (n : IsReadable s) where
   with_named v is can =
       elim (is_known s v) as (λ b. (b || has_room s.versions) ≡ true → IsReadable (if b then s else record s { versions = s.versions ++ v ∷ [] })) [
         | true ↦ λ _. n
-        | false ↦ λ room. record { office = n.office; teams = n.teams; pacticipants = n.pacticipants; versions = one_more (λ (w : Version). IsNamed w.pacticipant × IsNamed w.name) s.versions v n.versions is; contents = n.contents; instances = n.instances; few_versions = still_few s.versions v room; few_contents = n.few_contents; few_results = n.few_results }
+        | false ↦ λ room. record { office = n.office; teams = n.teams; pacticipants = n.pacticipants; versions = All-push (λ (w : Version). IsNamed w.pacticipant × IsNamed w.name) s.versions v n.versions is; contents = n.contents; instances = n.instances; few_versions = still_few s.versions v room; few_contents = n.few_contents; few_results = n.few_results }
       ] can
 
   -- a text, if there is room
@@ -97,7 +94,7 @@ module _ (s : Broker) (n : IsReadable s) where
   with_stored text is can =
       elim (is_stored s text) as (λ b. (b || has_room s.contents) ≡ true → IsReadable (if b then s else record s { contents = s.contents ++ text ∷ [] })) [
         | true ↦ λ _. n
-        | false ↦ λ room. record { office = n.office; teams = n.teams; pacticipants = n.pacticipants; versions = n.versions; contents = one_more IsUtf8 s.contents text n.contents is; instances = n.instances; few_versions = n.few_versions; few_contents = still_few s.contents text room; few_results = n.few_results }
+        | false ↦ λ room. record { office = n.office; teams = n.teams; pacticipants = n.pacticipants; versions = n.versions; contents = All-push IsUtf8 s.contents text n.contents is; instances = n.instances; few_versions = n.few_versions; few_contents = still_few s.contents text room; few_results = n.few_results }
       ] can
 
 -- naming a version leaves the texts
@@ -220,5 +217,4 @@ pub readable_stays_in_runs : (parts : Primitives) → KeepsUtf8 parts → Readab
 readable_stays_in_runs parts keeps s last [] [] all n run = subst IsReadable (sym run) n
 readable_stays_in_runs parts keeps s last (r ∷ rs) (a ∷ answers) all n run =
     readable_stays_in_runs parts keeps run.0 last rs answers all.1 (readable_stays parts keeps s r.token r.command _ all.0 n run.1) run.2
-readable_stays_in_runs parts keeps s last [] (a ∷ answers) all n run = absurd run
-readable_stays_in_runs parts keeps s last (r ∷ rs) [] all n run = absurd run
+readable_stays_in_runs parts keeps s last _ _ all n run = absurd run

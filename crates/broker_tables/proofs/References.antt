@@ -1,9 +1,9 @@
 -- That a number or a name in a column is the one of a row that is there, by the table's REFERENCES.
-use Rattle.std.specs.{List.{enumerate_from}, Ordering.{is_eq, int_cmp}, Cmp.{Equal-is}, FinMap.{int_cmp-IsAntisymmetric}}
-use Rattle.std.proofs.Common.{◌≡◌, ℕ, ℤ, pos, ◌+◌, ◌<◌, List, [], ◌∷◌, map, length, Bool, true, false, ◌||◌, refl, sym, ap, subst, ◌∙◌, Some, codes, arith, inl, inr}
+use Rattle.std.specs.{List.{enumerate_from}, Ordering.{is_eq, int_cmp, eq_by_cmp}, Cmp.{Equal-is}, FinMap.{int_cmp-IsAntisymmetric}}
+use Rattle.std.proofs.Common.{◌≡◌, ℕ, ℤ, pos, ◌+◌, ◌<◌, List, [], ◌∷◌, map, length, Bool, true, false, ◌||◌, refl, sym, ap, subst, ◌∙◌, Some, codes, slice_get, arith, inl, inr}
 use Rattle.std.proofs.lemmas.Bool.{cases_Bool}
-use Rattle.sqlite.specs.{Tree.{rowid}, declared.types.Value.TheVariants.{Int, Text}, Order.{Row, column}, Schema.{Schema}, Table.{Table}, Effect.{Database}}
-use Rattle.sqlite.specs.Collation.TheVariants.{Binary}
+use Rattle.sqlite.specs.{Tree.{IsAscending, rowid}, declared.types.Value.TheVariants.{Int, Text}, Order.{Row, column}, Schema.{Schema}, Table.{Table}}
+use Rattle.sqlite.specs.{Effect.{Database}, Collation.TheVariants.{Binary}}
 use Rattle.sqlite_sql.specs.Ops.{is_null}
 use Rattle.sqlite_schema.specs.{declared.schema.Reference.{Reference}, declared.schema.Constraint.TheVariants.{ForeignKey}}
 use Rattle.sqlite_schema.specs.Rules.{has_parent, is_held, parent_key, agree, equal}
@@ -11,25 +11,25 @@ use Rattle.sqlite_value.specs.{declared.keys.Order.{Order}, Keys.{first_key}}
 use Rattle.sqlite_rules.{specs.Lists.{Has}, proofs.{RuleLemmas.{keeps_at}, TableLemmas.{int_is}}}
 use Rattle.sqlite_keyed.proofs.{ListLemmas.{all_from_test}, RuleLemmas.{first_of_both}}
 use Rattle.sqlite_tied.specs.Compute.{everything}
-use Rattle.table_access.{specs.Columns.{text, text_cmp, whole_at}, proofs.{Values.{same_ints, same_texts}, Members.{has_map, map_has}}}
-use Rattle.table_access.proofs.SoundLemmas.{at_has, has_place, text_at}
+use Rattle.table_access.{specs.Columns.{text, text_cmp, whole_at}, proofs.{Values.{same_ints, same_texts}, Members.{has_map, map_has, any_has}}}
+use Rattle.table_access.proofs.{SoundLemmas.{at_has, has_place, text_at}, Keys.{apart_by, text_keys}}
 use Rattle.broker_core.specs.declared.command.Version.{Version}
-use Rattle.broker_tables.specs.Schema.{broker_schema, to, in_pacticipants, in_versions, in_environments, in_contents, in_results}
+use Rattle.broker_tables.specs.Schema.{broker_schema, to, in_teams, in_pacticipants, in_versions, in_environments, in_contents, in_results}
 use Rattle.broker_tables.{specs.Holds.{IsBroker, AreVersions}, proofs.Orders.{exact_texts}}
-use Rattle.broker_tables.proofs.Placed.{pacticipants, pacticipants_there, versions, versions_there, environments, environments_there, contents, contents_there, results, results_there}
-pub use Rattle.table_access.proofs.Members.{any_has}
+use Rattle.broker_tables.proofs.Placed.{teams, teams_there, pacticipants, pacticipants_there, versions, versions_there, environments, environments_there, contents, contents_there, results, results_there}
 
 -- what REFERENCES names is the column at this place of the table at this tree, which is compared byte by byte
-abbrev LeadsTo : ℕ → List ℕ → List ℕ → ℕ → ℕ → Type 0
+abbrev pub LeadsTo : ℕ → List ℕ → List ℕ → ℕ → ℕ → Type 0
 LeadsTo p name key tree at = (o : Order) × (parent_key broker_schema.tables (to p name key) ≡ Some (tree, at ∷ [], o)) × ((first_key o).collation ≡ Binary)
 
-leads : (p : ℕ) → LeadsTo p (codes "versions") (codes "number") in_versions.tree in_versions.number
+pub leads : (p : ℕ) → LeadsTo p (codes "versions") (codes "number") in_versions.tree in_versions.number
     × LeadsTo p (codes "contents") (codes "number") in_contents.tree in_contents.number
     × LeadsTo p (codes "results") (codes "number") in_results.tree in_results.number
     × LeadsTo p (codes "environments") (codes "name") in_environments.tree in_environments.name
     × LeadsTo p (codes "pacticipants") (codes "name") in_pacticipants.tree in_pacticipants.name
+    × LeadsTo p (codes "teams") (codes "name") in_teams.tree in_teams.name
 unfolding everything
-leads p = ((_, refl, refl), (_, refl, refl), (_, refl, refl), (_, refl, refl), (_, refl, refl))
+leads p = ((_, refl, refl), (_, refl, refl), (_, refl, refl), (_, refl, refl), (_, refl, refl), (_, refl, refl))
 
 or_left : (a b : Bool) → (a || b) ≡ true → a ≡ false → b ≡ true
 or_left true b h e = absurd cc
@@ -83,7 +83,11 @@ module _ (db : Database) (broker : IsBroker db) where
       → (x : Row) × Has (db.trees in_results.tree) x × (whole_at in_results.number x ≡ whole_at p r)
   refers_result t listed p among r has typed = refers_number db broker t listed p r has (codes "results") (codes "number") in_results.tree (leads p).2 (ids_of results (has_place _ 9 results (results_there db broker))) among typed
 
-  environment_names : (x : Row) → Has (db.trees in_environments.tree) x → column x in_environments.name ≡ Text (text in_environments.name x)
+  -- the names in the rows of three tables are texts
+  pub team_names : (x : Row) → Has (db.trees in_teams.tree) x → column x in_teams.name ≡ Text (text in_teams.name x)
+  team_names x has = text_at db broker.kept.sound teams (has_place _ 1 teams (teams_there db broker)) x has 0 _ refl refl refl refl refl
+
+  pub environment_names : (x : Row) → Has (db.trees in_environments.tree) x → column x in_environments.name ≡ Text (text in_environments.name x)
   environment_names x has = text_at db broker.kept.sound environments (has_place _ 5 environments (environments_there db broker)) x has 0 _ refl refl refl refl refl
 
   pub refers_environment : (t : Table) → Has db.schema.tables t → (p : ℕ) → Has t.references (to p (codes "environments") (codes "name")) → (r : Row) → Has (db.trees t.tree) r → column r p ≡ Text (text p r)
@@ -92,6 +96,10 @@ module _ (db : Database) (broker : IsBroker db) where
 
   pub pacticipant_names : (x : Row) → Has (db.trees in_pacticipants.tree) x → column x in_pacticipants.name ≡ Text (text in_pacticipants.name x)
   pacticipant_names x has = text_at db broker.kept.sound pacticipants (has_place _ 2 pacticipants (pacticipants_there db broker)) x has 0 _ refl refl refl refl refl
+
+  -- a pacticipant has one row
+  pub pacticipant_keys : IsAscending (λ a b. eq_by_cmp text_cmp (text in_pacticipants.name a) (text in_pacticipants.name b) ≡ false) (db.trees in_pacticipants.tree)
+  pacticipant_keys = text_keys (db.trees in_pacticipants.tree) in_pacticipants.name pacticipant_names (apart_by db broker.kept pacticipants 2 (pacticipants_there db broker) _ 2 (ap (λ (s : Schema). slice_get s.indexes 2) broker.schema) refl)
 
   pub refers_pacticipant : (t : Table) → Has db.schema.tables t → (p : ℕ) → Has t.references (to p (codes "pacticipants") (codes "name")) → (r : Row) → Has (db.trees t.tree) r → column r p ≡ Text (text p r)
       → (x : Row) × Has (db.trees in_pacticipants.tree) x × (text in_pacticipants.name x ≡ text p r)

@@ -9,7 +9,7 @@ use Rattle.sqlite_sql.specs.Ops.{fits_i64}
 use Rattle.table_access.{specs.Statements.{IsAdded}, proofs.{SoundLemmas.{at_has}, Members.{any_has}}}
 use Rattle.broker_core.{specs.{Text.{same_text}, State.{State as Broker}}, proofs.Judgement.{text_is}}
 use Rattle.broker_tables.specs.{Rows.{rows_of}, Holds.{Holds, HoldsAfter}, Room.{counted_tables, LeavesAbove, LeaveNumbers, HasRoomFor, TakesRoom}}
-use Rattle.broker_tables.{specs.Refusals.{HaveNumbers}, proofs.Frames.{Frame, is_other}}
+use Rattle.broker_tables.{specs.Refusals.{HaveNumbers}, proofs.Frames.{Frame, Stays}}
 
 -- ---- more and fewer
 
@@ -81,10 +81,7 @@ are_counted : AllByRecursion (λ name. is_counted name ≡ true) counted_tables
 are_counted = (refl, (refl, (refl, (refl, (refl, (refl, (refl, (refl, (refl, (refl, tt))))))))))
 
 module _ (changed : List (List ℕ)) (old new : Database) (frame : Frame changed old new) where
-  abbrev Stays : List ℕ → Type 0
-  Stays name = is_other changed name ≡ true → rows_of new name ≡ rows_of old name
-
-  stays : AllByRecursion Stays counted_tables
+  stays : AllByRecursion (Stays changed old new) counted_tables
   stays =
       let all = frame.others in
       (all.1.0, (all.1.1.0, (all.1.1.1.1.0, (all.1.1.1.1.1.0, (all.1.1.1.1.1.1.1.1.1.1.1.1.1.1.0, (all.1.1.1.1.1.1.0, (all.1.1.1.1.1.1.1.1.0, (all.1.1.1.1.1.1.1.1.1.1.0, (all.1.1.1.1.1.1.1.1.1.1.1.0, (all.1.1.1.1.1.1.1.1.1.1.1.1.0, tt))))))))))
@@ -93,7 +90,7 @@ module _ (changed : List (List ℕ)) (old new : Database) (frame : Frame changed
   pub takes_rows : AllByRecursion (λ name. is_counted name ≡ true → Grows (rows_of old name) (rows_of new name)) changed → TakesRoom 1 old new
   takes_rows grow n room = go counted_tables are_counted stays room
     where
-      of_table : (name : List ℕ) → is_counted name ≡ true → Stays name → LeaveNumbers (n + 1) (rows_of old name) → LeaveNumbers n (rows_of new name)
+      of_table : (name : List ℕ) → is_counted name ≡ true → Stays changed old new name → LeaveNumbers (n + 1) (rows_of old name) → LeaveNumbers n (rows_of new name)
       of_table name counted same here = elim (cases_Bool (list_any (same_text name) changed)) [
         | inl among ↦
             let c = any_has (same_text name) changed among in
@@ -102,7 +99,7 @@ module _ (changed : List (List ℕ)) (old new : Database) (frame : Frame changed
         | inr none ↦ subst (LeaveNumbers n) (sym (same (ap not none))) (fewer n (n + 1) (omega arith) (rows_of old name) here)
       ]
 
-      go : (names : List (List ℕ)) → AllByRecursion (λ name. is_counted name ≡ true) names → AllByRecursion Stays names → AllByRecursion (λ name. LeaveNumbers (n + 1) (rows_of old name)) names → AllByRecursion (λ name. LeaveNumbers n (rows_of new name)) names
+      go : (names : List (List ℕ)) → AllByRecursion (λ name. is_counted name ≡ true) names → AllByRecursion (Stays changed old new) names → AllByRecursion (λ name. LeaveNumbers (n + 1) (rows_of old name)) names → AllByRecursion (λ name. LeaveNumbers n (rows_of new name)) names
       go [] c s r = tt
       go (name ∷ names) c s r = (of_table name c.0 s.0 r.0, go names c.1 s.1 r.1)
 

@@ -21,8 +21,7 @@ module _ {K : Type 0} (R : K → K → Ordering) (key : Row → K) where
 
   grouped : (p q r : Bool) → (p || (q || r)) ≡ (q || (p || r))
   grouped true true r = refl
-  grouped true false r = refl
-  grouped false q r = refl
+  grouped _ _ r = refl
 
   past : (front back : List Row) (row : Row) (k : K) → stands_at R key (front ++ row ∷ back) k ≡ (eq_by_cmp R k (key row) || stands_at R key (front ++ back) k)
   past [] back row k = refl
@@ -33,6 +32,10 @@ module _ {K : Type 0} (R : K → K → Ordering) (key : Row → K) where
   pub stands_put : (old new : List Row) (row : Row) → IsAdded old new row → (k : K) → stands_at R key new k ≡ (eq_by_cmp R k (key row) || stands_at R key old k)
   stands_put old new row it k =
       ap (λ rows. stands_at R key rows k) it.is ∙ past it.front it.back row k ∙ ap (λ rows. eq_by_cmp R k (key row) || stands_at R key rows k) (sym it.was)
+
+  -- one stands at the place that is set, and elsewhere just where one stood
+  pub stands_set : (old new : List Row) (row : Row) → IsAdded old new row → (k : K) → stands_at R key new k ≡ cond (eq_by_cmp R k (key row)) true (stands_at R key old k)
+  stands_set old new row it k = stands_put old new row it k ∙ elim (eq_by_cmp R k (key row)) as (λ b. (b || stands_at R key old k) ≡ cond b true (stands_at R key old k)) [ true ↦ refl | false ↦ refl ]
 
 module _ {K V : Type 0} {R : K → K → Ordering} (o : IsTotalOrder R) (exact : IsAntisymmetric R) (key : Row → K) (value : Row → V) where
   -- the rows of one key are taken out

@@ -13,9 +13,8 @@ equal a b = ap (λ o. from_truth (Some (is_eq o))) (value_cmp-Int a b)
 
 either : (a b : Bool) → not (is_false (binary Or (from_truth (Some a)) (from_truth (Some b)))) ≡ true → a ≡ false → b ≡ true
 unfolding binary
-either true b t none = absurd cc
 either false true t none = refl
-either false false t none = absurd cc
+either _ _ t none = absurd cc
 
 -- it is 0 or 1
 pub is_low : (row : Row) (place : ℕ) (z : ℤ) → column row place ≡ Int z → not (is_false (eval (is_truth place) ([] ∷ row ∷ []))) ≡ true → (n : ℕ) × (z ≡ pos n) × (n ≤ 1)

@@ -12,8 +12,8 @@ use Rattle.sqlite_typing.specs.Types.{accepts_terms, accepts_program}
 use Rattle.sqlite_value.specs.Keys.{plain}
 use Rattle.sqlite_schema.specs.{declared.command.Conflict.TheVariants.{Abort}, Rules.{agree, guards, has_parent, references_fit}}
 use Rattle.sqlite_rules.specs.{Keys.{AreConflicts, conflicts}, Lists.{Has}, Steps.{PassAlone}}
-use Rattle.table_access.{specs.{Calls.{fault_of}, Sound.{IsNumbered}, Statements.{ChangesOnly, IsAdded, shows}}, proofs.{Answered.{is_whole}, Edits.{IsAlone}}}
-use Rattle.table_access.proofs.{SoundLemmas.{has_place, at_has}, Steps.{Means}, Storable.{IsShortValue}, Upsert.{setting, Upserted, upsert_leaves}}
+use Rattle.table_access.{specs.{Calls.{fault_of}, Sound.{IsNumbered, IsShortValue}, Statements.{ChangesOnly, IsAdded, shows}}, proofs.Answered.{is_whole}}
+use Rattle.table_access.proofs.{Edits.{IsAlone}, SoundLemmas.{has_place, at_has}, Steps.{Means}, Upsert.{setting, Upserted, upsert_leaves}}
 use Rattle.table_access.proofs.{UpsertRefused.{Takes, key_of, upsert_fails}, Values.{cast_null, cast_kept}}
 use Rattle.broker_tables.{specs.{Schema.{broker_schema}, Holds.{IsBroker}, Refusals.{AreShort}, Room.{LeavesAbove, LeaveNumbers}}, proofs.Frames.{meant}}
 use Rattle.broker_tables.proofs.{Inserted.{plainly, apart, storable, EndsOnly}, Placed.{calm}, RoomLemmas.{Grows, grows_added, grows_changed, number_for}}

@@ -1,18 +1,18 @@
 -- The rows of versions, and the pairs that a JOIN by a version's number keeps.
-use Rattle.std.specs.{Prelude.{option_map, option_and_then, ◌↔◌}, Ordering.{eq_by_cmp, is_eq, int_cmp}}
-use Rattle.std.specs.{Cmp.{IsTotalOrder, eq_by_cmp_equiv, Equal-is, int_cmp_total}, Cmp.Lexicographic.{nat_list_cmp_total}}
-use Rattle.std.specs.FinMap.{IsAntisymmetric, int_cmp-IsAntisymmetric}
+use Rattle.std.specs.{Prelude.{option_map, option_and_then, ◌↔◌}, Ordering.{eq_by_cmp}, Cmp.{IsTotalOrder, eq_by_cmp_equiv, Equal-is, int_cmp_total}}
+use Rattle.std.specs.{Cmp.Lexicographic.{nat_list_cmp_total}, FinMap.{IsAntisymmetric, int_cmp-IsAntisymmetric}}
 use Rattle.std.proofs.Common.{true≢false, slice_get, ◌≡◌, inl, inr, ℕ, ℤ, pos, List, [], ◌∷◌, Bool, true, false, ◌&&◌, refl, sym, ap, ◌∙◌, Some, None, Option, Ordering}
+use Rattle.std.proofs.lemmas.Bool.{and_parts, and_from}
 use Rattle.sqlite.specs.{declared.types.Value.{Value}, declared.types.Value.TheVariants.{Int, Text}, Order.{Row, column}, Tree.{IsAscending, rowid}}
-use Rattle.sqlite.specs.{Term.{Term}, Schema.{Schema}, Collation.TheVariants.{Binary}, Effect.{Database}}
+use Rattle.sqlite.specs.{Schema.{Schema}, Collation.TheVariants.{Binary}, Effect.{Database}}
 use Rattle.sqlite_sql.specs.{declared.ops.BinaryOp.TheVariants.{Compare}, declared.ops.CompareOp.TheVariants.{Eq}, Ops.{binary, is_true}}
 use Rattle.sqlite_rules.{specs.Lists.{Has}, proofs.TableLemmas.{int_is}}
-use Rattle.table_access.specs.{Columns.{text, text_cmp, whole_at, pair_cmp}, Sound.{IsNumbered}, Statements.{keeps_both, pairs_kept}}
-use Rattle.table_access.proofs.{Values.{same_ints, same_texts}, SoundLemmas.{at_has, has_place, text_at}, Keys.{ascending_on, apart_by}}
-use Rattle.table_access.proofs.{Parts.{text_part, agree_last, agree_and, once, numbers_once}, Maps.{find_has, has_find}, Changes.{apart_or_same}}
+use Rattle.table_access.{specs.{Columns.{text, text_cmp, whole_at, pair_cmp}, Sound.{IsNumbered}}, proofs.Values.{same_ints, same_texts}}
+use Rattle.table_access.proofs.{SoundLemmas.{at_has, has_place, text_at}, Keys.{apart_by}, Parts.{text_part, agree_last, agree_and, once}}
+use Rattle.table_access.proofs.{Maps.{find_has, has_find}, Changes.{apart_or_same}}
 use Rattle.broker_core.specs.{declared.command.Version.{Version}, Text.{Text as Words, version}}
 use Rattle.broker_tables.{specs.{Numbers.{number_of}, Holds.{IsBroker, AreVersions}, Schema.{in_versions}}, proofs.NumberLemmas.{version_row}}
-use Rattle.broker_tables.proofs.{Orders.{exact_texts, pairs_total, exact_pair}, Placed.{versions, versions_there}, Listed.{sorts}}
+use Rattle.broker_tables.proofs.{Orders.{exact_texts, pairs_total, exact_pair}, Placed.{versions, versions_there}}
 -- a truth value that can't be true is false
 pub use Rattle.std.proofs.lemmas.Bool.{false_from_ne_true as false_if}
 
@@ -34,10 +34,10 @@ text_test = tests Text nat_list_cmp_total exact_texts same_texts
 
 -- three tests joined by AND hold just where each of them does
 pub all_three : (a b c : Bool) → ((a && (b && (c && true))) ≡ true) ↔ ((a ≡ true) × (b ≡ true) × (c ≡ true))
-all_three true true true = (λ h. (refl, refl, refl), λ h. refl)
-all_three true true false = (λ h. absurd cc, λ h. absurd (true≢false (sym h.2)))
-all_three true false c = (λ h. absurd cc, λ h. absurd (true≢false (sym h.1)))
-all_three false b c = (λ h. absurd cc, λ h. absurd (true≢false (sym h.0)))
+all_three a b c = (
+  λ h. let one = and_parts a _ h in let two = and_parts b _ one.1 in (one.0, two.0, (and_parts c true two.1).0),
+  λ h. and_from a _ h.0 (and_from b _ h.1 (and_from c true h.2 refl)),
+)
 
 -- ---- rows by their keys
 
@@ -54,7 +54,7 @@ pub by_number : (o : Option ℕ) (f : ℕ → Option ℤ) (z : ℤ) → option_a
 by_number None f z h = absurd cc
 by_number (Some k) f z h = (k, refl, h)
 
-numbered_as : (z : ℤ) (o : Option ℕ) → Some z ≡ option_map pos o → (k : ℕ) × (o ≡ Some k) × (z ≡ pos k)
+pub numbered_as : (z : ℤ) (o : Option ℕ) → Some z ≡ option_map pos o → (k : ℕ) × (o ≡ Some k) × (z ≡ pos k)
 numbered_as z None h = absurd cc
 numbered_as z (Some k) h = (k, refl, cc)
 

@@ -12,16 +12,13 @@ use Rattle.broker_tables.proofs.CreationRefused.{DefinesTable, DefinesIndex}
 -- a list of images that has a last one
 last_of : {A B : Type 0} (f : A → B) (bs : List B) (b : B) (all : List A) → bs ++ b ∷ [] ≡ map f all
     → (front : List A) × (last : A) × (all ≡ front ++ last ∷ []) × (bs ≡ map f front) × (b ≡ f last)
-last_of f [] b [] e = absurd cc
 last_of f [] b (a ∷ []) e = ([], a, refl, refl, cc)
-last_of f [] b (a ∷ c ∷ all) e = absurd cc
-last_of f (x ∷ []) b [] e = absurd cc
-last_of f (x ∷ y ∷ bs) b [] e = absurd cc
 last_of f (x ∷ bs) b (a ∷ all) e =
     let head : x ≡ f a = cc in
     let more : bs ++ b ∷ [] ≡ map f all = cc in
     let it = last_of f bs b all more in
     (a ∷ it.0, it.1, ap (λ xs. a ∷ xs) it.2, ap₂ (λ y ys. y ∷ ys) head it.3, it.4)
+last_of f _ b _ e = absurd cc
 
 -- one text more of a list of texts
 pub texts_more : (texts : List (Bor (List ℕ))) (at : ℕ) (d : Bor (List ℕ)) → at < length texts → map (λ text. text.now) (take (at + 1) texts) ≡ map (λ text. text.now) (take at texts) ++ (get_or texts at d).now ∷ []

@@ -1,11 +1,11 @@
 -- Why a query fails: in a transaction that shows a state of the broker, only as the store fails.
-use Rattle.std.specs.Prelude.{◌≡◌, ◌⊎◌, ℕ, IsTrue, Some, None, Result, IfOk, IfErr}
+use Rattle.std.specs.Prelude.{◌≡◌, ◌⊎◌, ℕ, Bool, true, false, IsTrue, Some, None, Result, IfOk, IfErr}
 use Rattle.sqlite.specs.Held.{Held, state}
 use Rattle.sqlite.specs.State.{State, HasCleanDisk}
 use Rattle.sqlite_trees.specs.declared.store.Store.{Ghosts}
 use Rattle.table_access.specs.declared.StoreFault.{StoreFault}
 use Rattle.table_access.specs.declared.StoreFault.TheVariants.{Memory}
-use Rattle.table_access.specs.Calls.{EndsBy, HasFailed, TellsMemory}
+use Rattle.table_access.specs.Calls.{EndsBy, HasFailed}
 use Rattle.broker_core.specs.declared.command.Version.{Version}
 use Rattle.broker_core.specs.State.{State as Broker}
 use Rattle.broker_tables.specs.Numbers.{number_of}
@@ -41,23 +41,18 @@ FailsFromBetween old new r TooBig Allows Changes = HasCleanDisk new → (s : Bro
     → IfErr r (λ fault. HasFailedOrMemory old new fault
     ⊎ (Changes s × (HasRoomFor enough old.now → EndsBy TooBig old new fault)))
 
--- a query, where there may be no room for its answer
-pub record CalmQueriesBetween {A : Type 0} (old new : State) (r : Result A StoreFault) (P : A → Broker → Type 0)
-    : Type 0 where
-  -- what it answers
-  pub call : QueriesBetween old new r P
-  -- why it fails
-  pub calm : FailsOnlyBy old new r (HasFailedOrMemory old new)
+-- as a query fails whose answer may take memory, or takes none
+abbrev pub HasFailedTaking : Bool → State → State → StoreFault → Type 0
+HasFailedTaking true = HasFailedOrMemory
+HasFailedTaking false = HasFailed
 
--- a query whose answer takes no memory
-pub record CalmQueriesInPlaceBetween {A : Type 0} (old new : State) (r : Result A StoreFault)
+-- a query; `takes` is true if its answer may take memory
+pub record CalmQueriesBetween {A : Type 0} (takes : Bool) (old new : State) (r : Result A StoreFault)
     (P : A → Broker → Type 0) : Type 0 where
-  -- what it answers
-  pub call : QueriesBetween old new r P
-  -- only the store is ever out of memory
-  pub memory : TellsMemory old new r
+  -- what it answers, and that only the store is ever out of memory if the answer takes none
+  pub call : QueriesBetween takes old new r P
   -- why it fails
-  pub calm : FailsOnlyBy old new r (HasFailed old new)
+  pub calm : FailsOnlyBy old new r (HasFailedTaking takes old new)
 
 -- ---- of a version's number
 
@@ -69,11 +64,13 @@ IfNoVersionBetween old new r number Nothing = HasCleanDisk new → (s : Broker) 
 -- ---- the same of a connection over this store
 
 module _ {X : Type 0} (store : Ghosts X) (old new : Held X) where
+  -- a query, where there may be no room for its answer
   abbrev pub CalmQueries : {A : Type 0} → Result A StoreFault → (A → Broker → Type 0) → Type 0
-  CalmQueries r P = CalmQueriesBetween (state store old) (state store new) r P
+  CalmQueries r P = CalmQueriesBetween true (state store old) (state store new) r P
 
+  -- a query whose answer takes no memory
   abbrev pub CalmQueriesInPlace : {A : Type 0} → Result A StoreFault → (A → Broker → Type 0) → Type 0
-  CalmQueriesInPlace r P = CalmQueriesInPlaceBetween (state store old) (state store new) r P
+  CalmQueriesInPlace r P = CalmQueriesBetween false (state store old) (state store new) r P
 
   abbrev pub IfNoVersion : {A : Type 0} → Result A StoreFault → ℕ → (A → Type 0) → Type 0
   IfNoVersion r number Nothing = IfNoVersionBetween (state store old) (state store new) r number Nothing

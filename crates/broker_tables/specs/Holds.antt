@@ -1,5 +1,5 @@
 -- What it means that a database holds a state of the broker, and how a call on the tables is stated by it.
-use Rattle.std.specs.Prelude.{◌≡◌, ℕ, ℤ, pos, List, [], ◌∷◌, map, Bool, false, Option, Some, option_map, option_and_then, codes, Result}
+use Rattle.std.specs.Prelude.{◌≡◌, ℕ, ℤ, pos, List, [], ◌∷◌, map, Bool, true, false, Option, Some, option_map, option_and_then, codes, Result}
 use Rattle.std.specs.Option.{option_map_or}
 use Rattle.std.specs.Ordering.{int_cmp}
 use Rattle.sqlite.specs.Order.{Row}
@@ -10,7 +10,7 @@ use Rattle.sqlite_trees.specs.declared.store.Store.{Ghosts}
 use Rattle.sha2.specs.Sha256.{sha256}
 use Rattle.hex.specs.Hex.{encode_lower}
 use Rattle.table_access.specs.declared.StoreFault.{StoreFault}
-use Rattle.table_access.specs.Calls.{CallsTablesBetween, CallsStoreBetween}
+use Rattle.table_access.specs.Calls.{CallsBetween, CallsStoreBetween}
 use Rattle.table_access.specs.Columns.{text, text_cmp, whole_at, by_both}
 use Rattle.table_access.specs.Sound.{IsKept}
 use Rattle.broker_core.specs.declared.command.Version.{Version}
@@ -203,13 +203,9 @@ pub record Holds (db : Database) (s : Broker) : Type 0 where
 abbrev pub IsRead : {A : Type 0} → State → State → (A → Broker → Type 0) → A → Type 0
 IsRead old new P a = (s : Broker) → Holds old.now s → P a s × (new.now ≡ old.now)
 
--- a query, where there may be no room for its answer
-abbrev pub QueriesBetween : {A : Type 0} → State → State → Result A StoreFault → (A → Broker → Type 0) → Type 0
-QueriesBetween old new r P = CallsTablesBetween old new r (IsRead old new P)
-
--- a query whose answer takes no memory
-abbrev pub QueriesInPlaceBetween : {A : Type 0} → State → State → Result A StoreFault → (A → Broker → Type 0) → Type 0
-QueriesInPlaceBetween old new r P = CallsStoreBetween old new r (IsRead old new P)
+-- a query; `takes` is true if its answer may take memory
+abbrev pub QueriesBetween : {A : Type 0} → Bool → State → State → Result A StoreFault → (A → Broker → Type 0) → Type 0
+QueriesBetween takes old new r P = CallsBetween takes old new r (IsRead old new P)
 
 -- the database holds this state now, and at most so many numbers of a table were taken
 abbrev pub HoldsAfter : ℕ → State → State → Broker → Type 0
@@ -239,11 +235,9 @@ ChangesAndAnswersBetween = AnswersTakingBetween 2
 -- ---- the same of a connection over this store
 
 module _ {X : Type 0} (store : Ghosts X) (old new : Held X) where
+  -- a query, where there may be no room for its answer
   abbrev pub Queries : {A : Type 0} → Result A StoreFault → (A → Broker → Type 0) → Type 0
-  Queries r P = QueriesBetween (state store old) (state store new) r P
-
-  abbrev pub QueriesInPlace : {A : Type 0} → Result A StoreFault → (A → Broker → Type 0) → Type 0
-  QueriesInPlace r P = QueriesInPlaceBetween (state store old) (state store new) r P
+  Queries r P = QueriesBetween true (state store old) (state store new) r P
 
   abbrev pub ChangesTaking : ℕ → Result (Unit {0}) StoreFault → (Broker → Broker → Type 0) → Type 0
   ChangesTaking taken r Next = ChangesTakingBetween taken (state store old) (state store new) r Next

@@ -4,6 +4,8 @@ use Rattle.std.specs.List.{AllByRecursion}
 use Rattle.sqlite.specs.Table.{Table}
 use Rattle.sqlite.specs.Schema.{Schema}
 use Rattle.sqlite.specs.Change.{created}
+use Rattle.sqlite.specs.Tree.{Trees}
+use Rattle.sqlite_sql.specs.Catalog.{entry_of}
 use Rattle.sqlite_schema.specs.declared.schema.Index.{Index}
 use Rattle.sqlite.specs.Effect.{Database, IsDatabase}
 use Rattle.sqlite.specs.Held.{Held, state}
@@ -11,11 +13,11 @@ use Rattle.sqlite.specs.State.{State, HasCleanDisk}
 use Rattle.sqlite_trees.specs.declared.store.Store.{Ghosts}
 use Rattle.table_access.specs.declared.StoreFault.{StoreFault}
 use Rattle.table_access.specs.Calls.{HasFailed}
-use Rattle.table_access.specs.Sound.{IsKept}
+use Rattle.table_access.specs.Sound.{IsKept, IsShortValue}
 use Rattle.table_access.specs.Statements.{Creates, IndexesTable, MakesEach, with_index}
 use Rattle.broker_core.specs.Text.{Text, same_text}
 use Rattle.broker_tables.specs.Schema as schema
-use Rattle.broker_tables.specs.Schema.{no_schema, schema_of, broker_schema, all_tables, meta, in_meta}
+use Rattle.broker_tables.specs.Schema.{no_schema, schema_of, broker_schema, all_tables, all_indexes, meta, in_meta}
 use Rattle.broker_tables.specs.declared.create.TheConstants.{META, TEAMS, PACTICIPANTS, VERSIONS, BRANCHES, ENVIRONMENTS, GRANTS, CONTENTS, CONTRACTS, RESULTS, LATEST, DEPLOYED, RELEASED, CHECKED_RESULTS, STRICT_ENVIRONMENTS, CONTENTS_BY_DIGEST, CONTRACTS_BY_CONTENT, LATEST_BY_PROVIDER_VERSION, VERSIONS_BY_PACTICIPANT}
 use Rattle.broker_tables.specs.Rows.{rows_of}
 use Rattle.broker_tables.specs.Holds.{IsMeta}
@@ -103,10 +105,15 @@ IsCalmOverBetween P old new r =
 abbrev pub IsCalmOver : {X A : Type 0} → Ghosts X → Held X → Held X → Result A StoreFault → (Database → Type 0) → Type 0
 IsCalmOver store old new r P = IsCalmOverBetween P (state store old) (state store new) r
 
--- no row but that of meta, so that no row stands against an index
-pub record HasNoRows (db : Database) : Type 0 where
+-- what an index has of each row of its table, some columns and the row's number, is short
+abbrev pub AreShortKeys : Trees → Table × Index → Type 0
+AreShortKeys trees one = AllByRecursion (λ row. AllByRecursion IsShortValue (entry_of one.1.columns row)) (trees one.0.tree)
+
+-- The entries of the broker's indexes can be stored: they have whole numbers, and texts of ten million bytes at most.
+-- So no row keeps an index from being made.
+pub record HasShortKeys (db : Database) : Type 0 where
   pub kept : IsKept db
-  pub empty : AllByRecursion (λ t. same_text t.name (codes "meta") ≡ false → db.trees t.tree ≡ []) db.schema.tables
+  pub short : AllByRecursion (AreShortKeys db.trees) all_indexes
 
 -- These texts are a part of all of them, and what those before them make is there.
 abbrev pub AreNext : {X : Type 0} → (Schema → X → Schema) → Schema → List (Maker X) → List (List ℕ) → Schema → Type 0
@@ -114,8 +121,8 @@ AreNext {X} next start all texts schema =
     (before : List (Maker X)) × (part : List (Maker X)) × (after : List (Maker X))
     × (all ≡ before ++ part ++ after) × (texts ≡ texts_of part) × (schema ≡ fold next start (makes_of before))
 
--- The tables of these texts can be made, or the indexes.
+-- The tables of these texts can be made, or the indexes, over any rows whose entries can be stored.
 abbrev pub CanMake : List (List ℕ) → Database → Type 0
 CanMake texts db =
     AreNext created no_schema table_texts texts db.schema
-    ⊎ (AreNext with_index (schema_of all_tables) index_texts texts db.schema × HasNoRows db)
+    ⊎ (AreNext with_index (schema_of all_tables) index_texts texts db.schema × HasShortKeys db)

@@ -14,7 +14,7 @@ use table_access::{StoreFault, change};
 ///
 /// # Errors
 /// `StoreFault::Memory` if the database is out of memory; `StoreFault::Store` if it refused a text: only if the store
-/// failed, where the tables, or the indexes of tables without rows, are those that come next.
+/// failed, where the tables, or the indexes, are those that come next, and each entry of an index can be stored.
 pub fn make_each<S: Alter>(conn: &mut Connection<S>, texts: &[&str]) -> Result<(), StoreFault>
     requires { AllByRecursion (λ text. IsWriteText (first text.now)) texts.now }
     ensures makes { CallsStore S.Store conn.old conn.new result

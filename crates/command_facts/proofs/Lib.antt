@@ -1,5 +1,4 @@
 pub mod CallerLemmas
-pub mod CalmLemmas
 pub mod ReadableTexts
 pub mod ShortTexts
 pub mod CallerSteps

@@ -1,11 +1,11 @@
 -- How a command is put together from calls on the tables.
-use Rattle.std.proofs.Common.{◌≡◌, ◌≤◌, ◌+◌, ℕ, Ok, Result, inl, refl, sym, subst, ◌∙◌, arith}
+use Rattle.std.proofs.Common.{Bool, true, ◌≡◌, ◌≤◌, ◌+◌, ℕ, Ok, Result, inl, refl, sym, subst, ◌∙◌, arith}
 use Rattle.sqlite.specs.State.{State}
-use Rattle.table_access.{specs.declared.StoreFault.{StoreFault}, proofs.CallLemmas.{call_with, then_ok, seq, idle, memory_ok}}
+use Rattle.table_access.{specs.declared.StoreFault.{StoreFault}, proofs.CallLemmas.{call_with, then_ok, seq, idle}}
 use Rattle.broker_core.specs.{State.{State as Broker}, Change.{Transition, unchanged_with}, declared.answer.Answer.{Answer}, Machine.{StepOfCaller}}
 use Rattle.broker_core.specs.{declared.command.Command.{Command}, declared.policy.Caller.{Caller}}
-use Rattle.broker_tables.specs.Holds.{Holds, IsRead, HoldsAfter, QueriesBetween, ChangesTakingBetween, ChangesBetween, ChangesAndAnswersBetween, AnswersTakingBetween}
-use Rattle.broker_tables.{specs.Room.{TakesRoom, enough}, proofs.{QueryLemmas.{stays_held, both_read}, RoomLemmas.{takes_none, takes_more, takes_then}}}
+use Rattle.broker_tables.specs.Holds.{Holds, HoldsAfter, QueriesBetween, ChangesTakingBetween, ChangesBetween, ChangesAndAnswersBetween, AnswersTakingBetween}
+use Rattle.broker_tables.{specs.Room.{TakesRoom, enough}, proofs.{QueryLemmas.{stays_held}, RoomLemmas.{takes_none, takes_more, takes_then}}}
 use Rattle.command_facts.specs.{Performs.{PerformsBetween, PerformsWhereBetween, CallersStep}, Primitives.{broker_primitives}}
 
 -- ---- the state that is held
@@ -27,58 +27,37 @@ changed_on taken few old mid new t same it = changed_alone taken few old new t (
 
 -- where nothing is called
 pub unchanged : {A : Type 0} (c : State) (a : A) (Allows : Broker → Type 0) (Next : A → Broker → Broker → Type 0) → ((s : Broker) → Allows s → Next a s s) → ChangesAndAnswersBetween c c (Ok a) Allows Next
-unchanged c a Allows Next f = record { call = idle c (Ok a) _ (λ s held may. (s, f s may, (held, takes_none 2 c.now c.now refl))); memory = memory_ok c c a }
+unchanged c a Allows Next f = idle c a _ (λ s held may. (s, f s may, (held, takes_none 2 c.now c.now refl)))
 
 -- ---- one call after another
 
 -- nothing is called
 pub refused : (c : State) (answer : Answer) (Q : Broker → Transition → Type 0) → ((s : Broker) → Q s (unchanged_with s answer)) → PerformsBetween c c Q (Ok answer)
-refused c answer Q f = idle c (Ok answer) _ (λ s held. (s, f s, held_on c c s refl held))
+refused c answer Q f = idle c answer _ (λ s held. (s, f s, held_on c c s refl held))
 
 -- a query, and an answer
-pub answered_then : {A : Type 0} (old new : State) (x : A) (answer : Answer) (P : A → Broker → Type 0) (Q : Broker → Transition → Type 0) → ((s : Broker) → P x s → Q s (unchanged_with s answer)) → QueriesBetween old new (Ok x) P → PerformsBetween old new Q (Ok answer)
+pub answered_then : {A : Type 0} {any : Bool} (old new : State) (x : A) (answer : Answer) (P : A → Broker → Type 0) (Q : Broker → Transition → Type 0) → ((s : Broker) → P x s → Q s (unchanged_with s answer)) → QueriesBetween any old new (Ok x) P → PerformsBetween old new Q (Ok answer)
 answered_then old new x answer P Q f it = then_ok old new x answer _ _ (λ h s held. (s, f s (h s held).0, held_on old new s (h s held).1 held)) it
 
--- another answer of a query
-pub answers : {A B : Type 0} (old new : State) (x : A) (y : B) (P : A → Broker → Type 0) (Q : B → Broker → Type 0) → ((s : Broker) → P x s → Q y s) → QueriesBetween old new (Ok x) P → QueriesBetween old new (Ok y) Q
-answers old new x y P Q f it = then_ok old new x y _ _ (λ h s held. (f s (h s held).0, (h s held).1)) it
-
--- one query after another
-pub reads_then : {A B : Type 0} (old mid new : State) (x : A) (r : Result B StoreFault) (P : A → Broker → Type 0) (Q R : B → Broker → Type 0) → ((s : Broker) → P x s → (b : B) → Q b s → R b s) → QueriesBetween old mid (Ok x) P → QueriesBetween mid new r Q → QueriesBetween old new r R
-reads_then old mid new x r P Q R f one two = seq old mid new x r _ _ _ (λ p b. both_read old mid new x b b P Q R (λ s one two. f s one b two) p) one two
-
--- two queries, and an answer from both
-pub read_both : {A B C : Type 0} (old mid new : State) (x : A) (y : B) (z : C) (P : A → Broker → Type 0) (Q : B → Broker → Type 0) (R : C → Broker → Type 0) → ((s : Broker) → P x s → Q y s → R z s) → QueriesBetween old mid (Ok x) P → QueriesBetween mid new (Ok y) Q → QueriesBetween old new (Ok z) R
-read_both old mid new x y z P Q R f one two =
-    then_ok old new z z (λ _. IsRead old new R z) _ (λ h. h)
-    (seq old mid new x (Ok z) (IsRead old mid P) (λ _. IsRead mid new Q y) _ (λ p b q. both_read old mid new x y z P Q R f p q) one (then_ok mid new y z _ _ (λ h. h) two))
-
--- the same, by what the database holds too
-pub read_held : {A B C : Type 0} (old mid new : State) (x : A) (y : B) (z : C) (P : A → Broker → Type 0) (Q : B → Broker → Type 0) (R : C → Broker → Type 0)
-    → ((s : Broker) → Holds new.now s → P x s → Q y s → R z s) → QueriesBetween old mid (Ok x) P → QueriesBetween mid new (Ok y) Q → QueriesBetween old new (Ok z) R
-read_held old mid new x y z P Q R f one two =
-    then_ok old new z z (IsRead old new (λ _ s. P x s × Q y s)) _ (λ h s held. let both = h s held in (f s (stays_held old new s both.1 held) both.0.0 both.0.1, both.1))
-    (read_both old mid new x y z P Q (λ _ s. P x s × Q y s) (λ s p q. (p, q)) one two)
-
 -- a query, and changes
-pub changed_taking : {A : Type 0} (taken : ℕ) → taken ≤ enough → (old mid new : State) (x : A) (u : Unit {0}) (answer : Answer) (P : A → Broker → Type 0) (Next : Broker → Broker → Type 0) (Q : Broker → Transition → Type 0)
-    → ((s : Broker) → P x s → (t : Broker) × Next s t × Q s (record { answer = answer; state = t })) → QueriesBetween old mid (Ok x) P → ChangesTakingBetween taken mid new (Ok u) Next → PerformsBetween old new Q (Ok answer)
+pub changed_taking : {A : Type 0} {any : Bool} (taken : ℕ) → taken ≤ enough → (old mid new : State) (x : A) (u : Unit {0}) (answer : Answer) (P : A → Broker → Type 0) (Next : Broker → Broker → Type 0) (Q : Broker → Transition → Type 0)
+    → ((s : Broker) → P x s → (t : Broker) × Next s t × Q s (record { answer = answer; state = t })) → QueriesBetween any old mid (Ok x) P → ChangesTakingBetween taken mid new (Ok u) Next → PerformsBetween old new Q (Ok answer)
 changed_taking taken few old mid new x u answer P Next Q f one two =
     then_ok old new u answer (λ _. (s : Broker) → Holds old.now s → (t : Broker) × Q s (record { answer = answer; state = t }) × HoldsAfter enough old new t) _ (λ h. h)
-    (seq old mid new x (Ok u) _ _ _ (λ p b q s held. let first = p s held in let next = f s first.0 in (next.0, next.2, changed_on taken few old mid new next.0 first.1 (q s (stays_held old mid s first.1 held) next.0 next.1))) one two.call)
+    (seq old mid new x (Ok u) _ _ _ (λ p b q s held. let first = p s held in let next = f s first.0 in (next.0, next.2, changed_on taken few old mid new next.0 first.1 (q s (stays_held old mid s first.1 held) next.0 next.1))) one two)
 
 -- a query, and a change
-pub changed_then : {A : Type 0} (old mid new : State) (x : A) (u : Unit {0}) (answer : Answer) (P : A → Broker → Type 0) (Next : Broker → Broker → Type 0) (Q : Broker → Transition → Type 0)
-    → ((s : Broker) → P x s → (t : Broker) × Next s t × Q s (record { answer = answer; state = t })) → QueriesBetween old mid (Ok x) P → ChangesBetween mid new (Ok u) Next → PerformsBetween old new Q (Ok answer)
+pub changed_then : {A : Type 0} {any : Bool} (old mid new : State) (x : A) (u : Unit {0}) (answer : Answer) (P : A → Broker → Type 0) (Next : Broker → Broker → Type 0) (Q : Broker → Transition → Type 0)
+    → ((s : Broker) → P x s → (t : Broker) × Next s t × Q s (record { answer = answer; state = t })) → QueriesBetween any old mid (Ok x) P → ChangesBetween mid new (Ok u) Next → PerformsBetween old new Q (Ok answer)
 changed_then = changed_taking 2 (omega arith)
 
 -- a query, and then a command
-pub performs_then : {A : Type 0} (old mid new : State) (x : A) (r : Result Answer StoreFault) (P : A → Broker → Type 0) (Q R : Broker → Transition → Type 0) → ((s : Broker) → P x s → (out : Transition) → Q s out → R s out) → QueriesBetween old mid (Ok x) P → PerformsBetween mid new Q r → PerformsBetween old new R r
+pub performs_then : {A : Type 0} {any : Bool} (old mid new : State) (x : A) (r : Result Answer StoreFault) (P : A → Broker → Type 0) (Q R : Broker → Transition → Type 0) → ((s : Broker) → P x s → (out : Transition) → Q s out → R s out) → QueriesBetween any old mid (Ok x) P → PerformsBetween mid new Q r → PerformsBetween old new R r
 performs_then old mid new x r P Q R f one two = seq old mid new x r _ _ _ (λ p b q s held. let first = p s held in let next = q s (stays_held old mid s first.1 held) in (next.0, f s first.0 _ next.1, after_read enough old mid new next.0 first.1 next.2)) one two
 
 -- a query, and then a listing
-pub shown_then : {A : Type 0} (old mid new : State) (x : A) (r : Result Answer StoreFault) (P : A → Broker → Type 0) (Q : Answer → Broker → Type 0) (R : Broker → Transition → Type 0)
-    → ((s : Broker) → P x s → (answer : Answer) → Q answer s → R s (unchanged_with s answer)) → QueriesBetween old mid (Ok x) P → QueriesBetween mid new r Q → PerformsBetween old new R r
+pub shown_then : {A : Type 0} {any : Bool} (old mid new : State) (x : A) (r : Result Answer StoreFault) (P : A → Broker → Type 0) (Q : Answer → Broker → Type 0) (R : Broker → Transition → Type 0)
+    → ((s : Broker) → P x s → (answer : Answer) → Q answer s → R s (unchanged_with s answer)) → QueriesBetween any old mid (Ok x) P → QueriesBetween true mid new r Q → PerformsBetween old new R r
 shown_then old mid new x r P Q R f one two = seq old mid new x r _ _ _ (λ p b q s held. let first = p s held in let second = q s (stays_held old mid s first.1 held) in (s, f s first.0 b second.0, held_on old new s (second.1 ∙ first.1) held)) one two
 
 -- a command that is always a step
@@ -91,34 +70,34 @@ always_steps old new r caller given command is it =
 -- ---- commands that the state allows
 
 -- a query that tells that the state allows it, and then a command
-pub performs_where : {A : Type 0} (old mid new : State) (x : A) (r : Result Answer StoreFault) (P : A → Broker → Type 0) (Allows : Broker → Type 0) (Q R : Broker → Transition → Type 0)
-    → ((s : Broker) → P x s → Allows s × ((out : Transition) → Q s out → R s out)) → QueriesBetween old mid (Ok x) P → PerformsWhereBetween mid new Allows Q r → PerformsBetween old new R r
+pub performs_where : {A : Type 0} {any : Bool} (old mid new : State) (x : A) (r : Result Answer StoreFault) (P : A → Broker → Type 0) (Allows : Broker → Type 0) (Q R : Broker → Transition → Type 0)
+    → ((s : Broker) → P x s → Allows s × ((out : Transition) → Q s out → R s out)) → QueriesBetween any old mid (Ok x) P → PerformsWhereBetween mid new Allows Q r → PerformsBetween old new R r
 performs_where old mid new x r P Allows Q R f one two =
     seq old mid new x r _ _ _ (λ p b q s held. let first = p s held in let go = f s first.0 in let next = q s (stays_held old mid s first.1 held) go.0 in (next.0, go.1 _ next.1, after_read enough old mid new next.0 first.1 next.2)) one two
 
 -- where the state allows it, a query and then a command
-pub where_then : {A : Type 0} (old mid new : State) (x : A) (r : Result Answer StoreFault) (Allows : Broker → Type 0) (P : A → Broker → Type 0) (Next : Broker → Type 0) (Q R : Broker → Transition → Type 0)
-    → ((s : Broker) → Allows s → P x s → Next s × ((out : Transition) → Q s out → R s out)) → QueriesBetween old mid (Ok x) P → PerformsWhereBetween mid new Next Q r → PerformsWhereBetween old new Allows R r
+pub where_then : {A : Type 0} {any : Bool} (old mid new : State) (x : A) (r : Result Answer StoreFault) (Allows : Broker → Type 0) (P : A → Broker → Type 0) (Next : Broker → Type 0) (Q R : Broker → Transition → Type 0)
+    → ((s : Broker) → Allows s → P x s → Next s × ((out : Transition) → Q s out → R s out)) → QueriesBetween any old mid (Ok x) P → PerformsWhereBetween mid new Next Q r → PerformsWhereBetween old new Allows R r
 where_then old mid new x r Allows P Next Q R f one two =
     seq old mid new x r _ _ _ (λ p b q s held allowed. let first = p s held in let go = f s allowed first.0 in let next = q s (stays_held old mid s first.1 held) go.0 in (next.0, go.1 _ next.1, after_read enough old mid new next.0 first.1 next.2)) one two
 
 -- a query, and an answer
-pub where_answered : {A : Type 0} (old new : State) (x : A) (answer : Answer) (Allows : Broker → Type 0) (P : A → Broker → Type 0) (Q : Broker → Transition → Type 0)
-    → ((s : Broker) → Allows s → P x s → Q s (unchanged_with s answer)) → QueriesBetween old new (Ok x) P → PerformsWhereBetween old new Allows Q (Ok answer)
+pub where_answered : {A : Type 0} {any : Bool} (old new : State) (x : A) (answer : Answer) (Allows : Broker → Type 0) (P : A → Broker → Type 0) (Q : Broker → Transition → Type 0)
+    → ((s : Broker) → Allows s → P x s → Q s (unchanged_with s answer)) → QueriesBetween any old new (Ok x) P → PerformsWhereBetween old new Allows Q (Ok answer)
 where_answered old new x answer Allows P Q f it = then_ok old new x answer _ _ (λ h s held allowed. (s, f s allowed (h s held).0, held_on old new s (h s held).1 held)) it
 
 -- a query, and a change
-pub where_changed : {A : Type 0} (old mid new : State) (x : A) (u : Unit {0}) (answer : Answer) (Allows : Broker → Type 0) (P : A → Broker → Type 0) (Next : Broker → Broker → Type 0) (Q : Broker → Transition → Type 0)
-    → ((s : Broker) → Allows s → P x s → (t : Broker) × Next s t × Q s (record { answer = answer; state = t })) → QueriesBetween old mid (Ok x) P → ChangesBetween mid new (Ok u) Next → PerformsWhereBetween old new Allows Q (Ok answer)
+pub where_changed : {A : Type 0} {any : Bool} (old mid new : State) (x : A) (u : Unit {0}) (answer : Answer) (Allows : Broker → Type 0) (P : A → Broker → Type 0) (Next : Broker → Broker → Type 0) (Q : Broker → Transition → Type 0)
+    → ((s : Broker) → Allows s → P x s → (t : Broker) × Next s t × Q s (record { answer = answer; state = t })) → QueriesBetween any old mid (Ok x) P → ChangesBetween mid new (Ok u) Next → PerformsWhereBetween old new Allows Q (Ok answer)
 where_changed old mid new x u answer Allows P Next Q f one two =
     then_ok old new u answer (λ _. (s : Broker) → Holds old.now s → Allows s → (t : Broker) × Q s (record { answer = answer; state = t }) × HoldsAfter enough old new t) _ (λ h. h)
-    (seq old mid new x (Ok u) _ _ _ (λ p b q s held allowed. let first = p s held in let next = f s allowed first.0 in (next.0, next.2, changed_on 2 (omega arith) old mid new next.0 first.1 (q s (stays_held old mid s first.1 held) next.0 next.1))) one two.call)
+    (seq old mid new x (Ok u) _ _ _ (λ p b q s held allowed. let first = p s held in let next = f s allowed first.0 in (next.0, next.2, changed_on 2 (omega arith) old mid new next.0 first.1 (q s (stays_held old mid s first.1 held) next.0 next.1))) one two)
 
 -- changes that answer
 pub where_told : {A : Type 0} (taken : ℕ) → taken ≤ enough → (old new : State) (x : A) (answer : Answer) (Allows Takes : Broker → Type 0) (Next : A → Broker → Broker → Type 0) (Q : Broker → Transition → Type 0)
     → ((s : Broker) → Allows s → Takes s × ((t : Broker) → Next x s t → Q s (record { answer = answer; state = t }))) → AnswersTakingBetween taken old new (Ok x) Takes Next → PerformsWhereBetween old new Allows Q (Ok answer)
 where_told taken few old new x answer Allows Takes Next Q f it =
-    then_ok old new x answer _ _ (λ h s held allowed. let go = f s allowed in let next = h s held go.0 in (next.0, go.1 next.0 next.1, changed_alone taken few old new next.0 next.2)) it.call
+    then_ok old new x answer _ _ (λ h s held allowed. let go = f s allowed in let next = h s held go.0 in (next.0, go.1 next.0 next.1, changed_alone taken few old new next.0 next.2)) it
 
 -- a change that answers, and another change
 pub where_told_then : {A : Type 0} (old mid new : State) (x : A) (u : Unit {0}) (answer : Answer) (taken : ℕ) → 2 + taken ≤ enough → (Allows Takes Then : Broker → Type 0) (Next : A → Broker → Broker → Type 0) (Last : Broker → Broker → Type 0) (Q : Broker → Transition → Type 0)
@@ -131,4 +110,4 @@ where_told_then old mid new x u answer taken few Allows Takes Then Next Last Q f
     let first = p s held go.0 in
     let more = go.1 first.0 first.1 in
     let last = q first.0 first.2.0 more.0 in
-    (last.0, more.1 last.0 last.1, (last.2.0, takes_more (2 + taken) enough few old.now new.now (takes_then 2 taken old.now mid.now new.now first.2.1 last.2.1)))) one.call two.call)
+    (last.0, more.1 last.0 last.1, (last.2.0, takes_more (2 + taken) enough few old.now new.now (takes_then 2 taken old.now mid.now new.now first.2.1 last.2.1)))) one two)

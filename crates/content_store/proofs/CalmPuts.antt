@@ -14,8 +14,8 @@ counted old mid count read s held = read (hex_of sha256) s.contents (contents_he
 pub calm_then : {A B : Type 0} (old mid new : State) (a : A) (r : Result B StoreFault) (P : A → Type 0) (Q : B → Type 0) (TooBig : Type 0) (Allows Then : Broker → Type 0) → CallsStoreBetween old mid (Ok a) P → CallsStoreBetween mid new r Q
     → (P a → (s : Broker) → Holds old.now s → Allows s → Then s × (mid.now ≡ old.now)) → IsCalmUnlessBetween mid new r [] TooBig Then → IsCalmUnlessBetween old new r [] TooBig Allows
 calm_then old mid new a r P Q TooBig Allows Then one two more calm clean s here allowed room =
-    let mid_clean : HasCleanDisk mid = omega (arith, two.call.survives.clean, clean) in
-    let on = one.call.goes_on mid_clean here.inside in
-    let told = more (one.call.ok mid_clean) s here.held allowed in
-    let now : HoldsOpen mid s = record { inside = on.0; unlimited = one.call.survives.limit ∙ here.unlimited; held = subst (λ d. Holds d s) (sym told.1) here.held } in
-    IfErr-weaker r _ _ (λ e why. ended_since old mid new e on one.call.survives.counts why) (calm clean s now told.0 room)
+    let mid_clean : HasCleanDisk mid = omega (arith, two.survives.clean, clean) in
+    let on = one.goes_on mid_clean here.inside in
+    let told = more (one.ok mid_clean) s here.held allowed in
+    let now : HoldsOpen mid s = record { inside = on.0; unlimited = one.survives.limit ∙ here.unlimited; held = subst (λ d. Holds d s) (sym told.1) here.held } in
+    IfErr-weaker r _ _ (λ e why. ended_since old mid new e on one.survives.counts why) (calm clean s now told.0 room)

@@ -13,9 +13,9 @@ use Rattle.sqlite_value.{specs.declared.keys.Key.{Key}, proofs.OrderLemmas.{then
 use Rattle.sqlite_rules.{specs.{Lists.{Has}, Edit.{is_taken}}, proofs.TableLemmas.{int_is}}
 use Rattle.sqlite_tied.specs.Compute.{everything}
 use Rattle.table_access.specs.{Columns.{text, text_cmp, whole_at}, Statements.{from_table, up_to, newest, keeps, shows}, Sound.{IsNumbered}}
-use Rattle.table_access.proofs.{Values.{cast_null, cast_int}, Steps.{answered}, Newest.{newest_number}, Ordered.{selects_in_order}}
-use Rattle.table_access.proofs.{Keys.{ascending_on, by_text}, Maps.{looks_up_at}, Parts.{numbers_once, number_part, where_last}}
-use Rattle.table_access.proofs.SoundLemmas.{text_at, has_place, at_has, all_of}
+use Rattle.table_access.proofs.{Values.{cast_null, cast_int}, Steps.{answered}, Newest.{newest_number}, Ordered.{selects_in_order}, Members.{ascending_on}}
+use Rattle.table_access.proofs.{Keys.{by_text}, Maps.{looks_up_at}, Parts.{numbers_once, number_part, where_last}}
+use Rattle.table_access.proofs.{SoundLemmas.{text_at, has_place, at_has, all_of}, ReadLemmas.{option_map_twice}}
 use Rattle.broker_tables.specs.{Schema.{in_contents, broker_schema}, Numbers.{numbered}, Holds.{IsBroker, Holds, with_digest}, Rows.{rows_of}}
 use Rattle.broker_tables.proofs.{Inserted.{EndsOnly, Puts, inserted, insert_ends, next_counted}, Newest.{newest as newest_count}, Asked.{Asked, IsShown}}
 use Rattle.broker_tables.proofs.{Frames.{meant, frame_of, Frame, is_other, still_broker}, Placed.{contents, contents_there}, NextRow.{next_row}}
@@ -126,10 +126,6 @@ candidates dg db rows broker h =
     up : IsAscending (λ a b. by_query a b ≡ Less) kept
     up = ascending-filter (λ a b. by_query a b ≡ Less) (keeps of_digest (Text dg ∷ [])) (db.trees in_contents.tree) (ascending_on _ _ (db.trees in_contents.tree) (λ a b ha hb less. then-Equal (value_cmp (column a in_contents.number) (column b in_contents.number)) ∙ less) (numbered_rows db broker).0)
 
-mapped_twice : {X Y Z : Type 0} (f : Y → Z) (g : X → Y) (o : Option X) → option_map f (option_map g o) ≡ option_map (λ x. f (g x)) o
-mapped_twice f g None = refl
-mapped_twice f g (Some x) = refl
-
 module _ (digest : List ℕ → List ℕ) (body dg : List ℕ) (is : digest body ≡ dg) where
   abbrev Entry : Type 0
   Entry = ℤ × (List ℕ × List ℕ)
@@ -161,8 +157,6 @@ module _ (digest : List ℕ → List ℕ) (body dg : List ℕ) (is : digest body
   first_from : (m : ℕ) (p : Row → Bool) (rows : List Row) (texts : List (List ℕ)) → AllByRecursion (λ r. p r ≡ eq_by_cmp text_cmp dg (text in_contents.digest r)) rows
       → map entry rows ≡ map {B = Entry} (λ e. (pos e.0, e.1)) (enumerate_from m (map (with_digest_by digest) texts)) → Finds m (filter p rows) texts
   first_from m p [] [] tests h = refl
-  first_from m p [] (t ∷ texts) tests h = absurd (let e = h in cc)
-  first_from m p (r ∷ rows) [] tests h = absurd (let e = h in cc)
   first_from m p (r ∷ rows) (t ∷ texts) tests h = go (p r) refl (same_text body t) refl (first_from (m + 1) p rows texts tests.1 (ap rest_of h))
     where
       one : entry r ≡ (pos m, (digest t, t))
@@ -182,20 +176,20 @@ module _ (digest : List ℕ → List ℕ) (body dg : List ℕ) (is : digest body
           let clash : true ≡ false = sym tied ∙ sym tests.0 ∙ e in cc)
       go true e false f later = rw (hits, f, ← next) later
       go false e false f later = rw (f, ← next) later
+  first_from m p _ _ tests h = absurd (let e = h in cc)
 
   pub number_found : (db : Database) (rows : List Row) (texts : List (List ℕ)) (found : Option ℕ) → ContentsBy digest db texts → IsShown (sharing dg) db rows
       → option_map (λ n. Int (pos n)) found ≡ option_map (λ row. column row 0) (first (λ row. same_text body (text 1 row)) rows) → found ≡ found_in texts body
   number_found db rows texts found held h read =
-      named found (is_among texts body) (sym (mapped_twice id_in (λ n. Int (pos n)) found) ∙ ap (option_map id_in) read ∙ mapped_twice id_in (λ row. column row 0) (first has_text rows)
+      named found (is_among texts body) (sym (option_map_twice id_in (λ n. Int (pos n)) found) ∙ ap (option_map id_in) read ∙ option_map_twice id_in (λ row. column row 0) (first has_text rows)
       ∙ ap (λ rs. option_map (whole_at 0) (first has_text rs)) (candidates dg db rows held.broker h)
       ∙ first_from 1 (keeps of_digest (Text dg ∷ [])) (db.trees in_contents.tree) texts
       (by_text (db.trees in_contents.tree) in_contents.digest dg (digests db held.broker)) held.are)
     where
       named : (x : Option ℕ) (b : Bool) → option_map pos x ≡ cond b (Some (pos (place texts + 1))) None → x ≡ cond b (Some (place texts + 1)) None
-      named None true e = absurd cc
       named None false e = refl
       named (Some n) true e = let same : n ≡ place texts + 1 = cc in ap Some same
-      named (Some n) false e = absurd cc
+      named _ _ e = absurd cc
 
 -- ---- a text is put under the next number
 

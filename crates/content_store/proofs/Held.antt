@@ -3,7 +3,7 @@ use Rattle.std.specs.{Prelude.{⊤}, List.{AllByRecursion}}
 use Rattle.std.proofs.Common.{◌≡◌, ℕ, Option, Some, None, List, [], ◌∷◌, ◌++◌, map, Bool, true, false, not, ◌||◌, cond, codes, refl, sym, ◌∙◌, Result, arith}
 use Rattle.sqlite.specs.{Table.{Table}, Effect.{Database}, State.{State}}
 use Rattle.sha2.specs.Sha256.{sha256}
-use Rattle.table_access.{specs.{declared.StoreFault.{StoreFault}, Calls.{CallsTablesBetween, CallsStoreBetween}}, proofs.CallLemmas.{call_with, statement_with}}
+use Rattle.table_access.{specs.{declared.StoreFault.{StoreFault}, Calls.{CallsTablesBetween, CallsStoreBetween}}, proofs.CallLemmas.{call_with}}
 use Rattle.broker_core.specs.{Text.{Text, same_text}, State.{State as Broker}, Change.{is_stored, content_number, stored}}
 use Rattle.broker_tables.specs.{Schema.{broker_schema}, Rows.{rows_of}, Holds.{Holds, HoldsAfter, IsRead, QueriesBetween, ChangesAndAnswersBetween}}
 use Rattle.broker_tables.proofs.{Frames.{Frame, is_other, contents_change}, QueryLemmas.{stays_held}, RoomLemmas.{takes_none, after_one}}
@@ -19,7 +19,7 @@ pub read_held : {A : Type 0} (old new : State) (P : A → List Text → Type 0) 
 read_held old new P a read s held = read s.contents (contents_held old.now s held)
 
 -- a query about the contents, by whatever digest, answers of those of the state that the database holds
-pub reads_held : {A : Type 0} (old new : State) (r : Result A StoreFault) (P : A → List Text → Type 0) → CallsTablesBetween old new r (IsReadByAny old new P) → QueriesBetween old new r (λ a s. P a s.contents)
+pub reads_held : {A : Type 0} (old new : State) (r : Result A StoreFault) (P : A → List Text → Type 0) → CallsTablesBetween old new r (IsReadByAny old new P) → QueriesBetween true old new r (λ a s. P a s.contents)
 reads_held old new r P = call_with old new r _ _ (λ a read. read_held old new P a (read (hex_of sha256)))
 
 -- ---- a text is put
@@ -51,7 +51,7 @@ put_held old new s body number held put = (put.number_is, after_one 2 (omega ari
 
 -- a text that is put, if there is room for it, gets its number in the state, and the state with it stored is held afterwards
 pub puts_if_room_held : (old new : State) (r : Result (Option ℕ) StoreFault) (body : Text) → CallsStoreBetween old new r (IsPutIfRoom (hex_of sha256) body old new) → ChangesAndAnswersBetween old new r (λ s. ⊤) (StoresIfRoom body)
-puts_if_room_held old new r body = statement_with old new r _ _ by_found
+puts_if_room_held old new r body = call_with old new r _ _ by_found
   where
     by_found : (found : Option ℕ) → IsPutIfRoom (hex_of sha256) body old new found → (s : Broker) → Holds old.now s → ⊤ → (t : Broker) × StoresIfRoom body found s t × HoldsAfter 2 old new t
     by_found (Some number) puts s held free =

@@ -1,19 +1,11 @@
 -- Texts and their numbers.
-use Rattle.std.specs.{List.{position_or_len}, Cmp.{eq_by_cmp_equiv, Equal-is}, Cmp.Lexicographic.{texts_ties, nat_list_cmp_total}}
-use Rattle.std.proofs.Common.{◌≡◌, ◌<◌, ◌↔◌, ℕ, cond, List, [], ◌∷◌, ◌++◌, length, true, false, true≢false, Bool, IsTrue, ◌||◌, refl, sym, ap, subst, ◌∙◌, arith}
+use Rattle.std.specs.List.{position_or_len}
+use Rattle.std.proofs.Common.{◌≡◌, ◌<◌, ◌↔◌, ℕ, cond, List, [], ◌∷◌, ◌++◌, length, true, false, true≢false, Bool, IsTrue, ◌||◌, refl, sym, ap, subst, arith}
 use Rattle.std.proofs.lemmas.Bool.{lt-ltb, le-ltb}
-use Rattle.table_access.specs.Columns.{text_cmp}
 use Rattle.broker_core.specs.{Text.{Text, same_text}, Limit.{limit, HasRoom, has_room}}
-use Rattle.broker_tables.proofs.Orders.{exact_texts}
 use Rattle.content_store.specs.Contents.{is_among, with_text}
-
--- texts that are the same by their bytes are equal
-pub same_is : (a b : Text) → same_text a b ≡ true → a ≡ b
-same_is a b e = exact_texts a b ((Equal-is (text_cmp a b)).0 (sym (texts_ties a b) ∙ e))
-
--- a text is the same as itself by its bytes
-pub same_itself : (a : Text) → same_text a a ≡ true
-same_itself a = texts_ties a a ∙ (eq_by_cmp_equiv nat_list_cmp_total).refl a
+-- texts that are the same by their bytes are equal, and a text is the same as itself
+pub use Rattle.broker_core.proofs.Judgement.{text_is as same_is, text_refl as same_itself}
 
 -- a text that isn't there gets the next number
 pub none_before : (texts : List Text) (body : Text) → is_among texts body ≡ false → position_or_len (same_text body) texts ≡ length texts

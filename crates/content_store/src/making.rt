@@ -2,7 +2,7 @@
 ghost use Rattle.std.specs.Prelude.{◌≡◌, ◌∷◌, []};
 ghost use Rattle.table_access.specs.Calls.{CallsStore};
 ghost use Rattle.table_access.specs.Statements.{Makes, Indexes};
-ghost use Rattle.broker_tables.specs.Making.{HasNoRows, IsCalmOver};
+ghost use Rattle.broker_tables.specs.Making.{HasShortKeys, IsCalmOver};
 ghost use Rattle.broker_tables.specs.Schema.{registry_part, contents, schema_of, all_tables, contents_by_digest};
 
 use broker_tables::create::{CONTENTS, CONTENTS_BY_DIGEST};
@@ -34,7 +34,7 @@ pub fn make_index<S: Alter>(conn: &mut Connection<S>) -> Result<(), StoreFault>
         Indexes old.now new.now
         contents_by_digest.0 contents_by_digest.1) }
     ensures calm { IsCalmOver S.Store conn.old conn.new result
-        (λ db. (db.schema ≡ schema_of all_tables) × HasNoRows db) }
+        (λ db. (db.schema ≡ schema_of all_tables) × HasShortKeys db) }
 {
     make_each(conn, &[CONTENTS_BY_DIGEST])
 }

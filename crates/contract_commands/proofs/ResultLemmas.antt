@@ -2,9 +2,9 @@
 use Rattle.std.specs.{Prelude.{option_map, if◌then◌else◌}, Option.{option_map_or}}
 use Rattle.std.proofs.Common.{◌≡◌, ℕ, ◌+◌, ◌==◌, List, [], ◌∷◌, ◌++◌, length, Bool, true, false, ◌&&◌, is_some, Option, Some, None, refl, sym, ap, subst, ◌∙◌, ◌≤◌, Ok, Result, arith}
 use Rattle.sqlite.specs.State.{State as Connection}
-use Rattle.table_access.{specs.declared.StoreFault.{StoreFault}, proofs.CallLemmas.{statement_ok, statement_seq}}
-use Rattle.broker_tables.specs.{Calm.{CalmQueriesInPlaceBetween}, Holds.{AnswersTakingBetween}, Numbers.{number_of}}
-use Rattle.broker_tables.proofs.{QueryLemmas.{stays_held, in_store}, RoomLemmas.{takes_none}, NumberLemmas.{number_ties}, Ties.{nat_ties}}
+use Rattle.table_access.{specs.declared.StoreFault.{StoreFault}, proofs.CallLemmas.{then_ok, seq}}
+use Rattle.broker_tables.{specs.{Calm.{CalmQueriesBetween}, Holds.{AnswersTakingBetween}, Numbers.{number_of}}, proofs.QueryLemmas.{stays_held}}
+use Rattle.broker_tables.proofs.{RoomLemmas.{takes_none}, NumberLemmas.{number_ties}, Ties.{nat_ties}}
 use Rattle.command_facts.proofs.PerformLemmas.{after_read}
 use Rattle.broker_core.specs.{Text.{Text, same_bool, same_version, version}, State.{State, Verification}, Limit.{has_room}}
 use Rattle.broker_core.specs.Change.{Transition, unchanged_with, named, can_name, report, result_of_run, says_same}
@@ -174,19 +174,19 @@ module _ (s t : State) (provider : Text) (r : Report) (found : Finding) (p : Tex
 -- ---- calls that a report makes
 
 -- what was read is told, and nothing changes
-pub told_read : {A B : Type 0} (old new : Connection) (a : A) (b : B) (P : A → State → Type 0) (Allows : State → Type 0) (Next : B → State → State → Type 0) → ((s : State) → Allows s → P a s → Next b s s) → CalmQueriesInPlaceBetween old new (Ok a) P → AnswersTakingBetween 4 old new (Ok b) Allows Next
+pub told_read : {A B : Type 0} (old new : Connection) (a : A) (b : B) (P : A → State → Type 0) (Allows : State → Type 0) (Next : B → State → State → Type 0) → ((s : State) → Allows s → P a s → Next b s s) → CalmQueriesBetween false old new (Ok a) P → AnswersTakingBetween 4 old new (Ok b) Allows Next
 told_read old new a b P Allows Next f it =
-    statement_ok old new a b _ _ (λ read s held may. let first = read s held in (s, f s may first.0, (stays_held old new s first.1 held, takes_none 4 old.now new.now first.1))) (in_store old new (Ok a) P it)
+    then_ok old new a b _ _ (λ read s held may. let first = read s held in (s, f s may first.0, (stays_held old new s first.1 held, takes_none 4 old.now new.now first.1))) it.call
 
 -- what was read allows changes
 pub then_taken : {A B : Type 0} (old mid new : Connection) (a : A) (r : Result B StoreFault) (P : A → State → Type 0) (Allows Then : State → Type 0) (Next Last : B → State → State → Type 0)
-    → ((s : State) → Allows s → P a s → Then s × ((b : B) (t : State) → Next b s t → Last b s t)) → CalmQueriesInPlaceBetween old mid (Ok a) P → AnswersTakingBetween 4 mid new r Then Next → AnswersTakingBetween 4 old new r Allows Last
+    → ((s : State) → Allows s → P a s → Then s × ((b : B) (t : State) → Next b s t → Last b s t)) → CalmQueriesBetween false old mid (Ok a) P → AnswersTakingBetween 4 mid new r Then Next → AnswersTakingBetween 4 old new r Allows Last
 then_taken old mid new a r P Allows Then Next Last f one two =
-    statement_seq old mid new a r _ _ _ (λ read b puts s held may.
+    seq old mid new a r _ _ _ (λ read b puts s held may.
     let first = read s held in
     let go = f s may first.0 in
     let made = puts s (stays_held old mid s first.1 held) go.0 in
-    (made.0, go.1 b made.0 made.1, after_read 4 old mid new made.0 first.1 made.2)) (in_store old mid (Ok a) P one) two
+    (made.0, go.1 b made.0 made.1, after_read 4 old mid new made.0 first.1 made.2)) one.call two
 
 -- ---- the version that a report is of
 

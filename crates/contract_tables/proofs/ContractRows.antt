@@ -14,7 +14,7 @@ use Rattle.table_access.specs.{Columns.{text, text_cmp, whole_at, by_both}, Soun
 use Rattle.table_access.{specs.{Statements.{from_table, from_both, by_two, keeps, keeps_both}, Reading.{AreRead}}, proofs.Values.{cast_null, cast_int}}
 use Rattle.table_access.proofs.{Steps.{answered}, Maps.{looks_up_at, puts_at, find_has, has_find}, Keys.{apart_by}}
 use Rattle.table_access.proofs.Parts.{Part, text_part, whole_part, is_param, where_last, where_and, all_where, agree_last, agree_and, once}
-use Rattle.table_access.proofs.{SoundLemmas.{at_has, text_at, whole_in, has_place}, ReadLemmas.{number_found}}
+use Rattle.table_access.proofs.{SoundLemmas.{at_has, text_at, whole_in, has_place}, ReadLemmas.{number_found, same_numbers}}
 use Rattle.broker_core.specs.{Text.{Text as Words, version, put_at, same_text, same_version, same_pair}, declared.command.Version.{Version}, Listing.{Lists}}
 use Rattle.broker_core.specs.{Machine.{version_cmp}, State.{State as Broker}}
 use Rattle.broker_tables.specs.{Schema.{in_versions, in_contracts}, Rows.{value_at}, Numbers.{number_of}, Holds.{Holds, HoldsAfter, IsBroker}}
@@ -22,11 +22,10 @@ use Rattle.broker_tables.specs.Refusals.{HaveNumbers}
 use Rattle.broker_tables.proofs.VersionRows.{whole_test, text_test, version_number, versions_numbered, owners, names, row_number, find_version, one_row, by_number, same_version as one_version}
 use Rattle.broker_tables.proofs.{Frames.{frame_of, contracts_change}, Orders.{marked_total, exact_marked, exact_texts, exact_pair}, Ties.{both_eq, two_tests}}
 use Rattle.broker_tables.proofs.{Standing.{stands_found}, RoomLemmas.{after_one, grows_added, number_for}, NumberLemmas.{number_ties, version_unknown}}
-use Rattle.broker_tables.proofs.{Placed.{contracts, contracts_there}, Asked.{Asked, IsShown}}
+use Rattle.broker_tables.proofs.{Placed.{contracts, contracts_there}, References.{leads}, Asked.{Asked, IsShown}}
 use Rattle.broker_tables.proofs.Inserted.{EndsOnly, Puts, inserted, next_ends, new_text, new_whole, free_two, version_there, pacticipant_there}
 use Rattle.contract_tables.specs.{declared.listings.Contract.{Contract}, Listings.{contract_cmp, IsContractRow, IsConsumerRow}}
-use Rattle.contract_tables.proofs.ReferredRows.{leads, number_there, has_content}
-use Rattle.contract_tables.proofs.ItemLists.{and_tests, last_test, last_text, first_less, list_rows, list_pairs}
+use Rattle.contract_tables.proofs.{ReferredRows.{number_there, has_content}, ItemLists.{and_tests, last_test, last_text, first_less, list_rows, list_pairs}}
 
 abbrev pub key : Row → ℤ × List ℕ
 key r = (whole_at in_contracts.version_number r, text in_contracts.provider r)
@@ -66,21 +65,9 @@ pub content : (n : ℕ) (p : List ℕ) → Asked (codes "SELECT content FROM con
 unfolding understood everything
 content n p = record { names = _; means = record { is = refl; plain = (refl, refl); unlisted = refl }; runs = record { whole = refl; typed = refl; sumless = refl } }
 
-pub map_twice : {A B C : Type 0} (f : A → B) (g : B → C) (o : Option A) → option_map g (option_map f o) ≡ option_map (λ a. g (f a)) o
-map_twice f g None = refl
-map_twice f g (Some a) = refl
-
 pub map_cond : {A B : Type 0} (f : A → B) (b : Bool) (a : A) (o : Option A) → option_map f (cond b (Some a) o) ≡ cond b (Some (f a)) (option_map f o)
 map_cond f true a o = refl
 map_cond f false a o = refl
-
-pub whole_pos : (o : Option ℕ) → option_map whole (option_map pos o) ≡ o
-whole_pos None = refl
-whole_pos (Some n) = refl
-
--- numbers are equal where the columns hold the same
-pub named : (a b : Option ℕ) → option_map pos a ≡ option_map pos b → a ≡ b
-named a b e = sym (whole_pos a) ∙ ap (option_map whole) e ∙ whole_pos b
 
 -- what the state has is what the row has
 pub held_content : (db : Database) (s : Broker) (v : Version) (n : ℕ) (p : List ℕ) → Holds db s → number_of s.versions v ≡ Some n → content_at (db.trees in_contracts.tree) n p ≡ option_map pos (s.contracts (v, p))
@@ -88,7 +75,7 @@ held_content db s v n p held is = sym (ap (option_and_then (λ k. content_at (db
 
 pub content_found : (n : ℕ) (p : List ℕ) (db : Database) (s : Broker) (v : Version) → Holds db s → number_of s.versions v ≡ Some n → (rows : List Row) → IsShown (content n p) db rows
     → (found : Option ℕ) → option_map (λ n. Int (pos n)) found ≡ option_map (λ r. column r 0) (slice_get rows 0) → found ≡ s.contracts (v, p)
-content_found n p db s v held is rows h found read = named found (s.contracts (v, p)) (
+content_found n p db s v held is rows h found read = same_numbers found (s.contracts (v, p)) (
     number_found found rows read
     ∙ looks_up_at marked_total exact_marked key (whole_at in_contracts.content) _ (whole_at 0) (λ r. refl) (pos n, p) _ (db.trees in_contracts.tree) rows
     (all_where (by_both int_cmp text_cmp) (db.trees in_contracts.tree) key (pos n, p) (by_two in_contracts.version_number in_contracts.provider) (Int (pos n) ∷ Text p ∷ []) (by_key db held.broker n p)) (keys db held.broker)
@@ -101,7 +88,7 @@ module _ (db : Database) (s : Broker) (held : Holds db s) (v : Version) (n : ℕ
   pub row_content : (r : Row) (p : List ℕ) (content : ℕ) → Has (db.trees in_contracts.tree) r → whole_at in_contracts.version_number r ≡ pos n
       → text in_contracts.provider r ≡ p → whole_at in_contracts.content r ≡ pos content
       → s.contracts (v, p) ≡ Some content
-  row_content r p content has number provider told = named (s.contracts (v, p)) (Some content) (
+  row_content r p content has number provider told = same_numbers (s.contracts (v, p)) (Some content) (
       sym (held_content db s v n p held is)
       ∙ ap (value_at (by_both int_cmp text_cmp) key (whole_at in_contracts.content) (db.trees in_contracts.tree)) (λ i. (sym number i, sym provider i))
       ∙ has_find marked_total exact_marked key (whole_at in_contracts.content) (db.trees in_contracts.tree) r (keys db held.broker) has ∙ ap Some told
@@ -267,5 +254,5 @@ module _ (n : ℕ) (p : List ℕ) (content : ℕ) (old new : State) (s : Broker)
             (sym (stands_found (by_both int_cmp text_cmp) key (whole_at in_contracts.content) rows (pos n, p)) ∙ ap is_some none),
         tt,
       )
-      (version_there old.now s held made in_contracts.version_number v n is refl, (pacticipant_there old.now s held made in_contracts.provider p known refl, (number_there _ old.now made in_contracts.content content refl (leads in_contracts.content).0 (has_content old.now s held content low high), tt)))
+      (version_there old.now s held made in_contracts.version_number v n is refl, (pacticipant_there old.now s held made in_contracts.provider p known refl, (number_there _ old.now made in_contracts.content content refl (leads in_contracts.content).1 (has_content old.now s held content low high), tt)))
       (p ∷ []) (λ are. (tt, (are.0, (tt, tt)))) (omega arith) (omega arith)

@@ -1,34 +1,22 @@
 -- The rows that a new row refers to by a number are there.
 use Rattle.std.specs.{Prelude.{is_some}, Ordering.{eq_by_cmp, int_cmp}, Cmp.{eq_by_cmp_equiv, int_cmp_total}, FinMap.{int_cmp-IsAntisymmetric}}
 use Rattle.std.specs.{FinMap.Entries.{find}, Cmp.Lexicographic.{nat_list_cmp_total}}
-use Rattle.std.proofs.Common.{◌≡◌, ◌==◌, inl, ℕ, pos, ◌-◌, ◌<◌, ◌≤◌, List, [], ◌∷◌, map, length, true, refl, sym, ap, ◌∙◌, slice_get, Some, None, codes, arith, IsTrue}
-use Rattle.std.proofs.{lemmas.Bool.{cond-false, ne_eqb, or_right, and_from}, lemmas.List.{length-map}, lemmas.Option.{slice_get-get_or}}
+use Rattle.std.proofs.Common.{◌≡◌, ◌==◌, inl, ℕ, pos, ◌-◌, ◌<◌, ◌≤◌, List, [], map, length, true, refl, sym, ap, ◌∙◌, slice_get, Some, None, codes, arith, IsTrue}
+use Rattle.std.proofs.{lemmas.Bool.{cond-false, ne_eqb}, lemmas.List.{length-map}, lemmas.Option.{slice_get-get_or}}
 use Rattle.sqlite.specs.{declared.types.Value.TheVariants.{Int}, Order.{Row, column}, Tree.{rowid}, Effect.{Database}, Collation.TheVariants.{Binary}}
-use Rattle.sqlite_value.specs.{declared.keys.Order.{Order}, Keys.{first_key}}
-use Rattle.sqlite_schema.specs.Rules.{agree, equal, has_parent, is_held, parent_key}
+use Rattle.sqlite_schema.specs.Rules.{equal, has_parent}
 use Rattle.sqlite_rules.proofs.{ListLemmas.{some_from}, TableLemmas.{int_is}}
-use Rattle.sqlite_tied.specs.Compute.{everything}
 use Rattle.table_access.{specs.Columns.{text, text_cmp, whole_at}, proofs.{Values.{same_ints}, Maps.{find_has}, SoundLemmas.{at_has, has_place}}}
 use Rattle.broker_core.specs.{State.{State as Broker}, declared.command.Version.{Version}}
-use Rattle.broker_tables.specs.{Schema.{in_pacticipants, in_versions, in_contents, in_results, broker_schema, to}, Holds.{Holds, with_digest}}
-use Rattle.broker_tables.{specs.Numbers.{number_of}, proofs.{Placed.{contents, contents_there, versions, versions_there}, References.{refers_pacticipant}}}
+use Rattle.broker_tables.specs.{Schema.{in_pacticipants, in_versions, in_contents, broker_schema, to}, Holds.{Holds, with_digest}, Numbers.{number_of}}
+use Rattle.broker_tables.proofs.{Placed.{contents, contents_there, versions, versions_there}, References.{LeadsTo, refers_pacticipant}, Inserted.{stands}}
 use Rattle.broker_tables.proofs.{Standing.{stands_found}, VersionRows.{find_version, version_number, owners}, ByNumber.{by_number}}
 use Rattle.contract_tables.specs.Verified.{HasRowWith}
 
--- a reference to the numbers of a table leads to the table at this tree
-abbrev IsTo : ℕ → List ℕ → ℕ → Type 0
-IsTo p parent tree = (o : Order) × (parent_key broker_schema.tables (to p parent (codes "number")) ≡ Some (tree, 0 ∷ [], o)) × ((first_key o).collation ≡ Binary)
-
-pub leads : (p : ℕ) → IsTo p (codes "contents") in_contents.tree × IsTo p (codes "versions") in_versions.tree × IsTo p (codes "results") in_results.tree
-unfolding everything
-leads p = ((_, refl, refl), (_, refl, refl), (_, refl, refl))
-
 -- the row is there that a reference to this number leads to
-pub number_there : {tree : ℕ} (parent : List ℕ) (db : Database) (made : Row) (p n : ℕ) → column made p ≡ Int (pos n) → IsTo p parent tree → HasRowWith tree n db → has_parent broker_schema.tables db.trees made (to p parent (codes "number")) ≡ true
-number_there {tree} parent db made p n refer (o, keyed, binary) (r, has, id) =
-    let tied : equal (first_key o).collation (column r 0) (column made p) ≡ true =
-    (λ i. equal (binary i) (id i) (refer i)) ∙ same_ints (pos n) (pos n) ∙ (eq_by_cmp_equiv int_cmp_total).refl (pos n) in
-    or_right _ _ (ap (is_held db.trees (p ∷ []) made) keyed ∙ some_from (λ x. agree o (0 ∷ []) x (p ∷ []) made) (db.trees tree) r has (and_from _ _ tied refl))
+pub number_there : {tree : ℕ} (parent : List ℕ) (db : Database) (made : Row) (p n : ℕ) → column made p ≡ Int (pos n) → LeadsTo p parent (codes "number") tree 0 → HasRowWith tree n db → has_parent broker_schema.tables db.trees made (to p parent (codes "number")) ≡ true
+number_there {tree} parent db made p n refer leads (r, has, id) =
+    stands db made p parent (codes "number") tree 0 leads r has ((λ i. equal Binary (id i) (refer i)) ∙ same_ints (pos n) (pos n) ∙ (eq_by_cmp_equiv int_cmp_total).refl (pos n))
 
 module _ (db : Database) (s : Broker) (held : Holds db s) where
   -- a content of the state

@@ -1,11 +1,11 @@
 -- The results by their numbers, and by their runs.
 use Rattle.std.specs.{Prelude.{option_map, is_some}, List.{AllByRecursion, last_or, enumerate_from}, Ordering.{eq_by_cmp, int_cmp}}
-use Rattle.std.specs.{Cmp.{int_cmp_total, eq_by_cmp_equiv, Equal-is}, FinMap.{int_cmp-IsAntisymmetric}, FinMap.Entries.{find}}
+use Rattle.std.specs.{Cmp.{int_cmp_total, eq_by_cmp_equiv}, FinMap.{int_cmp-IsAntisymmetric}, FinMap.Entries.{find}}
 use Rattle.std.specs.Cmp.Lexicographic.{nat_list_cmp_total, texts_ties}
 use Rattle.std.proofs.Common.{◌≡◌, ◌==◌, ◌+◌, ◌-◌, ◌≤◌, inl, inr, ℕ, ℤ, pos, codes, List, [], ◌∷◌, map, filter, length, Bool, true, false, cond, ◌&&◌, refl, sym, ap, subst, ◌∙◌, slice_get, unwrap_or, Some, None, Option, arith}
 use Rattle.std.proofs.{lemmas.Bool.{false_from_ne_true, and_from, and_left, and_right}, lemmas.List.{length-map}, lemmas.Option.{slice_get-map}}
 use Rattle.std.proofs.Math.Bool.{and-true}
-use Rattle.sqlite.specs.{Tree.{IsAscending}, Edit.{id_in}, declared.types.Value.{Value}, declared.types.Value.TheVariants.{Null, Int, Real, Text, Blob}}
+use Rattle.sqlite.specs.{Tree.{IsAscending}, Edit.{id_in}, declared.types.Value.{Value}, declared.types.Value.TheVariants.{Null, Int, Text}}
 use Rattle.sqlite.specs.{Order.{Row, column, value_cmp}, Term.{Term, col}, Collation.TheVariants.{Binary}, Schema.{Schema}, Effect.{Database}}
 use Rattle.sqlite.specs.{State.{State, Shown}, Listing.{understood}}
 use Rattle.sqlite_tied.specs.Compute.{everything}
@@ -15,17 +15,16 @@ use Rattle.sqlite_trees.proofs.ListLemmas.{filter_same}
 use Rattle.sqlite_value.specs.Keys.{plain, first_key}
 use Rattle.sqlite_rules.{specs.Lists.{Has}, proofs.ListLemmas.{has_kept}}
 use Rattle.sqlite_keyed.proofs.{ListLemmas.{filter-map, ascending-filter}, RuleLemmas.{first_of_both, second_of_both}}
-use Rattle.table_access.specs.{Columns.{text, text_cmp, whole_at}, Sound.{IsNumbered, whole}, Statements.{from_table, by_two, up_to, newest, keeps, shows}}
+use Rattle.table_access.specs.{Columns.{text, whole_at}, Sound.{IsNumbered, whole}, Statements.{from_table, by_two, up_to, newest, keeps, shows}}
 use Rattle.table_access.proofs.{Steps.{answered}, Newest.{newest_number}, Maps.{looks_up_at, find_has, few_permuted}}
-use Rattle.table_access.proofs.{Parts.{number_part, is_param, where_last, all_where, numbers_once}, Values.{same_texts}, Keys.{apart_by}, Members.{filter_has}}
-use Rattle.table_access.proofs.SoundLemmas.{at_has, text_at, has_place, all_of}
+use Rattle.table_access.proofs.{Parts.{number_part, is_param, where_last, all_where, numbers_once}, Values.{same_texts, equal_text}, Keys.{apart_by}}
+use Rattle.table_access.proofs.{Members.{filter_has}, SoundLemmas.{at_has, text_at, has_place, all_of}, ReadLemmas.{option_map_twice, whole_pos}}
 use Rattle.broker_core.specs.{Text.{same_text}, Change.{is_text, result_of_run}, State.{State as Broker, Verification}}
 use Rattle.broker_tables.specs.{Schema.{in_results, in_checked_results}, Rows.{truth, truth_in, value_at, stands_at, text_or_null}, Numbers.{number_of}}
 use Rattle.broker_tables.{specs.Holds.{Holds, IsBroker, ResultRow, result_in, result_of}, proofs.{Frames.{meant}, Standing.{stands_found, value_map}}}
 use Rattle.broker_tables.proofs.{Placed.{results, results_there, checked_results, checked_results_there}, ByNumber.{by_number}, Newest.{newest_result}}
-use Rattle.broker_tables.proofs.{Asked.{Asked, IsShown}, Inserted.{IsFree}, Orders.{exact_texts}, Ties.{two_tests}}
+use Rattle.broker_tables.proofs.{Asked.{Asked, IsShown}, Inserted.{IsFree}, Ties.{two_tests}}
 use Rattle.contract_tables.specs.Verified.{Cells, cells, cells_of, ByNumbers, by_numbers, numbers_are, result_with, run_value}
-use Rattle.contract_tables.proofs.ContractRows.{map_twice, whole_pos}
 
 module _ (db : Database) (broker : IsBroker db) where
   pub numbered_rows : IsNumbered (db.trees in_results.tree)
@@ -75,9 +74,9 @@ pass_found n db rows s found held h read =
     let rising = numbered_rows db held.broker in
     let looked = looks_up_at int_cmp_total int_cmp-IsAntisymmetric (whole_at 0) (truth in_results.pass) _ (truth 0) (λ r. refl) (pos n) _ all rows (of_number all rising n) (numbers_once all rising)
     (answered db _ in_results.tree _ _ _ rows h) in
-    sym (map_twice (λ n. Int (pos n)) truth_in found) ∙ ap (option_map truth_in) read ∙ map_twice (λ row. column row 0) truth_in (slice_get rows 0)
+    sym (option_map_twice truth_in (λ n. Int (pos n)) found) ∙ ap (option_map truth_in) read ∙ option_map_twice truth_in (λ row. column row 0) (slice_get rows 0)
     ∙ looked ∙ sym (value_map int_cmp (whole_at 0) (λ (r : ResultRow). r.pass) (result_in (db.trees in_checked_results.tree)) all (pos n))
-    ∙ ap (option_map (λ (r : ResultRow). r.pass)) (result_at db s n held) ∙ map_twice (result_of s.versions) (λ (r : ResultRow). r.pass) (result_with s n)
+    ∙ ap (option_map (λ (r : ResultRow). r.pass)) (result_at db s n held) ∙ option_map_twice (λ (r : ResultRow). r.pass) (result_of s.versions) (result_with s n)
 
 -- ---- whether the broker checked it
 
@@ -110,22 +109,8 @@ run p u = record { names = _; means = record { is = refl; plain = (refl, refl); 
 
 text_test : (v : Value) (u : List ℕ) → is_true (binary (Compare Eq Binary) v (Text u)) ≡ is_text u (text_or_null v)
 unfolding binary value_cmp
-text_test Null u = refl
-text_test (Int n) u = refl
-text_test (Real x) u = refl
 text_test (Text t) u = same_texts t u ∙ sym (texts_ties t u)
-text_test (Blob b) u = refl
-
--- SQL finds it equal to a text just where it is this text
-is_that_text : (v : Value) (u : List ℕ) → is_true (binary (Compare Eq Binary) v (Text u)) ≡ true → v ≡ Text u
-is_that_text v u same = is_it v (sym (text_test v u) ∙ same)
-  where
-    is_it : (w : Value) → is_text u (text_or_null w) ≡ true → w ≡ Text u
-    is_it Null e = absurd cc
-    is_it (Int n) e = absurd cc
-    is_it (Real x) e = absurd cc
-    is_it (Text t) e = ap Text (exact_texts t u ((Equal-is (text_cmp t u)).0 (sym (texts_ties t u) ∙ e)))
-    is_it (Blob b) e = absurd cc
+text_test _ u = refl
 
 -- ---- lists
 
@@ -137,11 +122,9 @@ numbered_map f n (x ∷ xs) = ap (λ more. (pos n, f x) ∷ more) (numbered_map 
 module _ {X Y Z : Type 0} (f : X → Z) (g : Y → Z) where
   one_of : (xs : List X) (ys : List Y) → length xs ≤ 1 → map f xs ≡ map g ys → option_map f (slice_get xs 0) ≡ option_map g (last_or None ys)
   one_of [] [] few same = refl
-  one_of [] (y ∷ ys) few same = absurd (let e = ap length same in cc)
-  one_of (x ∷ []) [] few same = absurd (let e = ap length same in cc)
   one_of (x ∷ []) (y ∷ []) few same = cc
-  one_of (x ∷ []) (y ∷ z ∷ ys) few same = absurd (let e = ap length same in cc)
   one_of (x ∷ w ∷ xs) ys few same = absurd (omega (arith, few))
+  one_of _ _ few same = absurd (let e = ap length same in cc)
 
 -- ---- the rows of a run
 
@@ -160,7 +143,7 @@ module _ (db : Database) (broker : IsBroker db) (p u : List ℕ) where
 
   texts : (r : Row) → keeps (by_two in_results.provider in_results.run) params r ≡ true
       → (column r in_results.provider ≡ Text p) × (column r in_results.run ≡ Text u)
-  texts r test = (is_that_text (column r in_results.provider) p (first_of_both _ _ test), is_that_text (column r in_results.run) u (first_of_both _ true (second_of_both _ _ test)))
+  texts r test = (equal_text (column r in_results.provider) p (first_of_both _ _ test), equal_text (column r in_results.run) u (first_of_both _ true (second_of_both _ _ test)))
 
   -- rows of one run of one provider have one key
   alike : (a b : Row) → keeps (by_two in_results.provider in_results.run) params a ≡ true → keeps (by_two in_results.provider in_results.run) params b ≡ true
@@ -172,9 +155,8 @@ module _ (db : Database) (broker : IsBroker db) (p u : List ℕ) where
       and_from _ _ (tied (column a in_results.provider) (column b in_results.provider) p one.0 two.0) (and_from _ _ (tied (column a in_results.run) (column b in_results.run) u one.1 two.1) refl)
 
   at_most_one : (rows : List Row) → ((r : Row) → Has rows r → keeps (by_two in_results.provider in_results.run) params r ≡ true) → IsAscending (λ a b. agree plain (in_results.provider ∷ in_results.run ∷ []) a (in_results.provider ∷ in_results.run ∷ []) b ≡ false) rows → length rows ≤ 1
-  at_most_one [] all apart = omega arith
-  at_most_one (a ∷ []) all apart = omega arith
   at_most_one (a ∷ b ∷ rows) all apart = absurd (let hit = alike a b (all a (inl refl)) (all b (inr (inl refl))) in let miss = apart.0.0 in cc)
+  at_most_one _ all apart = omega arith
 
   few : length kept ≤ 1
   few = at_most_one kept (λ r has. (filter_has (keeps (by_two in_results.provider in_results.run) params) (db.trees in_results.tree) r has).1)
@@ -216,10 +198,7 @@ module _ (db : Database) (broker : IsBroker db) (p u : List ℕ) where
 null_apart : (v : Value) → equal Binary v Null ≡ false
 unfolding binary value_cmp
 null_apart Null = refl
-null_apart (Int n) = refl
-null_apart (Real x) = refl
-null_apart (Text t) = refl
-null_apart (Blob b) = refl
+null_apart _ = refl
 
 -- so no row has the key of a result of this run
 pub run_free : (db : Database) (s : Broker) → Holds db s → (p : List ℕ) (run : Option (List ℕ)) → result_of_run s p run ≡ None → (made : Row) → column made in_results.provider ≡ Text p → column made in_results.run ≡ run_value run → IsFree (db.trees in_results.tree) made (in_results.provider ∷ in_results.run ∷ [])
@@ -240,10 +219,10 @@ pub run_found : {X : Type 0} (number content version : X → ℕ) (pass : X → 
     → option_map (λ x. cells_of (number x) (content x) (version x) (pass x)) found ≡ option_map cells (slice_get rows 0)
     → option_map (λ x. numbers_are (number x) (content x) (version x) (pass x)) found ≡ option_map (by_numbers s.versions) (result_of_run s p (Some u))
 run_found number content version pass p u db rows s found held h read =
-    sym (map_twice (λ x. cells_of (number x) (content x) (version x) (pass x)) by_cells found) ∙ ap (option_map by_cells) read ∙ map_twice cells by_cells (slice_get rows 0)
+    sym (option_map_twice by_cells (λ x. cells_of (number x) (content x) (version x) (pass x)) found) ∙ ap (option_map by_cells) read ∙ option_map_twice by_cells cells (slice_get rows 0)
     ∙ ap (λ l. option_map (λ r. by_cells (cells r)) (slice_get l 0)) out ∙ ap (option_map (λ r. by_cells (cells r))) (slice_get-map shown all 0)
-    ∙ map_twice shown (λ r. by_cells (cells r)) (slice_get all 0) ∙ sym (map_twice (entry db held.broker p u) by_row (slice_get all 0))
-    ∙ ap (option_map by_row) (kept_is db held.broker p u s held) ∙ map_twice (as_row db held.broker p u s held) by_row (result_of_run s p (Some u))
+    ∙ option_map_twice (λ r. by_cells (cells r)) shown (slice_get all 0) ∙ sym (option_map_twice by_row (entry db held.broker p u) (slice_get all 0))
+    ∙ ap (option_map by_row) (kept_is db held.broker p u s held) ∙ option_map_twice by_row (as_row db held.broker p u s held) (result_of_run s p (Some u))
     ∙ (λ i. option_map (λ e. (e.0, e.1.content, whole_pos (number_of s.versions e.1.version) i, e.1.pass)) (result_of_run s p (Some u)))
   where
     all : List Row

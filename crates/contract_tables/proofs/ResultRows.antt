@@ -1,7 +1,7 @@
 -- The statements on results, on those that the broker checked, and on the latest ones.
 use Rattle.std.specs.{Prelude.{if◌then◌else◌, is_some}, Ordering.{eq_by_cmp, is_eq, int_cmp}, Cmp.{eq_by_cmp_equiv, Equal-is, int_cmp_total}}
-use Rattle.std.proofs.Common.{◌≡◌, ◌+◌, ◌<◌, ◌^◌, arith, IsTrue, map, inl, inr, ℕ, ℤ, pos, codes, List, [], ◌∷◌, Bool, true, false, ◌||◌, refl, sym, ap, subst, ◌∙◌, slice_get, Some, None, Option, Ok}
-use Rattle.std.proofs.{lemmas.Bool.{false_from_ne_true, lt-ltb}, lemmas.List.{length-map}}
+use Rattle.std.proofs.Common.{◌≡◌, ◌+◌, ◌<◌, ◌^◌, arith, IsTrue, map, inl, inr, ℕ, ℤ, pos, codes, List, [], ◌∷◌, Bool, true, false, refl, sym, ap, subst, ◌∙◌, slice_get, Some, None, Option, Ok}
+use Rattle.std.proofs.{lemmas.Bool.{false_from_ne_true, lt-ltb}, lemmas.List.{length-map}, Math.Bool.{or-false}}
 use Rattle.sqlite.specs.{Tree.{IsAscending, rowid}, Edit.{next_rowid, with_rowid}, Rowids.TheVariants.{Chosen}}
 use Rattle.sqlite.specs.{declared.types.Value.TheVariants.{Null, Int, Text}, Order.{Row, column, value_cmp}, Cast.{cast, cast_all, cast_row}, Term.{col, lit}}
 use Rattle.sqlite.specs.{Schema.{Schema}, Effect.{Database}, State.{State, Executes}, Listing.{understood}}
@@ -16,11 +16,11 @@ use Rattle.table_access.proofs.{Parts.{Part, whole_part, agree_last, agree_and, 
 use Rattle.broker_core.specs.State.{State as Broker}
 use Rattle.broker_tables.specs.{Schema.{in_results, in_latest, in_checked_results}, Rows.{stands_at}, Holds.{IsBroker, Holds, result_in, result_of}}
 use Rattle.broker_tables.{specs.Refusals.{AreShort}, proofs.Orders.{numbers_total, exact_numbers}}
-use Rattle.broker_tables.proofs.Placed.{results, results_there, checked_results, checked_results_there, latest, latest_there}
+use Rattle.broker_tables.proofs.{Placed.{results, results_there, checked_results, checked_results_there, latest, latest_there}, References.{leads}}
 use Rattle.broker_tables.proofs.Inserted.{EndsOnly, Puts, inserted, insert_ends, next_counted, new_whole, pacticipant_there, version_there}
 use Rattle.broker_tables.proofs.Upserted.{PutsOver, upserted, upsert_grows, upsert_ends}
 use Rattle.contract_tables.specs.Verified.{run_value, result_row, AllowsResult, AllowsMark, AllowsPoint, PutsRow, Points, texts_of}
-use Rattle.contract_tables.proofs.{ReferredRows.{leads, number_there, has_content, has_owner}, ResultLookups.{numbered_rows, marked_rows, run_free}}
+use Rattle.contract_tables.proofs.{ReferredRows.{number_there, has_content, has_owner}, ResultLookups.{numbered_rows, marked_rows, run_free}}
 use Rattle.sqlite.specs.Kind.TheVariants as kind
 
 -- ---- a result
@@ -63,9 +63,8 @@ cast_run None = refl
 passes : (number content : ℕ) (provider : List ℕ) (version : ℕ) (pass : Bool) (run : Option (List ℕ)) → PassAlone results (result_row number content provider version pass run ∷ [])
 unfolding binary value_cmp lib.Ieee.is_nan lib.Ieee.lt
 passes number content provider version true (Some run) = record { typed = refl; present = refl; checked = refl }
-passes number content provider version true None = record { typed = refl; present = refl; checked = refl }
 passes number content provider version false (Some run) = record { typed = refl; present = refl; checked = refl }
-passes number content provider version false None = record { typed = refl; present = refl; checked = refl }
+passes number content provider version _ _ = record { typed = refl; present = refl; checked = refl }
 
 short : (number content : ℕ) (provider : List ℕ) (version : ℕ) (pass : Bool) (run : Option (List ℕ)) → AreShort (texts_of provider run) → IsShortRow (result_row number content provider version pass run)
 short number content provider version pass (Some run) are = record { wide = omega arith; narrow = omega arith; short = (tt, (tt, (tt, (are.0, (tt, (tt, are.1)))))) }
@@ -96,7 +95,7 @@ module _ (number content : ℕ) (provider : List ℕ) (version : ℕ) (pass : Bo
               (next_counted (result_in (old.now.trees in_checked_results.tree)) (old.now.trees in_results.tree) (map (result_of s.versions) s.results) [] held.results (numbered_rows old.now held.broker)));
           free = (run_free old.now s held provider run unused made refl refl, tt);
           parents = (
-            number_there _ old.now made in_results.content content refl (leads in_results.content).0 (has_content old.now s held content low high),
+            number_there _ old.now made in_results.content content refl (leads in_results.content).1 (has_content old.now s held content low high),
             (pacticipant_there old.now s held made in_results.provider provider (subst (λ p. IsTrue (is_some (s.pacticipants p))) owner (has_owner old.now s held v version numbered)) refl, (version_there old.now s held made in_results.provider_version v version numbered refl, tt)),
           );
         }) (texts_of provider run) (short number content provider version pass run)
@@ -191,10 +190,6 @@ point_puts c v n = record {
   fits = refl;
 }
 
-pub or_false : (b : Bool) → (b || false) ≡ b
-or_false true = refl
-or_false false = refl
-
 module _ (c v n : ℕ) (old new : State) (broker : IsBroker old.now) where
   abbrev params : Row
   params = Int (pos c) ∷ Int (pos v) ∷ Int (pos n) ∷ []
@@ -211,7 +206,7 @@ module _ (c v n : ℕ) (old new : State) (broker : IsBroker old.now) where
   meets : (r : Row) → Has rows r → conflicts (Some (in_latest.content ∷ in_latest.provider_version ∷ [])) old.now.schema.indexes latest it r ≡ eq_by_cmp (by_both int_cmp int_cmp) (pos c, pos v) (key r)
   meets r has =
       ap (λ (s : Schema). conflicts (Some (in_latest.content ∷ in_latest.provider_version ∷ [])) s.indexes latest it r) broker.schema
-      ∙ or_false (agree plain (in_latest.content ∷ in_latest.provider_version ∷ []) r (in_latest.content ∷ in_latest.provider_version ∷ []) it)
+      ∙ or-false (agree plain (in_latest.content ∷ in_latest.provider_version ∷ []) r (in_latest.content ∷ in_latest.provider_version ∷ []) it)
       ∙ agree_keys (it ∷ rows) (new_whole rows it 1 (contents old.now broker) refl) (new_whole rows it 2 (versions old.now broker) refl) r it (inr has) (inl refl)
       ∙ (eq_by_cmp_equiv numbers_total).symm (key r) (pos c, pos v)
 
@@ -234,5 +229,5 @@ module _ (c v n : ℕ) (old new : State) (broker : IsBroker old.now) where
   pub point_ends : AllowsPoint c v n old.now → EndsOnly [] point_sql params old new
   point_ends (content, version, result, room) =
       upsert_ends (point_puts c v n) point_stored old new broker (latest_there old.now broker) point_set room.0 (λ id. record { typed = refl; present = refl; checked = refl }) (λ id.
-      (number_there _ old.now (id ∷ params) in_latest.content c refl (leads in_latest.content).0 content, (number_there _ old.now (id ∷ params) in_latest.provider_version v refl (leads in_latest.provider_version).1 version, (number_there _ old.now (id ∷ params) in_latest.result n refl (leads in_latest.result).2 result, tt))))
+      (number_there _ old.now (id ∷ params) in_latest.content c refl (leads in_latest.content).1 content, (number_there _ old.now (id ∷ params) in_latest.provider_version v refl (leads in_latest.provider_version).0 version, (number_there _ old.now (id ∷ params) in_latest.result n refl (leads in_latest.result).2 result, tt))))
       [] (λ are. (tt, (tt, (tt, tt)))) (omega arith) (omega arith)

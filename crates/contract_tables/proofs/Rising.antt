@@ -11,12 +11,11 @@ module _ {X : Type 0} (key : X → ℕ) where
 
   pub sorted : (xs : List X) → rises xs → IsSortedBy (λ x y. is_lt (nat_cmp (key x) (key y))) xs
   unfolding IsStrictlySortedBy
-  sorted [] up k d low high = absurd (omega arith)
-  sorted (x ∷ []) up k d low high = absurd (omega arith)
   sorted (x ∷ y ∷ xs) up zero d low high = ap is_lt (nat_cmp_total.antisymm (key y) (key x) ∙ ap ordering_reverse up.0.0)
   sorted (x ∷ y ∷ xs) up (suc k) d low high =
       let next : suc k + 1 ≡ suc (k + 1) = omega arith in
       ap (λ n. is_lt (nat_cmp (key (get_or (x ∷ y ∷ xs) n d)) (key (get_or (y ∷ xs) k d)))) next ∙ sorted (y ∷ xs) up.1 k d (omega arith) (omega arith)
+  sorted _ up k d low high = absurd (omega arith)
 
   -- where a key is found, the element there has it
   pub found_at : (k : ℕ) (xs : List X) (i : ℕ) (d : X) → IsBinarySearchResult (λ y. nat_cmp (key y) k) xs (Ok i) → key (get_or xs i d) ≡ k

@@ -6,8 +6,7 @@ use Rattle.std.proofs.{lemmas.Bool.{eq-eqb, eqb-true}, lemmas.List.Sorted.{Conta
 use Rattle.sqlite_rules.{specs.Lists.{Has}, proofs.TableLemmas.{int_is}}
 use Rattle.sqlite_tied.specs.Compute.{everything}
 use Rattle.table_access.specs.{Columns.{whole_at}, Sound.{IsNumbered, whole}, Statements.{from_both, keeps_both}, Reading.{AreRead}}
-use Rattle.table_access.{specs.declared.StoreFault.{StoreFault}, proofs.SoundLemmas.{any_of, at_has}}
-use Rattle.table_access.proofs.Members.{has_pair, pair_has, any_has, contains_has, has_contains}
+use Rattle.table_access.proofs.{SoundLemmas.{any_of, at_has}, Members.{has_pair, pair_has, any_has, contains_has, has_contains}}
 use Rattle.broker_tables.specs.{Schema.{in_results, in_latest, in_checked_results}, Numbers.{number_of}, Holds.{Holds, ResultRow}}
 use Rattle.broker_tables.proofs.{VersionRows.{whole_test, by_number}, Asked.{Asked, IsShown}, Listed.{lists_read}}
 use Rattle.contract_tables.specs.{declared.lookups.NumberedPass.{NumberedPass}, declared.told_versions.NamedResult.{NamedResult}}
@@ -16,8 +15,8 @@ use Rattle.contract_tables.specs.ToldVersions.{verified_cmp, named_cmp, IsNumber
 use Rattle.contract_tables.proofs.{ItemLists.{and_tests, last_test}, JoinRows.{pair_of, item_of_pair}, LastRow.{latest_with}}
 use Rattle.contract_tables.proofs.{ResultLookups.{numbered_rows, marked_rows}, ResultRows.{contents, numbers}, VerifiedList.{told_as, tells_row}}
 use Rattle.contract_tables.proofs.VersionResults.{result_row, row_result, mark_says, says_mark}
-use Rattle.broker_core.specs.{declared.command.Version.{Version}, declared.answer.Verified.{Verified}, declared.need.Latest.{Latest}, Listing.{Lists}}
-use Rattle.broker_core.specs.{Machine.{IsLatest}, State.{State as Broker, Verification, latest_result, said_by}, Text.{Text, text_cmp, version}}
+use Rattle.broker_core.specs.{declared.command.Version.{Version}, declared.answer.Verified.{Verified}, Listing.{Lists}, Machine.{IsLatest}}
+use Rattle.broker_core.specs.{State.{State as Broker, Verification, latest_result, said_by}, Text.{Text, text_cmp, version}}
 use Rattle.sqlite.specs.{Tree.{rowid}, Edit.{id_in}, declared.types.Value.TheVariants.{Int}, Order.{Row, column}, Term.{Term, col, op2, eval_all}}
 use Rattle.sqlite.specs.{Collation.TheVariants.{Binary}, Effect.{Database, Answers}, Listing.{understood}}
 use Rattle.sqlite_sql.specs.{declared.ops.BinaryOp.TheVariants.{Compare}, declared.ops.CompareOp.TheVariants.{Eq}}

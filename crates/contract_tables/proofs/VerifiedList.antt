@@ -1,5 +1,5 @@
 -- The rows of the latest results: by their keys, and the versions of a provider that have one for a content, listed.
-use Rattle.std.specs.{Prelude.{option_map, option_and_then, ◌↔◌}, Ordering.{eq_by_cmp, int_cmp, nat_cmp}, Cmp.{int_cmp_total}, FinMap.{int_cmp-IsAntisymmetric}}
+use Rattle.std.specs.{Prelude.{option_map, option_and_then, ◌↔◌}, Ordering.{eq_by_cmp, int_cmp}, Cmp.{int_cmp_total}}
 use Rattle.std.proofs.Common.{◌≡◌, ℕ, pos, codes, List, [], ◌∷◌, true, refl, sym, ap, ◌∙◌, slice_get, Some, None, Option}
 use Rattle.sqlite.specs.{Edit.{id_in}, declared.types.Value.TheVariants.{Int, Text}, Order.{Row, column}, Term.{Term, col, op2}, Collation.TheVariants.{Binary}}
 use Rattle.sqlite.specs.{Effect.{Database}, Listing.{understood}}
@@ -7,18 +7,16 @@ use Rattle.sqlite_sql.specs.{declared.ops.BinaryOp.TheVariants.{Compare}, declar
 use Rattle.sqlite_value.specs.Keys.{ascending}
 use Rattle.sqlite_rules.specs.Lists.{Has}
 use Rattle.sqlite_tied.specs.Compute.{everything}
-use Rattle.table_access.specs.{Columns.{text, text_cmp, whole_at, by_both}, Sound.{text_in, whole}}
-use Rattle.table_access.{specs.{Statements.{from_table, from_both, by_two, keeps, keeps_both}, Reading.{AreRead}}, proofs.Steps.{answered}}
-use Rattle.table_access.proofs.{Maps.{looks_up_at, find_has, has_find}, Parts.{whole_part, is_param, where_last, where_and, all_where}}
-use Rattle.table_access.proofs.ReadLemmas.{number_found}
+use Rattle.table_access.specs.{Columns.{text, whole_at, by_both}, Sound.{text_in, whole}, Statements.{from_table, from_both, by_two, keeps, keeps_both}}
+use Rattle.table_access.{specs.Reading.{AreRead}, proofs.{Steps.{answered}, Maps.{looks_up_at, find_has, has_find}}}
+use Rattle.table_access.proofs.{Parts.{whole_part, is_param, where_last, where_and, all_where}, ReadLemmas.{number_found, same_numbers, option_map_twice}}
 use Rattle.broker_core.specs.{declared.command.Version.{Version}, Listing.{Lists}, Text.{Text as Words, version}}
 use Rattle.broker_core.specs.State.{State as Broker, Verification, latest_result}
 use Rattle.broker_tables.{specs.{Schema.{in_versions, in_latest}, Rows.{value_at}, Numbers.{number_of}, Holds.{Holds, IsBroker}}, proofs.Asked.{Asked, IsShown}}
 use Rattle.broker_tables.proofs.VersionRows.{whole_test, text_test, by_number, version_number, versions_numbered, owners, names, same_version, row_number, find_version, one_row}
 use Rattle.broker_tables.proofs.Orders.{exact_texts, numbers_total, exact_numbers}
 use Rattle.contract_tables.specs.{declared.told_versions.NamedResult.{NamedResult}, ToldVersions.{named_cmp, IsNamedRow}, Verified.{latest_at}}
-use Rattle.contract_tables.proofs.ItemLists.{and_tests, last_test, last_text, last_number, first_less, less_nat, list_rows, list_pairs}
-use Rattle.contract_tables.proofs.{ContractRows.{map_twice, named}, ResultRows.{key, keys, contents, versions, latest_numbered}}
+use Rattle.contract_tables.proofs.{ItemLists.{and_tests, last_test, last_text, list_pairs}, ResultRows.{key, keys, contents, versions, latest_numbered}}
 
 -- ---- the number of a latest result
 
@@ -62,12 +60,12 @@ module _ (db : Database) (s : Broker) (held : Holds db s) (v : Version) (n : ℕ
 
 pub newest_found : (c n : ℕ) (db : Database) (s : Broker) (v : Version) → Holds db s → number_of s.versions v ≡ Some n → (rows : List Row) → IsShown (newest c n) db rows
     → (found : Option ℕ) → option_map (λ n. Int (pos n)) found ≡ option_map (λ r. column r 0) (slice_get rows 0) → found ≡ option_map (λ e. e.0) (latest_result s c v)
-newest_found c n db s v held is rows h found read = named found (option_map (λ e. e.0) (latest_result s c v)) (
+newest_found c n db s v held is rows h found read = same_numbers found (option_map (λ e. e.0) (latest_result s c v)) (
     number_found found rows read
     ∙ looks_up_at numbers_total exact_numbers key (whole_at in_latest.result) _ (whole_at 0) (λ r. refl) (pos c, pos n) _ (db.trees in_latest.tree) rows
     (all_where (by_both int_cmp int_cmp) (db.trees in_latest.tree) key (pos c, pos n) (by_two in_latest.content in_latest.provider_version) (Int (pos c) ∷ Int (pos n) ∷ []) (by_key db held.broker c n)) (keys db held.broker)
     (answered db _ in_latest.tree _ _ _ rows h)
-    ∙ held_latest db s held v n is c ∙ sym (map_twice (λ e. e.0) pos (latest_result s c v))
+    ∙ held_latest db s held v n is c ∙ sym (option_map_twice pos (λ e. e.0) (latest_result s c v))
     )
 
 -- ---- the versions of a provider

@@ -1,5 +1,5 @@
 -- The latest results, joined with those of their results and with the marks: all of one version, and that for one content.
-use Rattle.std.specs.{Prelude.{Contains, option_map, IsSorted, ◌↔◌}, List.Sorted.{IsStrictlySortedBy}, Ordering.{eq_by_cmp, int_cmp, nat_cmp}}
+use Rattle.std.specs.{Prelude.{Contains, option_map, IsSorted, ◌↔◌}, Ordering.{eq_by_cmp, int_cmp, nat_cmp}}
 use Rattle.std.specs.{Cmp.{int_cmp_total, Equal-is, eq_by_cmp_equiv, both_ways}, FinMap.{int_cmp-IsAntisymmetric}}
 use Rattle.std.proofs.Common.{◌≡◌, ◌==◌, inl, ℕ, pos, codes, List, [], ◌∷◌, map, Bool, true, refl, sym, ap, subst, ◌∙◌, slice_get, Some, None, Option}
 use Rattle.std.proofs.lemmas.Bool.{eq-eqb, eqb-true}
@@ -11,6 +11,7 @@ use Rattle.sqlite_rules.{specs.Lists.{Has}, proofs.TableLemmas.{int_is}}
 use Rattle.sqlite_tied.specs.Compute.{everything}
 use Rattle.table_access.{specs.{Columns.{whole_at}, Sound.{IsNumbered, whole}, Statements.{from_both, keeps_both}, Reading.{AreRead}}, proofs.Maps.{find_has}}
 use Rattle.table_access.proofs.{Members.{has_pair, any_has, contains_has, has_contains}, Parts.{numbers_once}, SoundLemmas.{any_of, at_has}}
+use Rattle.table_access.proofs.ReadLemmas.{option_map_twice}
 use Rattle.broker_core.specs.{declared.command.Version.{Version}, Listing.{Lists}, State.{State as Broker, Verification, latest_result, latest, said_by}}
 use Rattle.broker_core.specs.declared.need.Latest.{Latest}
 use Rattle.broker_tables.specs.{Schema.{in_results, in_latest, in_checked_results}, Rows.{truth}, Numbers.{number_of}}
@@ -20,7 +21,7 @@ use Rattle.contract_tables.specs.VersionResults.{pass_cmp, latest_cmp, IsPassOf,
 use Rattle.contract_tables.specs.Verified.{result_with, PassCells, pass_cells, pass_of, Passed, passed_of, passed_as}
 use Rattle.contract_tables.specs.{declared.version_results.ContentPass.{ContentPass}, declared.version_results.LatestResult.{LatestResult}}
 use Rattle.contract_tables.proofs.{ItemLists.{and_tests, last_test, last_number, less_nat, list_pairs}, JoinRows.{pair_shown}, LastRow.{latest_with}}
-use Rattle.contract_tables.proofs.{Rising.{sorted as in_order}, ContractRows.{map_twice}, VerifiedList.{told_as, row_tells, tells_row}}
+use Rattle.contract_tables.proofs.{Rising.{sorted as in_order}, VerifiedList.{told_as, row_tells, tells_row}}
 use Rattle.contract_tables.proofs.{ResultLookups.{numbered_rows, marked_rows, result_at}, ResultRows.{key, keys, contents, versions, numbers, latest_numbered}}
 
 -- ---- the two statements
@@ -276,7 +277,7 @@ pub join_found : {X : Type 0} (number : X → ℕ) (pass : X → Bool) (content 
     → IsShown (join content n) db rows → option_map (λ x. pass_of (number x) (pass x)) found ≡ option_map pass_cells (slice_get rows 0)
     → option_map (λ x. passed_as (number x) (pass x)) found ≡ option_map passed_of (latest_result s content v)
 join_found number pass content n db rows found s v held is h read =
-    sym (map_twice (λ x. pass_of (number x) (pass x)) by_cells found) ∙ ap (option_map by_cells) read ∙ first rows h
+    sym (option_map_twice by_cells (λ x. pass_of (number x) (pass x)) found) ∙ ap (option_map by_cells) read ∙ first rows h
   where
     by_cells : PassCells → Passed
     by_cells c = passed_as (whole (id_in c.0)) c.1

@@ -2,7 +2,7 @@
 ghost use Rattle.std.specs.Prelude.{◌≡◌, ◌++◌, ◌∷◌, []};
 ghost use Rattle.table_access.specs.Calls.{CallsStore};
 ghost use Rattle.table_access.specs.Statements.{Creates, Makes, MakesIndexes, indexed_by};
-ghost use Rattle.broker_tables.specs.Making.{HasNoRows, IsCalmOver};
+ghost use Rattle.broker_tables.specs.Making.{HasShortKeys, IsCalmOver};
 ghost use Rattle.broker_tables.specs.Schema.{registry_part, contents, contract_part, deploy_part, checked_results, schema_of, all_tables, contents_by_digest, contract_indexes};
 
 use broker_tables::create::{
@@ -53,7 +53,7 @@ pub fn make_indexes<S: Alter>(conn: &mut Connection<S>) -> Result<(), StoreFault
         (λ _ old new. old.now.schema ≡ indexed_by (schema_of all_tables) (contents_by_digest ∷ []) →
         MakesIndexes contract_indexes old.now new.now) }
     ensures calm { IsCalmOver S.Store conn.old conn.new result
-        (λ db. (db.schema ≡ indexed_by (schema_of all_tables) (contents_by_digest ∷ [])) × HasNoRows db) }
+        (λ db. (db.schema ≡ indexed_by (schema_of all_tables) (contents_by_digest ∷ [])) × HasShortKeys db) }
 {
     make_each(conn, &[CONTRACTS_BY_CONTENT, LATEST_BY_PROVIDER_VERSION])
 }

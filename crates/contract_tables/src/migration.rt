@@ -3,6 +3,7 @@ ghost use Rattle.std.specs.Prelude.{◌∷◌, []};
 ghost use Rattle.table_access.specs.Calls.{CallsStore};
 ghost use Rattle.broker_core.specs.State.{State as Broker};
 ghost use Rattle.broker_tables.specs.Schema.{checked_results};
+ghost use Rattle.broker_tables.specs.Making.{IsCalmOver};
 ghost use Rattle.broker_tables.specs.Former.{HoldsFormer, HoldsUnmarked, former_format};
 
 use crate::making::make_checked_results;
@@ -13,11 +14,13 @@ use table_access::StoreFault;
 /// its sender. All other tables keep their rows.
 ///
 /// # Errors
-/// `StoreFault::Memory` if the database is out of memory; `StoreFault::Store` if it refused the table.
+/// `StoreFault::Memory` if the database is out of memory; `StoreFault::Store` if it refused the table,
+/// which of a database of format 1 that holds a state is only if the store failed.
 pub fn to_format_2<S: Alter>(conn: &mut Connection<S>) -> Result<(), StoreFault>
-    ensures { CallsStore S.Store conn.old conn.new result
+    ensures makes { CallsStore S.Store conn.old conn.new result
         (λ _ old new. (s : Broker) → HoldsFormer old.now s →
         HoldsUnmarked former_format (checked_results ∷ []) new.now s) }
+    ensures calm { IsCalmOver S.Store conn.old conn.new result (λ db. (s : Broker) × HoldsFormer db s) }
 {
     make_checked_results(conn)
 }

@@ -15,7 +15,7 @@ use Rattle.sqlite.specs.{Edit.{id_in}, declared.types.Value.TheVariants.{Text}, 
 use Rattle.sqlite.specs.{Effect.{Database, Answers}, Listing.{understood}}
 use Rattle.sqlite_sql.specs.{declared.ops.BinaryOp.TheVariants.{Compare}, declared.ops.CompareOp.TheVariants.{Eq}, Ops.{binary, is_true}}
 use Rattle.table_access.specs.{Columns.{text, text_cmp, whole_at, by_both}, Statements.{from_both, keeps_both}, Reading.{AreRead}}
-use Rattle.table_access.proofs.{SoundLemmas.{has_place}, Maps.{find_has, has_find}, Members.{pair_has, has_pair}}
+use Rattle.table_access.proofs.{ReadLemmas.{same_numbers}, SoundLemmas.{has_place}, Maps.{find_has, has_find}, Members.{pair_has, has_pair}}
 use Rattle.broker_core.specs.{declared.command.Version.{Version}, Text.{Text as Words, version}, State.{State as Broker}, Gate.{Stands}}
 use Rattle.contract_tables.proofs.ContractRows as contract_rows
 
@@ -64,7 +64,7 @@ module _ (db : Database) (s : Broker) (held : Holds db s) (e p : Words) where
       let place : (pos it.0, p) ≡ contract_rows.key c = (λ i. (sym number i, sym provider i)) in
       let at : contract_rows.content_at (db.trees in_contracts.tree) it.0 p ≡ Some (whole_at in_contracts.content c) =
       ap (value_at (by_both int_cmp text_cmp) contract_rows.key (whole_at in_contracts.content) (db.trees in_contracts.tree)) place ∙ has_find marked_total exact_marked contract_rows.key (whole_at in_contracts.content) (db.trees in_contracts.tree) c (contract_rows.keys db held.broker) has in
-      (w, (it.0, it.1, number, λ content value. contract_rows.named (s.contracts (w, p)) (Some content) (sym (contract_rows.held_content db s w it.0 p held it.1) ∙ at ∙ ap Some value)))
+      (w, (it.0, it.1, number, λ content value. same_numbers (s.contracts (w, p)) (Some content) (sym (contract_rows.held_content db s w it.0 p held it.1) ∙ at ∙ ap Some value)))
 
   module _ (t place : ℕ) (Is : Version → Type 0) (names : Names db s t place e Is) where
     abbrev joins : Row → Row → Bool

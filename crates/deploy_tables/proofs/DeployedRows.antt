@@ -1,24 +1,21 @@
 -- The statements on what is deployed.
-use Rattle.std.specs.{Prelude.{option_map, is_some}, List.{list_any}, Option.{option_map_or}, Ordering.{eq_by_cmp, is_eq, int_cmp, ordering_then}}
-use Rattle.std.specs.{Cmp.{eq_by_cmp_equiv, Equal-is}, Cmp.Lexicographic.{nat_list_cmp_total}}
-use Rattle.std.proofs.Common.{◌≡◌, inl, inr, ℕ, ℤ, pos, codes, List, [], ◌∷◌, true, false, Bool, ◌&&◌, not, filter, nat_lt, Ordering, Less, Equal, Greater, Option, refl, sym, ap, ◌∙◌, cond, slice_get, Some, None, Ok}
-use Rattle.std.proofs.{lemmas.Cmp.{int_cmp_total}, Math.Bool.{and-true, and-false}}
+use Rattle.std.specs.{Prelude.{option_map, is_some}, List.{list_any}, Option.{option_map_or}, Ordering.{eq_by_cmp, int_cmp}, Cmp.{eq_by_cmp_equiv, Equal-is}}
+use Rattle.std.specs.Cmp.Lexicographic.{nat_list_cmp_total}
+use Rattle.std.proofs.Common.{◌≡◌, inl, inr, ℕ, ℤ, pos, codes, List, [], ◌∷◌, true, false, Bool, ◌&&◌, not, filter, nat_lt, Ordering, Option, refl, sym, ap, ◌∙◌, cond, slice_get, Some, None, Ok}
+use Rattle.std.proofs.{lemmas.Cmp.{int_cmp_total}, Math.Bool.{and-true, and-false, or-true, or-false}, lemmas.List.Folds.{list_all-append}}
 use Rattle.sqlite_schema.specs.Rules.{agree}
 use Rattle.sqlite_value.specs.Keys.{plain}
 use Rattle.sqlite_catalog.proofs.ListFacts.{filter_all}
 use Rattle.sqlite_tied.specs.Compute.{everything}
 use Rattle.table_access.specs.{Columns.{text, text_cmp, whole_at, by_both}, Statements.{from_table, keeps, shows, ChangesOnly}}
-use Rattle.table_access.proofs.Parts.{Part, text_part, whole_part, where_last, where_and, all_where, is_param, agree_last, agree_and, once}
-use Rattle.table_access.proofs.{Steps.{Means, answered, deletes, deletes_counted}, CountLemmas.{some_counted, same_any, any_never}}
-use Rattle.table_access.proofs.{Maps.{looks_up_at, has_find}, Keys.{apart_by}, SoundLemmas.{text_at, whole_in, has_place, at_has}, Changes.{upserts_at}}
-use Rattle.table_access.proofs.Values.{cast_int}
-use Rattle.broker_tables.{specs.{Schema.{in_deployed, broker_schema}, Rows.{value_at}, Holds.{IsBroker}}, proofs.{Frames.{meant}, Inserted.{new_text}}}
-use Rattle.broker_tables.proofs.{Asked.{Asked, IsShown}, Orders.{triples_total, exact_triple}, Standing.{stands_found, takes_at}, Ties.{both_eq}}
-use Rattle.broker_tables.proofs.{Placed.{deployed, deployed_there, calm}, RoomLemmas.{Grows, grows_kept}, Upserted.{PutsOver, upserted, upsert_grows}}
-use Rattle.contract_tables.proofs.ResultRows.{or_false}
+use Rattle.table_access.proofs.{Parts.{Part, text_part, whole_part, where_last, where_and, all_where, is_param, agree_last, agree_and, once}, Steps.{answered}}
+use Rattle.table_access.proofs.{CountLemmas.{some_counted, same_any, any_never}, Maps.{looks_up_at, has_find}, Keys.{apart_by}}
+use Rattle.table_access.proofs.{SoundLemmas.{text_at, whole_in, has_place, at_has}, Changes.{upserts_at}, Values.{cast_int}}
+use Rattle.broker_tables.{specs.{Schema.{in_deployed}, Rows.{value_at}, Holds.{IsBroker}}, proofs.{Inserted.{new_text}, Asked.{Asked, IsShown}}}
+use Rattle.broker_tables.proofs.{Orders.{triples_total, exact_triple}, Standing.{stands_found, takes_at}, Placed.{deployed, deployed_there}}
+use Rattle.broker_tables.proofs.{RoomLemmas.{Grows, grows_kept}, Upserted.{PutsOver, upserted, upsert_grows}, Removed.{TakesFrom, taken_from}}
 use Rattle.sqlite.specs.{Tree.{IsAscending, rowid}, Edit.{next_rowid}, declared.types.Value.TheVariants.{Null, Int, Text}, Order.{Row, column}}
-use Rattle.sqlite.specs.{Term.{Term, col, lit}, Command.{Command}, Command.TheVariants.{Delete}, Schema.{Schema}, Effect.{Database}, State.{State, Executes}}
-use Rattle.sqlite.specs.{Listing.{understood}, Cast.{cast_all}}
+use Rattle.sqlite.specs.{Term.{Term, col, lit, holds}, Schema.{Schema}, Effect.{Database}, State.{State, Executes}, Listing.{understood}, Cast.{cast_all}}
 use Rattle.sqlite_rules.specs.{Lists.{Has}, Keys.{conflicts}}
 
 -- an environment, a pacticipant and an instance
@@ -62,9 +59,9 @@ module _ (rows : List Row) (one : Part text_cmp Text rows in_deployed.environmen
       (agree_and nat_list_cmp_total rows in_deployed.pacticipant (text in_deployed.pacticipant) two text_cmp (text in_deployed.instance)
       (in_deployed.instance ∷ []) a b ha hb (agree_last nat_list_cmp_total rows in_deployed.instance (text in_deployed.instance) three a b ha hb))
 
-  pub where_place : (e p i : List ℕ) (r : Row) → Has rows r → keeps (is_param 1 0 ∷ is_param 2 1 ∷ is_param 3 2 ∷ []) (Text e ∷ Text p ∷ Text i ∷ []) r ≡ eq_by_cmp place_cmp (e, (p, i)) (place_of r)
-  where_place e p i r has =
-      let params = Text e ∷ Text p ∷ Text i ∷ [] in
+  where_place : (e p i : List ℕ) (more : Row) (r : Row) → Has rows r → keeps (is_param 1 0 ∷ is_param 2 1 ∷ is_param 3 2 ∷ []) (Text e ∷ Text p ∷ Text i ∷ more) r ≡ eq_by_cmp place_cmp (e, (p, i)) (place_of r)
+  where_place e p i more r has =
+      let params = Text e ∷ Text p ∷ Text i ∷ more in
       where_and nat_list_cmp_total rows in_deployed.environment (text in_deployed.environment) one (by_both text_cmp text_cmp) (λ r. (text in_deployed.pacticipant r, text in_deployed.instance r)) (p, i) (is_param 2 1 ∷ is_param 3 2 ∷ []) params 0 e refl r has
       (where_and nat_list_cmp_total rows in_deployed.pacticipant (text in_deployed.pacticipant) two text_cmp (text in_deployed.instance) i (is_param 3 2 ∷ []) params 1 p refl r has (where_last nat_list_cmp_total rows in_deployed.instance (text in_deployed.instance) three params 2 i refl r has))
 
@@ -91,7 +88,7 @@ number_found e p i db rows broker h =
     let params = Text e ∷ Text p ∷ Text i ∷ [] in
     looks_up_at triples_total exact_triple place_of (whole_at in_deployed.version_number) (shows (col 1 in_deployed.version_number ∷ []) params) (whole_at 0) (λ r. refl) (e, (p, i)) (keeps by_place params) (db.trees in_deployed.tree) rows
     (all_where place_cmp (db.trees in_deployed.tree) place_of (e, (p, i)) by_place params
-    (where_place (db.trees in_deployed.tree) (environments db broker) (pacticipants db broker) (instances db broker) e p i))
+    (where_place (db.trees in_deployed.tree) (environments db broker) (pacticipants db broker) (instances db broker) e p i []))
     (keys db broker) (answered db params in_deployed.tree by_place (col 1 in_deployed.version_number ∷ []) [] rows h)
 
 -- ---- a deployment
@@ -140,7 +137,7 @@ module _ (db : Database) (broker : IsBroker db) (e p i : List ℕ) (n : ℕ) whe
   meets : (r : Row) → Has there r
       → conflicts (Some (in_deployed.environment ∷ in_deployed.pacticipant ∷ in_deployed.instance ∷ [])) db.schema.indexes deployed it r ≡ eq_by_cmp place_cmp (e, (p, i)) (place_of r)
   meets r has =
-      ap (λ (s : Schema). conflicts (Some (in_deployed.environment ∷ in_deployed.pacticipant ∷ in_deployed.instance ∷ [])) s.indexes deployed it r) broker.schema ∙ or_false (agree plain (in_deployed.environment ∷ in_deployed.pacticipant ∷ in_deployed.instance ∷ []) r (in_deployed.environment ∷ in_deployed.pacticipant ∷ in_deployed.instance ∷ []) it)
+      ap (λ (s : Schema). conflicts (Some (in_deployed.environment ∷ in_deployed.pacticipant ∷ in_deployed.instance ∷ [])) s.indexes deployed it r) broker.schema ∙ or-false (agree plain (in_deployed.environment ∷ in_deployed.pacticipant ∷ in_deployed.instance ∷ []) r (in_deployed.environment ∷ in_deployed.pacticipant ∷ in_deployed.instance ∷ []) it)
       ∙ agree_places (it ∷ there) (new_text there it 1 (environments db broker).typed refl) (new_text there it 2 (pacticipants db broker).typed refl)
       (new_text there it 3 (instances db broker).typed refl) r it (inr has) (inl refl)
       ∙ (eq_by_cmp_equiv triples_total).symm (place_of r) (e, (p, i))
@@ -178,17 +175,9 @@ end_sql = codes "DELETE FROM deployed WHERE environment = ?1 AND pacticipant = ?
 abbrev pub by_version : List Term
 by_version = is_param 1 0 ∷ is_param 2 1 ∷ is_param 3 2 ∷ is_param 4 3 ∷ []
 
-abbrev pub end_command : Command
-end_command = Delete 11 (record { lets = []; body = from_table in_deployed.tree by_version (col 1 0 ∷ []) [] })
-
-pub end_text : Means broker_schema end_sql end_command
+pub ending : (e p i : List ℕ) (n : ℕ) → TakesFrom 11 deployed end_sql (Text e ∷ Text p ∷ Text i ∷ Int (pos n) ∷ []) by_version
 unfolding understood everything
-end_text = record { is = refl; plain = (refl, refl); unlisted = refl }
-
-then_assoc : (a b c : Ordering) → ordering_then a (ordering_then b c) ≡ ordering_then (ordering_then a b) c
-then_assoc Less b c = refl
-then_assoc Equal b c = refl
-then_assoc Greater b c = refl
+ending e p i n = record { means = record { is = refl; plain = (refl, refl); unlisted = refl }; runs = record { whole = refl; typed = refl; sumless = refl }; alone = refl; fits = λ b. or-true (not b) }
 
 module _ (db : Database) (broker : IsBroker db) (e p i : List ℕ) (n : ℕ) where
   abbrev place : Place
@@ -205,20 +194,8 @@ module _ (db : Database) (broker : IsBroker db) (e p i : List ℕ) (n : ℕ) whe
   where_version : (r : Row) → Has (db.trees in_deployed.tree) r → keeps by_version params r ≡ (eq_by_cmp place_cmp place (place_of r) && eq_by_cmp int_cmp (pos n) (whole_at in_deployed.version_number r))
   where_version r has =
       let rows = db.trees in_deployed.tree in
-      where_and nat_list_cmp_total rows in_deployed.environment (text in_deployed.environment) (environments db broker) (by_both text_cmp (by_both text_cmp int_cmp))
-      (λ x. (text in_deployed.pacticipant x, (text in_deployed.instance x, whole_at in_deployed.version_number x))) (p, (i, pos n))
-      (is_param 2 1 ∷ is_param 3 2 ∷ is_param 4 3 ∷ []) params 0 e refl r has
-      (where_and nat_list_cmp_total rows in_deployed.pacticipant (text in_deployed.pacticipant) (pacticipants db broker) (by_both text_cmp int_cmp)
-      (λ x. (text in_deployed.instance x, whole_at in_deployed.version_number x)) (i, pos n)
-      (is_param 3 2 ∷ is_param 4 3 ∷ []) params 1 p refl r has
-      (where_and nat_list_cmp_total rows in_deployed.instance (text in_deployed.instance) (instances db broker) int_cmp (whole_at in_deployed.version_number)
-      (pos n) (is_param 4 3 ∷ []) params 2 i refl r has
-      (where_last int_cmp_total rows in_deployed.version_number (whole_at in_deployed.version_number) (numbers db broker) params 3 (pos n) refl r has)))
-      ∙ ap is_eq (ap (ordering_then (text_cmp e (text in_deployed.environment r))) (then_assoc (text_cmp p (text in_deployed.pacticipant r))
-      (text_cmp i (text in_deployed.instance r)) (int_cmp (pos n) (whole_at in_deployed.version_number r)))
-      ∙ then_assoc (text_cmp e (text in_deployed.environment r)) (ordering_then (text_cmp p (text in_deployed.pacticipant r))
-      (text_cmp i (text in_deployed.instance r))) (int_cmp (pos n) (whole_at in_deployed.version_number r)))
-      ∙ sym (both_eq (place_cmp place (place_of r)) (int_cmp (pos n) (whole_at in_deployed.version_number r)))
+      list_all-append (holds (params ∷ r ∷ [])) by_place (is_param 4 3 ∷ [])
+      ∙ (λ j. where_place rows (environments db broker) (pacticipants db broker) (instances db broker) e p i (Int (pos n) ∷ []) r has j && where_last int_cmp_total rows in_deployed.version_number (whole_at in_deployed.version_number) (numbers db broker) params 3 (pos n) refl r has j)
 
   -- the number at the place decides for each row of it
   kept_at : (r : Row) → Has (db.trees in_deployed.tree) r → keeps by_version params r ≡ (eq_by_cmp place_cmp place (place_of r) && is_number n at_place)
@@ -265,13 +242,10 @@ pub ended : (e p i : List ℕ) (n : ℕ) (old new : State) (count : ℕ) → (br
 ended e p i n old new count broker h =
     let db = old.now in
     let params = Text e ∷ Text p ∷ Text i ∷ Int (pos n) ∷ [] in
-    let means = meant db broker end_sql end_text in
-    let numbered = at_has _ db.schema.tables deployed broker.kept.numbered (has_place _ 11 deployed (deployed_there db broker)) in
-    let it = deletes (codes "deployed") in_deployed.tree deployed.columns None (in_deployed.environment ∷ in_deployed.pacticipant ∷ in_deployed.instance ∷ []) deployed.uniques deployed.orders [] deployed.references end_sql params old new 11 (deployed_there db broker) by_version means (calm db broker) numbered count h in
-    let counted = deletes_counted (codes "deployed") in_deployed.tree deployed.columns None (in_deployed.environment ∷ in_deployed.pacticipant ∷ in_deployed.instance ∷ []) deployed.uniques deployed.orders [] deployed.references end_sql params old new 11 (deployed_there db broker) by_version means count h in (
+    let it = taken_from (ending e p i n) old new broker (deployed_there db broker) count h in (
       it.0,
       grows_kept (db.trees in_deployed.tree) (new.now.trees in_deployed.tree) _ it.1,
       λ b is q. left_at db broker e p i n b is (new.now.trees in_deployed.tree) it.1 q,
-      ap (nat_lt 0) counted ∙ some_counted (keeps by_version params) (db.trees in_deployed.tree)
+      ap (nat_lt 0) it.2 ∙ some_counted (keeps by_version params) (db.trees in_deployed.tree)
           ∙ any_kept db broker e p i n (is_number n (at_place db broker e p i n)) refl,
     )

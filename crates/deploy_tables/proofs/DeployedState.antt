@@ -12,7 +12,7 @@ use Rattle.deploy_tables.specs.ContractsThere.{IsDeployedIn}
 use Rattle.deploy_tables.proofs.DeployedRows.{Place, place_of, place_cmp, record_sql, row_for, recording, stored, set, recorded, end_sql, is_number, number_in, at_place, ended, environments, pacticipants, instances, numbers, keys}
 use Rattle.deploy_tables.proofs.VersionRows.{same_pos, joined_by, still_less, two_texts, tied_texts, Names, has_kept, is_kept, pairs_apart}
 use Rattle.broker_tables.specs.{Schema.{in_versions, in_deployed}, Numbers.{number_of}, Holds.{Holds, HoldsAfter}, Refusals.{HaveNumbers}}
-use Rattle.broker_tables.proofs.{VersionRows.{false_if, find_version, row_number}, Listed.{lists_join}, NumberLemmas.{one_version, number_ties}}
+use Rattle.broker_tables.proofs.{VersionRows.{false_if, find_version, row_number, numbered_as}, Listed.{lists_join}, NumberLemmas.{one_version, number_ties}}
 use Rattle.broker_tables.proofs.{Frames.{Frame, frame_of, deployed_change}, Inserted.{EndsOnly, environment_there, pacticipant_there, version_there}}
 use Rattle.broker_tables.proofs.{Placed.{deployed_there}, RoomLemmas.{Grows, after_one}, Upserted.{upsert_ends}, Orders.{exact_triple, triples_total}}
 use Rattle.broker_tables.proofs.{Ties.{two_tests, both_eq, nat_ties}, Asked.{Asked, IsShown}}
@@ -32,11 +32,7 @@ IsNumberOf vs p value there = (option_map Some value ≡ option_map (λ name. op
 pub named : (vs : List Version) (p : Words) (z : ℤ) (there : Option Words) → IsNumberOf vs p (Some z) there
     → (name : Words) × (there ≡ Some name) × ((k : ℕ) × (number_of vs (version p name) ≡ Some k) × (z ≡ pos k))
 named vs p z None h = absurd cc
-named vs p z (Some name) h = (name, refl, go (number_of vs (version p name)) (some_is (Some z) (option_map pos (number_of vs (version p name))) h))
-  where
-    go : (n : Option ℕ) → Some z ≡ option_map pos n → (k : ℕ) × (n ≡ Some k) × (z ≡ pos k)
-    go None e = absurd cc
-    go (Some k) e = (k, refl, cc)
+named vs p z (Some name) h = (name, refl, numbered_as z (number_of vs (version p name)) (some_is (Some z) (option_map pos (number_of vs (version p name))) h))
 
 -- and a version that is there has a number
 pub valued : (vs : List Version) (p name : Words) (value : Option ℤ) → IsNumberOf vs p value (Some name)

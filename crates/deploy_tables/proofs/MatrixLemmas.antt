@@ -1,8 +1,8 @@
 -- The rows of both sides, each once, are the matrix.
 use Rattle.std.specs.Cmp.{IsTotalOrder, IsEquivalence, eq_by_cmp_equiv, Equal-is}
-use Rattle.std.specs.{Prelude.{Option, Some, None, option_map, Contains, IsSomeAnd, MatchOption, ⊤, ◌↔◌, IsPermutation, IsSorted}, Ordering.{eq_by_cmp}}
+use Rattle.std.specs.{Prelude.{Option, Some, None, option_map, Contains, IsSomeAnd, MatchOption, ◌↔◌, IsPermutation, IsSorted}, Ordering.{eq_by_cmp}}
 use Rattle.std.specs.{List.{dedup}, declared.cmp.Ordering.{Ordering}, declared.cmp.Ordering.TheVariants.{Equal}}
-use Rattle.std.proofs.Common.{◌≡◌, ◌⊎◌, ℕ, List, [], ◌∷◌, ◌++◌, map, true, refl, sym, ◌∙◌, ap, subst, inl, inr, Bool}
+use Rattle.std.proofs.Common.{◌≡◌, ◌⊎◌, ℕ, List, [], ◌∷◌, ◌++◌, map, refl, sym, ◌∙◌, ap, subst, inl, inr, Bool}
 use Rattle.std.proofs.lemmas.List.Elements.{Contains-append_cases, Contains-append_left, Contains-append_right}
 use Rattle.std.proofs.lemmas.List.Sorted.{Contains-permutation, IsPermutation-sym}
 use Rattle.std.proofs.lemmas.List.Kept.{Any-dedup, Contains-from_dedup, IsStrictlySortedBy-dedup}
@@ -12,8 +12,7 @@ use Rattle.broker_core.specs.{Listing.{Lists}, declared.command.Version.{Version
 use Rattle.broker_core.specs.{declared.answer.Verified.{Verified}, Text.{Text, version}, State.{State, Verification, latest_result, said_by}}
 use Rattle.broker_core.{specs.Machine.{matrix_cmp, verified_version, IsLatest, IsMatrixRow}, proofs.Order.{text_tied, option_tied, both_equal}}
 use Rattle.broker_core.proofs.Lists.{some_is, contains_none, contains_cases, contains_here}
-use Rattle.contract_tables.specs.{declared.listings.Contract.{Contract}, declared.version_results.LatestResult.{LatestResult}, ToldVersions.{verified_cmp}}
-use Rattle.contract_tables.specs.VersionResults.{IsLatestOf, said_of}
+use Rattle.contract_tables.specs.{declared.listings.Contract.{Contract}, ToldVersions.{verified_cmp}, VersionResults.{said_of}}
 
 -- ---- lists
 
@@ -161,13 +160,12 @@ module _ (s : State) (v : Version) where
       → MatchOption o none (λ r. side r.provider_version × IsLatest s content (version p r.provider_version) r)
       → MatchOption u none (λ r. side r.provider_version × IsLatest s content (version p r.provider_version) r) → verified_version o ≡ verified_version u → o ≡ u
   one_verified content p none side None None h k same = refl
-  one_verified content p none side None (Some q) h k same = absurd cc
-  one_verified content p none side (Some r) None h k same = absurd cc
   one_verified content p none side (Some r) (Some q) h k same =
       let name = some_is r.provider_version q.provider_version same in
       let there = subst (λ w. Says (latest_result s content (version p w)) q.result q.latest) (sym name) k.1 in
       let one = one_said (latest_result s content (version p r.provider_version)) r.result q.result r.latest q.latest h.1 there in
       λ i. Some (record { provider_version = name i; result = one.0 i; latest = one.1 i })
+  one_verified content p none side _ _ h k same = absurd cc
 
   -- so two rows of the same names are one
   pub one_row : (x y : MatrixRow) → IsMatrixRow s v x → IsMatrixRow s v y → matrix_cmp x y ≡ Equal → x ≡ y

@@ -1,28 +1,10 @@
--- One reading after another, lists that are put together, and what is found of each member of a list.
+-- Lists that are put together, what is found of each member of a list, and one reading after another.
 use Rattle.std.specs.Prelude.{Contains, ◌↔◌}
-use Rattle.std.proofs.Common.{◌≡◌, ◌<◌, ◌≤◌, ◌+◌, ◌⊎◌, inl, inr, ℕ, zero, suc, List, [], ◌∷◌, ◌++◌, length, take, get_or, refl, sym, subst, ◌∙◌, Ok, Result, IfOk, IfErr, arith}
+use Rattle.std.proofs.Common.{◌≡◌, ◌<◌, ◌≤◌, ◌+◌, ◌⊎◌, inl, inr, ℕ, zero, suc, List, [], ◌∷◌, ◌++◌, length, take, get_or, refl, sym, subst, ◌∙◌, arith}
 use Rattle.std.proofs.{lemmas.List.{take_more, take_all}, lemmas.List.Elements.{Contains-append_cases, Contains-append_left, Contains-append_right}}
-use Rattle.sqlite.specs.State.{State}
-use Rattle.broker_core.{specs.State.{State as Broker}, proofs.Lists.{contains_none, contains_cases, contains_here}}
-use Rattle.broker_tables.specs.Calm.{CalmQueriesBetween}
-use Rattle.contract_tables.proofs.QueryLemmas.{calm_computed}
-use Rattle.table_access.specs.{declared.StoreFault.{StoreFault}, declared.StoreFault.TheVariants.{Memory}}
+use Rattle.broker_core.proofs.Lists.{contains_none, contains_cases, contains_here}
 use Rattle.deploy_tables.specs.Matrix.{IsOfSome}
-pub use Rattle.broker_tables.proofs.QueryLemmas.{in_place, query_failed}
-pub use Rattle.contract_tables.proofs.QueryLemmas.{calm_then, both_told, read_made}
-
--- two readings, from which the answer is computed, or no room for it
-pub both_computed : {A O B : Type 0} (old mid new : State) (a : A) (o : O) (r : Result B StoreFault) (P : A → Broker → Type 0) (Q : O → Broker → Type 0)
-    (L : B → Type 0) (R : B → Broker → Type 0) → ((s : Broker) → P a s → Q o s → (b : B) → L b → R b s)
-    → IfOk r L → IfErr r (λ fault. fault ≡ Memory) → CalmQueriesBetween old mid (Ok a) P → CalmQueriesBetween mid new (Ok o) Q → CalmQueriesBetween old new r R
-both_computed old mid new a o r P Q L R given is room one two = calm_computed old new o r (λ q s. P a s × Q q s) L R (λ s both. given s both.0 both.1) is room
-    (both_told old mid new a o P Q one two)
-
--- and from which it is made
-pub read_both : {A O B : Type 0} (old mid new : State) (a : A) (o : O) (b : B) (P : A → Broker → Type 0) (Q : O → Broker → Type 0) (R : B → Broker → Type 0) → ((s : Broker) → P a s → Q o s → R b s)
-    → CalmQueriesBetween old mid (Ok a) P → CalmQueriesBetween mid new (Ok o) Q → CalmQueriesBetween old new (Ok b) R
-read_both old mid new a o b P Q R given = both_computed old mid new a o (Ok b) P Q (λ c. c ≡ b) R (λ s p q c is. subst (λ x. R x s) (sym is) (given s p q))
-    refl tt
+pub use Rattle.broker_tables.proofs.QueryLemmas.{query_failed, calm_then, both_told, calm_answers, calm_both}
 
 -- ---- lists that are put together
 

@@ -21,11 +21,9 @@ open_is strict w None = refl
 open_is strict w (Some l) = go l.pass l.checked strict
   where
     go : (pass checked strict : Bool) → is_some (kind_of strict (Some w) (Some (record { pass = pass; checked = checked }))) ≡ not (pass && (checked || not strict))
-    go false checked strict = refl
     go true true true = refl
-    go true true false = refl
     go true false true = refl
-    go true false false = refl
+    go _ _ _ = refl
 
 -- whether a list is empty, as its length says
 pub when_none : (xs : List ℕ) (b : Bool) → b ≡ (length xs == 0) → b ≡ true → xs ≡ []

@@ -1,5 +1,5 @@
 -- The rows of each query of these tables can be read, if the state that the database holds can.
-use Rattle.std.{specs.Prelude.{IsUtf8}, proofs.Common.{◌≡◌, inl, inr, ℕ, pos, List, [], ◌∷◌, refl, arith}}
+use Rattle.std.{specs.Prelude.{IsUtf8}, proofs.Common.{◌≡◌, inl, inr, ℕ, List, [], ◌∷◌, refl, arith}}
 use Rattle.sqlite_rules.specs.Lists.{Has}
 use Rattle.table_access.{specs.{Columns.{text, whole_at}, Reading.{IsNumberRow}, Statements.{shows}}, proofs.SoundLemmas.{whole_in, has_place}}
 use Rattle.broker_core.specs.State.{State as Broker}

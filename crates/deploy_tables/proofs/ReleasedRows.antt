@@ -1,27 +1,26 @@
 -- What is released: the list, and the statements.
 use Rattle.std.specs.{Prelude.{Contains, option_map, is_some}, Option.{option_map_or}, Ordering.{eq_by_cmp, int_cmp}, Cmp.{eq_by_cmp_equiv, Equal-is}}
 use Rattle.std.specs.Cmp.Lexicographic.{nat_list_cmp_total, texts_ties}
-use Rattle.std.proofs.Common.{slice_get, IsTrue, ◌≡◌, ℕ, ℤ, pos, codes, List, [], ◌∷◌, Bool, true, false, refl, sym, ap, subst, ◌∙◌, Some, None, Option, Ordering, inl, inr, ◌&&◌, ◌||◌, cond, nat_lt, Ok, arith}
-use Rattle.std.proofs.{lemmas.Cmp.{int_cmp_total}, Math.Bool.{and-false}}
+use Rattle.std.proofs.Common.{slice_get, IsTrue, ◌≡◌, ℕ, ℤ, pos, codes, List, [], ◌∷◌, Bool, true, false, refl, sym, ap, subst, ◌∙◌, Some, None, Option, Ordering, inl, inr, ◌&&◌, not, cond, nat_lt, Ok, arith}
+use Rattle.std.proofs.{lemmas.Cmp.{int_cmp_total}, Math.Bool.{and-false, or-true}}
 use Rattle.sqlite_rules.specs.Lists.{Has}
 use Rattle.sqlite_tied.specs.Compute.{everything}
 use Rattle.table_access.specs.{Columns.{text, text_cmp, whole_at, by_both}, Statements.{from_table, keeps, shows, from_both}, Sound.{text_in}}
-use Rattle.table_access.{specs.Reading.{AreRead}, proofs.{Members.{any_has}, Values.{cast_null, cast_int}}}
-use Rattle.table_access.proofs.{SoundLemmas.{has_place, text_at, whole_in, any_of, at_has}, Keys.{apart_by}}
-use Rattle.table_access.proofs.Parts.{text_part, whole_part, agree_last, agree_and, once, where_last, where_and, all_where, is_param}
-use Rattle.table_access.proofs.{Steps.{Means, answered, deletes, deletes_counted}, CountLemmas.{some_counted, same_any}, Maps.{looks_up_at}}
+use Rattle.table_access.{specs.Reading.{AreRead}, proofs.{Members.{any_has}, Values.{cast_null, cast_int}, SoundLemmas.{has_place, text_at, whole_in, any_of}}}
+use Rattle.table_access.proofs.{Keys.{apart_by}, Parts.{text_part, whole_part, agree_last, agree_and, once, where_last, where_and, all_where, is_param}}
+use Rattle.table_access.proofs.{Steps.{answered}, CountLemmas.{some_counted, same_any}, Maps.{looks_up_at}}
 use Rattle.broker_core.specs.{State.{State as Broker}, declared.command.Version.{Version}}
 use Rattle.broker_core.specs.{Text.{Text as Words, version, put_at, same_text, same_pair, same_version}, Listing.{Lists}, Machine.{version_cmp}}
-use Rattle.broker_tables.specs.{Schema.{in_versions, in_released, broker_schema}, Rows.{stands_at}, Numbers.{number_of}, Holds.{Holds, IsBroker, HoldsAfter}}
+use Rattle.broker_tables.specs.{Schema.{in_versions, in_released}, Rows.{stands_at}, Numbers.{number_of}, Holds.{Holds, IsBroker, HoldsAfter}}
 use Rattle.broker_tables.{specs.Refusals.{HaveNumbers}, proofs.{Asked.{Asked, IsShown, of_table}, Listed.{lists_join}}}
 use Rattle.broker_tables.proofs.Inserted.{EndsOnly, Puts, inserted, next_ends, new_text, new_whole, free_two, environment_there, version_there}
 use Rattle.broker_tables.proofs.{VersionRows.{owners, names, same_version as same_row}, Orders.{placed_total, exact_placed}, NoVersion.{no_row, no_first}}
-use Rattle.broker_tables.proofs.{Frames.{meant, frame_of, released_change}, NumberLemmas.{number_ties, version_unknown}}
-use Rattle.broker_tables.proofs.{RoomLemmas.{after_one, grows_added, grows_kept, number_for}, Standing.{stands_found, stands_put, stands_out}}
-use Rattle.broker_tables.proofs.{Ties.{two_tests, both_eq}, Placed.{released, released_there, calm}}
+use Rattle.broker_tables.proofs.{Frames.{frame_of, released_change}, NumberLemmas.{number_ties, version_unknown}}
+use Rattle.broker_tables.proofs.{RoomLemmas.{after_one, grows_added, grows_kept, number_for}, Standing.{stands_found, stands_set, stands_out}}
+use Rattle.broker_tables.proofs.{Ties.{two_tests, both_eq}, Placed.{released, released_there}, Removed.{TakesFrom, taken_from}}
 use Rattle.sqlite.specs.{Listing.{understood}, Tree.{IsAscending}, Edit.{id_in, next_rowid, with_rowid}, declared.types.Value.TheVariants.{Int, Text, Null}}
 use Rattle.sqlite.specs.{Order.{Row, column}, Term.{Term, col, lit}, Collation.TheVariants.{Binary}, Effect.{Database}, Schema.{Schema}}
-use Rattle.sqlite.specs.{Rowids.TheVariants.{Chosen}, Cast.{cast_row}, Command.{Command}, Command.TheVariants.{Delete}, State.{State, Executes}}
+use Rattle.sqlite.specs.{Rowids.TheVariants.{Chosen}, Cast.{cast_row}, State.{State, Executes}}
 use Rattle.sqlite_keyed.proofs.RuleLemmas.{first_of_both, second_of_both}
 use Rattle.deploy_tables.specs.{Releases.{IsVersion, MayBeReleased}, declared.partners.ReleasedNumber.{ReleasedNumber}, Listings.{IsReleasedRow}}
 use Rattle.deploy_tables.specs.{ContractsThere.{IsReleasedIn}, Partners.{IsNumberOfReleased, AreReleasedNumbers}}
@@ -213,10 +212,6 @@ record_puts e n = record { terms = lit Null ∷ col 0 0 ∷ col 0 1 ∷ []; widt
 record_stored : (rows : List Row) (e : Words) (n : ℕ) → with_rowid Chosen rows (cast_row released (Null ∷ Text e ∷ Int (pos n) ∷ [])) ≡ Int (next_rowid rows) ∷ Text e ∷ Int (pos n) ∷ []
 record_stored rows e n = λ i. with_rowid Chosen rows (cast_null i ∷ Text e ∷ cast_int (pos n) i ∷ [])
 
-either : (b old : Bool) → (b || old) ≡ cond b true old
-either true old = refl
-either false old = refl
-
 pub now_released : (e : Words) (n : ℕ) (old new : State) (count : ℕ) (s : Broker) (v : Version) → Holds old.now s → number_of s.versions v ≡ Some n → Executes record_sql (Text e ∷ Int (pos n) ∷ []) old new (Ok count)
     → HoldsAfter 2 old new (record s { released = put_at (same_pair same_text same_version) s.released (e, v) true })
 now_released e n old new count s v held is h =
@@ -225,7 +220,7 @@ now_released e n old new count s v held is h =
     let it = inserted record_sql (Text e ∷ Int (pos n) ∷ []) old new held.broker released 12 (released_there old.now held.broker) _ made (record_puts e n) (record_stored rows e n) count h in
     let frame = frame_of (codes "released" ∷ []) in_released.tree refl old new held.broker it.0 in
     after_one 2 (omega arith) (codes "released") old new _ frame (λ counted. grows_added _ _ made it.1 refl) (released_change old.now new.now s _ held frame (λ f w. each old.now new.now s held e n v is true
-    (λ q. stands_put placed place_of rows (new.now.trees in_released.tree) made it.1 q ∙ either (eq_by_cmp placed q (e, pos n)) (stands_at placed place_of rows q)) f w (number_of s.versions w) refl))
+    (stands_set placed place_of rows (new.now.trees in_released.tree) made it.1) f w (number_of s.versions w) refl))
 
 -- that a version is released fails only as the store fails, or since the environment's name is too long
 pub release_ends : (e : Words) (n : ℕ) (old new : State) (s : Broker) → Holds old.now s → HaveNumbers (codes "released" ∷ []) old.now → MayBeReleased e n s → EndsOnly (e ∷ []) record_sql (Text e ∷ Int (pos n) ∷ []) old new
@@ -244,21 +239,16 @@ release_ends e n old new s held numbers_left (there, (v, is, free)) =
 abbrev pub end_sql : List ℕ
 end_sql = codes "DELETE FROM released WHERE environment = ?1 AND version_number = ?2"
 
-abbrev pub end_command : Command
-end_command = Delete 12 (record { lets = []; body = from_table in_released.tree by_place (col 1 0 ∷ []) [] })
-
-pub end_text : Means broker_schema end_sql end_command
+pub ending : (e : Words) (n : ℕ) → TakesFrom 12 released end_sql (Text e ∷ Int (pos n) ∷ []) by_place
 unfolding understood everything
-end_text = record { is = refl; plain = (refl, refl); unlisted = refl }
+ending e n = record { means = record { is = refl; plain = (refl, refl); unlisted = refl }; runs = record { whole = refl; typed = refl; sumless = refl }; alone = refl; fits = λ b. or-true (not b) }
 
 pub now_ended : (e : Words) (n : ℕ) (old new : State) (count : ℕ) (s : Broker) (v : Version) → Holds old.now s → number_of s.versions v ≡ Some n → Executes end_sql (Text e ∷ Int (pos n) ∷ []) old new (Ok count)
     → HoldsAfter 2 old new (record s { released = put_at (same_pair same_text same_version) s.released (e, v) false })
 now_ended e n old new count s v held is h =
     let rows = old.now.trees in_released.tree in
     let params = Text e ∷ Int (pos n) ∷ [] in
-    let numbered = at_has _ old.now.schema.tables released held.broker.kept.numbered (has_place _ 12 released (released_there old.now held.broker)) in
-    let it = deletes (codes "released") in_released.tree released.columns None (in_released.environment ∷ in_released.version_number ∷ []) released.uniques released.orders [] released.references end_sql params old new 12 (released_there old.now held.broker)
-    by_place (meant old.now held.broker end_sql end_text) (calm old.now held.broker) numbered count h in
+    let it = taken_from (ending e n) old new held.broker (released_there old.now held.broker) count h in
     let frame = frame_of (codes "released" ∷ []) in_released.tree refl old new held.broker it.0 in
     after_one 2 (omega arith) (codes "released") old new _ frame (λ counted. grows_kept _ _ _ it.1) (released_change old.now new.now s _ held frame (λ f w. each old.now new.now s held e n v is false
     (stands_out placed_total exact_placed place_of (e, pos n) (keeps by_place params) rows (new.now.trees in_released.tree) (all_where placed rows place_of (e, pos n) by_place params (where_place old.now held.broker e n)) it.1) f w (number_of s.versions w) refl))
@@ -269,6 +259,6 @@ pub ended_count : (e : Words) (n : ℕ) (old new : State) (count : ℕ) (s : Bro
 ended_count e n old new count s v held is h =
     let rows = old.now.trees in_released.tree in
     let params = Text e ∷ Int (pos n) ∷ [] in
-    ap (nat_lt 0) (deletes_counted (codes "released") in_released.tree released.columns None (in_released.environment ∷ in_released.version_number ∷ []) released.uniques released.orders [] released.references end_sql params old new 12 (released_there old.now held.broker) by_place (meant old.now held.broker end_sql end_text) count h)
+    ap (nat_lt 0) (taken_from (ending e n) old new held.broker (released_there old.now held.broker) count h).2
     ∙ some_counted (keeps by_place params) rows ∙ same_any (keeps by_place params) (λ r. eq_by_cmp placed (e, pos n) (place_of r)) rows (where_place old.now held.broker e n)
     ∙ stands old.now s held e v n is

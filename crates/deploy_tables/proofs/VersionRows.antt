@@ -1,19 +1,19 @@
 -- What is read of the rows that a query shows, in whatever order; and rows of a table that name an environment and a
 -- version, with their JOIN with the versions.
 use Rattle.std.specs.{Prelude.{Contains, ◌↔◌}, Ordering.{ordering_then, eq_by_cmp, is_eq}, Cmp.{IsTotalOrder, int_cmp_total, eq_by_cmp_equiv, Equal-is}}
-use Rattle.std.proofs.Common.{true≢false, ◌≡◌, ◌∙◌, ℕ, pos, List, [], ◌∷◌, Bool, true, false, ◌&&◌, refl, sym, ap, Some, Ordering, Less, Equal, Greater, map, filter, subst}
-use Rattle.std.proofs.lemmas.List.Sorted.{Contains-permutation}
+use Rattle.std.proofs.Common.{true≢false, ◌≡◌, ◌∙◌, ℕ, pos, List, [], ◌∷◌, Bool, true, false, ◌&&◌, refl, sym, ap, Some, Ordering, Less, Equal, map, filter, subst}
+use Rattle.std.proofs.{lemmas.Bool.{and_parts, and_from}, lemmas.List.Sorted.{Contains-permutation}}
 use Rattle.sqlite_value.{specs.declared.keys.Key.{Key}, proofs.OrderLemmas.{value_cmp-Text, then-Equal}}
 use Rattle.sqlite_rules.specs.Lists.{Has}
 use Rattle.broker_tables.specs.{Schema.{in_versions, in_deployed}, Numbers.{number_of}, Holds.{IsBroker, Holds}}
 use Rattle.broker_tables.proofs.VersionRows.{whole_test, text_test, false_if, row_number, find_version, versions_numbered, version_number}
 use Rattle.broker_tables.proofs.{Listed.{read_has, has_read, sorts}, Orders.{exact_pair}}
-use Rattle.sqlite.specs.{declared.types.Value.{Value}, declared.types.Value.TheVariants.{Int, Text}, Order.{Row, column, value_cmp}}
-use Rattle.sqlite.specs.{Term.{Term, col, op2, eval_all}, Tree.{IsAscending}, Collation.TheVariants.{Binary}, Effect.{Database, Answers}}
+use Rattle.sqlite.specs.{declared.types.Value.{Value}, declared.types.Value.TheVariants.{Int, Text}, Order.{Row, column, value_cmp}, Term.{Term, col, op2}}
+use Rattle.sqlite.specs.{Tree.{IsAscending}, Collation.TheVariants.{Binary}, Effect.{Database, Answers}}
 use Rattle.sqlite_sql.specs.{declared.ops.BinaryOp.TheVariants.{Compare}, declared.ops.CompareOp.TheVariants.{Eq}, Ops.{binary, is_true}}
-use Rattle.table_access.specs.{Columns.{text, whole_at, pair_cmp}, Statements.{keeps_both, pairs_kept, from_table, from_both, keeps, shows}, Reading.{AreRead}}
-use Rattle.table_access.proofs.{Keys.{ascending_on}, Parts.{numbers_once}}
-use Rattle.table_access.proofs.Members.{has_pair, pair_has, pairs_rise, contains_has, has_contains, has_map, map_has, has_filter, filter_has}
+use Rattle.table_access.specs.{Columns.{text, whole_at, pair_cmp}, Statements.{keeps_both, pairs_kept, from_table, keeps, shows}, Reading.{AreRead}}
+use Rattle.table_access.proofs.Parts.{numbers_once}
+use Rattle.table_access.proofs.Members.{ascending_on, has_pair, pair_has, pairs_rise, contains_has, has_contains, has_map, map_has, has_filter, filter_has}
 use Rattle.table_access.proofs.{Steps.{answered}, Answered.{permuted_has}}
 use Rattle.broker_core.specs.{declared.command.Version.{Version}, Text.{Text as Words, version}, State.{State as Broker}}
 
@@ -53,15 +53,11 @@ same_pos m n h = cc
 pub still_less : (x y z : Ordering) → ordering_then x y ≡ Less → ordering_then x (ordering_then y z) ≡ Less
 still_less Less y z h = refl
 still_less Equal Less z h = refl
-still_less Equal Equal z h = absurd cc
-still_less Equal Greater z h = absurd cc
-still_less Greater y z h = absurd cc
+still_less _ _ z h = absurd cc
 
 -- two tests joined by AND hold just where each of them does
 pub both_hold : (a b : Bool) → ((a && (b && true)) ≡ true) ↔ ((a ≡ true) × (b ≡ true))
-both_hold true true = (λ h. (refl, refl), λ h. refl)
-both_hold true false = (λ h. absurd cc, λ h. absurd (true≢false (sym h.1)))
-both_hold false b = (λ h. absurd cc, λ h. absurd (true≢false (sym h.0)))
+both_hold a b = (λ h. let both = and_parts a _ h in (both.0, (and_parts b true both.1).0), λ h. and_from a _ h.0 (and_from b true h.1 refl))
 
 -- two columns of texts are sorted as the pairs of these texts
 pub two_texts : (x y z w : Value) (a b c d : Words) → x ≡ Text a → y ≡ Text b → z ≡ Text c → w ≡ Text d

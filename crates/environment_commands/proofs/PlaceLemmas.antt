@@ -55,19 +55,19 @@ module _ (s : State) (caller : Caller) (e : Text) (v : Version) (what : Option M
 
 module _ (old mid : View) (caller : Caller) (e : Text) (v : Version) (command : Command) (change : ChangesPlace e v command) (form : FindsFault broker_primitives command None) where
   -- it is refused
-  pub refused_then : (answer : Answer) → QueriesBetween old mid (Ok (Err answer)) (IsAdmission caller e v) → PerformsBetween old mid (IsStepOf caller command) (Ok answer)
+  pub refused_then : (answer : Answer) → QueriesBetween true old mid (Ok (Err answer)) (IsAdmission caller e v) → PerformsBetween old mid (IsStepOf caller command) (Ok answer)
   refused_then answer it = answered_then old mid (Err answer) answer (IsAdmission caller e v) (IsStepOf caller command) (λ s h. refuses s caller command form answer (h command change)) it
 
   -- it is admitted, and then done
   pub admitted_then : (new : View) (place : Admitted) (r : Result Answer StoreFault) (Allows : State → Type 0) (Q : State → Transition → Type 0)
       → ((s : State) → IsAdmitted e v place s → Allows s) → ((s : State) (out : Transition) → Q s out → Enacts command s out)
-      → QueriesBetween old mid (Ok (Ok place)) (IsAdmission caller e v) → PerformsWhereBetween mid new Allows Q r → PerformsBetween old new (IsStepOf caller command) r
+      → QueriesBetween true old mid (Ok (Ok place)) (IsAdmission caller e v) → PerformsWhereBetween mid new Allows Q r → PerformsBetween old new (IsStepOf caller command) r
   admitted_then new place r Allows Q allows enacts one two =
       performs_where old mid new (Ok place) r (IsAdmission caller e v) Allows Q (IsStepOf caller command) (λ s h. (allows s h.0, λ out q. acts s caller command form out (h.1 command change) (enacts s out q))) one two
 
   -- it is admitted, and it fails as what is done then
   pub admitted_fails : (new : View) (place : Admitted) (r : Result Answer StoreFault) (Q : Answer → Type 0)
-      → QueriesBetween old mid (Ok (Ok place)) (IsAdmission caller e v) → CallsTablesBetween mid new r Q → FailsFromBetween mid new r (IsMisnamed command) (IsAdmitted e v place) (IsToChange (Enacts command)) → FailsToChangeBetween old new (IsMisnamed command) (IsStepOf caller command) r
+      → QueriesBetween true old mid (Ok (Ok place)) (IsAdmission caller e v) → CallsTablesBetween mid new r Q → FailsFromBetween mid new r (IsMisnamed command) (IsAdmitted e v place) (IsToChange (Enacts command)) → FailsToChangeBetween old new (IsMisnamed command) (IsStepOf caller command) r
   admitted_fails new place r Q one two =
       fails_next (IsMisnamed command) old mid new (Ok place) r (IsAdmission caller e v) Q one two (λ s. ⊤) (IsAdmitted e v place) (Enacts command) (IsStepOf caller command)
       (λ s all h. (h.0, λ out enacts. acts s caller command form out (h.1 command change) enacts))

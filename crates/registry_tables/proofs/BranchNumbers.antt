@@ -1,7 +1,7 @@
 -- The queries for the numbers of the versions on a branch: for all of them, and for the greatest below another.
 use Rattle.std.specs.{Prelude.{option_map, Contains, ◌↔◌, ⊤}, List.Sorted.{IsStrictlySortedBy}, Ordering.{eq_by_cmp, is_eq, is_lt, int_cmp, nat_cmp, flip_args}}
 use Rattle.std.specs.Cmp.{int_cmp_total, eq_by_cmp_equiv, Equal-is, nat_cmp_is}
-use Rattle.std.proofs.Common.{◌≡◌, ◌<◌, ◌<ℤ◌, inl, inr, ℕ, pos, codes, List, [], ◌∷◌, take, Bool, true, false, true≢false, ◌&&◌, refl, sym, ap, subst, ◌∙◌, slice_get, Some, None, Option, Ordering, Less, Equal, Greater, arith}
+use Rattle.std.proofs.Common.{◌≡◌, ◌<◌, ◌<ℤ◌, inl, inr, ℕ, pos, codes, List, [], ◌∷◌, take, Bool, true, false, true≢false, ◌&&◌, refl, sym, ap, subst, ◌∙◌, slice_get, Some, None, Option, Ordering, Less, arith}
 use Rattle.std.proofs.{lemmas.Cmp.{ranked}, lemmas.Int.{ints}}
 use Rattle.sqlite.specs.{Tree.{IsAscending}, Edit.{id_in}, declared.types.Value.TheVariants.{Int, Text}, Order.{Row, column, value_cmp}}
 use Rattle.sqlite.specs.{Term.{Term, col, op2, eval_all}, Collation.TheVariants.{Binary}, Effect.{Database, Answers}, Listing.{understood}}
@@ -11,12 +11,12 @@ use Rattle.sqlite_rules.specs.Lists.{Has}
 use Rattle.sqlite_keyed.proofs.{KeyedLemmas.{lt_from_Less, Less-from_lt}, RuleLemmas.{first_of_both, second_of_both}}
 use Rattle.sqlite_tied.specs.Compute.{everything}
 use Rattle.table_access.specs.{Columns.{text, text_cmp, whole_at, by_both}, Reading.{AreRead, IsNumberRow}}
-use Rattle.table_access.{specs.Statements.{from_both, up_to, keeps_both, pairs_kept}, proofs.{Answered.{pair_shown}, Keys.{ascending_on}}}
-use Rattle.table_access.proofs.{Newest.{first_joined}, Parts.{numbers_once}, SoundLemmas.{any_of, at_has}}
-use Rattle.table_access.proofs.{Members.{contains_has, pair_has, has_pair, pairs_rise}, Values.{less_ints}}
+use Rattle.table_access.{specs.Statements.{from_both, up_to, keeps_both, pairs_kept}, proofs.{Answered.{pair_shown}, Newest.{first_joined}}}
+use Rattle.table_access.proofs.{Parts.{numbers_once}, SoundLemmas.{any_of, at_has}}
+use Rattle.table_access.proofs.{Members.{any_has, ascending_on, contains_has, pair_has, has_pair, pairs_rise}, Values.{less_ints}}
 use Rattle.broker_core.{specs.{Listing.{Lists}, State.{State as Broker}, Text.{version}}, proofs.Lists.{contains_none, contains_cases, contains_here}}
 use Rattle.broker_tables.{specs.{Schema.{in_versions, in_branches}, Holds.{Holds}}, proofs.Asked.{Asked, IsShown, EachReads, of_both, of_first_both}}
-use Rattle.broker_tables.proofs.{Listed.{sorts, lists_join}, Orders.{marked_total, exact_marked}, ReadableRows.{number_cell, version_low}, References.{any_has}}
+use Rattle.broker_tables.proofs.{Listed.{sorts, lists_join}, Orders.{marked_total, exact_marked}, ReadableRows.{number_cell, version_low}}
 use Rattle.broker_tables.proofs.VersionRows.{versions_numbered, version_number, owners, row_number, find_version, whole_test, text_test, all_three}
 use Rattle.registry_tables.{specs.Registry.{IsBranchNumber, IsNewestBelow}, proofs.BranchRows.{key, is_on, numbers as branch_numbers, names, keys}}
 
@@ -150,18 +150,14 @@ numbers_listed p b db rows items s held h read =
 
 last_test : (x y z t : Bool) → (x && (y && (z && (t && true)))) ≡ ((x && (y && (z && true))) && t)
 last_test true true true true = refl
-last_test true true true false = refl
-last_test true true false t = refl
-last_test true false z t = refl
-last_test false y z t = refl
+last_test _ _ _ _ = refl
 
 low_test : (n k : ℕ) → (is_lt (int_cmp (pos n) (pos k)) ≡ true) ↔ (n < k)
 low_test n k = (go (int_cmp (pos n) (pos k)) refl, λ low. ap is_lt (Less-from_lt (pos n) (pos k) (omega (arith, ints))))
   where
     go : (o : Ordering) → int_cmp (pos n) (pos k) ≡ o → is_lt o ≡ true → n < k
     go Less is h = let low : pos n <ℤ pos k = lt_from_Less (pos n) (pos k) is in omega (arith, ints)
-    go Equal is h = absurd cc
-    go Greater is h = absurd cc
+    go _ is h = absurd cc
 
 numbers_read : (rows : List Row) → ((row : Row) → Has rows row → (n : ℕ) × IsNumber row n) → (items : List ℕ) × AreRead IsNumber rows items
 numbers_read [] each = ([], tt)
@@ -176,10 +172,8 @@ module _ (s : Broker) (p b : List ℕ) (k : ℕ) where
       → Lists (flip_args nat_cmp) (λ n. IsBranchNumber s p b n × (n < k)) items → IsNewestBelow s p b k found
   unfolding IsStrictlySortedBy
   newest None [] [] read first list = λ n on. let high : ¬ (n < k) = (λ low. contains_none n ((list.exactly n).1 (on, low))) in omega (arith, high)
-  newest None [] (m ∷ items) read first list = absurd read
   newest None (r ∷ rows) items read first list = absurd cc
   newest (Some n) [] items read first list = absurd cc
-  newest (Some n) (r ∷ rows) [] read first list = absurd read
   newest (Some n) (r ∷ rows) (m ∷ items) read first list =
       let same : n ≡ m = (let values : Int (pos n) ≡ column r 0 = cc in let ints : Int (pos n) ≡ Int (pos m) = values ∙ read.0 in cc) in
       let it = (list.exactly n).0 (subst (Contains (m ∷ items)) (sym same) (contains_here m items)) in (
@@ -190,6 +184,7 @@ module _ (s : Broker) (p b : List ℕ) (k : ℕ) where
           | inr later ↦ let less : j < m = ranked j m Less (sym (at_has _ items j list.sorted.0 (contains_has items j later))) in omega (arith, less, same)
         ],
       )
+  newest _ _ _ read first list = absurd read
 
 pub below_found : (p b : List ℕ) (k : ℕ) (db : Database) (rows : List Row) (found : Option ℕ) (s : Broker) → Holds db s → IsShown (below p b k) db rows
     → option_map (λ n. Int (pos n)) found ≡ option_map (λ r. column r 0) (slice_get rows 0) → IsNewestBelow s p b k found

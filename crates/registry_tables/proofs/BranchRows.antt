@@ -1,7 +1,7 @@
 -- The statements on branches.
 use Rattle.std.specs.{Prelude.{option_map, is_some}, Option.{option_map_or}, Ordering.{eq_by_cmp, int_cmp}, Cmp.{int_cmp_total}}
 use Rattle.std.specs.Cmp.Lexicographic.{nat_list_cmp_total, texts_ties}
-use Rattle.std.proofs.Common.{◌≡◌, inl, ℕ, ℤ, pos, codes, List, [], ◌∷◌, Bool, true, false, cond, ◌&&◌, ◌||◌, refl, sym, ap, ◌∙◌, slice_get, Some, None, Option, Ok, arith}
+use Rattle.std.proofs.Common.{◌≡◌, inl, ℕ, ℤ, pos, codes, List, [], ◌∷◌, Bool, true, false, cond, ◌&&◌, refl, sym, ap, ◌∙◌, slice_get, Some, None, Option, Ok, arith}
 use Rattle.sqlite.specs.{Tree.{IsAscending}, Edit.{next_rowid, with_rowid}, Rowids.TheVariants.{Chosen}, declared.types.Value.TheVariants.{Null, Int, Text}}
 use Rattle.sqlite.specs.{Order.{Row}, Cast.{cast, cast_row}, Kind.TheVariants.{Integer}, Term.{col, lit}, Schema.{Schema}, Effect.{Database}}
 use Rattle.sqlite.specs.{State.{State, Executes}, Listing.{understood}}
@@ -15,7 +15,7 @@ use Rattle.broker_core.specs.{declared.command.Version.{Version}, Text.{put_at, 
 use Rattle.broker_tables.specs.{Schema.{in_branches}, Rows.{stands_at}, Numbers.{number_of}, Holds.{Holds, HoldsAfter, IsBroker}, Refusals.{HaveNumbers}}
 use Rattle.broker_tables.proofs.{Asked.{Asked, IsShown, NoneFor, of_table}, Frames.{frame_of, branches_change}, Orders.{marked_total, exact_marked}}
 use Rattle.broker_tables.proofs.{Ties.{both_eq, two_tests}, NumberLemmas.{number_ties, version_unknown}, NoVersion.{no_row}}
-use Rattle.broker_tables.proofs.{Standing.{stands_found, stands_put}, Placed.{branches, branches_there}, RoomLemmas.{after_one, grows_added, number_for}}
+use Rattle.broker_tables.proofs.{Standing.{stands_found, stands_set}, Placed.{branches, branches_there}, RoomLemmas.{after_one, grows_added, number_for}}
 use Rattle.broker_tables.proofs.Inserted.{EndsOnly, Puts, inserted, next_ends, new_text, new_whole, free_two, version_there}
 use Rattle.sqlite_keyed.proofs.RuleLemmas.{first_of_both}
 
@@ -75,10 +75,6 @@ add_puts : (n : ℕ) (b : List ℕ) → Puts 4 add_sql (Int (pos n) ∷ Text b �
 unfolding understood everything
 add_puts n b = record { terms = lit Null ∷ col 0 0 ∷ col 0 1 ∷ []; width = 3; means = record { is = refl; plain = (refl, refl); unlisted = refl }; whole = refl; kinds = refl; one = refl }
 
-either : (b old : Bool) → (b || old) ≡ cond b true old
-either true old = refl
-either false old = refl
-
 module _ (n : ℕ) (b : List ℕ) (old new : State) (s : Broker) (v : Version) (held : Holds old.now s) (is : number_of s.versions v ≡ Some n) where
   abbrev made : Row
   made = Int (next_rowid (old.now.trees in_branches.tree)) ∷ Int (pos n) ∷ Text b ∷ []
@@ -92,18 +88,18 @@ module _ (n : ℕ) (b : List ℕ) (old new : State) (s : Broker) (v : Version) (
       let frame = frame_of (codes "branches" ∷ []) in_branches.tree refl old new held.broker it.0 in
       after_one 2 (omega arith) (codes "branches") old new _ frame (λ counted. grows_added _ _ made it.1 refl)
       (branches_change old.now new.now s _ held frame (λ w c.
-      each w c (number_of s.versions w) refl (λ k. stands_put (by_both int_cmp text_cmp) key (old.now.trees in_branches.tree) (new.now.trees in_branches.tree) made it.1 (pos k, c))
+      each w c (number_of s.versions w) refl (λ k. stands_set (by_both int_cmp text_cmp) key (old.now.trees in_branches.tree) (new.now.trees in_branches.tree) made it.1 (pos k, c))
       ∙ ap (cond (same_version w v && same_text c b) true) (held.branches w c)))
     where
       each : (w : Version) (c : List ℕ) (o : Option ℕ) → number_of s.versions w ≡ o
           → ((k : ℕ) → is_on (new.now.trees in_branches.tree) c (Some k)
-          ≡ (eq_by_cmp (by_both int_cmp text_cmp) (pos k, c) (pos n, b) || is_on (old.now.trees in_branches.tree) c (Some k)))
+          ≡ cond (eq_by_cmp (by_both int_cmp text_cmp) (pos k, c) (pos n, b)) true (is_on (old.now.trees in_branches.tree) c (Some k)))
           → is_on (new.now.trees in_branches.tree) c o ≡ cond (same_version w v && same_text c b) true (is_on (old.now.trees in_branches.tree) c o)
       each w c None e put = sym (ap (λ t. cond (t && same_text c b) true false) (version_unknown s.versions w v n e is))
       each w c (Some k) e put =
           let same : (same_version w v && same_text c b) ≡ eq_by_cmp (by_both int_cmp text_cmp) (pos k, c) (pos n, b) =
           two_tests (same_version w v) (same_text c b) (eq_by_cmp int_cmp (pos k) (pos n)) (eq_by_cmp text_cmp c b) (number_ties s.versions w v k n e is) (texts_ties c b) ∙ both_eq (int_cmp (pos k) (pos n)) (text_cmp c b) in
-          put k ∙ either (eq_by_cmp (by_both int_cmp text_cmp) (pos k, c) (pos n, b)) (is_on (old.now.trees in_branches.tree) c (Some k)) ∙ ap (λ t. cond t true (is_on (old.now.trees in_branches.tree) c (Some k))) (sym same)
+          put k ∙ ap (λ t. cond t true (is_on (old.now.trees in_branches.tree) c (Some k))) (sym same)
 
   -- it fails only as the store fails, or since the name is too long
   pub branch_ends : HaveNumbers (codes "branches" ∷ []) old.now → s.branches (v, b) ≡ false → EndsOnly (b ∷ []) add_sql (Int (pos n) ∷ Text b ∷ []) old new

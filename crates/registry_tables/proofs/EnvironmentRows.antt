@@ -12,23 +12,20 @@ use Rattle.sqlite_tied.specs.Compute.{everything}
 use Rattle.sqlite_keyed.proofs.RuleLemmas.{first_of_both}
 use Rattle.table_access.specs.{Reading.{IsNumberRow}, Columns.{text, text_cmp, whole_at}, Statements.{from_table, ChangesOnly, IsAdded}}
 use Rattle.table_access.proofs.{Values.{cast_null, cast_int}, Steps.{answered}, Maps.{looks_up_at, puts_at, none_has}, Keys.{apart_by, text_keys, by_text}}
-use Rattle.table_access.proofs.SoundLemmas.{text_at, whole_in, checks_hold, has_place}
+use Rattle.table_access.proofs.{ReadLemmas.{option_map_twice}, SoundLemmas.{text_at, whole_in, checks_hold, has_place}}
 use Rattle.broker_core.specs.{declared.command.Marks.{Marks}, Text.{put_at, same_text}, State.{State as Broker}}
 use Rattle.broker_tables.specs.{Schema.{in_environments, in_strict_environments}, Rows.{truth, truth_in, mark_of, value_at, stands_at, IsTruthAt}}
 use Rattle.broker_tables.{specs.{Holds.{Holds, HoldsAfter, IsBroker, marks_in}, Refusals.{HaveNumbers}}, proofs.Asked.{Asked, IsShown, EachReads, of_table}}
 use Rattle.broker_tables.proofs.{Frames.{frame_of, Frame, environments_change}, Orders.{exact_texts}, TruthLemmas.{is_low}, Growth.{none_stands}}
-use Rattle.broker_tables.proofs.{References.{refers_environment}, Standing.{stands_found, stands_put, value_map}}
+use Rattle.broker_tables.proofs.{References.{refers_environment, environment_names}, Standing.{stands_found, stands_put, value_map}}
 use Rattle.broker_tables.proofs.Placed.{environments, environments_there, strict_environments, strict_environments_there}
 use Rattle.broker_tables.proofs.RoomLemmas.{after_one, grows_added, number_for}
 use Rattle.broker_tables.proofs.Inserted.{EndsOnly, Puts, inserted, next_ends, new_text, free_one, environment_there}
 use Rattle.registry_tables.{specs.Registry.{marks}, proofs.MarkText.{gated_sql, gated_query}}
 
 module _ (db : Database) (broker : IsBroker db) where
-  names : (r : Row) → Has (db.trees in_environments.tree) r → column r in_environments.name ≡ Text (text in_environments.name r)
-  names r has = text_at db broker.kept.sound environments (has_place _ 5 environments (environments_there db broker)) r has 0 _ refl refl refl refl refl
-
   keys : IsAscending (λ a b. eq_by_cmp text_cmp (text in_environments.name a) (text in_environments.name b) ≡ false) (db.trees in_environments.tree)
-  keys = text_keys (db.trees in_environments.tree) in_environments.name names (apart_by db broker.kept environments 5 (environments_there db broker) _ 5 (ap (λ (s : Schema). slice_get s.indexes 5) broker.schema) refl)
+  keys = text_keys (db.trees in_environments.tree) in_environments.name (environment_names db broker) (apart_by db broker.kept environments 5 (environments_there db broker) _ 5 (ap (λ (s : Schema). slice_get s.indexes 5) broker.schema) refl)
 
   wholes : (r : Row) → Has (db.trees in_environments.tree) r → column r in_environments.gated ≡ Int (whole_at in_environments.gated r)
   wholes r has = whole_in db broker.kept.sound environments (has_place _ 5 environments (environments_there db broker)) r has 1 _ refl refl refl refl refl
@@ -47,15 +44,11 @@ pub gated : (e : List ℕ) → Asked gated_sql (Text e ∷ []) gated_query
 unfolding understood everything
 gated e = record { names = _; means = record { is = refl; plain = (refl, refl); unlisted = refl }; runs = record { whole = refl; typed = refl; sumless = refl } }
 
-mapped_twice : {X Y Z : Type 0} (f : Y → Z) (g : X → Y) (o : Option X) → option_map f (option_map g o) ≡ option_map (λ x. f (g x)) o
-mapped_twice f g None = refl
-mapped_twice f g (Some x) = refl
-
 pub gated_found : (e : List ℕ) (db : Database) (rows : List Row) (s : Broker) (found : Option ℕ) → Holds db s → IsShown (gated e) db rows
     → option_map (λ n. Int (pos n)) found ≡ option_map (λ row. column row 0) (slice_get rows 0) → option_map (λ n. n == 1) found ≡ option_map (λ (m : Marks). m.gated) (s.environments e)
 gated_found e db rows s found held h read =
-    sym (mapped_twice truth_in (λ n. Int (pos n)) found) ∙ ap (option_map truth_in) read ∙ mapped_twice truth_in (λ row. column row 0) (slice_get rows 0)
-    ∙ looks_up_at nat_list_cmp_total exact_texts (text in_environments.name) (truth in_environments.gated) _ (truth 0) (λ r. refl) e _ (db.trees in_environments.tree) rows (by_text (db.trees in_environments.tree) in_environments.name e (names db held.broker)) (keys db held.broker) (answered db _ in_environments.tree _ _ _ rows h)
+    sym (option_map_twice truth_in (λ n. Int (pos n)) found) ∙ ap (option_map truth_in) read ∙ option_map_twice truth_in (λ row. column row 0) (slice_get rows 0)
+    ∙ looks_up_at nat_list_cmp_total exact_texts (text in_environments.name) (truth in_environments.gated) _ (truth 0) (λ r. refl) e _ (db.trees in_environments.tree) rows (by_text (db.trees in_environments.tree) in_environments.name e (environment_names db held.broker)) (keys db held.broker) (answered db _ in_environments.tree _ _ _ rows h)
     ∙ sym (value_map text_cmp (text in_environments.name) (λ (m : Marks). m.gated) (marks_in (db.trees in_strict_environments.tree)) (db.trees in_environments.tree) e) ∙ ap (option_map (λ (m : Marks). m.gated)) (held.environments e)
 
 -- the mark that is shown is 0 or 1
@@ -183,7 +176,7 @@ module _ (e : List ℕ) (gated : Bool) (old new : State) (s : Broker) (held : Ho
   environment_ends numbers =
       next_ends put_sql (Text e ∷ Int (pos (mark_of gated)) ∷ []) old new held.broker environments 5 (environments_there old.now held.broker) _ _ (put_puts e (mark_of gated)) stored (number_for _ numbers.0) (mark_passes _ e gated) (
         free_one rows made nat_list_cmp_total in_environments.name (text in_environments.name)
-            (new_text rows made in_environments.name (names old.now held.broker) refl)
+            (new_text rows made in_environments.name (environment_names old.now held.broker) refl)
             (sym (stands_found text_cmp (text in_environments.name) (marks_in (old.now.trees in_strict_environments.tree)) rows e) ∙ ap is_some (held.environments e ∙ free)),
         tt,
       ) tt (e ∷ []) (λ are. (are.0, (tt, tt))) (omega arith) (omega arith)

@@ -1,31 +1,47 @@
--- The statement that sets the format in meta's row.
+-- The statement that sets the format in meta's row: what it makes of the row, and why it fails.
 use Rattle.broker_tables.specs.{Schema.{in_meta, schema_of, all_tables}, Holds.{IsMeta, format}, Former.{HoldsUnmarked, former_format, added_tables}}
 use Rattle.broker_tables.proofs.{Former.{KeepsOthers, format_told}, Placed.{meta, all_calm}}
 use Rattle.std.specs.List.{AllByRecursion}
-use Rattle.std.proofs.Common.{◌≡◌, ℕ, ℤ, pos, codes, List, [], ◌∷◌, not, inl, filter, true, refl, sym, ap, subst, ◌∙◌, slice_get, Some, Ok}
-use Rattle.sqlite.specs.{Tree.{rowid}, View.{is_int}, Edit.{id_in}, Cast.{cast, cast_row}, declared.types.Value.TheVariants.{Null, Int}, Order.{Row, column}}
-use Rattle.sqlite.specs.{Term.{Term, col, lit}, Command.{Command}, Command.TheVariants.{Update}, Schema.{Schema}, State.{State, Executes}, Listing.{understood}}
-use Rattle.sqlite_rules.{specs.Lists.{Has}, proofs.TableLemmas.{int_is}}
+use Rattle.std.proofs.Common.{◌≡◌, ◌≤◌, ◌^◌, ℕ, ℤ, pos, codes, List, [], ◌∷◌, length, map, not, inl, inr, filter, refl, sym, ap, subst, ◌∙◌, slice_get, Option, Some, None, Ok, Err}
+use Rattle.sqlite.specs.{Tree.{rowid}, Cast.{cast_row}, declared.types.Value.TheVariants.{Null, Int, Text}, Order.{Row, column}}
+use Rattle.sqlite.specs.{Edit.{id_in, without_all, edit_of}, Term.{Term, col, lit}, Command.{Command}, Command.TheVariants.{Update}, Schema.{Schema}}
+use Rattle.sqlite.specs.{Effect.{Answers}, State.{State, Executes, Fails, IsMisplaced, mode_of}, Listing.{understood}, Rowids.TheVariants.{Given}}
+use Rattle.sqlite.specs.{declared.error.Error.{Error}, Rows.{Written, Task, Queried, Updates}, Does.{AtPlace, OnRows, Does}}
+use Rattle.sqlite_schema.specs.{declared.program.Program.{Program}, declared.schema.Keys.TheVariants.{Enforced}, declared.schema.Among.TheVariants.{All}}
+use Rattle.sqlite_schema.specs.Rules.{Refers}
+use Rattle.sqlite_rules.{specs.{Lists.{Has}, Calls.{ids_of}}, proofs.TableLemmas.{int_is}}
+use Rattle.sqlite_keyed.proofs.ListLemmas.{IsPermutation-same}
 use Rattle.sqlite_tied.specs.Compute.{everything}
-use Rattle.table_access.{specs.{Columns.{text, whole_at}, Sound.{IsNumbered, text_in}, Statements.{from_table, keeps, shows, IsCalm}}, proofs.Values.{cast_int}}
-use Rattle.table_access.proofs.{Steps.{Means, updates}, SoundLemmas.{text_at, has_place}}
+use Rattle.table_access.specs.{Columns.{text, whole_at}, Sound.{IsNumbered}, Statements.{from_table, keeps, shows, IsCalm}}
+use Rattle.table_access.proofs.{Steps.{Means, updates, went, same_value, shown_one}, SoundLemmas.{at_has, text_at, has_place}, Removal.{left}}
+use Rattle.table_access.proofs.{Answered.{Runs, never_refused}, Edits.{Suits, goes, refers}, Refused.{stopped, change_fails, caused_by}}
 use Rattle.broker_core.specs.State.{State as Broker}
-use Rattle.registry_tables.proofs.MetaRow.{alone}
-use Rattle.sqlite.specs.Kind.TheVariants as kind
+use Rattle.registry_tables.proofs.{MetaRow.{alone, row_of, as_cast}, MetaFails.{TakesMeta, suits}}
 
 abbrev pub set_sql : List ℕ
 set_sql = codes "UPDATE meta SET format = 2"
 
 -- what SET makes of a row
 abbrev project : List Term
-project = col 1 0 ∷ lit Null ∷ lit (Int (pos 2)) ∷ col 1 in_meta.office_digest ∷ []
+project = col 1 0 ∷ lit Null ∷ lit (Int (pos format)) ∷ col 1 in_meta.office_digest ∷ []
 
-abbrev set_command : Command
-set_command = Update 0 (record { lets = []; body = from_table in_meta.tree [] (col 1 0 ∷ project) [] })
+abbrev query : Program
+query = record { lets = []; body = from_table in_meta.tree [] (col 1 0 ∷ project) [] }
 
-set_text : Means (schema_of all_tables) set_sql set_command
+abbrev command : Command
+command = Update 0 query
+
+-- what the text means over a schema, that it can be run, and that meta takes its row
+abbrev IsSet : Schema → Type 0
+IsSet schema = Means schema set_sql command × Runs schema set_sql [] query.body × ((id : ℤ) → TakesMeta schema (id ∷ []))
+
+set_text : IsSet (schema_of all_tables)
 unfolding understood everything
-set_text = record { is = refl; plain = (refl, refl); unlisted = refl }
+set_text = (
+  record { is = refl; plain = (refl, refl); unlisted = refl },
+  record { whole = refl; typed = refl; sumless = refl },
+  λ id. record { apart = refl; calm = all_calm; listed = inl refl; narrow = refl; referred = λ r. refl; alone = inr refl },
+)
 
 -- the one row of meta, with its number and the digest of the office's token
 one_row : (n : ℕ) (office : List ℕ) (rows : List Row) → IsMeta n office rows
@@ -36,22 +52,96 @@ one_row n office (r ∷ []) one =
     (r, refl, ap (λ (x : ℤ × ℤ × List ℕ). x.0) same, ap (λ (x : ℤ × ℤ × List ℕ). x.2) same)
 one_row n office (r ∷ q ∷ rows) one = absurd cc
 
-pub format_set : (old new : State) (count : ℕ) (s : Broker) → HoldsUnmarked former_format added_tables old.now s → Executes set_sql [] old new (Ok count) → HoldsUnmarked format added_tables new.now s
-format_set old new count s held h =
-    let there : slice_get old.now.schema.tables 0 ≡ Some meta = ap (λ (c : Schema). slice_get c.tables 0) held.schema in
-    let calm : IsCalm old.now.schema.tables = subst (λ (c : Schema). IsCalm c.tables) (sym held.schema) all_calm in
-    let numbered : IsNumbered (old.now.trees in_meta.tree) = (subst (λ (c : Schema). AllByRecursion (λ t. IsNumbered (old.now.trees t.tree)) c.tables) held.schema held.kept.numbered).0 in
-    let one = one_row former_format s.office (old.now.trees in_meta.tree) held.meta in
-    let r = one.0 in
-    let has : Has (old.now.trees in_meta.tree) r = subst (λ rows. Has rows r) (sym one.1) (inl refl) in
-    let int : column r 0 ≡ Int (id_in (column r 0)) = int_is (rowid r) (subst (λ rows. AllByRecursion (λ x. is_int (rowid x) ≡ true) rows) one.1 numbered.1).0 in
-    let digest = text_at old.now held.kept.sound meta (has_place _ 0 meta there) r has 2 _ refl refl refl refl refl in
-    let made = cast_row meta (shows project [] r) in
-    let it = updates (codes "meta") 0 meta.columns (Some 0) (0 ∷ []) meta.uniques meta.orders meta.checks [] set_sql [] old new 0 there [] project
-    (subst (λ c. Means c set_sql set_command) (sym held.schema) set_text) calm numbered r made (ap (filter (keeps [] [])) one.1) refl count h in
-    let row : new.now.trees in_meta.tree ≡ made ∷ [] = alone (filter (λ x. not (keeps [] [] x)) (old.now.trees in_meta.tree)) (new.now.trees in_meta.tree) made it.1 (ap (filter (λ x. not (keeps [] [] x))) one.1) in
-    let number : whole_at 0 made ≡ pos 1 = ap (λ v. id_in (cast kind.Integer v)) int ∙ ap id_in (cast_int (id_in (column r 0))) ∙ one.2 in
-    let office : text in_meta.office_digest made ≡ s.office = ap (λ v. text_in (cast kind.Text v)) digest ∙ one.3 in
-    let told : IsMeta format s.office (made ∷ []) = λ i. (number i, ap id_in (cast_int (pos 2)) i, office i) ∷ [] in
-    format_told former_format old.now new.now s format held it.0.schema (it.0.kept held.kept)
-    (subst (λ (c : Schema). AllByRecursion (KeepsOthers old.now.trees new.now.trees) c.tables) held.schema it.0.others) (subst (IsMeta format s.office) (sym row) told)
+module _ (old new : State) (s : Broker) (held : HoldsUnmarked former_format added_tables old.now s) where
+  abbrev rows : List Row
+  rows = old.now.trees in_meta.tree
+
+  -- the row that is to stand there
+  abbrev made : Row
+  made = row_of format s.office
+
+  is : IsSet old.now.schema
+  is = subst IsSet (sym held.schema) set_text
+
+  there : slice_get old.now.schema.tables 0 ≡ Some meta
+  there = ap (λ (c : Schema). slice_get c.tables 0) held.schema
+
+  numbered : IsNumbered rows
+  numbered = (subst (λ (c : Schema). AllByRecursion (λ t. IsNumbered (old.now.trees t.tree)) c.tables) held.schema held.kept.numbered).0
+
+  -- SET makes it of the one row
+  sets : (r : Row) × (rows ≡ r ∷ []) × (shows project [] r ≡ made)
+  sets =
+      let one = one_row former_format s.office rows held.meta in
+      let r = one.0 in
+      let has : Has rows r = subst (λ xs. Has xs r) (sym one.1) (inl refl) in
+      let number : column r 0 ≡ Int (pos 1) = int_is (rowid r) (at_has _ rows r numbered.1 has) ∙ ap Int one.2 in
+      let digest : column r in_meta.office_digest ≡ Text s.office = text_at old.now held.kept.sound meta (has_place _ 0 meta there) r has 2 _ refl refl refl refl refl ∙ ap Text one.3 in
+      (r, one.1, λ i. number i ∷ Null ∷ Int (pos format) ∷ digest i ∷ [])
+
+  pub format_set : (count : ℕ) → Executes set_sql [] old new (Ok count) → HoldsUnmarked format added_tables new.now s
+  format_set count h =
+      let calm : IsCalm old.now.schema.tables = subst (λ (c : Schema). IsCalm c.tables) (sym held.schema) all_calm in
+      let it = updates (codes "meta") 0 meta.columns (Some 0) (0 ∷ []) meta.uniques meta.orders meta.checks [] set_sql [] old new 0 there [] project is.0 calm numbered sets.0 made
+      (ap (filter (keeps [] [])) sets.1) (ap (cast_row meta) sets.2 ∙ as_cast format s.office) count h in
+      let row : new.now.trees in_meta.tree ≡ made ∷ [] = alone (filter (λ x. not (keeps [] [] x)) rows) (new.now.trees in_meta.tree) made it.1 (ap (filter (λ x. not (keeps [] [] x))) sets.1) in
+      format_told former_format old.now new.now s format held it.0.schema (it.0.kept held.kept)
+      (subst (λ (c : Schema). AllByRecursion (KeepsOthers old.now.trees new.now.trees) c.tables) held.schema it.0.others) (subst (IsMeta format s.office) (sym row) refl)
+
+  -- ---- why it fails
+
+  module _ (short : length s.office ≤ 10 ^ 7) (unlimited : old.step_limit ≡ None) where
+    abbrev task : Task
+    task = record { limit = old.step_limit; keys = (mode_of old).keys; schema = old.now.schema; table = meta; params = [] }
+
+    -- what its query shows makes an edit that suits meta
+    edits : (out : List Row) → Answers old.now query [] out → Suits ⊥ old.now.schema Enforced old.now.trees (edit_of old.now.trees meta (ids_of out) Given 1 out)
+    edits out answers =
+        let number = column sets.0 0 in
+        let gone = id_in number ∷ [] in
+        let found : filter (keeps [] []) rows ≡ sets.0 ∷ [] = ap (filter (keeps [] [])) sets.1 in
+        let none : without_all rows gone ≡ [] =
+        left rows numbered (keeps [] []) ((number ∷ []) ∷ []) (IsPermutation-same _ _ (ap (map (λ x. column x 0 ∷ [])) found)) ∙ ap (filter (λ x. not (keeps [] [] x))) sets.1 in
+        let shown : out ≡ (number ∷ made) ∷ [] = shown_one old.now [] in_meta.tree [] (col 1 0 ∷ project) [] out answers sets.0 found ∙ ap (λ x. (number ∷ x) ∷ []) sets.2 in
+        subst (λ xs. Suits ⊥ old.now.schema Enforced old.now.trees (edit_of old.now.trees meta (ids_of xs) Given 1 xs)) (sym shown)
+        (subst (λ x. Suits ⊥ old.now.schema Enforced old.now.trees (record { table = meta; gone = gone; news = x ∷ [] })) (sym (as_cast format s.office))
+        (suits format s.office old.now gone (is.2 (id_in number)) held.kept none short))
+
+    queried : (stop : Option Error) → Queried task.limit old.now query [] (Err stop) → ⊥
+    queried None h = h
+    queried (Some e) h = never_refused [] old.now query.body is.1.typed refl old.step_limit unlimited e h
+
+    updated : (stop : Option Error) → Updates task query [] old.now.trees (Err stop) → ⊥
+    updated stop h = elim (stopped stop h) [
+      | inl asked ↦ queried stop asked
+      | inr given ↦ elim (stopped stop given.2) [ inl edited ↦ (goes ⊥ old.now.schema Enforced old.now.trees _ (edits given.0 given.1) stop edited).1 | inr done ↦ absurd (let h = done.2 in cc) ]
+    ]
+
+    left_sound : (w : Written) → Updates task query [] old.now.trees (Ok w) → Refers All old.now.schema w.trees
+    left_sound w h =
+        let given = went h in
+        let edited = went given.2 in
+        subst (λ trees. Refers All old.now.schema trees) (sym (ap (λ (it : Written). it.trees) (same_value edited.2))) (refers ⊥ old.now.schema Enforced old.now.trees _ (edits given.0 given.1) edited.0 edited.1)
+
+    rows_done : (stop : Option Error) → OnRows task (mode_of old) None command old.now.trees (Err stop) → ⊥
+    rows_done stop h = elim (stopped stop h) [
+      | inl written ↦ updated stop written
+      | inr written ↦ elim (stopped stop written.2) [
+        | inl tested ↦ tested.0 (left_sound written.0 written.1)
+        | inr passed ↦ elim (stopped stop passed.2) [ inl shown ↦ absurd (let h = shown in cc) | inr last ↦ absurd (let h = last.2 in cc) ]
+      ]
+    ]
+
+    does : (stop : Option Error) → Does old.step_limit (mode_of old) [] old.now set_sql None command (Err stop) → ⊥
+    does stop h = rows_done stop (subst (λ o. AtPlace (λ table. OnRows (record task { table = table }) (mode_of old) None command old.now.trees) o (Err stop)) there h)
+
+    placed : (e : Error) → ¬ IsMisplaced old command e
+    placed e (inl (why, inl begins)) = let k = begins.0 in cc
+    placed e (inl (why, inr (inl commits, outside))) = let k = commits in cc
+    placed e (inl (why, inr (inr rolls, outside))) = let k = rolls in cc
+    placed e (inr (why, name, inl releases, none)) = let k = releases in cc
+    placed e (inr (why, name, inr back, none)) = let k = back in cc
+
+    -- only as the store fails
+    pub format_fails : (e : Error) → Executes set_sql [] old new (Err e) → Fails old new ⊥ e
+    format_fails e h = elim (change_fails set_sql [] old new command (λ e. ⊥) is.0 is.1.whole refl refl (λ e misplaced same. placed e misplaced) (λ e writes. does (Some e)) e h) [ inl fails ↦ caused_by old new e (does None) fails | inr never ↦ absurd never ]

@@ -1,7 +1,6 @@
 pub mod OfficeRows
 pub mod TeamRows
 pub mod PacticipantRows
-pub mod GrantRefusals
 pub mod GrantRows
 pub mod VersionRows
 pub mod BranchRows

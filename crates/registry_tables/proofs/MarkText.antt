@@ -1,19 +1,17 @@
 -- What the query for an environment's mark shows wherever the broker's tables are there, with any CHECKs.
-use Rattle.std.specs.{Prelude.{option_map, ◌<◌, ◌≤◌}, List.{AllZip}, Cmp.{Equal-is, eq_by_cmp_equiv}, Cmp.Lexicographic.{slice_cmp, nat_list_cmp_total}}
-use Rattle.std.specs.Ordering.{nat_cmp}
+use Rattle.std.specs.{Prelude.{option_map, ◌<◌, ◌≤◌}, List.{AllZip}, Cmp.{eq_by_cmp_equiv}, Cmp.Lexicographic.{nat_list_cmp_total}}
 use Rattle.std.proofs.Common.{◌≡◌, ℕ, zero, suc, pos, codes, List, [], ◌∷◌, if◌then◌else◌, ◌==◌, refl, sym, ap, subst, ◌∙◌, slice_get, Some, None, Option, Bool, true, false, arith, ◌&&◌}
 use Rattle.std.proofs.lemmas.List.Sorted.{Contains-permutation}
-use Rattle.sqlite.specs.{declared.types.Value.{Value}, declared.types.Value.TheVariants.{Null, Int, Real, Text, Blob}, Order.{Row, column, value_cmp}}
-use Rattle.sqlite.specs.{Table.{Table}, Schema.{Schema}, Query.{Query}, Command.{Command}, Command.TheVariants.{Select}, State.{State, Shown}}
-use Rattle.sqlite.specs.{Collation.TheVariants.{Binary}, Term.{Term, col, op2}, Listing.{understood}}
+use Rattle.sqlite.specs.{declared.types.Value.TheVariants.{Int, Text}, Order.{Row, column}, Table.{Table}, Schema.{Schema}, Query.{Query}, Command.{Command}}
+use Rattle.sqlite.specs.{Command.TheVariants.{Select}, State.{State, Shown}, Collation.TheVariants.{Binary}, Term.{Term, col, op2}, Listing.{understood}}
 use Rattle.sqlite_sql.specs.{Ops.{binary, is_true}, declared.ops.BinaryOp.TheVariants.{Compare}, declared.ops.CompareOp.TheVariants.{Eq}}
 use Rattle.sqlite_schema.specs.declared.schema.Column.{Column}
 use Rattle.sqlite_rules.specs.Lists.{Has}
 use Rattle.sqlite_tied.specs.Compute.{everything}
 use Rattle.sqlite_keyed.proofs.RuleLemmas.{first_of_both}
 use Rattle.table_access.{specs.Statements.{from_table, keeps, shows}, proofs.Answered.{Runs, shown_of, first_has}}
-use Rattle.table_access.proofs.{Members.{has_map, has_filter, has_contains, contains_has}, Steps.{Means, selects}, Values.{same_texts}}
-use Rattle.broker_tables.{specs.{Schema.{in_environments, broker_schema, environments, texts, numbers}, Rows.{mark_of, IsTruthAt}}, proofs.Orders.{exact_texts}}
+use Rattle.table_access.proofs.{Members.{has_map, has_filter, has_contains, contains_has}, Steps.{Means, selects}, Values.{same_texts, equal_text}}
+use Rattle.broker_tables.specs.{Schema.{in_environments, broker_schema, environments, texts, numbers}, Rows.{mark_of, IsTruthAt}}
 use Rattle.registry_tables.specs.Marks.{IsColumnLike, HasColumns, HasBrokerTables, IsMarkIn, HasNoMark, IsEnvironmentRow}
 use Rattle.sqlite.specs.Kind.TheVariants as kind
 
@@ -53,9 +51,8 @@ Asks s = Means s gated_sql gated_command × ((e : List ℕ) → Runs s gated_sql
 asks_declared : (s : Schema) (given : ℕ → Table) (a b : Column) (x y : Bool) → Asks (declared s given a b x y)
 unfolding understood everything
 asks_declared s given a b true true = (record { is = refl; plain = (refl, refl); unlisted = refl }, λ e. record { whole = refl; typed = refl; sumless = refl })
-asks_declared s given a b true false = (record { is = refl; plain = (refl, refl); unlisted = refl }, λ e. record { whole = refl; typed = refl; sumless = refl })
 asks_declared s given a b false true = (record { is = refl; plain = (refl, refl); unlisted = refl }, λ e. record { whole = refl; typed = refl; sumless = refl })
-asks_declared s given a b false false = (record { is = refl; plain = (refl, refl); unlisted = refl }, λ e. record { whole = refl; typed = refl; sumless = refl })
+asks_declared s given a b _ _ = (record { is = refl; plain = (refl, refl); unlisted = refl }, λ e. record { whole = refl; typed = refl; sumless = refl })
 
 -- ---- a schema that has the tables is such a one
 
@@ -65,11 +62,10 @@ put_first t given (suc n) = given n
 
 lays : (wanted ts : List Table) → AllZip HasColumns wanted ts → (given : ℕ → Table) × (ts ≡ laid_out wanted given)
 lays [] [] h = (λ n. environments, refl)
-lays [] (t ∷ ts) h = absurd h
-lays (w ∷ ws) [] h = absurd h
 lays (w ∷ ws) (t ∷ ts) h =
     let more = lays ws ts h.1 in
     (put_first t more.0, λ i. record t { name = h.0.0 i; tree = h.0.1 i } ∷ more.1 i)
+lays _ _ h = absurd h
 
 lays_column : (wanted c : Column) → IsColumnLike wanted c → c ≡ record c { name = wanted.name; kind = wanted.kind; collation = wanted.collation }
 lays_column wanted c h = λ i. record c { name = h.0.0 i; kind = h.0.1 i; collation = h.1 i }
@@ -98,15 +94,6 @@ mark_asks s h = let it = is_declared s h in subst Asks (sym it.3) (asks_declared
 
 abbrev by_name : List Term
 by_name = op2 (Compare Eq Binary) (col 1 in_environments.name) (col 0 0) ∷ []
-
--- in SQL only a text is equal to a text, and only the same
-equal_text : (v : Value) (k : List ℕ) → is_true (binary (Compare Eq Binary) v (Text k)) ≡ true → v ≡ Text k
-unfolding binary value_cmp
-equal_text Null k h = absurd cc
-equal_text (Int n) k h = absurd cc
-equal_text (Real x) k h = absurd cc
-equal_text (Text t) k h = ap Text (exact_texts t k ((Equal-is (slice_cmp nat_cmp t k)).0 (sym (same_texts t k) ∙ h)))
-equal_text (Blob b) k h = absurd cc
 
 kept_name : (r : Row) (e : List ℕ) → keeps by_name (Text e ∷ []) r ≡ true → column r in_environments.name ≡ Text e
 kept_name r e h = equal_text (column r in_environments.name) e (first_of_both _ true h)
@@ -140,12 +127,11 @@ module _ (e : List ℕ) (old new : State) (h : HasBrokerTables old.now.schema) (
     where
       go : (g : Option Bool) (o : Option Row) → slice_get rows 0 ≡ o → option_map (λ g. Int (pos (mark_of g))) g ≡ option_map (λ row. column row 0) o → IsMarkIn e old.now g
       go None None head read = none_shown head
-      go None (Some row) head read = absurd cc
-      go (Some g) None head read = absurd cc
       go (Some g) (Some row) head read =
           let it = shown_mark row head in
           let first : Int (pos (mark_of g)) ≡ column row 0 = cc in
           (it.0, it.1, ap (λ x. column x 0) (sym it.2) ∙ sym first)
+      go _ _ head read = absurd cc
 
   pub mark_lost : (row : Row) → slice_get rows 0 ≡ Some row → ¬ IsTruthAt 0 row → HasNoMark e old.now
   mark_lost row head none =

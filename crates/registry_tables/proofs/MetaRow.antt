@@ -3,12 +3,12 @@ use Rattle.broker_tables.{specs.{Schema.{in_meta, schema_of, registry_part}, Mak
 use Rattle.broker_tables.proofs.Placed.{meta}
 use Rattle.std.specs.List.{AllByRecursion}
 use Rattle.std.proofs.Common.{◌≡◌, ◌≢◌, ℕ, pos, codes, List, [], ◌∷◌, ◌++◌, fold, map, false, refl, sym, ap, subst, ◌∙◌, slice_get, Some, Ok, arith}
-use Rattle.sqlite.specs.{Edit.{with_rowid}, Rowids.TheVariants.{Chosen}, Cast.{cast, cast_all, cast_row}, Kind.TheVariants.{Integer}, Change.{created}}
-use Rattle.sqlite.specs.{declared.types.Value.TheVariants.{Null, Int, Text}, Order.{Row}, Table.{Table}, Term.{Term, col, lit}, Source.TheVariants.{Values}}
-use Rattle.sqlite.specs.{Command.{Command}, Command.TheVariants.{Insert}, Schema.{Schema}, Effect.{Database}, State.{State, Executes}, Listing.{understood}}
+use Rattle.sqlite.specs.{Edit.{with_rowid}, Rowids.TheVariants.{Chosen}, Cast.{cast_row}, Change.{created}, declared.types.Value.TheVariants.{Null, Int, Text}}
+use Rattle.sqlite.specs.{Order.{Row}, Table.{Table}, Term.{Term, col, lit}, Source.TheVariants.{Values}, Command.{Command}, Command.TheVariants.{Insert}}
+use Rattle.sqlite.specs.{Schema.{Schema}, Effect.{Database}, State.{State, Executes}, Listing.{understood}}
 use Rattle.sqlite_tied.specs.Compute.{everything}
-use Rattle.table_access.{specs.Statements.{Makes, IsAdded, new_trees}, proofs.{Creation.{made_schema, made_empty, made_kept}, Values.{cast_null, cast_int}}}
-use Rattle.table_access.proofs.Steps.{Means, inserts}
+use Rattle.table_access.{specs.Statements.{Makes, IsAdded, new_trees}, proofs.Creation.{made_schema, made_empty, made_kept}}
+use Rattle.table_access.proofs.{Values.{cast_null, cast_int, cast_kept}, Steps.{Means, inserts}}
 use Rattle.broker_core.specs.Text.{same_text}
 use Rattle.registry_tables.specs.Registry.{HasEmptyRegistry, PutsMeta}
 
@@ -30,17 +30,17 @@ alone old new row it none = go it.front it.back (sym none ∙ it.was) it.is
   where
     go : (front back : List Row) → [] ≡ front ++ back → new ≡ front ++ row ∷ back → new ≡ row ∷ []
     go [] [] e is = is
-    go [] (b ∷ back) e is = absurd cc
-    go (f ∷ front) back e is = absurd cc
+    go _ _ e is = absurd cc
 
 -- the row is stored as it is given
 abbrev pub row_of : ℕ → List ℕ → Row
 row_of n digest = Int (pos 1) ∷ Null ∷ Int (pos n) ∷ Text digest ∷ []
 
+pub as_cast : (n : ℕ) (digest : List ℕ) → cast_row meta (row_of n digest) ≡ row_of n digest
+as_cast n digest = cast_kept meta (row_of n digest) refl (λ i. cast_null i ∷ cast_int (pos n) i ∷ Text digest ∷ [])
+
 pub as_stored : (n : ℕ) (digest : List ℕ) (rows : List Row) → with_rowid Chosen rows (cast_row meta (row_of n digest)) ≡ row_of n digest
-as_stored n digest rows =
-    ap (λ v. with_rowid Chosen rows (v ∷ cast_all meta.columns (Null ∷ Int (pos n) ∷ Text digest ∷ []))) (cast_int (pos 1))
-    ∙ ap (λ v. Int (pos 1) ∷ v ∷ cast Integer (Int (pos n)) ∷ Text digest ∷ []) cast_null ∙ ap (λ v. Int (pos 1) ∷ Null ∷ v ∷ Text digest ∷ []) (cast_int (pos n))
+as_stored n digest rows = ap (with_rowid Chosen rows) (as_cast n digest)
 
 pub meta_put : (n : ℕ) (digest : List ℕ) (old new : State) (count : ℕ) → Executes put_sql (Int (pos n) ∷ Text digest ∷ []) old new (Ok count) → PutsMeta n digest old.now new.now
 meta_put n digest old new count h is kept none =

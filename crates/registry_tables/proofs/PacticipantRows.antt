@@ -1,30 +1,24 @@
 -- The statements on pacticipants.
-use Rattle.std.specs.{Prelude.{option_map, is_some}, Cmp.Lexicographic.{nat_list_cmp_total, texts_ties}, Ordering.{eq_by_cmp}}
-use Rattle.std.proofs.Common.{◌≡◌, ℕ, codes, List, [], ◌∷◌, false, refl, sym, ap, ◌∙◌, cond, slice_get, Some, None, Ok, arith}
-use Rattle.sqlite.specs.{Tree.{IsAscending}, Edit.{next_rowid, with_rowid}, Rowids.TheVariants.{Chosen}, declared.types.Value.TheVariants.{Null, Int, Text}}
-use Rattle.sqlite.specs.{Order.{Row, column}, Term.{col, op2, lit}, Collation.TheVariants.{Binary}, Cast.{cast_row}, Schema.{Schema}, Effect.{Database}}
-use Rattle.sqlite.specs.{State.{State, Executes}, Listing.{understood}}
+use Rattle.std.specs.{Prelude.{option_map, is_some}, Cmp.Lexicographic.{nat_list_cmp_total, texts_ties}}
+use Rattle.std.proofs.Common.{◌≡◌, ℕ, codes, List, [], ◌∷◌, refl, sym, ap, ◌∙◌, cond, slice_get, Some, None, Ok, arith}
+use Rattle.sqlite.specs.{Edit.{next_rowid, with_rowid}, Rowids.TheVariants.{Chosen}, declared.types.Value.TheVariants.{Null, Int, Text}, Order.{Row, column}}
+use Rattle.sqlite.specs.{Term.{col, op2, lit}, Collation.TheVariants.{Binary}, Cast.{cast_row}, Effect.{Database}, State.{State, Executes}}
+use Rattle.sqlite.specs.Listing.{understood}
 use Rattle.sqlite_sql.specs.{declared.ops.BinaryOp.TheVariants.{Compare}, declared.ops.CompareOp.TheVariants.{Eq}}
 use Rattle.sqlite_rules.specs.Lists.{Has}
 use Rattle.sqlite_tied.specs.Compute.{everything}
 use Rattle.table_access.{specs.{Columns.{text, text_cmp}, Statements.{from_table}, Reading.{IsTextAt}}, proofs.{Values.{cast_null}, Steps.{answered}}}
-use Rattle.table_access.proofs.{Maps.{looks_up_at, puts_at}, Keys.{apart_by, text_keys, by_text}, SoundLemmas.{text_at, has_place}}
+use Rattle.table_access.proofs.{Maps.{looks_up_at, puts_at}, Keys.{by_text}, SoundLemmas.{text_at, has_place}}
 use Rattle.broker_core.specs.{Text.{put_at, same_text}, State.{State as Broker}}
 use Rattle.broker_tables.specs.{Schema.{in_pacticipants}, Holds.{Holds, HoldsAfter, IsBroker}, Refusals.{HaveNumbers}}
 use Rattle.broker_tables.proofs.{Asked.{Asked, IsShown, FirstShown, FirstReads, text_reads}, Frames.{frame_of, pacticipants_change}, Orders.{exact_texts}}
-use Rattle.broker_tables.proofs.{Placed.{pacticipants, pacticipants_there}, Standing.{stands_found}, RoomLemmas.{after_one, grows_added, number_for}}
+use Rattle.broker_tables.proofs.{Placed.{pacticipants, pacticipants_there}, References.{pacticipant_names, pacticipant_keys}, Standing.{stands_found}}
+use Rattle.broker_tables.proofs.RoomLemmas.{after_one, grows_added, number_for}
 use Rattle.broker_tables.proofs.Inserted.{EndsOnly, Puts, inserted, next_ends, new_text, free_one, team_there}
 use Rattle.registry_tables.specs.Registry.{AddsPacticipant}
 
-module _ (db : Database) (broker : IsBroker db) where
-  names : (r : Row) → Has (db.trees in_pacticipants.tree) r → column r in_pacticipants.name ≡ Text (text in_pacticipants.name r)
-  names r has = text_at db broker.kept.sound pacticipants (has_place _ 2 pacticipants (pacticipants_there db broker)) r has 0 _ refl refl refl refl refl
-
-  owners : (r : Row) → Has (db.trees in_pacticipants.tree) r → column r in_pacticipants.team ≡ Text (text in_pacticipants.team r)
-  owners r has = text_at db broker.kept.sound pacticipants (has_place _ 2 pacticipants (pacticipants_there db broker)) r has 1 _ refl refl refl refl refl
-
-  keys : IsAscending (λ a b. eq_by_cmp text_cmp (text in_pacticipants.name a) (text in_pacticipants.name b) ≡ false) (db.trees in_pacticipants.tree)
-  keys = text_keys (db.trees in_pacticipants.tree) in_pacticipants.name names (apart_by db broker.kept pacticipants 2 (pacticipants_there db broker) _ 2 (ap (λ (s : Schema). slice_get s.indexes 2) broker.schema) refl)
+owners : (db : Database) → IsBroker db → (r : Row) → Has (db.trees in_pacticipants.tree) r → column r in_pacticipants.team ≡ Text (text in_pacticipants.team r)
+owners db broker r has = text_at db broker.kept.sound pacticipants (has_place _ 2 pacticipants (pacticipants_there db broker)) r has 1 _ refl refl refl refl refl
 
 pub owner : (p : List ℕ)
     → Asked (codes "SELECT team FROM pacticipants WHERE name = ?1")
@@ -34,7 +28,7 @@ owner p = record { names = _; means = record { is = refl; plain = (refl, refl); 
 
 pub owner_found : (p : List ℕ) (db : Database) (rows : List Row) (s : Broker) → Holds db s → IsShown (owner p) db rows → option_map (text 0) (slice_get rows 0) ≡ s.pacticipants p
 owner_found p db rows s held h =
-    looks_up_at nat_list_cmp_total exact_texts (text in_pacticipants.name) (text in_pacticipants.team) _ (text 0) (λ r. refl) p _ (db.trees in_pacticipants.tree) rows (by_text (db.trees in_pacticipants.tree) in_pacticipants.name p (names db held.broker)) (keys db held.broker)
+    looks_up_at nat_list_cmp_total exact_texts (text in_pacticipants.name) (text in_pacticipants.team) _ (text 0) (λ r. refl) p _ (db.trees in_pacticipants.tree) rows (by_text (db.trees in_pacticipants.tree) in_pacticipants.name p (pacticipant_names db held.broker)) (pacticipant_keys db held.broker)
     (answered db _ in_pacticipants.tree _ _ _ rows h) ∙ held.pacticipants p
 
 -- where the owner is a text in UTF-8, it can be read
@@ -72,5 +66,5 @@ module _ (p team : List ℕ) (old new : State) (s : Broker) (held : Holds old.no
   pub pacticipant_ends : HaveNumbers (codes "pacticipants" ∷ []) old.now → (t : Broker) → AddsPacticipant p team s t → EndsOnly (p ∷ team ∷ []) add_sql (Text p ∷ Text team ∷ []) old new
   pacticipant_ends numbers t next =
       next_ends add_sql (Text p ∷ Text team ∷ []) old new held.broker pacticipants 2 (pacticipants_there old.now held.broker) _ _ (add_puts p team) stored (number_for _ numbers.0) (record { typed = refl; present = refl; checked = refl })
-      (free_one (old.now.trees in_pacticipants.tree) made nat_list_cmp_total in_pacticipants.name (text in_pacticipants.name) (new_text (old.now.trees in_pacticipants.tree) made in_pacticipants.name (names old.now held.broker) refl) (sym (stands_found text_cmp (text in_pacticipants.name) (text in_pacticipants.team) (old.now.trees in_pacticipants.tree) p) ∙ ap is_some (held.pacticipants p ∙ next.0)), tt)
+      (free_one (old.now.trees in_pacticipants.tree) made nat_list_cmp_total in_pacticipants.name (text in_pacticipants.name) (new_text (old.now.trees in_pacticipants.tree) made in_pacticipants.name (pacticipant_names old.now held.broker) refl) (sym (stands_found text_cmp (text in_pacticipants.name) (text in_pacticipants.team) (old.now.trees in_pacticipants.tree) p) ∙ ap is_some (held.pacticipants p ∙ next.0)), tt)
       (team_there old.now s held made in_pacticipants.team team next.1 refl, tt) (p ∷ team ∷ []) (λ are. are) (omega arith) (omega arith)

@@ -12,19 +12,16 @@ use Rattle.table_access.proofs.{Maps.{looks_up_at, puts_at, other_way, no_other_
 use Rattle.broker_core.specs.{Text.{put_at, same_text}, State.{State as Broker}, Laws.{TeamsDiffer}}
 use Rattle.broker_tables.specs.{Schema.{in_teams}, Rows.{value_at}, Holds.{Holds, HoldsAfter, IsBroker}, Refusals.{HaveNumbers}}
 use Rattle.broker_tables.proofs.{Asked.{Asked, IsShown, FirstShown, FirstReads, text_reads}, Frames.{frame_of, teams_change}, Orders.{exact_texts}}
-use Rattle.broker_tables.proofs.{Placed.{teams, teams_there}, Standing.{stands_found}, RoomLemmas.{after_one, grows_added, number_for}}
+use Rattle.broker_tables.proofs.{Placed.{teams, teams_there}, References.{team_names}, Standing.{stands_found}, RoomLemmas.{after_one, grows_added, number_for}}
 use Rattle.broker_tables.proofs.Inserted.{EndsOnly, Puts, inserted, next_ends, new_text, free_one}
 use Rattle.registry_tables.specs.Registry.{AddsTeam}
 
 module _ (db : Database) (broker : IsBroker db) where
-  names : (r : Row) → Has (db.trees in_teams.tree) r → column r in_teams.name ≡ Text (text in_teams.name r)
-  names r has = text_at db broker.kept.sound teams (has_place _ 1 teams (teams_there db broker)) r has 0 _ refl refl refl refl refl
-
   digests : (r : Row) → Has (db.trees in_teams.tree) r → column r in_teams.token_digest ≡ Text (text in_teams.token_digest r)
   digests r has = text_at db broker.kept.sound teams (has_place _ 1 teams (teams_there db broker)) r has 1 _ refl refl refl refl refl
 
   team_keys : IsAscending (λ a b. eq_by_cmp text_cmp (text in_teams.name a) (text in_teams.name b) ≡ false) (db.trees in_teams.tree)
-  team_keys = text_keys (db.trees in_teams.tree) in_teams.name names (apart_by db broker.kept teams 1 (teams_there db broker) _ 0 (ap (λ (s : Schema). slice_get s.indexes 0) broker.schema) refl)
+  team_keys = text_keys (db.trees in_teams.tree) in_teams.name (team_names db broker) (apart_by db broker.kept teams 1 (teams_there db broker) _ 0 (ap (λ (s : Schema). slice_get s.indexes 0) broker.schema) refl)
 
   digest_keys : IsAscending (λ a b. eq_by_cmp text_cmp (text in_teams.token_digest a) (text in_teams.token_digest b) ≡ false) (db.trees in_teams.tree)
   digest_keys = text_keys (db.trees in_teams.tree) in_teams.token_digest digests (apart_by db broker.kept teams 1 (teams_there db broker) _ 1 (ap (λ (s : Schema). slice_get s.indexes 1) broker.schema) refl)
@@ -39,7 +36,7 @@ token team = record { names = _; means = record { is = refl; plain = (refl, refl
 
 pub token_found : (team : List ℕ) (db : Database) (rows : List Row) (s : Broker) → Holds db s → IsShown (token team) db rows → option_map (text 0) (slice_get rows 0) ≡ s.teams team
 token_found team db rows s held h =
-    looks_up_at nat_list_cmp_total exact_texts (text in_teams.name) (text in_teams.token_digest) _ (text 0) (λ r. refl) team _ (db.trees in_teams.tree) rows (by_text (db.trees in_teams.tree) in_teams.name team (names db held.broker)) (team_keys db held.broker)
+    looks_up_at nat_list_cmp_total exact_texts (text in_teams.name) (text in_teams.token_digest) _ (text 0) (λ r. refl) team _ (db.trees in_teams.tree) rows (by_text (db.trees in_teams.tree) in_teams.name team (team_names db held.broker)) (team_keys db held.broker)
     (answered db _ in_teams.tree _ _ _ rows h) ∙ held.teams team
 
 -- where the digest is a text in UTF-8, it can be read
@@ -78,7 +75,7 @@ holder_found digest db rows s held h = subst (IsTeamOf s digest) (sym (found_by_
 -- where the team's name is a text in UTF-8, it can be read
 pub holder_reads : (digest : List ℕ) (db : Database) → FirstReads (holder digest) db (IsTextAt 0)
 holder_reads digest db s held readable =
-    text_reads (holder digest) db (names db held.broker) (λ rows h row head. (readable.teams (text 0 row) digest (subst (IsTeamOf s digest) (ap (option_map (text 0)) head) (holder_found digest db rows s held h))).0.0)
+    text_reads (holder digest) db (team_names db held.broker) (λ rows h row head. (readable.teams (text 0 row) digest (subst (IsTeamOf s digest) (ap (option_map (text 0)) head) (holder_found digest db rows s held h))).0.0)
 
 -- where no team has this digest, no row is shown
 pub holder_missing : (digest : List ℕ) (db : Database) (s : Broker) → Holds db s → ((t : List ℕ) → ¬ (s.teams t ≡ Some digest)) → FirstShown (holder digest) db (λ row. ⊥)
@@ -130,5 +127,5 @@ module _ (team digest : List ℕ) (old new : State) (s : Broker) (held : Holds o
       let free_name = sym (stands_found text_cmp (text in_teams.name) (text in_teams.token_digest) (old.now.trees in_teams.tree) team) ∙ ap is_some (held.teams team ∙ next.0) in
       let free_digest = sym (stands_found text_cmp (text in_teams.token_digest) (text in_teams.name) (old.now.trees in_teams.tree) digest) ∙ unknown next.1 _ refl in
       next_ends add_sql (Text team ∷ Text digest ∷ []) old new held.broker teams 1 (teams_there old.now held.broker) _ _ (add_puts team digest) stored (number_for _ numbers.0) (record { typed = refl; present = refl; checked = refl })
-      (free_one (old.now.trees in_teams.tree) made nat_list_cmp_total in_teams.name (text in_teams.name) (new_text (old.now.trees in_teams.tree) made in_teams.name (names old.now held.broker) refl) free_name, (free_one (old.now.trees in_teams.tree) made nat_list_cmp_total in_teams.token_digest (text in_teams.token_digest) (new_text (old.now.trees in_teams.tree) made in_teams.token_digest (digests old.now held.broker) refl) free_digest, tt)) tt
+      (free_one (old.now.trees in_teams.tree) made nat_list_cmp_total in_teams.name (text in_teams.name) (new_text (old.now.trees in_teams.tree) made in_teams.name (team_names old.now held.broker) refl) free_name, (free_one (old.now.trees in_teams.tree) made nat_list_cmp_total in_teams.token_digest (text in_teams.token_digest) (new_text (old.now.trees in_teams.tree) made in_teams.token_digest (digests old.now held.broker) refl) free_digest, tt)) tt
       (team ∷ digest ∷ []) (λ are. are) (omega arith) (omega arith)

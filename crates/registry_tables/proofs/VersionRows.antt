@@ -1,6 +1,6 @@
 -- The statements on versions.
 use Rattle.std.specs.{Prelude.{option_map, is_some}, Cmp.Lexicographic.{nat_list_cmp_total}}
-use Rattle.std.proofs.Common.{◌≡◌, ℕ, pos, ◌+◌, IsTrue, codes, List, [], ◌∷◌, ◌++◌, length, true, false, refl, sym, ap, subst, ◌∙◌, slice_get, ◌<◌, ◌^◌, arith, Some, None, Option, Ok, unwrap_or}
+use Rattle.std.proofs.Common.{◌≡◌, ℕ, pos, ◌+◌, IsTrue, codes, List, [], ◌∷◌, ◌++◌, length, true, false, refl, sym, ap, subst, ◌∙◌, slice_get, ◌<◌, ◌^◌, arith, Some, Option, Ok, unwrap_or}
 use Rattle.std.proofs.lemmas.Bool.{ltb-true, lt-ltb}
 use Rattle.sqlite.specs.{Edit.{with_rowid}, Rowids.TheVariants.{Chosen}, Cast.{cast_all, cast_row}, declared.types.Value.TheVariants.{Null, Int, Text}}
 use Rattle.sqlite.specs.{Order.{Row, column}, Term.{col, lit}, Effect.{Database}, State.{State, Shown, Executes}, Listing.{understood}}
@@ -8,7 +8,7 @@ use Rattle.sqlite_rules.specs.Edit.{is_taken}
 use Rattle.sqlite_tied.specs.Compute.{everything}
 use Rattle.table_access.specs.{Columns.{text, pair_cmp, whole_at}, Statements.{from_table, up_to, newest, by_two, shows}, Reading.{IsNumberRow}}
 use Rattle.table_access.proofs.{Values.{cast_null, cast_int}, Steps.{answered}, Maps.{looks_up_at}, Newest.{newest_number}, Keys.{by_pair}}
-use Rattle.table_access.proofs.ReadLemmas.{number_found}
+use Rattle.table_access.proofs.ReadLemmas.{number_found, same_numbers}
 use Rattle.broker_core.specs.{declared.command.Version.{Version}, Text.{version}, State.{State as Broker}, Request.{is_known}, Limit.{has_room}}
 use Rattle.broker_tables.specs.{Schema.{in_versions, in_branches}, Numbers.{number_of}, Holds.{Holds, HoldsAfter, IsBroker}}
 use Rattle.broker_tables.proofs.{Asked.{Asked, IsShown, EachReads, of_first, number_reads}, ReadableRows.{number_cell, version_low}}
@@ -27,12 +27,6 @@ pub known : (p name : List ℕ)
 unfolding understood everything
 known p name = record { names = _; means = record { is = refl; plain = (refl, refl); unlisted = refl }; runs = record { whole = refl; typed = refl; sumless = refl } }
 
-pos_same : (found n : Option ℕ) → option_map pos found ≡ option_map pos n → found ≡ n
-pos_same None None e = refl
-pos_same None (Some k) e = absurd cc
-pos_same (Some k) None e = absurd cc
-pos_same (Some k) (Some n) e = let same : k ≡ n = cc in ap Some same
-
 row_found : (p name : List ℕ) (db : Database) (rows : List Row) (s : Broker) → Holds db s → IsShown (known p name) db rows → option_map (whole_at 0) (slice_get rows 0) ≡ option_map pos (number_of s.versions (version p name))
 row_found p name db rows s held h =
     looks_up_at pairs_total exact_pair (λ r. (text in_versions.pacticipant r, text in_versions.version r)) (whole_at in_versions.number) _ (whole_at 0) (λ r. refl) (p, name) _ (db.trees in_versions.tree) rows
@@ -44,7 +38,7 @@ row_found p name db rows s held h =
 pub known_found : (p name : List ℕ) (db : Database) (rows : List Row) (s : Broker) (found : Option ℕ) → Holds db s → IsShown (known p name) db rows
     → option_map (λ n. Int (pos n)) found ≡ option_map (λ row. column row 0) (slice_get rows 0) → (found ≡ number_of s.versions (version p name)) × (is_some found ≡ is_known s (version p name))
 known_found p name db rows s found held h read =
-    let same = pos_same found (number_of s.versions (version p name)) (number_found found rows read ∙ row_found p name db rows s held h) in
+    let same = same_numbers found (number_of s.versions (version p name)) (number_found found rows read ∙ row_found p name db rows s held h) in
     (same, ap is_some same ∙ known_numbered s (version p name))
 
 -- where the versions are few enough, the number can be read

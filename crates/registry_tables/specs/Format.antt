@@ -17,6 +17,7 @@ use Rattle.broker_tables.specs.Schema.{meta, in_meta}
 use Rattle.broker_core.specs.State.{State as Broker}
 use Rattle.broker_tables.specs.Holds.{format}
 use Rattle.broker_tables.specs.Former.{HoldsUnmarked, former_format, former_tables, added_tables}
+use Rattle.broker_tables.specs.Refusals.{AreShort}
 
 -- a column has this name and this kind: with STRICT, NOT NULL, a default and a collation, or without
 abbrev pub IsColumn : List ℕ × Kind → Column → Type 0
@@ -106,7 +107,12 @@ FindsFormer db found = MatchOption found
     (IsForeign db ⊎ (IsOfFormat former_format db × (¬ (HasFormerTables db.schema))))
     (λ n. IsOfFormat n db × (n ≡ former_format → HasFormerTables db.schema))
 
--- the state of a database that has the tables of format 1, and after them these, is held in format 2
+-- A database has the tables of format 1, and after them these, and holds a state. The digest of its office's token,
+-- which stands in the row of meta, has ten million bytes at most; that of any token has 64.
+abbrev pub CanBecomeFormat2 : List Table → Database → Type 0
+CanBecomeFormat2 more db = (s : Broker) × HoldsUnmarked former_format more db s × AreShort (s.office ∷ [])
+
+-- the state of such a database is held in format 2
 abbrev pub BecomesFormat2 : List Table → Database → Database → Type 0
 BecomesFormat2 more old new =
     (s : Broker) → HoldsUnmarked former_format more old s → HoldsUnmarked format added_tables new s

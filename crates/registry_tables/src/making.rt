@@ -2,7 +2,7 @@
 ghost use Rattle.std.specs.Prelude.{◌≡◌, ◌++◌, ◌∷◌, []};
 ghost use Rattle.table_access.specs.Calls.{CallsStore};
 ghost use Rattle.table_access.specs.Statements.{Creates, Makes, Indexes, indexed_by};
-ghost use Rattle.broker_tables.specs.Making.{IsBlank, HasTables, HasNoRows, IsCalmOver};
+ghost use Rattle.broker_tables.specs.Making.{IsBlank, HasTables, HasShortKeys, IsCalmOver};
 ghost use Rattle.broker_tables.specs.Refusals.{AreShort};
 ghost use Rattle.broker_tables.specs.Schema.{registry_part, contract_part, deploy_part, schema_of, contents, checked_results, strict_environments, all_tables, contents_by_digest, contract_indexes, versions_by_pacticipant};
 ghost use Rattle.registry_tables.specs.Registry.{HasEmptyRegistry, PutsMeta};
@@ -85,7 +85,8 @@ pub fn make_index<S: Alter>(conn: &mut Connection<S>) -> Result<(), StoreFault>
         Indexes old.now new.now
         versions_by_pacticipant.0 versions_by_pacticipant.1) }
     ensures calm { IsCalmOver S.Store conn.old conn.new result
-        (λ db. (db.schema ≡ indexed_by (schema_of all_tables) (contents_by_digest ∷ contract_indexes)) × HasNoRows db) }
+        (λ db. (db.schema ≡ indexed_by (schema_of all_tables) (contents_by_digest ∷ contract_indexes))
+        × HasShortKeys db) }
 {
     make_each(conn, &[VERSIONS_BY_PACTICIPANT])
 }

@@ -3,8 +3,9 @@ ghost use Rattle.std.specs.Prelude.{◌≡◌, ◌∷◌, []};
 ghost use Rattle.sqlite.specs.Held.{state};
 ghost use Rattle.table_access.specs.Calls.{CallsStore};
 ghost use Rattle.broker_tables.specs.Schema.{checked_results};
+ghost use Rattle.broker_tables.specs.Making.{IsCalmOver};
 ghost use Rattle.broker_tables.specs.Former.{added_tables};
-ghost use Rattle.registry_tables.specs.Format.{FindsFormer, FailsToFind, FailsOnlyFor, BecomesFormat2};
+ghost use Rattle.registry_tables.specs.Format.{FindsFormer, FailsToFind, FailsOnlyFor, CanBecomeFormat2, BecomesFormat2};
 
 use crate::format::format_of;
 use crate::former::has_former_tables;
@@ -37,10 +38,12 @@ pub fn format_to_migrate<S: Alter>(conn: &mut Connection<S>) -> Result<Option<u3
 /// environment that is there is strict. Then sets the format to 2. All other tables keep their rows.
 ///
 /// # Errors
-/// `StoreFault::Memory` if the database is out of memory; `StoreFault::Store` if it refused the table or the format.
+/// `StoreFault::Memory` if the database is out of memory; `StoreFault::Store` if it refused the table or the format: of
+/// such a database, whose office has a digest as tokens have, only if the store failed.
 pub fn to_format_2<S: Alter>(conn: &mut Connection<S>) -> Result<(), StoreFault>
-    ensures { CallsStore S.Store conn.old conn.new result
+    ensures makes { CallsStore S.Store conn.old conn.new result
         (λ _ old new. BecomesFormat2 (checked_results ∷ []) old.now new.now) }
+    ensures calm { IsCalmOver S.Store conn.old conn.new result (CanBecomeFormat2 (checked_results ∷ [])) }
 {
     done!(make_strict_environments(conn));
     set_format(conn)
@@ -48,8 +51,9 @@ pub fn to_format_2<S: Alter>(conn: &mut Connection<S>) -> Result<(), StoreFault>
 
 /// Sets the format to 2.
 fn set_format<S: Alter>(conn: &mut Connection<S>) -> Result<(), StoreFault>
-    ensures { CallsStore S.Store conn.old conn.new result
+    ensures sets { CallsStore S.Store conn.old conn.new result
         (λ _ old new. BecomesFormat2 added_tables old.now new.now) }
+    ensures calm { IsCalmOver S.Store conn.old conn.new result (CanBecomeFormat2 added_tables) }
 {
     change(conn, "UPDATE meta SET format = 2", &[])
 }

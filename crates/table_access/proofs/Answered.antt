@@ -1,12 +1,11 @@
 -- A query whose text is understood, and whose parameters are of the right kinds, fails only as the store fails.
 use Rattle.std.specs.{List.Sorted.{IsPermutation}, List.{flat_map}}
-use Rattle.std.proofs.Common.{◌≡◌, ◌⊎◌, inl, inr, ℕ, take, List, [], ◌∷◌, map, filter, length, slice_get, Bool, true, false, nat_le, ◌==◌, ◌&&◌, Some, None, Option, Ok, Err, Result, refl, sym, ap, subst, subst₂, ◌∙◌, append-nil, ◌<◌, ◌^◌, pos, arith, drop}
+use Rattle.std.proofs.Common.{◌≡◌, ◌⊎◌, inl, inr, ℕ, take, List, [], ◌∷◌, map, filter, length, slice_get, Bool, true, false, nat_le, ◌==◌, ◌&&◌, Some, None, Option, Ok, Err, Result, refl, sym, ap, subst, subst₂, ◌∙◌, append-nil, drop}
 use Rattle.std.proofs.{lemmas.Bool.{leb-true, eqb-true}, lemmas.List.Sorted.{Contains-permutation, IsPermutation-sym}, lemmas.List.{take-append-drop}}
 use Rattle.sqlite_keyed.proofs.RuleLemmas.{first_of_both, second_of_both}
-use Rattle.sqlite.specs.{Order.{Row, column}, declared.types.Value.TheVariants.{Int}, Tree.{Trees}, Schema.{Schema}, Command.TheVariants.{Select}}
-use Rattle.sqlite.specs.{Term.{Term, Env, col, eval_all}, declared.error.Error.{Error}, Effect.{Database, Answers, RefusesQuery, RefusesToRead}}
-use Rattle.sqlite.specs.{Listing.{understood, IsSourceOf}, State.{State, Shown, FailsToQuery, IsNotRun, IsNoStatement, Fails}}
-use Rattle.sqlite.proofs.Callers.{IsPlain, command_of}
+use Rattle.sqlite.specs.{Order.{Row}, Tree.{Trees}, Schema.{Schema}, Command.TheVariants.{Select}, Term.{Term, Env, eval_all}, declared.error.Error.{Error}}
+use Rattle.sqlite.specs.{Effect.{Database, Answers, RefusesQuery, RefusesToRead}, Listing.{understood, IsSourceOf}}
+use Rattle.sqlite.{specs.State.{State, Shown, FailsToQuery, IsNotRun, IsNoStatement, Fails}, proofs.Callers.{IsPlain, command_of}}
 use Rattle.sqlite_sql.specs.{Query.{Query, Join, end, inner, left, counted, made, folded, first, has_no_fold, FoldOverflows}, Program.{QueryOverflows}}
 use Rattle.sqlite_sql.specs.Group.{Grouping, Overflows}
 use Rattle.sqlite_typing.specs.Types.{accepts_program}
@@ -14,7 +13,7 @@ use Rattle.sqlite_value.specs.declared.keys.Key.{Key}
 use Rattle.sqlite_resolve.specs.{declared.compiled.Compiled.{Compiled}, declared.error.CompileError.{CompileError}}
 use Rattle.sqlite_rules.{specs.Lists.{Has}, proofs.ListLemmas.{has_front}}
 use Rattle.table_access.specs.{declared.StoreFault.{StoreFault}, declared.StoreFault.TheVariants.{Memory}, Calls.{HasFailed, fault_of}}
-use Rattle.table_access.specs.{Reading.{IsRefusedAs, FailsToRead, FailsToTake, TellsText, TellsNumber, IsTextAt, IsNumberRow}, Columns.{whole_at}}
+use Rattle.table_access.specs.Reading.{IsRefusedAs, FailsToRead, FailsToTake, TellsText, TellsNumber, IsTextAt, IsNumberRow}
 use Rattle.table_access.specs.Statements.{from_table, from_both, up_to, keeps, keeps_both, shows}
 use Rattle.table_access.proofs.{Members.{has_either, contains_has, has_contains, map_has, filter_has}, SoundLemmas.{has_place}, Newest.{first_joined}}
 use Rattle.table_access.proofs.{Joins.{joined}, Steps.{Means, selects}}

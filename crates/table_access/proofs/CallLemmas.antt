@@ -9,7 +9,7 @@ use Rattle.sqlite_resolve.specs.declared.compiled.Compiled.{Compiled}
 use Rattle.sqlite_trees.specs.declared.error.StoreError.{StoreError}
 use Rattle.sqlite_trees.specs.declared.error.StoreError.TheVariants.{OutOfMemory, Io, Corrupt, Full, Broken, Unstorable}
 use Rattle.table_access.specs.{Unit.{IsLeft}, declared.StoreFault.{StoreFault}, declared.StoreFault.TheVariants.{Memory, Store}}
-use Rattle.table_access.specs.Calls.{KeepsLastCommit, CallsTablesBetween, GoesOn, EndsBy, IsEnded, FailsAs, TellsMemory, CallsStoreBetween, fault_of}
+use Rattle.table_access.specs.Calls.{KeepsLastCommit, CallsBetween, CallsTablesBetween, CallsStoreBetween, GoesOn, EndsBy, IsEnded, FailsAs, TellsMemoryUnless, fault_of}
 use Rattle.table_access.proofs.{Refusals.{read_told}, Texts.{IsRefused, caused, no_statement_told, command_told}}
 
 -- where nothing changed, or the transaction was rolled back, nothing is committed
@@ -58,47 +58,61 @@ pub shows_outside : (sql : List ℕ) (params : Row) (old : State) (db : Trees) �
 unfolding CommitsShowing
 shows_outside sql params old db h = h.3.0
 
--- ---- calls
+-- ---- where memory is told
 
--- a call whose answer has P is one whose answer has Q, where P of an answer gives Q
-pub call_with : {A : Type 0} (old new : State) (r : Result A StoreFault) (P Q : A → Type 0) → ((a : A) → P a → Q a) → CallsTablesBetween old new r P → CallsTablesBetween old new r Q
-call_with old new (Ok a) P Q more it = record { ok = λ clean. more a (it.ok clean); goes_on = it.goes_on; fails = it.fails; commits = it.commits; survives = it.survives }
-call_with old new (Err e) P Q more it = record { ok = it.ok; goes_on = it.goes_on; fails = it.fails; commits = it.commits; survives = it.survives }
+-- a call that gives an answer never tells Memory
+pub memory_ok : {A : Type 0} (takes : Bool) (old new : State) (a : A) → TellsMemoryUnless takes old new (Ok a)
+memory_ok true old new a = tt
+memory_ok false old new a = λ clean inside is. absurd (cc)
+
+-- that of a call, handed on
+memory_err : (A B : Type 0) (takes : Bool) (old new : State) (e : StoreFault) → TellsMemoryUnless {A = A} takes old new (Err e) → TellsMemoryUnless {A = B} takes old new (Err e)
+memory_err A B true old new e short = tt
+memory_err A B false old new e short = λ clean inside is. short clean inside (let same : e ≡ Memory = (let h = is in cc) in ap Err same)
+
+-- nor does one whose failure is told as Store
+pub memory_store : (A : Type 0) (takes : Bool) (old new : State) (e : StoreFault) → (takes ≡ false → e ≡ Store) → TellsMemoryUnless {A = A} takes old new (Err e)
+memory_store A true old new e store = tt
+memory_store A false old new e store = λ clean inside is. absurd (let clash : Store ≡ Memory = (let same : e ≡ Memory = (let h = is in cc) in sym (store refl) ∙ same) in cc)
+
+-- ---- calls: `takes` says whether the last one may take memory, and nothing depends on it of one that gave an answer
+
+-- a computation that may fail, after a call: only where a row breaks the rules, if it takes no memory
+pub then_result : {A B : Type 0} {any takes : Bool} (old new : State) (a : A) (r : Result B StoreFault) (P : A → Type 0) (Q : B → Type 0) → IfOk r (λ b. P a → Q b) → (takes ≡ false → IfErr r (λ e. e ≡ Store)) → CallsBetween any old new (Ok a) P → CallsBetween takes old new r Q
+then_result {takes} old new a (Ok b) P Q more store it = record { ok = λ clean. more (it.ok clean); goes_on = it.goes_on; fails = it.fails; commits = it.commits; survives = it.survives; memory = memory_ok takes old new b }
+then_result {B} {takes} old new a (Err e) P Q more store it = record { ok = λ _. tt; goes_on = λ _ _. tt; fails = λ clean inside. inl (it.goes_on clean inside); commits = it.commits; survives = it.survives; memory = memory_store B takes old new e store }
 
 -- another answer, computed from the first
-pub then_ok : {A B : Type 0} (old new : State) (a : A) (b : B) (P : A → Type 0) (Q : B → Type 0) → (P a → Q b) → CallsTablesBetween old new (Ok a) P → CallsTablesBetween old new (Ok b) Q
-then_ok old new a b P Q more it = record { ok = λ clean. more (it.ok clean); goes_on = it.goes_on; fails = it.fails; commits = it.commits; survives = it.survives }
-
--- the failure of a call, handed on
-pub then_err : {A B : Type 0} (old new : State) (e : StoreFault) (P : A → Type 0) (Q : B → Type 0) → CallsTablesBetween old new (Err e) P → CallsTablesBetween old new (Err e) Q
-then_err old new e P Q it = record { ok = it.ok; goes_on = it.goes_on; fails = it.fails; commits = it.commits; survives = it.survives }
+pub then_ok : {A B : Type 0} {any takes : Bool} (old new : State) (a : A) (b : B) (P : A → Type 0) (Q : B → Type 0) → (P a → Q b) → CallsBetween any old new (Ok a) P → CallsBetween takes old new (Ok b) Q
+then_ok old new a b P Q more it = then_result old new a (Ok b) P Q more (λ none. tt) it
 
 -- a row that breaks the rules, or a growth that is refused, after a call
-pub then_stop : {A B : Type 0} (old new : State) (a : A) (e : StoreFault) (P : A → Type 0) (Q : B → Type 0) → CallsTablesBetween old new (Ok a) P → CallsTablesBetween old new (Err e) Q
-then_stop old new a e P Q it = record { ok = λ _. tt; goes_on = λ _ _. tt; fails = λ clean inside. inl (it.goes_on clean inside); commits = it.commits; survives = it.survives }
+pub then_stop : {A B : Type 0} {any : Bool} (old new : State) (a : A) (e : StoreFault) (P : A → Type 0) (Q : B → Type 0) → CallsBetween any old new (Ok a) P → CallsTablesBetween old new (Err e) Q
+then_stop old new a e P Q it = then_result old new a (Err e) P Q tt (λ none. absurd (cc)) it
 
--- a computation that may fail, after a call
-pub then_result : {A B : Type 0} (old new : State) (a : A) (r : Result B StoreFault) (P : A → Type 0) (Q : B → Type 0) → IfOk r (λ b. P a → Q b) → CallsTablesBetween old new (Ok a) P → CallsTablesBetween old new r Q
-then_result old new a (Ok b) P Q more it = then_ok old new a b P Q more it
-then_result old new a (Err e) P Q more it = then_stop old new a e P Q it
+-- the failure of a call, handed on
+pub then_err : {A B : Type 0} {takes : Bool} (old new : State) (e : StoreFault) (P : A → Type 0) (Q : B → Type 0) → CallsBetween takes old new (Err e) P → CallsBetween takes old new (Err e) Q
+then_err {A} {B} {takes} old new e P Q it = record { ok = it.ok; goes_on = it.goes_on; fails = it.fails; commits = it.commits; survives = it.survives; memory = memory_err A B takes old new e it.memory }
+
+-- a call whose answer has P is one whose answer has Q, where P of an answer gives Q
+pub call_with : {A : Type 0} {takes : Bool} (old new : State) (r : Result A StoreFault) (P Q : A → Type 0) → ((a : A) → P a → Q a) → CallsBetween takes old new r P → CallsBetween takes old new r Q
+call_with old new (Ok a) P Q more it = then_ok old new a a P Q (more a) it
+call_with old new (Err e) P Q more it = then_err old new e P Q it
+
+-- a call that takes no memory is one that may
+pub may_take : {A : Type 0} {takes : Bool} (old new : State) (r : Result A StoreFault) (P : A → Type 0) → CallsBetween takes old new r P → CallsTablesBetween old new r P
+may_take old new r P it = record { ok = it.ok; goes_on = it.goes_on; fails = it.fails; commits = it.commits; survives = it.survives; memory = tt }
 
 -- nothing is called
-pub idle : {A : Type 0} (c : State) (r : Result A StoreFault) (P : A → Type 0) → IfOk r P → CallsTablesBetween c c r P
-idle {A} c r P h = record {
+pub idle : {A : Type 0} {takes : Bool} (c : State) (a : A) (P : A → Type 0) → P a → CallsBetween takes c c (Ok a) P
+idle {takes} c a P h = record {
   ok = λ _. h;
-  goes_on = λ _ inside. goes r inside;
-  fails = λ _ inside. stops r inside;
+  goes_on = λ _ inside. (inside, λ h. h);
+  fails = λ _ _. tt;
   commits = λ _ _. record { was_open = λ h. h; committed = λ _. refl };
   survives = record { clean = omega arith; shield = λ h. h; counts = omega arith; limit = refl; closes = λ _ h. inl h; crash = λ _ db h. inl h };
+  memory = memory_ok takes c c a;
 }
-  where
-    goes : (x : Result A StoreFault) → IsTrue c.in_transaction → OnOk x (GoesOn c c)
-    goes (Ok a) inside = (inside, λ h. h)
-    goes (Err e) inside = tt
-
-    stops : (x : Result A StoreFault) → IsTrue c.in_transaction → IfErr x (FailsAs c c)
-    stops (Ok a) inside = tt
-    stops (Err e) inside = inl (inside, λ h. h)
 
 was_false : (a b : Bool) → (IsTrue a → IsTrue b) → b ≡ false → a ≡ false
 was_false a b stays now = false_from_ne_true a (λ was. let e = stays was in cc)
@@ -133,13 +147,14 @@ fails_since a b c e on up (inl goes) = inl (goes.0, λ h. goes.1 (on.1 h))
 fails_since a b c e on up (inr ended) = inr (ended_since a b c e on up ended)
 
 -- one call after another: Q of the last answer is had from P of the first
-pub seq : {A B : Type 0} (old mid new : State) (a : A) (r : Result B StoreFault) (P : A → Type 0) (Q R : B → Type 0) → (P a → (b : B) → Q b → R b) → CallsTablesBetween old mid (Ok a) P → CallsTablesBetween mid new r Q → CallsTablesBetween old new r R
-seq {A} {B} old mid new a r P Q R more one two = record {
+pub seq : {A B : Type 0} {any takes : Bool} (old mid new : State) (a : A) (r : Result B StoreFault) (P : A → Type 0) (Q R : B → Type 0) → (P a → (b : B) → Q b → R b) → CallsBetween any old mid (Ok a) P → CallsBetween takes mid new r Q → CallsBetween takes old new r R
+seq {A} {B} {takes} old mid new a r P Q R more one two = record {
   ok = λ clean. both r (one.ok (mid_clean clean)) (two.ok clean);
   goes_on = λ clean inside. let first = one.goes_on (mid_clean clean) inside in goes r first (two.goes_on clean first.0);
   fails = λ clean inside. let first = one.goes_on (mid_clean clean) inside in stops r first (two.fails clean first.0);
   commits = λ clean inside. commits_then old mid new (one.commits (mid_clean clean) inside) (two.commits clean (one.goes_on (mid_clean clean) inside).0);
   survives = survives_then old mid new _ _ _ (λ _ db h. h) (λ clean db h. was_false old.in_transaction mid.in_transaction (λ inside. (one.goes_on (mid_clean clean) inside).0) h) one.survives two.survives;
+  memory = tells takes two.memory;
 }
   where
     mid_clean : HasCleanDisk new → HasCleanDisk mid
@@ -153,77 +168,39 @@ seq {A} {B} old mid new a r P Q R more one two = record {
     stops (Ok b) first second = tt
     stops (Err e) first second = fails_since old mid new e first one.survives.counts second
 
+    tells : (t : Bool) → TellsMemoryUnless t mid new r → TellsMemoryUnless t old new r
+    tells true short = tt
+    tells false short = λ clean inside is. let first = one.goes_on (mid_clean clean) inside in ended_since old mid new Memory first one.survives.counts (short clean first.0 is)
+
     both : (x : Result B StoreFault) → P a → IfOk x Q → IfOk x R
     both (Ok b) p q = more p b q
     both (Err e) p q = tt
 
 -- a call that failed after another
-pub failed_then : {A B C : Type 0} (old mid new : State) (a : A) (e : StoreFault) (P : A → Type 0) (Q : B → Type 0) (R : C → Type 0) → CallsTablesBetween old mid (Ok a) P → CallsTablesBetween mid new (Err e) Q → CallsTablesBetween old new (Err e) R
+pub failed_then : {A B C : Type 0} {any takes : Bool} (old mid new : State) (a : A) (e : StoreFault) (P : A → Type 0) (Q : B → Type 0) (R : C → Type 0) → CallsBetween any old mid (Ok a) P → CallsBetween takes mid new (Err e) Q → CallsBetween takes old new (Err e) R
 failed_then {A} {B} {C} old mid new a e P Q R one two = then_err old new e Q R (seq old mid new a (Err e) P Q Q (λ p b q. q) one two)
 
--- ---- calls that take no memory of their own
-
--- a call that gives an answer never tells Memory
-pub memory_ok : {A : Type 0} (old new : State) (a : A) → TellsMemory old new (Ok a)
-memory_ok old new a clean inside is = absurd (cc)
-
--- that of a call, handed on
-pub memory_err : {A B : Type 0} (old new : State) (e : StoreFault) → TellsMemory {A = A} old new (Err e) → TellsMemory {A = B} old new (Err e)
-memory_err old new e short clean inside is = short clean inside (let same : e ≡ Memory = (let h = is in cc) in ap Err same)
-
--- nor does one whose failure is told as Store
-pub memory_store : {A : Type 0} (old new : State) (e : StoreFault) → e ≡ Store → TellsMemory {A = A} old new (Err e)
-memory_store old new e store clean inside is = absurd (let clash : Store ≡ Memory = (let same : e ≡ Memory = (let h = is in cc) in sym store ∙ same) in cc)
+-- ---- statements, which take no memory of their own
 
 -- a statement that ran inside the transaction
 pub ran : {A : Type 0} (old new : State) (a : A) (P : A → Type 0) → (HasCleanDisk new → P a) → (HasCleanDisk new → IsTrue old.in_transaction → Shows old new new.now old.committed true) → Survives old new (λ _. old.in_transaction ≡ false)
     → CallsStoreBetween old new (Ok a) P
 ran old new a P told shows survives = record {
-  call = record {
-    ok = told;
-    goes_on = λ clean inside. let on = shows clean inside in (on.mode, λ _. on.is_open);
-    fails = λ _ _. tt;
-    commits = λ clean inside. let same = shows clean inside in record { was_open = λ _. same.was_open; committed = λ _. same.committed_is };
-    survives = survives;
-  };
-  memory = memory_ok old new a;
+  ok = told;
+  goes_on = λ clean inside. let on = shows clean inside in (on.mode, λ _. on.is_open);
+  fails = λ _ _. tt;
+  commits = λ clean inside. let same = shows clean inside in record { was_open = λ _. same.was_open; committed = λ _. same.committed_is };
+  survives = survives;
+  memory = memory_ok false old new a;
 }
 
 -- one that was refused
 pub refused : {A : Type 0} (old new : State) (e : Error) (fault : StoreFault) (P : A → Type 0) → fault ≡ fault_of e → (HasCleanDisk new → IsRefused old new e) → Survives old new (λ _. old.in_transaction ≡ false) → CallsStoreBetween old new (Err fault) P
 refused old new e fault P is why survives = record {
-  call = record {
-    ok = λ _. tt;
-    goes_on = λ _ _. tt;
-    fails = λ clean inside. refused_fails old new e fault is (why clean) inside;
-    commits = λ clean inside. left_commit old new (refused_left old new e (why clean));
-    survives = survives;
-  };
+  ok = λ _. tt;
+  goes_on = λ _ _. tt;
+  fails = λ clean inside. refused_fails old new e fault is (why clean) inside;
+  commits = λ clean inside. left_commit old new (refused_left old new e (why clean));
+  survives = survives;
   memory = λ clean inside short. refused_memory old new e fault is (why clean) (let same : fault ≡ Memory = (let h = short in cc) in same);
-}
-
--- a statement whose answer has P is one whose answer has Q, where P of an answer gives Q
-pub statement_with : {A : Type 0} (old new : State) (r : Result A StoreFault) (P Q : A → Type 0) → ((a : A) → P a → Q a) → CallsStoreBetween old new r P → CallsStoreBetween old new r Q
-statement_with old new r P Q more it = record { call = call_with old new r P Q more it.call; memory = it.memory }
-
--- another answer, computed from the first
-pub statement_ok : {A B : Type 0} (old new : State) (a : A) (b : B) (P : A → Type 0) (Q : B → Type 0) → (P a → Q b) → CallsStoreBetween old new (Ok a) P → CallsStoreBetween old new (Ok b) Q
-statement_ok old new a b P Q more it = record { call = then_ok old new a b P Q more it.call; memory = memory_ok old new b }
-
--- the failure of a statement, handed on
-pub statement_err : {A B : Type 0} (old new : State) (e : StoreFault) (P : A → Type 0) (Q : B → Type 0) → CallsStoreBetween old new (Err e) P → CallsStoreBetween old new (Err e) Q
-statement_err old new e P Q it = record { call = then_err old new e P Q it.call; memory = memory_err old new e it.memory }
-
--- a computation that fails only where a row breaks the rules, after a statement
-pub statement_result : {A B : Type 0} (old new : State) (a : A) (r : Result B StoreFault) (P : A → Type 0) (Q : B → Type 0) → IfOk r (λ b. P a → Q b) → IfErr r (λ e. e ≡ Store) → CallsStoreBetween old new (Ok a) P → CallsStoreBetween old new r Q
-statement_result old new a (Ok b) P Q more store it = statement_ok old new a b P Q more it
-statement_result old new a (Err e) P Q more store it = record { call = then_stop old new a e P Q it.call; memory = memory_store old new e store }
-
--- one after another
-pub statement_seq : {A B : Type 0} (old mid new : State) (a : A) (r : Result B StoreFault) (P : A → Type 0) (Q R : B → Type 0) → (P a → (b : B) → Q b → R b) → CallsStoreBetween old mid (Ok a) P → CallsStoreBetween mid new r Q → CallsStoreBetween old new r R
-statement_seq old mid new a r P Q R more one two = record {
-  call = seq old mid new a r P Q R more one.call two.call;
-  memory = λ clean inside is.
-      let on = one.call.goes_on (let mid_clean : HasCleanDisk mid = omega (arith, two.call.survives.clean, clean) in mid_clean) inside in
-      ended_since old mid new Memory on one.call.survives.counts (two.memory clean on.0 is);
 }

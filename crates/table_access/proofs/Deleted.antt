@@ -1,23 +1,16 @@
 -- A DELETE from a table to which no other refers is refused by nothing while the store works.
-use Rattle.std.proofs.Common.{◌≡◌, inl, inr, ℕ, ℤ, List, [], ◌∷◌, length, slice_get, Bool, true, false, not, ◌&&◌, nat_lt, Some, None, Option, Ok, Err, refl, sym, ap, subst}
-use Rattle.std.proofs.lemmas.Bool.{or_right}
+use Rattle.std.proofs.Common.{◌≡◌, inl, inr, ℕ, ℤ, List, [], ◌∷◌, length, slice_get, Bool, true, false, not, nat_lt, Some, None, Option, Ok, Err, refl, sym, ap, subst}
+use Rattle.std.proofs.{lemmas.Bool.{or_right}, Math.Bool.{and-false}}
 use Rattle.sqlite.specs.{Order.{Row}, Tree.{Trees, IsTable, IsAscending}, Schema.{Schema}, Table.{Table}, Term.{Term, col}, Command.TheVariants.{Delete}}
-use Rattle.sqlite.specs.{Rowids.TheVariants.{Given}, declared.error.Error.{Error}, Rows.{Written, Task, Edited, Deletes}, Does.{AtPlace, OnRows, Does}}
+use Rattle.sqlite.specs.{Rowids.TheVariants.{Given}, declared.error.Error.{Error}, Rows.{Written, Task, Edited, Deletes}, Does.{Does}}
 use Rattle.sqlite.specs.State.{State, Executes, Fails, mode_of}
 use Rattle.sqlite_schema.specs.{declared.schema.Keys.{Keys}, declared.schema.Column.{Column}, declared.schema.Reference.{Reference}}
 use Rattle.sqlite_schema.specs.{declared.schema.Among.TheVariants.{All}, declared.schema.Constraint.{Constraint}, declared.program.Program.{Program}}
 use Rattle.sqlite_schema.specs.Rules.{Refers, Keeps, references_fit, guards}
 use Rattle.sqlite_value.specs.declared.keys.Order.{Order}
 use Rattle.sqlite_rules.{specs.{Lists.{Has}, Calls.{ids_of}, Edit.{Edit, edit_of, is_off}}, proofs.ListLemmas.{test_from}}
-use Rattle.table_access.{specs.Statements.{plain_table, from_table, IsCalm}, proofs.Edits.{IsAlone, Suits, goes, refers}}
-pub use Rattle.table_access.proofs.Edits.{leads_elsewhere}
-use Rattle.table_access.proofs.Answered.{Runs, never_refused}
-use Rattle.table_access.proofs.Refused.{stopped, in_place, change_fails, caused_by}
-use Rattle.table_access.proofs.Steps.{Means, went, same_value}
-
-none_clash : (b : Bool) → not (b && false) ≡ true
-none_clash true = refl
-none_clash false = refl
+use Rattle.table_access.{specs.Statements.{plain_table, from_table, IsCalm}, proofs.{Edits.{IsAlone, Suits, goes, refers}, Answered.{Runs, never_refused}}}
+use Rattle.table_access.proofs.{Refused.{stopped, in_place, on_rows, change_fails, caused_by}, Steps.{Means, went, same_value}}
 
 module _ (name : List ℕ) (tree : ℕ) (columns : List Column) (key : Option ℕ) (primary : List ℕ) (uniques : List (List ℕ)) (orders : List Order) (checks : List Term) (references : List Reference) where
   abbrev here : Table
@@ -47,7 +40,7 @@ module _ (name : List ℕ) (tree : ℕ) (columns : List Column) (key : Option �
     keyed = refl;
     fits = refl;
     fresh = refl;
-    unique = test_from _ schema.indexes (λ i known. none_clash (guards i here));
+    unique = test_from _ schema.indexes (λ i known. ap not (and-false (guards i here)));
     referred = or_right (is_off keys) _ (leaf.fits (nat_lt 0 (length ids)));
     parents = λ row none. absurd none;
     alone = inr leaf.alone;
@@ -86,17 +79,8 @@ module _ (name : List ℕ) (tree : ℕ) (columns : List Column) (key : Option �
         let gone = went ids.2 in
         subst (λ trees. Refers All old.now.schema trees) (sym (ap (λ (it : Written). it.trees) (same_value gone.2))) (refers ⊥ old.now.schema (mode_of old).keys old.now.trees (taking old.now.trees (ids_of ids.0)) (suits (ids_of ids.0)) gone.0 gone.1)
 
-    rows_done : (stop : Option Error) → OnRows task (mode_of old) None (Delete at query) old.now.trees (Err stop) → ⊥
-    rows_done stop h = elim (stopped stop h) [
-      | inl written ↦ deleted stop written
-      | inr written ↦ elim (stopped stop written.2) [
-        | inl tested ↦ tested.0 (left_sound written.0 written.1)
-        | inr passed ↦ elim (stopped stop passed.2) [ inl shown ↦ let e = shown in cc | inr last ↦ let e = last.2 in cc ]
-      ]
-    ]
-
     does : (stop : Option Error) → Does old.step_limit (mode_of old) params old.now sql None (Delete at query) (Err stop) → ⊥
-    does stop h = rows_done stop (subst (λ o. AtPlace (λ table. OnRows (record task { table = table }) (mode_of old) None (Delete at query) old.now.trees) o (Err stop)) found h)
+    does stop h = elim (on_rows name tree columns key primary uniques orders checks references params old at found (Delete at query) stop h) [ inl written ↦ deleted stop written | inr stray ↦ stray.2 (left_sound stray.0 stray.1) ]
 
     -- it fails only as the store fails, and no row is too big
     pub delete_fails : (e : Error) → Executes sql params old new (Err e) → Fails old new ⊥ e

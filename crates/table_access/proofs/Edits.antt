@@ -1,6 +1,6 @@
 -- An edit that suits its table is refused by no rule, and leaves only rows that refer to rows that are there.
 use Rattle.std.specs.{List.{AllByRecursion, list_any, list_all}, Ordering.{is_eq, is_ne}, Cmp.{nat_eq_equiv, tied_itself}}
-use Rattle.std.proofs.Common.{◌≡◌, ◌≢◌, ◌⊎◌, inl, inr, ℕ, ℤ, zero, suc, List, [], ◌∷◌, length, Bool, true, false, not, ◌&&◌, ◌||◌, cond, Ordering, Less, Equal, Greater, Some, None, Option, option_map, Ok, Err, refl, sym, ap, subst, ◌∙◌, length-append, ◌==◌, arith}
+use Rattle.std.proofs.Common.{◌≡◌, ◌≢◌, ◌⊎◌, inl, inr, ℕ, ℤ, zero, suc, List, [], ◌∷◌, length, Bool, true, false, not, ◌&&◌, ◌||◌, cond, Ordering, Less, Some, None, Option, option_map, Ok, Err, refl, sym, ap, subst, ◌∙◌, length-append, ◌==◌, arith}
 use Rattle.std.proofs.lemmas.Bool.{both_ways, false_from_ne_true, and_parts, or_cases, or_left, or_right, cases_eq, eqb-true}
 use Rattle.sqlite.specs.{declared.types.Value.TheVariants.{Int}, Order.{Row, value_cmp}, Tree.{Trees, IsTable, IsAscending, rowid, put_row, with_tree}}
 use Rattle.sqlite.specs.{View.{is_int}, Schema.{Schema}, Table.{Table}, declared.error.Error.{Error}, Rows.{Edited}, Effect.{edit_error}}
@@ -12,8 +12,7 @@ use Rattle.sqlite_schema.specs.declared.schema.Constraint.TheVariants.{Datatype,
 use Rattle.sqlite_schema.specs.Rules.{Refers, Keeps, ParentKey, agree, differ, clashes, guards, has_parent, has_null, is_held, parent_key}
 use Rattle.sqlite_rules.specs.{Lists.{Has}, Keys.{are_unique}, Steps.{PassAlone}}
 use Rattle.sqlite_rules.specs.Edit.{Edit, IsRefused, IsOversized, id_in, left_by, edited, taken_by, have_rowids, are_fresh, is_referred, without_all}
-use Rattle.sqlite_rules.specs.{Action.{Leads}, declared.error.Refusal.{Refusal}}
-use Rattle.sqlite_rules.specs.declared.error.Refusal.TheVariants.{Violates, Mismatch, NoRowid, BadReference, TooDeep}
+use Rattle.sqlite_rules.specs.{Action.{Leads}, declared.error.Refusal.{Refusal}, declared.error.Refusal.TheVariants.{Violates, Mismatch, NoRowid, BadReference}}
 use Rattle.sqlite_rules.proofs.ListLemmas.{some_has, some_from, test_has, test_from}
 use Rattle.sqlite_rules.proofs.{RuleLemmas.{Turns, unique_kept, parent_is_table, keeps_at, refers_from, origin}, EditLemmas.{turns}}
 use Rattle.sqlite_rules.proofs.TableLemmas.{put_has, int_is}
@@ -74,11 +73,10 @@ module _ (TooBig : Type 0) (schema : Schema) (keys : Keys) (db : Trees) (edit : 
     no_rule (Violates Check) h = both_ways _ h suits.pass.checked
     no_rule (Violates PrimaryKey) h = both_ways _ h suits.fresh
     no_rule (Violates Unique) h = h unique
-    no_rule (Violates ForeignKey) h = h
     no_rule Mismatch h = both_ways _ h suits.keyed
     no_rule NoRowid h = both_ways _ h suits.fits
     no_rule BadReference h = both_ways _ h suits.referred
-    no_rule TooDeep h = h
+    no_rule _ h = h
 
     -- nothing that is left to do stops
     settled : (n : ℕ) (next : Trees) (stop : Option Refusal) → Leads schema keys n next [] (Err stop) → ⊥
@@ -135,8 +133,7 @@ module _ (TooBig : Type 0) (schema : Schema) (keys : Keys) (db : Trees) (edit : 
 
 told : (o : Ordering) → is_true (from_truth (Some (is_ne o))) ≡ not (is_eq o)
 told Less = refl
-told Equal = refl
-told Greater = refl
+told _ = refl
 
 -- whole numbers differ in SQL unless they tie
 pub differ_is : (a b : ℤ) → differ (Int a) (Int b) ≡ not (is_eq (value_cmp (Int a) (Int b)))

@@ -10,7 +10,6 @@ use Rattle.sqlite_keyed.proofs.ListLemmas.{all_from_test}
 use Rattle.table_access.specs.{Sound.{IsKept}, Columns.{text, text_cmp, pair_cmp}, Statements.{keeps, by_two}}
 use Rattle.table_access.proofs.{SoundLemmas.{at_has, all_of, has_place, apart}, Parts.{text_part, is_param, where_last, where_and, agree_last, agree_and, once}}
 use Rattle.sqlite_sql.specs.{declared.ops.BinaryOp.TheVariants.{Compare}, declared.ops.CompareOp.TheVariants.{Eq}}
-pub use Rattle.table_access.proofs.Members.{ascending_on}
 
 not_both : (a b : Bool) → not (a && b) ≡ true → a ≡ true → b ≡ false
 not_both true b h e = not-true b h

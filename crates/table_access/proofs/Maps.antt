@@ -5,7 +5,7 @@ use Rattle.std.proofs.Common.{inl, inr, subst, ◌≡◌, List, [], ◌∷◌, �
 use Rattle.std.proofs.{lemmas.List.Sorted.{length_permutation}, lemmas.List.{map-append, length-map}}
 use Rattle.sqlite.{specs.{Order.{Row}, Tree.{IsAscending}}, proofs.Callers.{one_permutation}}
 use Rattle.sqlite_rules.specs.Lists.{Has}
-use Rattle.table_access.{specs.Statements.{IsAdded}, proofs.SoundLemmas.{at_has}}
+use Rattle.table_access.{specs.Statements.{IsAdded}, proofs.{SoundLemmas.{at_has}, Values.{either}}}
 
 -- lists of at most one element that are permutations are equal
 pub few_permuted : {X : Type 0} (xs ys : List X) → length xs ≤ 1 → IsPermutation xs ys → ys ≡ xs
@@ -64,18 +64,13 @@ module _ {K V : Type 0} {R : K → K → Ordering} (o : IsTotalOrder R) (exact :
   tied q k x a b = (eq_by_cmp_equiv o).congr q x k a ∙ (eq_by_cmp_equiv o).symm x k ∙ b
 
   pub find_without : (k q : K) (p : Row → Bool) (rows : List Row) → AllByRecursion (λ r. p r ≡ eq_by_cmp R k (key r)) rows → find R q (entries (filter (λ r. not (p r)) rows)) ≡ cond (eq_by_cmp R q k) None (find R q (entries rows))
-  find_without k q p [] same = sym (both (eq_by_cmp R q k))
-    where
-      both : (b : Bool) → cond b None (find R q (entries [])) ≡ None
-      both true = refl
-      both false = refl
+  find_without k q p [] same = sym (either (eq_by_cmp R q k) None)
   find_without k q p (r ∷ rows) same = go (p r) refl (eq_by_cmp R q (key r)) refl (eq_by_cmp R q k) refl (find_without k q p rows same.1)
     where
       go : (a : Bool) → p r ≡ a → (b : Bool) → eq_by_cmp R q (key r) ≡ b → (c : Bool) → eq_by_cmp R q k ≡ c → find R q (entries (filter (λ x. not (p x)) rows)) ≡ cond (eq_by_cmp R q k) None (find R q (entries rows))
           → find R q (entries (cond (not a) (r ∷ filter (λ x. not (p x)) rows) (filter (λ x. not (p x)) rows))) ≡ cond c None (cond b (Some (value r)) (find R q (entries rows)))
-      go true ea true eb true ec later = later ∙ ap (λ t. cond t None (find R q (entries rows))) ec
       go true ea true eb false ec later = absurd (let same_key = tied q k (key r) eb (sym same.0 ∙ ea) in cc)
-      go true ea false eb c ec later = later ∙ ap (λ t. cond t None (find R q (entries rows))) ec
+      go true ea _ eb c ec later = later ∙ ap (λ t. cond t None (find R q (entries rows))) ec
       go false ea true eb true ec later = absurd (let hit = joined q k (key r) ec eb in let e = sym same.0 ∙ ea in cc)
       go false ea true eb false ec later = ap (λ t. cond t (Some (value r)) (find R q (entries (filter (λ x. not (p x)) rows)))) eb
       go false ea false eb c ec later = ap (λ t. cond t (Some (value r)) (find R q (entries (filter (λ x. not (p x)) rows)))) eb ∙ later ∙ ap (λ t. cond t None (find R q (entries rows))) ec

@@ -1,27 +1,15 @@
 -- What stands in a list, and the pairs of rows that a JOIN keeps.
-use Rattle.std.specs.{List.{flat_map}, List.Sorted.{IsStrictlySortedBy}, declared.cmp.Ordering.{Ordering}, declared.cmp.Ordering.TheVariants.{Less}}
-use Rattle.std.proofs.Common.{◌≡◌, inl, inr, List, [], ◌∷◌, map, filter, Bool, true, refl, sym, ap, subst, ◌∙◌}
+use Rattle.std.{specs.List.{flat_map}, proofs.Common.{◌≡◌, inl, inr, List, [], ◌∷◌, map, filter, Bool, true, refl, sym, ap, subst, ◌∙◌}}
 use Rattle.sqlite.specs.Tree.{IsAscending}
 use Rattle.sqlite_rules.specs.Lists.{Has}
-use Rattle.sqlite_keyed.proofs.ListLemmas.{all_map, all_weaker, ascending-append, ascending-filter, ascending-map}
+use Rattle.sqlite_keyed.proofs.ListLemmas.{ascending-append, ascending-filter, ascending-map}
 use Rattle.table_access.proofs.SoundLemmas.{at_has, all_of}
 -- the two words for an element of a list, what stands in lists that are made of others, and a test that some element passes
 pub use Rattle.sqlite_rules.proofs.ListLemmas.{has_contained as contains_has, contains_had as has_contains, has_left, has_right, has_either}
 pub use Rattle.sqlite_rules.proofs.ListLemmas.{has_kept as has_filter, has_filtered as filter_has, some_has as any_has}
+pub use Rattle.sqlite_rules.proofs.ProbeLemmas.{mapped_has as has_map, has_mapped as map_has}
 
 -- ---- elements of lists that are made of others
-
--- what f makes of an element is an element of the mapped list
-pub has_map : {X Y : Type 0} (f : X → Y) (xs : List X) (x : X) → Has xs x → Has (map f xs) (f x)
-has_map f [] x h = absurd h
-has_map f (z ∷ xs) x (inl same) = inl (ap f same)
-has_map f (z ∷ xs) x (inr later) = inr (has_map f xs x later)
-
--- an element of the mapped list is what f makes of some element
-pub map_has : {X Y : Type 0} (f : X → Y) (xs : List X) (y : Y) → Has (map f xs) y → (x : X) × Has xs x × (y ≡ f x)
-map_has f [] y h = absurd h
-map_has f (z ∷ xs) y (inl same) = (z, inl refl, same)
-map_has f (z ∷ xs) y (inr later) = let it = map_has f xs y later in (it.0, inr it.1, it.2)
 
 -- where R gives S on the elements, a list that has R of each element and every later one has S of them too
 pub ascending_on : {X : Type 0} (R S : X → X → Type 0) (rows : List X) → ((a b : X) → Has rows a → Has rows b → R a b → S a b) → IsAscending R rows → IsAscending S rows

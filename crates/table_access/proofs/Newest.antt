@@ -7,10 +7,10 @@ use Rattle.sqlite_keyed.{specs.Lists.{insert_sorted, sort_by}, proofs.ListLemmas
 use Rattle.sqlite_keyed.proofs.RuleLemmas.{each_true}
 use Rattle.sqlite_value.{specs.declared.keys.Key.{Key}, proofs.OrderLemmas.{value_cmp_total, then-Equal}}
 use Rattle.sqlite_sql.specs.Query.{sort_cmp}
-use Rattle.sqlite.specs.{declared.types.Value.TheVariants.{Null, Int}, Order.{Row, column, value_cmp}, Term.{Term, col, eval_all}, Tree.{IsAscending, rowid}}
+use Rattle.sqlite.specs.{declared.types.Value.TheVariants.{Null, Int}, Order.{Row, column, value_cmp}, Term.{Term, col}, Tree.{IsAscending, rowid}}
 use Rattle.sqlite.specs.{Query.{IsAnswer}, Program.{overlay}, Command.TheVariants.{Select}, Effect.{Database, Answers}, State.{State, Shown}}
-use Rattle.table_access.specs.{Columns.{whole_at}, Sound.{IsNumbered}, Statements.{from_table, from_both, pairs_kept, up_to, newest, keeps, shows}}
-use Rattle.table_access.proofs.{Ordered.{selects_in_order, joins_in_order}, ReadLemmas.{number_found, option_map_twice}, Steps.{Means, shown_answers}}
+use Rattle.table_access.specs.{Columns.{whole_at}, Sound.{IsNumbered}, Statements.{from_table, from_both, up_to, newest, keeps, shows}}
+use Rattle.table_access.proofs.{Ordered.{selects_in_order}, ReadLemmas.{number_found, option_map_twice}, Steps.{Means, shown_answers}}
 
 -- ---- LIMIT
 

@@ -1,7 +1,7 @@
 -- ORDER BY: where no two rows tie, the answer is the list of what WHERE keeps, sorted.
 use Rattle.std.specs.{List.{AllByRecursion, flat_map}, List.Sorted.{IsPermutation, IsSorted, IsStrictlySortedBy}, Prelude.{Contains}, Cmp.{IsTotalOrder}}
 use Rattle.std.specs.Ordering.{ordering_reverse}
-use Rattle.std.proofs.Common.{◌≡◌, inl, inr, ℕ, List, [], ◌∷◌, map, filter, true, false, cond, refl, sym, ap, subst, ◌∙◌, Ordering, Less, Equal, Greater, is_gt, is_eq, true≢false}
+use Rattle.std.proofs.Common.{◌≡◌, ℕ, List, [], ◌∷◌, map, filter, true, false, cond, refl, sym, ap, subst, ◌∙◌, Ordering, Less, Equal, Greater, is_gt, is_eq, true≢false}
 use Rattle.std.proofs.lemmas.List.Sorted.{Contains-permutation, IsPermutation-sym}
 use Rattle.sqlite_keyed.{specs.Lists.{insert_sorted, sort_by}, proofs.ListLemmas.{map-map, map-flat_map, flat_map_same_on, all_weaker, ascending-map}}
 use Rattle.sqlite_keyed.proofs.SortLemmas.{sorted_is-sort_by, sort_by-map, IsPermutation-sort_by}
@@ -9,8 +9,7 @@ use Rattle.sqlite_sql.{specs.Query.{sort_cmp, output_cmp}, proofs.QueryLemmas.{o
 use Rattle.sqlite_value.specs.declared.keys.Key.{Key}
 use Rattle.sqlite.specs.{declared.types.Value.TheVariants.{Null}, Order.{Row}, Term.{Term, eval_all}, Tree.{IsAscending}}
 use Rattle.sqlite.specs.{Query.{Query, IsAnswer, output, Output}, Program.{overlay}, Effect.{Database, Answers}}
-use Rattle.table_access.{specs.Statements.{from_table, from_both, keeps, keeps_both, pairs_kept, shows}, proofs.SoundLemmas.{all_of}}
-use Rattle.table_access.proofs.Steps.{bare, kept_rows, outputs}
+use Rattle.table_access.{specs.Statements.{from_table, from_both, keeps, keeps_both, pairs_kept, shows}, proofs.Steps.{bare, kept_rows, outputs}}
 
 -- ---- sorted lists
 

@@ -1,6 +1,6 @@
 -- Keys of any columns: what WHERE and UNIQUE say of them.
 use Rattle.std.specs.{List.{AllByRecursion}, Ordering.{is_eq, eq_by_cmp, int_cmp}, Cmp.{IsTotalOrder, eq_by_cmp_equiv, tied_then}}
-use Rattle.std.proofs.{Common.{◌≡◌, ℕ, List, [], ◌∷◌, Bool, true, false, ◌&&◌, refl, ap, ◌∙◌, sym, Ordering}, lemmas.Cmp.{then_total, on_total}}
+use Rattle.std.proofs.{Common.{◌≡◌, ℕ, List, [], ◌∷◌, false, ◌&&◌, ap, ◌∙◌, sym, Ordering}, lemmas.Cmp.{then_total, on_total}, Math.Bool.{and-true}}
 use Rattle.sqlite.specs.{declared.types.Value.{Value}, declared.types.Value.TheVariants.{Int, Text}, Order.{Row, column, value_cmp}, Tree.{IsAscending, rowid}}
 use Rattle.sqlite.specs.{Term.{Term, col, op2}, Collation.TheVariants.{Binary}}
 use Rattle.sqlite_sql.specs.{declared.ops.BinaryOp.TheVariants.{Compare}, declared.ops.CompareOp.TheVariants.{Eq}, Ops.{binary, is_true}}
@@ -28,10 +28,6 @@ whole_part rows place typed = record { typed = typed; tested = same_ints; ordere
 pub number_part : (rows : List Row) → IsNumbered rows → Part int_cmp Int rows 0 (whole_at 0)
 number_part rows numbered = whole_part rows 0 (λ r has. int_is (rowid r) (at_has _ rows r numbered.1 has))
 
-pub and_true : (b : Bool) → (b && true) ≡ b
-and_true true = refl
-and_true false = refl
-
 -- two total orders give one of pairs, by the first parts and, where these tie, by the second
 pub both_total : {A B : Type 0} {R : A → A → Ordering} {S : B → B → Ordering} → IsTotalOrder R → IsTotalOrder S → IsTotalOrder (by_both R S)
 both_total {A} {B} o p = then_total (on_total (λ (x : A × B). x.0) o) (on_total (λ (x : A × B). x.1) p)
@@ -47,7 +43,7 @@ module _ {K : Type 0} {R : K → K → Ordering} {code : K → Value} (o : IsTot
 
   -- WHERE place = ?
   pub where_last : (params : Row) (param : ℕ) (k : K) → column params param ≡ code k → (r : Row) → Has rows r → keeps (is_param place param ∷ []) params r ≡ eq_by_cmp R k (key r)
-  where_last params param k given r has = and_true (is_true (binary (Compare Eq Binary) (column r place) (column params param))) ∙ one_test params param k given r has
+  where_last params param k given r has = and-true (is_true (binary (Compare Eq Binary) (column r place) (column params param))) ∙ one_test params param k given r has
 
   -- WHERE place = ? AND ..
   pub where_and : {L : Type 0} (S : L → L → Ordering) (other : Row → L) (l : L) (terms : List Term) (params : Row) (param : ℕ) (k : K) → column params param ≡ code k → (r : Row) → Has rows r → keeps terms params r ≡ eq_by_cmp S l (other r)
@@ -61,7 +57,7 @@ module _ {K : Type 0} {R : K → K → Ordering} {code : K → Value} (o : IsTot
 
   -- a UNIQUE key that ends with this column
   pub agree_last : (a b : Row) → Has rows a → Has rows b → agree plain (place ∷ []) a (place ∷ []) b ≡ eq_by_cmp R (key a) (key b)
-  agree_last a b ha hb = and_true _ ∙ agree_one a b ha hb
+  agree_last a b ha hb = and-true _ ∙ agree_one a b ha hb
 
   -- a UNIQUE key that begins with it
   pub agree_and : {L : Type 0} (S : L → L → Ordering) (other : Row → L) (places : List ℕ) (a b : Row) → Has rows a → Has rows b → agree plain places a places b ≡ eq_by_cmp S (other a) (other b)

@@ -1,16 +1,15 @@
 -- Rows that are read one after another.
-use Rattle.std.proofs.Common.{◌≡◌, ℕ, zero, suc, ◌+◌, List, [], ◌∷◌, ◌++◌, map, take, length, refl, ap, ap₂, sym, subst, arith, get_or, inl, inr, ◌<◌, pos, Option, Some, None, slice_get, option_map, ◌∙◌}
+use Rattle.std.proofs.Common.{◌≡◌, ℕ, zero, suc, ◌+◌, List, [], ◌∷◌, ◌++◌, take, length, refl, ap, sym, subst, arith, get_or, inl, inr, ◌<◌, pos, Option, Some, None, slice_get, option_map, ◌∙◌}
 use Rattle.std.proofs.lemmas.List.{take_more}
 use Rattle.sqlite_rules.specs.Lists.{Has}
 use Rattle.sqlite.specs.{declared.types.Value.TheVariants.{Int}, Order.{Row, column}, Edit.{id_in}}
-use Rattle.table_access.specs.Reading.{AreRead}
+use Rattle.table_access.specs.{Reading.{AreRead}, Sound.{whole}}
 
 -- one more
 pub read_push : {A B : Type 0} (reads : A → B → Type 0) (rows : List A) (items : List B) (row : A) (item : B) → AreRead reads rows items → reads row item → AreRead reads (rows ++ row ∷ []) (items ++ item ∷ [])
 read_push reads [] [] row item all here = (here, tt)
-read_push reads [] (x ∷ items) row item all here = absurd all
-read_push reads (r ∷ rows) [] row item all here = absurd all
 read_push reads (r ∷ rows) (x ∷ items) row item all here = (all.0, read_push reads rows items row item all.1 here)
+read_push reads _ _ row item all here = absurd all
 
 -- an item at a place of a list stands in it
 pub has_get : {X : Type 0} (xs : List X) (at : ℕ) (d : X) → at < length xs → Has xs (get_or xs at d)
@@ -27,6 +26,14 @@ read_turn reads rows items at row item low is all here =
 pub option_map_twice : {X Y Z : Type 0} (g : Y → Z) (f : X → Y) (o : Option X) → option_map g (option_map f o) ≡ option_map (λ x. g (f x)) o
 option_map_twice g f None = refl
 option_map_twice g f (Some x) = refl
+
+pub whole_pos : (o : Option ℕ) → option_map whole (option_map pos o) ≡ o
+whole_pos None = refl
+whole_pos (Some n) = refl
+
+-- numbers are the same where they are the same whole numbers
+pub same_numbers : (a b : Option ℕ) → option_map pos a ≡ option_map pos b → a ≡ b
+same_numbers a b e = sym (whole_pos a) ∙ ap (option_map whole) e ∙ whole_pos b
 
 -- what `number_of` found, as a whole number
 pub number_found : (found : Option ℕ) (rows : List Row) → option_map (λ n. Int (pos n)) found ≡ option_map (λ r. column r 0) (slice_get rows 0) → option_map pos found ≡ option_map (λ r. id_in (column r 0)) (slice_get rows 0)

@@ -7,10 +7,10 @@ use Rattle.sqlite_schema.specs.{declared.schema.Schema.{Schema}, declared.schema
 use Rattle.sqlite_schema.specs.{declared.command.Source.{Source}, declared.command.Conflict.{Conflict}}
 use Rattle.sqlite_schema.specs.{declared.command.Conflict.TheVariants.{Abort, Ignore, Replace}, declared.command.Upsert.{Upsert}}
 use Rattle.sqlite_schema.specs.{declared.command.Returning.{Returning}, declared.command.Command.{Command}}
-use Rattle.sqlite_schema.specs.declared.command.Command.TheVariants.{Select, Insert, InsertOr, Update, Delete, CreateTable, CreateIndex, DropTable, DropIndex, Begin, Commit, Rollback, Savepoint, Release, RollbackTo, Nothing, CreateView, DropView, Rows}
+use Rattle.sqlite_schema.specs.declared.command.Command.TheVariants.{Select, Insert, InsertOr, Update, Delete, CreateTable, CreateIndex, DropTable, DropIndex, CreateView, DropView, Rows}
 use Rattle.sqlite_schema.specs.{declared.schema.Among.{Among}, Rules.{Refers}, declared.schema.Constraint.TheVariants.{ForeignKey}}
 use Rattle.sqlite_rules.specs.{Edit.{Edit, edit_of}, Calls.{ids_of}, declared.error.Rowids.TheVariants.{Given}, declared.error.Refusal.{Refusal}}
-use Rattle.sqlite_rules.specs.declared.error.Refusal.TheVariants.{Violates, Mismatch, NoRowid, BadReference, TooDeep}
+use Rattle.sqlite_rules.specs.declared.error.Refusal.TheVariants.{Violates}
 use Rattle.sqlite_catalog.specs.{Change.{without_index, without_view, without_table}, Calls.{RefusesToDropIndex}}
 use Rattle.sqlite.specs.{declared.error.Error.{Error}, declared.error.Error.TheVariants.{SqliteFailure, InvalidQuery}, declared.run.Mode.{Mode}}
 use Rattle.sqlite.specs.Effect.{Database, RefusesQuery, RefusesSource, RefusesToRead, RefusesToAlter, IsNoText, edit_error, alter_error}
@@ -69,32 +69,13 @@ calm_sourced limit db params from = record { told = calm_source limit db params 
 pub read_told : (limit : Option ℕ) (command : Command) (db : Database) (params : Row) (e : Error) → RefusesToRead limit command db params e → fault_of e ≡ Store
 read_told limit (Select q names) db params e h = query_told limit db q params e h
 read_told limit (Rows values width names) db params e h = ap fault_of h.0
-read_told limit (Insert at from) db params e h = ap fault_of h
-read_told limit (InsertOr at way from clauses) db params e h = ap fault_of h
-read_told limit (Update at q) db params e h = ap fault_of h
-read_told limit (Delete at q) db params e h = ap fault_of h
-read_told limit CreateTable db params e h = ap fault_of h
-read_told limit (CreateIndex at) db params e h = ap fault_of h
-read_told limit (DropTable at) db params e h = ap fault_of h
-read_told limit (DropIndex at) db params e h = ap fault_of h
-read_told limit Begin db params e h = ap fault_of h
-read_told limit Commit db params e h = ap fault_of h
-read_told limit Rollback db params e h = ap fault_of h
-read_told limit (Savepoint name) db params e h = ap fault_of h
-read_told limit (Release name) db params e h = ap fault_of h
-read_told limit (RollbackTo name) db params e h = ap fault_of h
-read_told limit Nothing db params e h = ap fault_of h
-read_told limit CreateView db params e h = ap fault_of h
-read_told limit (DropView at) db params e h = ap fault_of h
+read_told limit _ db params e h = ap fault_of h
 
 -- ---- rows that are written
 
 edit_told : (reason : Refusal) → fault_of (edit_error reason) ≡ Store
 edit_told (Violates rule) = refl
-edit_told Mismatch = refl
-edit_told NoRowid = refl
-edit_told BadReference = refl
-edit_told TooDeep = refl
+edit_told _ = refl
 
 edit_stop : (reason : Option Refusal) (e : Error) → Some e ≡ option_map edit_error reason → fault_of e ≡ Store
 edit_stop None e is = absurd (let h = is in cc)
@@ -137,12 +118,10 @@ module _ (task : Task) where
   calm_puts new db = calm_then _ _ (calm_edited schema keys db _) (λ next. calm_gives _)
 
   calm_clears : (way : Conflict) (new : Row) (db : Trees) (found : List Row) → Calm (Clears task way new db found)
-  calm_clears Abort new db [] = calm_puts new db
-  calm_clears Ignore new db [] = calm_puts new db
-  calm_clears Replace new db [] = calm_puts new db
-  calm_clears Abort new db (x ∷ more) = calm_puts new db
   calm_clears Ignore new db (x ∷ more) = calm_gives _
   calm_clears Replace new db (x ∷ more) = calm_then _ _ (calm_edited schema keys db _) (λ next. calm_puts new next)
+  calm_clears Abort new db [] = calm_puts new db
+  calm_clears _ new db _ = calm_puts new db
 
   calm_resolves : (new : Row) (db : Trees) (there : Row) (update : Option Program) → Calm (Resolves task new db there update)
   calm_resolves new db there None = calm_gives _
@@ -209,12 +188,7 @@ module _ (task : Task) where
 
 alter_told : (reason : alter.Refusal) → fault_of (alter_error reason) ≡ Store
 alter_told (why.Invalid e) = refl
-alter_told why.NameTaken = refl
-alter_told why.BadName = refl
-alter_told why.BadKey = refl
-alter_told why.BadText = refl
-alter_told why.TooBig = refl
-alter_told (why.Violates rule) = refl
+alter_told _ = refl
 
 calm_alters : (Refuses : alter.Refusal → Type 0) (e : Error) → RefusesToAlter Refuses e → fault_of e ≡ Store
 calm_alters Refuses e h = ap fault_of h.2 ∙ alter_told h.0
@@ -245,21 +219,7 @@ calm_writes_rows task db (Insert at from) = calm_inserts task from db
 calm_writes_rows task db (InsertOr at way from clauses) = calm_inserts_or task way clauses from db
 calm_writes_rows task db (Update at q) = calm_updates task q task.params db
 calm_writes_rows task db (Delete at q) = calm_deletes task q db
-calm_writes_rows task db (Select q names) = calm_refuses InvalidQuery refl
-calm_writes_rows task db (Rows values width names) = calm_refuses InvalidQuery refl
-calm_writes_rows task db CreateTable = calm_refuses InvalidQuery refl
-calm_writes_rows task db (CreateIndex at) = calm_refuses InvalidQuery refl
-calm_writes_rows task db (DropTable at) = calm_refuses InvalidQuery refl
-calm_writes_rows task db (DropIndex at) = calm_refuses InvalidQuery refl
-calm_writes_rows task db Begin = calm_refuses InvalidQuery refl
-calm_writes_rows task db Commit = calm_refuses InvalidQuery refl
-calm_writes_rows task db Rollback = calm_refuses InvalidQuery refl
-calm_writes_rows task db (Savepoint name) = calm_refuses InvalidQuery refl
-calm_writes_rows task db (Release name) = calm_refuses InvalidQuery refl
-calm_writes_rows task db (RollbackTo name) = calm_refuses InvalidQuery refl
-calm_writes_rows task db Nothing = calm_refuses InvalidQuery refl
-calm_writes_rows task db CreateView = calm_refuses InvalidQuery refl
-calm_writes_rows task db (DropView at) = calm_refuses InvalidQuery refl
+calm_writes_rows task db _ = calm_refuses InvalidQuery refl
 
 module _ (limit : Option ℕ) (mode : Mode) (params : Row) (db : Database) where
   calm_on_table : (at : ℕ) (P : Task → Part (Tally × Database)) → ((task : Task) → Calm (P task)) → Calm (OnTable limit mode params db at P)
@@ -275,19 +235,7 @@ module _ (limit : Option ℕ) (mode : Mode) (params : Row) (db : Database) where
   calm_redefines text (DropTable at) = calm_on_table at _ (λ task. calm_drops task mode db.trees)
   calm_redefines text (DropIndex at) = calm_place _ (slice_get db.schema.indexes at) (λ index. calm_defines mode _ (calm_leaves (without_index db.schema index.tree) db.trees _ (λ e h. calm_alters (RefusesToDropIndex index) e h)))
   calm_redefines text (DropView at) = calm_place _ (slice_get db.schema.views at) (λ view. calm_defines mode _ (calm_leaves (without_view db.schema view.tree) db.trees _ (λ e h. ap fault_of h.1)))
-  calm_redefines text (Select q names) = calm_refuses InvalidQuery refl
-  calm_redefines text (Rows values width names) = calm_refuses InvalidQuery refl
-  calm_redefines text (Insert at from) = calm_refuses InvalidQuery refl
-  calm_redefines text (InsertOr at way from clauses) = calm_refuses InvalidQuery refl
-  calm_redefines text (Update at q) = calm_refuses InvalidQuery refl
-  calm_redefines text (Delete at q) = calm_refuses InvalidQuery refl
-  calm_redefines text Begin = calm_refuses InvalidQuery refl
-  calm_redefines text Commit = calm_refuses InvalidQuery refl
-  calm_redefines text Rollback = calm_refuses InvalidQuery refl
-  calm_redefines text (Savepoint name) = calm_refuses InvalidQuery refl
-  calm_redefines text (Release name) = calm_refuses InvalidQuery refl
-  calm_redefines text (RollbackTo name) = calm_refuses InvalidQuery refl
-  calm_redefines text Nothing = calm_refuses InvalidQuery refl
+  calm_redefines text _ = calm_refuses InvalidQuery refl
 
   calm_defined : (text : List ℕ) (returning : Option Returning) (command : Command) → Calm (λ out. MatchBool (is_some returning) (Refuses InvalidQuery out) (Redefines limit mode params db text command out))
   calm_defined text returning command = calm_either (is_some returning) (Refuses InvalidQuery) (Redefines limit mode params db text command) (calm_refuses InvalidQuery refl) (calm_redefines text command)
@@ -297,18 +245,4 @@ module _ (limit : Option ℕ) (mode : Mode) (params : Row) (db : Database) where
   does_told text returning (InsertOr at way from clauses) e h = (calm_on_rows at returning (InsertOr at way from clauses)).told e h
   does_told text returning (Update at q) e h = (calm_on_rows at returning (Update at q)).told e h
   does_told text returning (Delete at q) e h = (calm_on_rows at returning (Delete at q)).told e h
-  does_told text returning (Select q names) e h = (calm_defined text returning (Select q names)).told e h
-  does_told text returning (Rows values width names) e h = (calm_defined text returning (Rows values width names)).told e h
-  does_told text returning CreateTable e h = (calm_defined text returning CreateTable).told e h
-  does_told text returning (CreateIndex at) e h = (calm_defined text returning (CreateIndex at)).told e h
-  does_told text returning (DropTable at) e h = (calm_defined text returning (DropTable at)).told e h
-  does_told text returning (DropIndex at) e h = (calm_defined text returning (DropIndex at)).told e h
-  does_told text returning Begin e h = (calm_defined text returning Begin).told e h
-  does_told text returning Commit e h = (calm_defined text returning Commit).told e h
-  does_told text returning Rollback e h = (calm_defined text returning Rollback).told e h
-  does_told text returning (Savepoint name) e h = (calm_defined text returning (Savepoint name)).told e h
-  does_told text returning (Release name) e h = (calm_defined text returning (Release name)).told e h
-  does_told text returning (RollbackTo name) e h = (calm_defined text returning (RollbackTo name)).told e h
-  does_told text returning Nothing e h = (calm_defined text returning Nothing).told e h
-  does_told text returning CreateView e h = (calm_defined text returning CreateView).told e h
-  does_told text returning (DropView at) e h = (calm_defined text returning (DropView at)).told e h
+  does_told text returning command e h = (calm_defined text returning command).told e h

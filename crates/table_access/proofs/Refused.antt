@@ -5,8 +5,8 @@ use Rattle.std.proofs.Common.{◌≡◌, ◌⊎◌, inl, inr, ℕ, List, [], len
 use Rattle.std.proofs.lemmas.Bool.{cases_Bool}
 use Rattle.sqlite.specs.{Order.{Row}, Table.{Table}, Command.{Command}, Command.TheVariants.{Insert, InsertOr, Delete, CreateTable, CreateIndex}}
 use Rattle.sqlite.specs.{Source.TheVariants.{Values}, Term.{Term}, Rowids.TheVariants.{Chosen}, Edit.{Edit, edit_of}, declared.error.Error.{Error}}
-use Rattle.sqlite.specs.{Effect.{value_rows, is_query}, Rows.{Written, Task, Edited, Inserts, Sourced, stamped}, Does.{OnRows, AtPlace, WritesRows, Does, due}}
-use Rattle.sqlite.specs.Listing.{understood}
+use Rattle.sqlite.specs.{Effect.{Database, value_rows, is_query}, Rows.{Written, Task, Edited, Inserts, Sourced, stamped}}
+use Rattle.sqlite.specs.{Does.{OnRows, OnTable, AtPlace, WritesRows, Does, due}, Listing.{understood}}
 use Rattle.sqlite.specs.State.{State, Executes, ExecutesIn, IsNotRun, IsMisplaced, Fails, IsUnchanged, MayChange, shows_rows, is_pragma, text_of, mode_of}
 use Rattle.sqlite.{specs.{Calls.{IsWrite}, Clock.{timed}}, proofs.Callers.{IsPlain, command_of, statement_of}}
 use Rattle.sqlite_schema.specs.{declared.schema.Column.{Column}, declared.schema.Reference.{Reference}, Rules.{Refers}}
@@ -92,6 +92,28 @@ module _ (name : List ℕ) (tree : ℕ) (columns : List Column) (key : Option �
   abbrev here : Table
   here = plain_table name tree columns key primary uniques orders checks references
 
+  -- values of the right kinds are taken, where there is no limit of steps
+  pub sourced : (db : Database) (params : Row) (terms : List Term) (width : ℕ) → accepts_terms terms params ≡ true → (limit : Option ℕ) → limit ≡ None → (stop : Option Error) → Sourced limit db (stamped here params) (Values terms width) (Err stop) → ⊥
+  sourced db params terms width typed limit unlimited None h = h
+  sourced db params terms width typed limit unlimited (Some e) (inl kind) = let clash = subst (λ ps. accepts_terms terms ps ≡ false) (append-nil params) kind.1 in let e2 : true ≡ false = sym typed ∙ clash in cc
+  sourced db params terms width typed limit unlimited (Some e) (inr limited) = let some = rw unlimited at limited.1 in cc
+
+  -- a command on the rows of the table stops where it writes them, or since a row refers to one that isn't there
+  pub on_rows : (params : Row) (old : State) (at : ℕ) → slice_get old.now.schema.tables at ≡ Some here → (command : Command) (stop : Option Error)
+      → OnTable old.step_limit (mode_of old) params old.now at (λ task. OnRows task (mode_of old) None command old.now.trees) (Err stop)
+      → let task : Task = record { limit = old.step_limit; keys = (mode_of old).keys; schema = old.now.schema; table = here; params = params } in
+      WritesRows task old.now.trees command (Err stop) ⊎ ((w : Written) × WritesRows task old.now.trees command (Ok w) × (¬ Refers (due (mode_of old)) old.now.schema w.trees))
+  on_rows params old at found command stop h =
+      let task : Task = record { limit = old.step_limit; keys = (mode_of old).keys; schema = old.now.schema; table = here; params = params } in
+      let rows : OnRows task (mode_of old) None command old.now.trees (Err stop) = subst (λ o. AtPlace (λ table. OnRows (record task { table = table }) (mode_of old) None command old.now.trees) o (Err stop)) found h in
+      elim (stopped stop rows) [
+        | inl written ↦ inl written
+        | inr written ↦ elim (stopped stop written.2) [
+          | inl tested ↦ inr (written.0, written.1, tested.0)
+          | inr passed ↦ elim (stopped stop passed.2) [ inl shown ↦ absurd (let h = shown in cc) | inr last ↦ absurd (let h = last.2 in cc) ]
+        ]
+      ]
+
   module _ (sql : List ℕ) (params : Row) (old new : State) (at : ℕ) (found : slice_get old.now.schema.tables at ≡ Some here) (terms : List Term) (width : ℕ) (means : Means old.now.schema sql (Insert at (Values terms width)))
       (whole : is_whole sql (length params) (understood old.now.schema sql) ≡ true) (typed : accepts_terms terms params ≡ true) (unlimited : old.step_limit ≡ None) where
     abbrev task : Task
@@ -106,14 +128,9 @@ module _ (name : List ℕ) (tree : ℕ) (columns : List Column) (key : Option �
         Edited old.now.schema (mode_of old).keys old.now.trees edit (Err stop)
         ⊎ ((w : Written) × WritesRows task old.now.trees (Insert at (Values terms width)) (Ok w) × (¬ Refers (due (mode_of old)) old.now.schema w.trees))
 
-    sourced : (stop : Option Error) → Sourced task.limit old.now (stamped here params) (Values terms width) (Err stop) → ⊥
-    sourced None h = h
-    sourced (Some e) (inl kind) = let clash = subst (λ ps. accepts_terms terms ps ≡ false) (append-nil params) kind.1 in let e2 : true ≡ false = sym typed ∙ clash in cc
-    sourced (Some e) (inr limited) = let some = rw unlimited at limited.1 in cc
-
     rows_refused : (stop : Option Error) → Inserts task (Values terms width) old.now.trees (Err stop) → IsUnfit stop
     rows_refused stop h = elim (stopped stop h) [
-      | inl source ↦ absurd (sourced stop source)
+      | inl source ↦ absurd (sourced old.now params terms width typed old.step_limit unlimited stop source)
       | inr given ↦ elim (stopped stop given.2) [
         | inl counter ↦ absurd (let h = counter in cc)
         | inr counted ↦ elim (stopped stop counted.2) [
@@ -123,18 +140,9 @@ module _ (name : List ℕ) (tree : ℕ) (columns : List Column) (key : Option �
       ]
     ]
 
-    row_refused : (stop : Option Error) → OnRows task (mode_of old) None (Insert at (Values terms width)) old.now.trees (Err stop) → IsUnfit stop
-    row_refused stop h = elim (stopped stop h) [
-      | inl written ↦ rows_refused stop written
-      | inr written ↦ elim (stopped stop written.2) [
-        | inl tested ↦ inr (written.0, written.1, tested.0)
-        | inr passed ↦ elim (stopped stop passed.2) [ inl shown ↦ absurd (let h = shown in cc) | inr last ↦ absurd (let h = last.2 in cc) ]
-      ]
-    ]
-
     -- an INSERT of one row fails as the store fails, or since the row is unfit
     pub insert_fails : (e : Error) → Executes sql params old new (Err e) → Fails old new (IsUnfit None) e ⊎ IsUnfit (Some e)
     insert_fails e h = elim (change_fails sql params old new (Insert at (Values terms width)) (λ e. IsUnfit (Some e)) means whole refl refl (λ e is same. absurd (in_place old (Insert at (Values terms width)) refl e is)) (λ e writes. unfit (Some e)) e h) [ inl fails ↦ inl (caused_by old new e (unfit None) fails) | inr is ↦ inr is ]
       where
         unfit : (stop : Option Error) → Does old.step_limit (mode_of old) params old.now sql None (Insert at (Values terms width)) (Err stop) → IsUnfit stop
-        unfit stop h = row_refused stop (subst (λ o. AtPlace (λ table. OnRows (record task { table = table }) (mode_of old) None (Insert at (Values terms width)) old.now.trees) o (Err stop)) found h)
+        unfit stop h = elim (on_rows params old at found (Insert at (Values terms width)) stop h) [ inl written ↦ rows_refused stop written | inr stray ↦ inr stray ]

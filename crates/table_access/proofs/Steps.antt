@@ -1,9 +1,8 @@
 -- What the statements do, over any schema.
-use Rattle.std.specs.{List.{flat_map, filter_map, AllByRecursion}, List.Sorted.{IsPermutation}, Ordering.{is_eq, match_ordering}}
-use Rattle.std.proofs.Common.{◌≡◌, ◌⊎◌, inl, inr, ℕ, List, [], ◌∷◌, ◌++◌, map, filter, length, slice_get, Bool, true, false, cond, Some, None, Option, Ok, Err, Result, refl, sym, ap, subst, subst₂, ◌∙◌, append-nil, nat_le, ◌^◌, unwrap_or, ◌==◌, ◌&&◌, ◌||◌, not, Ordering, Less, Equal, Greater, ◌/◌, ◌≢◌}
-use Rattle.std.proofs.{lemmas.List.{length-map}, lemmas.List.Sorted.{IsPermutation-map, length_permutation}}
-use Rattle.std.proofs.lemmas.Bool.{cases_eq, and_parts, and_right, not-true}
-use Rattle.sqlite_keyed.proofs.{ListLemmas.{map-map, flat_map_none, IsPermutation-same}, RuleLemmas.{first_of_both}}
+use Rattle.std.specs.{List.{flat_map, AllByRecursion}, List.Sorted.{IsPermutation}, Ordering.{is_eq, match_ordering}}
+use Rattle.std.proofs.Common.{◌≡◌, ◌⊎◌, inl, inr, ℕ, List, [], ◌∷◌, ◌++◌, map, filter, length, slice_get, Bool, true, false, cond, Some, None, Option, Ok, Err, Result, refl, sym, ap, subst, subst₂, ◌∙◌, append-nil, nat_le, ◌^◌, unwrap_or, ◌&&◌, ◌||◌, not, Ordering, Less, Equal, Greater, ◌/◌, ◌≢◌}
+use Rattle.std.proofs.{lemmas.List.{length-map}, lemmas.List.Sorted.{IsPermutation-map, length_permutation}, lemmas.Bool.{cases_eq, and_parts, not-true}}
+use Rattle.sqlite_keyed.proofs.{ListLemmas.{map-map, IsPermutation-same}, RuleLemmas.{first_of_both}}
 use Rattle.sqlite.specs.{declared.types.Value.TheVariants.{Null}, Order.{Row, value_cmp, column}, Term.{Term, col}, Tree.{Trees, put_row, rowid}}
 use Rattle.sqlite.specs.{Schema.{Schema}, Command.{Command}, Command.TheVariants.{Select, Insert, Delete, Update}, Query.{IsAnswer, output, Output}}
 use Rattle.sqlite.specs.{Program.{overlay}, Listing.{understood, reads_listing}, State.{State, Shown, ShowsRows, IsUnchanged, Executes, Writes, mode_of}}
@@ -14,9 +13,9 @@ use Rattle.sqlite.{specs.declared.run.Mode.{Mode}, proofs.Callers.{IsPlain, comm
 use Rattle.sqlite_value.specs.{declared.keys.Key.{Key}, declared.keys.Order.{Order}}
 use Rattle.table_access.specs.{Statements.{from_table, keeps, shows, IsAdded, ChangesOnly, plain_table, IsCalm}, Sound.{IsNumbered}}
 use Rattle.table_access.proofs.{Removal.{calm_works, left, numbered_filter}, Values.{either}}
-use Rattle.sqlite_schema.specs.{declared.schema.Reference.{Reference}, declared.schema.Keys.{Keys}, Rules.{ParentKey}, declared.program.Program.{Program}}
+use Rattle.sqlite_schema.specs.{declared.schema.Reference.{Reference}, declared.schema.Keys.{Keys}, declared.program.Program.{Program}}
 use Rattle.sqlite_schema.specs.declared.schema.Column.{Column}
-use Rattle.sqlite_rules.specs.{declared.action.Deed.{Deed}, Action.{works, work_by}, Edit.{taken_by}, Calls.{ids_of}}
+use Rattle.sqlite_rules.{specs.{Edit.{taken_by}, Calls.{ids_of}}, proofs.ActionLemmas.{no_works}}
 use Rattle.sqlite_trees.proofs.TreeLemmas.{IsTable-put_row, all-put_row}
 
 -- what a text means over a schema: each field is found by refl, under `unfolding understood everything`
@@ -82,19 +81,6 @@ went (inr on) = on
 
 pub same_value : {B E : Type 0} {a b : B} → ◌≡◌ {A = Result B E} (Ok a) (Ok b) → a ≡ b
 same_value e = cc
-
-idle : (depth tree : ℕ) (child : Table) (ref : Reference) (deed : Option Deed) (key : Option ParentKey) → work_by depth tree [] child ref deed key ≡ None
-idle depth tree child ref None key = refl
-idle depth tree child ref (Some deed) None = refl
-idle depth tree child ref (Some deed) (Some key) = rw (and_right (key.0 == tree) false refl)
-
-filter_map_none : {A B : Type 0} (f : A → Option B) → ((x : A) → f x ≡ None) → (xs : List A) → filter_map f xs ≡ []
-filter_map_none f none [] = refl
-filter_map_none f none (x ∷ xs) = rw (none x, filter_map_none f none xs)
-
--- where no row is taken out, no foreign key acts
-pub no_works : (schema : Schema) (keys : Keys) (depth tree : ℕ) (news : List Row) → works schema keys depth tree [] news ≡ []
-no_works schema keys depth tree news = flat_map_none _ (λ child. filter_map_none _ (λ ref. idle depth tree child ref _ _) child.references) schema.tables
 
 pub put_splits : (new : Row) (rows : List Row) → is_taken rows new ≡ false → IsAdded rows (put_row new rows) new
 put_splits new [] fresh = record { front = []; back = []; was = refl; is = refl }

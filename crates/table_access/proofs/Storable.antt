@@ -1,23 +1,17 @@
 -- A row with a few columns, whose texts have ten million bytes each at most, can be stored, and so can its entries in
 -- indexes.
-use Rattle.std.specs.{Prelude.{⊤}, List.{AllByRecursion, list_all}, Float.{NotNan}}
-use Rattle.std.proofs.Common.{◌≡◌, ◌≤◌, ◌<◌, ◌+◌, ◌*◌, ◌^◌, inl, inr, ℕ, zero, suc, List, [], ◌∷◌, length, map, nat_lt, true, pos, negsuc, refl, sym, ap, ◌∙◌, arith, mul-le-mul_right}
-use Rattle.std.proofs.{lemmas.Bool.{ltb-true}, lemmas.List.{length-map, length_push}, lemmas.List.Sums.{sum_by-le}, lemmas.List.Elements.{All-from_recursion}}
-use Rattle.std.proofs.lemmas.Nat.Bits.{bit_at-zero}
-use Rattle.sqlite.specs.{declared.types.Value.{Value}, declared.types.Value.TheVariants.{Null, Int, Real, Text, Blob}, Order.{Row, column, number, bytes}}
-use Rattle.sqlite.specs.{Schema.{Schema}, Table.{Table}}
-use Rattle.sqlite_trees.specs.View.{IsStorable}
+use Rattle.sqlite.specs.{Order.{Row, bytes, column, number}, Schema.{Schema}, Table.{Table}, declared.types.Value.{Value}}
+use Rattle.sqlite.specs.declared.types.Value.TheVariants.{Blob, Int, Null, Real, Text}
+use Rattle.sqlite_rules.{specs.Edit.{IsOversized}, proofs.ListLemmas.{test_has}}
+use Rattle.sqlite_schema.specs.{Rules.{index_reals, table_reals}, declared.schema.Index.{Index}}
 use Rattle.sqlite_sql.specs.Catalog.{entry_of}
-use Rattle.sqlite_schema.specs.{declared.schema.Index.{Index}, Rules.{table_reals, index_reals}}
-use Rattle.sqlite_rules.{specs.{Lists.{Has}, Edit.{IsOversized}}, proofs.ListLemmas.{test_has}}
+use Rattle.sqlite_trees.specs.View.{IsStorable}
+use Rattle.std.specs.{Float.{NotNan}, List.{AllByRecursion, list_all}}
+use Rattle.std.proofs.Common.{List, [], ap, arith, inl, inr, length, map, mul-le-mul_right, nat_lt, pos, refl, suc, sym, true, zero, ℕ, ◌+◌, ◌<◌, ◌^◌, ◌∙◌, ◌∷◌, ◌≡◌, ◌≤◌}
+use Rattle.std.proofs.{lemmas.Bool.{ltb-true}, lemmas.List.{length-map, length_push}, lemmas.List.Elements.{All-from_recursion}, lemmas.List.Sums.{sum_by-le}}
+use Rattle.std.proofs.lemmas.Nat.Bits.{bit_at-zero}
+use Rattle.table_access.specs.Sound.{IsShortValue}
 use Rattle.std.specs.Float.Ieee
-
-abbrev pub IsShortValue : Value → Type 0
-IsShortValue Null = ⊤
-IsShortValue (Int n) = ⊤
-IsShortValue (Real x) = ⊥
-IsShortValue (Text t) = length t ≤ 10 ^ 7
-IsShortValue (Blob b) = ⊥
 
 -- columns beside the number, but only a few, with whole numbers and texts that aren't too long
 pub record IsShortRow (row : Row) : Type 0 where
@@ -32,12 +26,11 @@ pub record HasShortEntries (schema : Schema) (t : Table) : Type 0 where
 
 small : (v : Value) → IsShortValue v → NotNan (number v) × (18 + length (bytes v) ≤ 10 ^ 7 + 18)
 unfolding Ieee.is_nan
-small Null h = (tt, omega arith)
 small (Int (pos n)) h = (tt, omega arith)
-small (Int (negsuc n)) h = (tt, omega arith)
 small (Real x) h = absurd h
 small (Text t) h = (tt, omega (arith, h))
 small (Blob b) h = absurd h
+small _ h = (tt, omega arith)
 
 storable : (reals : ℕ) (entry : Row) → reals ≡ 0 → 0 < length entry → length entry ≤ 12 → AllByRecursion IsShortValue entry → IsStorable reals entry
 storable reals entry none some few short =
@@ -58,13 +51,20 @@ entry : (columns : List ℕ) (row : Row) → AllByRecursion IsShortValue row →
 entry [] row h = (at_column row h 0, tt)
 entry (c ∷ columns) row h = (at_column row h c, entry columns row h)
 
-no_reals : (columns : List ℕ) → index_reals 0 columns ≡ 0
+-- no column of an index is REAL, where none of the table is
+pub no_reals : (columns : List ℕ) → index_reals 0 columns ≡ 0
 no_reals [] = refl
 no_reals (c ∷ columns) = omega (arith, bit_at-zero c, no_reals columns)
+
+-- an entry of an index with a few columns, whatever else the row has
+pub entry_fits : (t : Table) (columns : List ℕ) (row : Row) → table_reals t ≡ 0 → length columns < 12 → AllByRecursion IsShortValue (entry_of columns row)
+    → IsStorable (index_reals (table_reals t) columns) (entry_of columns row)
+entry_fits t columns row whole few short =
+    let size : length (entry_of columns row) ≡ length columns + 1 = omega (arith, length_push (map (column row) columns) (column row 0), length-map columns (column row)) in
+    storable _ (entry_of columns row) (ap (λ r. index_reals r columns) whole ∙ no_reals columns) (omega arith) (omega arith) short
 
 pub short_fits : (schema : Schema) (t : Table) → HasShortEntries schema t → (row : Row) → IsShortRow row → ¬ IsOversized schema t row
 short_fits schema t has row it (inl big) = big (storable (table_reals t) row has.whole (omega (arith, it.wide)) it.narrow it.short, it.wide)
 short_fits schema t has row it (inr (i, known, there, big)) =
     let few = ltb-true (length i.columns) 12 (test_has (λ (j : Index). nat_lt (length j.columns) 12) schema.indexes i has.narrow known) in
-    let size : length (entry_of i.columns row) ≡ length i.columns + 1 = omega (arith, length_push (map (column row) i.columns) (column row 0), length-map i.columns (column row)) in
-    big (storable _ (entry_of i.columns row) (ap (λ r. index_reals r i.columns) has.whole ∙ no_reals i.columns) (omega arith) (omega arith) (entry i.columns row it.short))
+    big (entry_fits t i.columns row has.whole few (entry i.columns row it.short))

@@ -1,6 +1,7 @@
 -- What INSERT .. ON CONFLICT DO UPDATE leaves, of one row.
 use Rattle.std.specs.{List.{AllByRecursion}, Ordering.{is_eq, ordering_reverse}, Cmp.{tied_itself}}
 use Rattle.std.proofs.Common.{◌≡◌, ◌≢◌, ◌⊎◌, inl, inr, ℕ, ℤ, List, [], ◌∷◌, ◌++◌, filter, length, true, false, not, ◌/◌, Some, None, Option, Ok, refl, sym, ap, subst, subst₂, ◌∙◌, append-nil, Ordering, Less, slice_get}
+use Rattle.std.proofs.Math.Bool.{and-true}
 use Rattle.sqlite.specs.{Order.{Row, column, value_cmp}, Term.{Term, col, op2}, Tree.{Trees, rowid, IsTable}, Schema.{Schema}, Source.TheVariants.{Values}}
 use Rattle.sqlite.specs.{Edit.{with_rowid, id_in}, View.{is_int}, declared.types.Value.{Value}, Collation.TheVariants.{Binary}, Command.TheVariants.{InsertOr}}
 use Rattle.sqlite.specs.{State.{State, Executes, mode_of}, Does.{AtPlace, OnRows}, Effect.{Database, value_rows}, Listing.{understood}, Cast.{cast_row}}
@@ -13,7 +14,7 @@ use Rattle.sqlite_value.{specs.declared.keys.Order.{Order}, proofs.OrderLemmas.{
 use Rattle.sqlite_rules.{specs.{Keys.{AreConflicts, conflicts}, Lists.{Has}}, proofs.TableLemmas.{int_is}}
 use Rattle.sqlite_keyed.proofs.ListLemmas.{filter_none}
 use Rattle.table_access.specs.{Sound.{IsNumbered}, Statements.{plain_table, from_table, keeps, shows, IsCalm, IsAdded, ChangesOnly}}
-use Rattle.table_access.proofs.{Removal.{same_filter}, Parts.{and_true}, Values.{same_ints}, SoundLemmas.{at_has, all_of}}
+use Rattle.table_access.proofs.{Removal.{same_filter}, Values.{same_ints}, SoundLemmas.{at_has, all_of}}
 use Rattle.table_access.proofs.Steps.{Means, Added, concludes, changes_only, went, same_value, put_one, updated}
 use Rattle.sqlite_sql.specs.{declared.ops.BinaryOp.TheVariants.{Compare}, declared.ops.CompareOp.TheVariants.{Eq}, Ops.{binary, is_true}}
 
@@ -118,7 +119,7 @@ module _ (name : List ℕ) (tree : ℕ) (columns : List Column) (key : Option �
       let same : rowid there ≡ rowid hit.0 = ap rowid hit.3 in
       let with = params ++ rowid there ∷ shown row_table it in
       let where_row : (x : Row) → Has rows x → keeps (by_rowid n) with x ≡ is_eq (value_cmp (rowid x) (rowid hit.0)) =
-      λ x has. and_true (is_true (binary (Compare Eq Binary) (rowid x) (column with n))) ∙ ap (λ v. is_true (binary (Compare Eq Binary) (rowid x) v)) (placed (rowid there) (shown row_table it) ∙ same)
+      λ x has. and-true (is_true (binary (Compare Eq Binary) (rowid x) (column with n))) ∙ ap (λ v. is_true (binary (Compare Eq Binary) (rowid x) v)) (placed (rowid there) (shown row_table it) ∙ same)
       ∙ same_rowids x hit.0 (at_has _ rows x numbered.1 has) (at_has _ rows hit.0 numbered.1 hit.1) in
       (hit.0, hit.1, hit.2, same, same_filter _ _ rows where_row ∙ filter_one rows numbered.0 hit.0 hit.1, where_row)
 

@@ -1,31 +1,31 @@
 -- INSERT .. ON CONFLICT DO UPDATE of one row, over a table to which no other refers, is refused by nothing while the
 -- store works, if the row fits the table and what it refers to is there.
-use Rattle.std.specs.{Prelude.{⊤}, Ordering.{is_eq}}
+use Rattle.std.specs.Ordering.{is_eq}
 use Rattle.std.proofs.Common.{◌≡◌, inl, inr, ℕ, ℤ, List, [], ◌∷◌, ◌++◌, map, filter, length, slice_get, Bool, true, false, not, ◌&&◌, ◌||◌, Some, None, Option, Ok, Err, refl, sym, ap, subst, ◌∙◌, ◌/◌, append-nil, bytes_eq, nat_lt}
 use Rattle.std.proofs.{lemmas.Slice.Eq.{bytes_eq-Decides}, lemmas.Bool.{both_ways, false_from_ne_true, and_parts, and_from, or_right, or_cases, not-true}}
 use Rattle.sqlite.specs.{declared.types.Value.{Value}, declared.types.Value.TheVariants.{Null, Int}, Order.{Row, column, value_cmp}}
 use Rattle.sqlite.specs.{Tree.{IsAscending, rowid, has_rowid}, Table.{Table}, Term.{Term, col}, Cast.{cast_row, cast_all}, Command.{Command}}
 use Rattle.sqlite.specs.{Command.TheVariants.{InsertOr}, Source.TheVariants.{Values}, Rowids.TheVariants.{Chosen, Given}}
 use Rattle.sqlite.specs.{Edit.{next_rowid, without_all, id_in, is_taken, with_rowid}, declared.error.Error.{Error}, Effect.{value_rows, Answers}}
-use Rattle.sqlite.specs.Rows.{Written, Task, InsertsOr, Tries, TriesEach, Puts, Updates, Edited, Queried, Sourced, stamped, shown, nothing, count_of}
-use Rattle.sqlite.specs.{Does.{AtPlace, OnRows, Does}, State.{State, Executes, Fails, mode_of}, Listing.{understood}}
+use Rattle.sqlite.specs.{Rows.{Written, Task, InsertsOr, Tries, TriesEach, Puts, Updates, Queried, shown, nothing, count_of}, Does.{Does}}
+use Rattle.sqlite.specs.{State.{State, Executes, Fails, mode_of}, Listing.{understood}}
 use Rattle.sqlite_sql.specs.Ops.{fits_i64}
 use Rattle.sqlite_typing.specs.Types.{accepts_terms, accepts_program}
 use Rattle.sqlite_value.specs.{Keys.{plain}, declared.keys.Order.{Order}}
 use Rattle.sqlite_schema.specs.{declared.schema.Index.{Index}, declared.schema.Column.{Column}, declared.schema.Reference.{Reference}}
 use Rattle.sqlite_schema.specs.{declared.schema.Among.TheVariants.{All}, declared.schema.Constraint.{Constraint}}
-use Rattle.sqlite_schema.specs.declared.schema.Constraint.TheVariants.{Datatype, NotNull, Check, PrimaryKey, Unique, ForeignKey}
-use Rattle.sqlite_schema.specs.{declared.program.Program.{Program}, declared.command.Upsert.{Upsert}, declared.command.Conflict.TheVariants.{Abort}}
+use Rattle.sqlite_schema.specs.{declared.schema.Constraint.TheVariants.{Datatype, NotNull, Check, Unique}, declared.program.Program.{Program}}
+use Rattle.sqlite_schema.specs.{declared.command.Upsert.{Upsert}, declared.command.Conflict.TheVariants.{Abort}}
 use Rattle.sqlite_schema.specs.Rules.{Refers, Keeps, agree, differ, guards, has_parent, references_fit}
 use Rattle.sqlite_rules.specs.{Calls.{ids_of}, Lists.{Has}, Keys.{AreConflicts, conflicts, shares}, Steps.{PassAlone, IsJudged}}
 use Rattle.sqlite_rules.specs.{Edit.{Edit, IsOversized, edit_of, is_off}, declared.error.Refusal.{Refusal}}
-use Rattle.sqlite_rules.specs.declared.error.Refusal.TheVariants.{Violates, Mismatch, NoRowid, BadReference, TooDeep}
+use Rattle.sqlite_rules.specs.declared.error.Refusal.TheVariants.{Violates, Mismatch}
 use Rattle.sqlite_rules.proofs.{ListLemmas.{some_has, some_from, test_has, has_filtered, has_kept}, RuleLemmas.{keeps_at}, KeyLemmas.{agree_back, agree_chain}}
 use Rattle.sqlite_rules.proofs.{TableLemmas.{int_is}, PlaceLemmas.{next_is_free}}
 use Rattle.table_access.{specs.{Sound.{IsNumbered}, Statements.{plain_table, shows, IsCalm}}, proofs.Answered.{is_whole, never_refused}}
 use Rattle.table_access.proofs.{Edits.{Suits, IsAlone, goes, refers, one_unique, differ_is}, Members.{has_map, map_has}}
-use Rattle.table_access.proofs.{Refused.{stopped, change_fails, caused_by, in_place}, SoundLemmas.{at_has}, Steps.{Means, went, same_value, shown_one}}
-use Rattle.table_access.proofs.{Upsert.{by_rowid, setting, Either, upserts, meets}, Values.{cast_null, cast_kept}}
+use Rattle.table_access.proofs.{Refused.{stopped, sourced, on_rows, change_fails, caused_by, in_place}, SoundLemmas.{at_has}}
+use Rattle.table_access.proofs.{Steps.{Means, went, same_value, shown_one}, Upsert.{by_rowid, setting, Either, upserts, meets}, Values.{cast_null, cast_kept}}
 
 -- what fits where rows are put in and taken out fits also where none is taken out
 either_way : (a b removes : Bool) → (a && (not true || b)) ≡ true → (a && (not removes || b)) ≡ true
@@ -221,15 +221,10 @@ module _ (name : List ℕ) (tree : ℕ) (columns : List Column) (key : Option �
 
       judged : (why : Refusal) → IsJudged here it (Some why) → ⊥
       judged Mismatch h = let clash : true ≡ false = h in cc
-      judged NoRowid h = h
-      judged BadReference h = h
-      judged TooDeep h = h
       judged (Violates Datatype) h = both_ways _ h (and_parts _ _ (takes.pass (Int (next_rowid rows))).typed).0
       judged (Violates NotNull) h = both_ways _ h (and_parts _ _ (takes.pass (Int (next_rowid rows))).present).0
       judged (Violates Check) h = both_ways _ h (and_parts _ _ (takes.pass (Int (next_rowid rows))).checked).0
-      judged (Violates PrimaryKey) h = h
-      judged (Violates Unique) h = h
-      judged (Violates ForeignKey) h = h
+      judged _ h = h
 
       tried : (stop : Option Error) → Tries task Abort (clause ∷ []) it old.now.trees (Err stop) → Stops stop
       tried stop (inl unfit) = absurd (both_ways _ unfit.0 takes.room)
@@ -241,14 +236,9 @@ module _ (name : List ℕ) (tree : ℕ) (columns : List Column) (key : Option �
       stored : with_rowid Chosen rows (cast_row here (Null ∷ rest)) ≡ it
       stored = λ i. with_rowid Chosen rows (cast_null i ∷ takes.cast i)
 
-      sourced : (stop : Option Error) → Sourced task.limit old.now (stamped here params) (Values terms width) (Err stop) → ⊥
-      sourced None h = h
-      sourced (Some e) (inl kind) = both_ways _ (ap (accepts_terms terms) (sym (append-nil params)) ∙ kind.1) takes.kinds
-      sourced (Some e) (inr limited) = absurd (let some = rw unlimited at limited.1 in cc)
-
       inserted : (stop : Option Error) → InsertsOr task Abort (clause ∷ []) (Values terms width) old.now.trees (Err stop) → Stops stop
       inserted stop h = elim (stopped stop h) [
-        | inl source ↦ absurd (sourced stop source)
+        | inl source ↦ absurd (sourced name tree columns key primary uniques orders checks references old.now params terms width takes.kinds old.step_limit unlimited stop source)
         | inr given ↦ elim (stopped stop given.2) [
           | inl counter ↦ absurd (let h = counter in cc)
           | inr counted ↦ elim (stopped stop counted.2) [
@@ -277,17 +267,8 @@ module _ (name : List ℕ) (tree : ℕ) (columns : List Column) (key : Option �
               let edited = went given.2 in
               subst (λ trees. Refers All old.now.schema trees) (sym (ap (λ (w : Written). w.trees) (same_value edited.2))) (refers TooBig old.now.schema (mode_of old).keys old.now.trees _ (updating there more some given.0 given.1) edited.0 edited.1)
 
-      rows_done : (stop : Option Error) → OnRows task (mode_of old) None command old.now.trees (Err stop) → Stops stop
-      rows_done stop h = elim (stopped stop h) [
-        | inl written ↦ inserted stop written
-        | inr written ↦ elim (stopped stop written.2) [
-          | inl tested ↦ absurd (tested.0 (left_sound written.0 written.1))
-          | inr passed ↦ elim (stopped stop passed.2) [ inl shown ↦ absurd (let h = shown in cc) | inr last ↦ absurd (let h = last.2 in cc) ]
-        ]
-      ]
-
       does : (stop : Option Error) → Does old.step_limit (mode_of old) params old.now sql None command (Err stop) → Stops stop
-      does stop h = rows_done stop (subst (λ o. AtPlace (λ table. OnRows (record task { table = table }) (mode_of old) None command old.now.trees) o (Err stop)) takes.found h)
+      does stop h = elim (on_rows name tree columns key primary uniques orders checks references params old at takes.found command stop h) [ inl written ↦ inserted stop written | inr stray ↦ absurd (stray.2 (left_sound stray.0 stray.1)) ]
 
       -- it fails only as the store fails, or since the row is too big
       pub upsert_fails : (e : Error) → Executes sql params old new (Err e) → Fails old new TooBig e

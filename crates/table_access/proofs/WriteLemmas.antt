@@ -9,7 +9,7 @@ use Rattle.sqlite_schema.specs.declared.command.Command.TheVariants.{Insert, Ins
 use Rattle.sqlite_schema.specs.{declared.command.Conflict.{Conflict}, declared.schema.Table.{Table}, declared.command.Returning.{Returning}}
 use Rattle.sqlite_resolve.specs.{declared.error.CompileError.TheVariants.{Unsupported}, declared.compiled.Compiled.{Compiled}, Lowering.{Checked, and_then}}
 use Rattle.sqlite_resolve.specs.Scope.{Name}
-use Rattle.sqlite_resolve.specs.Compile.{first, compiled, planned, meaning, command, command_by, insert, insert_or, insert_or_abort, update, delete, create_table, create_index, is_reserved, creates, is_attached, with_command, on_table, target, new_rows, small}
+use Rattle.sqlite_resolve.specs.Compile.{first, compiled, planned, meaning, command, insert, insert_or, insert_or_abort, update, delete, create_table, create_index, is_reserved, creates, is_attached, with_command, on_table, target, new_rows, small}
 use Rattle.sqlite_resolve.specs.{Body.{table_at}, Program.{program}, Write.{updated, deleted}, Given.{upserts}}
 use Rattle.sqlite_syntax.specs.declared.statement.Parsed.{Parsed}
 use Rattle.table_access.specs.Writes.{writes, IsWriteText}

@@ -1,5 +1,5 @@
 -- What a call on the tables leaves of a connection.
-use Rattle.std.specs.Prelude.{◌≡◌, ◌⊎◌, ℕ, false, IsTrue, ⊤, List, Result, Err, IfOk, IfErr, OnOk}
+use Rattle.std.specs.Prelude.{◌≡◌, ◌⊎◌, ℕ, Bool, true, false, IsTrue, ⊤, List, Result, Err, IfOk, IfErr, OnOk}
 use Rattle.sqlite.specs.declared.error.ErrorCode.TheVariants as code
 use Rattle.sqlite.specs.declared.error.Error.{Error}
 use Rattle.sqlite.specs.declared.error.Error.TheVariants.{SqliteFailure}
@@ -57,19 +57,30 @@ FailsAs old new fault = GoesOn old new ⊎ IsEnded old new fault
 abbrev pub TellsMemory : {A : Type 0} → State → State → Result A StoreFault → Type 0
 TellsMemory old new r = HasCleanDisk new → IsTrue old.in_transaction → r ≡ Err Memory → IsEnded old new Memory
 
+-- so it is of a call that takes no memory of its own; of one that may, nothing is said
+abbrev pub TellsMemoryUnless : {A : Type 0} → Bool → State → State → Result A StoreFault → Type 0
+TellsMemoryUnless true old new r = ⊤
+TellsMemoryUnless false old new r = TellsMemory old new r
+
 -- P of the answer, in a transaction that goes on, or a failure. Nothing is committed, and a crash leaves what
--- it left before.
-pub record CallsTablesBetween {A : Type 0} (old new : State) (r : Result A StoreFault) (P : A → Type 0) : Type 0 where
+-- it left before. `takes` is true if the call may take memory of its own.
+pub record CallsBetween {A : Type 0} (takes : Bool) (old new : State) (r : Result A StoreFault) (P : A → Type 0)
+    : Type 0 where
   pub ok : HasCleanDisk new → IfOk r P
   pub goes_on : HasCleanDisk new → IsTrue old.in_transaction → OnOk r (GoesOn old new)
   pub fails : HasCleanDisk new → IsTrue old.in_transaction → IfErr r (FailsAs old new)
   pub commits : HasCleanDisk new → IsTrue old.in_transaction → KeepsLastCommit old new
   pub survives : Survives old new (λ _. old.in_transaction ≡ false)
+  -- if it takes none, only the store may be out of memory
+  pub memory : TellsMemoryUnless takes old new r
 
--- A call that takes no memory of its own, as a statement, or several: only the store may be out of memory.
-pub record CallsStoreBetween {A : Type 0} (old new : State) (r : Result A StoreFault) (P : A → Type 0) : Type 0 where
-  pub call : CallsTablesBetween old new r P
-  pub memory : TellsMemory old new r
+-- any call, also one that takes memory of its own
+abbrev pub CallsTablesBetween : {A : Type 0} → State → State → Result A StoreFault → (A → Type 0) → Type 0
+CallsTablesBetween = CallsBetween true
+
+-- a call that takes no memory of its own, as a statement, or several
+abbrev pub CallsStoreBetween : {A : Type 0} → State → State → Result A StoreFault → (A → Type 0) → Type 0
+CallsStoreBetween = CallsBetween false
 
 -- ---- the same of a connection over this store; P speaks of what it showed before, and of what it shows now
 

@@ -1,8 +1,8 @@
 use Rattle.std.proofs.Common.{refl, Option, MatchOption, ◌≡◌, ℕ, List, Some, None, sym, ◌∙◌}
 use Rattle.sqlite.specs.Held.{state}
 use Rattle.broker_core.specs.{Machine.{IsCallerOfDigest}, declared.policy.Caller.TheVariants.{Office, Team}}
-use Rattle.broker_tables.proofs.QueryLemmas.{query_failed}
-use Rattle.command_facts.proofs.{CalmLemmas.{calm_answers, calm_both}, CallerLemmas.{no_one}}
+use Rattle.broker_tables.proofs.QueryLemmas.{query_failed, calm_answers, calm_both}
+use Rattle.command_facts.proofs.CallerLemmas.{no_one}
 use Rattle.command_facts.proofs.callers.holder_of.Goals as goal
 
 pub returns-then-is_same : goal.returns-then-is_same

@@ -1,6 +1,6 @@
 use Rattle.std.proofs.Common.{Some, None, ap, ◌∙◌}
 use Rattle.sqlite.specs.Held.{state}
-use Rattle.command_facts.proofs.CalmLemmas.{calm_answers}
+use Rattle.broker_tables.proofs.QueryLemmas.{calm_answers}
 use Rattle.command_facts.proofs.callers.team_with.Goals as goal
 
 pub returns-in-Ok-stored_name : goal.returns-in-Ok-stored_name

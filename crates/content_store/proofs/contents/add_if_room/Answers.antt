@@ -1,6 +1,6 @@
 use Rattle.std.proofs.Common.{◌≡◌, ℕ, List, Ok, Err, Some, None, true, false, sym, subst, ◌∙◌}
 use Rattle.sqlite.specs.Held.{state}
-use Rattle.table_access.proofs.CallLemmas.{statement_ok, statement_seq}
+use Rattle.table_access.proofs.CallLemmas.{then_ok, seq}
 use Rattle.broker_core.specs.{Text.{Text}, Limit.{has_room}}
 use Rattle.content_store.{specs.Contents.{ContentsBy, IsPut, is_among}, proofs.{TextNumbers.{room_is}, CalmPuts.{counted, calm_then}}}
 use Rattle.content_store.proofs.contents.add_if_room.Goals as goal
@@ -10,10 +10,10 @@ returns-in-Ok-add_after-clause-call g c =
     let old = state g.S.Store c.args.conn.now in
     let mid = state g.S.Store c.content_count.new.conn in
     let new = state g.S.Store c.add_after.new.conn in
-    statement_ok old new c.in-Ok-add_after.value (Some c.in-Ok-add_after.value)
+    then_ok old new c.in-Ok-add_after.value (Some c.in-Ok-add_after.value)
     (λ number. (by : Text → Text) → by c.args.body.now ≡ c.args.digest.now → (texts : List Text) → ContentsBy by old.now texts → is_among texts c.args.body.now ≡ false
     → (has_room texts ≡ true) × IsPut by c.args.body.now texts number old.now new.now) _ (λ h. h)
-    (statement_seq old mid new c.in-Ok.value (Ok c.in-Ok-add_after.value) _ _ _
+    (seq old mid new c.in-Ok.value (Ok c.in-Ok-add_after.value) _ _ _
     (λ one number two by is texts held free.
     let read = one by texts held in (
       room_is texts c.in-Ok.value c.room.result c.room.ensures read.0 ∙ c.if-room.true,
@@ -24,7 +24,7 @@ returns-in-Ok-add_after-clause-call g c =
 
 pub returns-else-room-clause-call : goal.returns-else-room-clause-call
 returns-else-room-clause-call g c =
-    statement_ok (state g.S.Store c.args.conn.now) (state g.S.Store c.content_count.new.conn) c.in-Ok.value None _ _
+    then_ok (state g.S.Store c.args.conn.now) (state g.S.Store c.content_count.new.conn) c.in-Ok.value None _ _
     (λ one by is texts held free.
     let read = one by texts held in
     (room_is texts c.in-Ok.value c.room.result c.room.ensures read.0 ∙ c.if-room.false, read.1))

@@ -1,4 +1,4 @@
-use Rattle.std.proofs.{Common.{ℕ, pos, ◌≤◌, ◌^◌, ◌∙◌, sym, subst, w64, SFits, refl, None, Ok, arith}, lemmas.Int.{to_z-of_z}}
+use Rattle.std.proofs.{Common.{ℕ, pos, ◌≤◌, ◌^◌, ◌∙◌, sym, subst, w64, SFits, refl, None, arith}, lemmas.Int.{to_z-of_z}}
 use Rattle.sqlite.specs.Held.{state}
 use Rattle.table_access.proofs.{Answered.{first_has}, CallLemmas.{call_with, idle}}
 use Rattle.broker_tables.proofs.{Asked.{is_answer, still, why_text}, QueryLemmas.{calm_by}}
@@ -32,4 +32,4 @@ returns-in-Ok-clause-calm g c =
 
 -- no row has a number that doesn't fit
 pub returns-in-Err-clause-call : goal.returns-in-Err-clause-call
-returns-in-Err-clause-call g c = idle (state g.S.Store c.args.conn.now) (Ok None) _ (λ digest texts held. ((λ low. absurd (grind arith), λ high. refl), refl))
+returns-in-Err-clause-call g c = idle (state g.S.Store c.args.conn.now) None _ (λ digest texts held. ((λ low. absurd (grind arith), λ high. refl), refl))

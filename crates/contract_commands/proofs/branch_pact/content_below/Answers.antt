@@ -1,17 +1,16 @@
-use Rattle.std.{specs.Prelude.{ℕ, Option}, proofs.Common.{◌≡◌, Ok, Some, None, refl, ap, ◌∙◌, subst}}
+use Rattle.std.{specs.Prelude.{ℕ, Option}, proofs.Common.{false, ◌≡◌, Ok, Some, None, ap, ◌∙◌, subst}}
 use Rattle.sqlite.specs.Held.{state}
-use Rattle.table_access.proofs.CallLemmas.{idle}
-use Rattle.broker_tables.{specs.Holds.{QueriesBetween}, proofs.QueryLemmas.{placed}}
+use Rattle.broker_tables.{specs.Calm.{CalmQueriesBetween}, proofs.QueryLemmas.{query_failed, both_held, calm_both}}
+use Rattle.contract_tables.proofs.QueryLemmas.{calm_known}
 use Rattle.contract_commands.specs.{BranchPact.{IsNextBelow}, declared.branch_pact.BranchVersion.{BranchVersion}}
 use Rattle.contract_commands.proofs.BranchLast.{none_there, none_shown, found_shown}
-use Rattle.command_facts.proofs.{CalmLemmas.{place_failed}, PerformLemmas.{read_both, read_held}}
 use Rattle.contract_commands.proofs.branch_pact.content_below.Goals as goal
 
 abbrev found_next : ℕ → Option ℕ → Option BranchVersion
 found_next number content = Some (record { number = number; content = content })
 
 pub loop-value-init : goal.loop-value-init
-loop-value-init g c = idle (state g.S.Store c.args.conn.now) (Ok c.args.bound) _ (λ s held. (λ none. none, refl))
+loop-value-init g c = calm_known _ c.args.bound _ (λ s none. none)
 
 pub loop-value-preserved : goal.loop-value-preserved
 loop-value-preserved g c =
@@ -21,9 +20,9 @@ loop-value-preserved g c =
     let version : BranchVersion = record { number = next.number; content = None } in
     let has : next.content ≡ None = c.in-None-content.is in
     let is : c.in-Ok.value ≡ Some version = c.in-Some.is ∙ ap (λ (o : Option ℕ). found_next next.number o) has in
-    read_both (state g.S.Store c.args.conn.now) mid new c.loop-value.bound (Some version) next.number _ _ _
+    calm_both (state g.S.Store c.args.conn.now) mid new c.loop-value.bound (Some version) next.number _ _ _
     (λ s none below start. none_there s c.args.provider.now c.args.consumer.now c.args.branch.now c.loop-value.bound next.number (none start) below) c.loop-value.invariant
-    (subst (λ (found : Option BranchVersion). QueriesBetween mid new (Ok found) (λ found s. IsNextBelow s c.args.provider.now c.args.consumer.now c.args.branch.now c.loop-value.bound found)) is c.in-Ok.ensures.read.call)
+    (subst (λ (found : Option BranchVersion). CalmQueriesBetween false mid new (Ok found) (λ found s. IsNextBelow s c.args.provider.now c.args.consumer.now c.args.branch.now c.loop-value.bound found)) is c.in-Ok.ensures.read)
 
 pub returns-in-Some-content : goal.returns-in-Some-content
 returns-in-Some-content g c =
@@ -34,17 +33,17 @@ returns-in-Some-content g c =
     let version : BranchVersion = record { number = next.number; content = Some content } in
     let has : next.content ≡ Some content = c.in-Some-content.is in
     let is : c.in-Ok.value ≡ Some version = c.in-Some.is ∙ ap (λ (o : Option ℕ). found_next next.number o) has in
-    placed _ _ _ _ (read_held (state g.S.Store c.args.conn.now) mid new c.loop-value.bound (Some version) (Some content) _ _ _
+    both_held (state g.S.Store c.args.conn.now) mid new c.loop-value.bound (Some version) (Some content) _ _ _
     (λ s held none below start. found_shown s c.args.provider.now c.args.consumer.now c.args.branch.now new.now held c.loop-value.bound next.number content (none start) below) c.loop-value.invariant
-    (subst (λ (found : Option BranchVersion). QueriesBetween mid new (Ok found) (λ found s. IsNextBelow s c.args.provider.now c.args.consumer.now c.args.branch.now c.loop-value.bound found)) is c.in-Ok.ensures.read.call))
+    (subst (λ (found : Option BranchVersion). CalmQueriesBetween false mid new (Ok found) (λ found s. IsNextBelow s c.args.provider.now c.args.consumer.now c.args.branch.now c.loop-value.bound found)) is c.in-Ok.ensures.read)
 
 pub returns-in-None : goal.returns-in-None
 returns-in-None g c =
     let mid = state g.S.Store c.loop-value.conn in
     let new = state g.S.Store c.next_below.new.conn in
-    placed _ _ _ _ (read_held (state g.S.Store c.args.conn.now) mid new c.loop-value.bound None None _ _ _
+    both_held (state g.S.Store c.args.conn.now) mid new c.loop-value.bound None None _ _ _
     (λ s held none next start. none_shown s c.args.provider.now c.args.consumer.now c.args.branch.now new.now held c.loop-value.bound (none start) next) c.loop-value.invariant
-    (subst (λ (found : Option BranchVersion). QueriesBetween mid new (Ok found) (λ found s. IsNextBelow s c.args.provider.now c.args.consumer.now c.args.branch.now c.loop-value.bound found)) c.in-None.is c.in-Ok.ensures.read.call))
+    (subst (λ (found : Option BranchVersion). CalmQueriesBetween false mid new (Ok found) (λ found s. IsNextBelow s c.args.provider.now c.args.consumer.now c.args.branch.now c.loop-value.bound found)) c.in-None.is c.in-Ok.ensures.read)
 
 pub returns-in-Err : goal.returns-in-Err
-returns-in-Err g c = place_failed (state g.S.Store c.args.conn.now) (state g.S.Store c.loop-value.conn) (state g.S.Store c.next_below.new.conn) c.loop-value.bound c.in-Err.fault _ _ _ (placed _ _ _ _ c.loop-value.invariant) c.in-Err.ensures.read
+returns-in-Err g c = query_failed (state g.S.Store c.args.conn.now) (state g.S.Store c.loop-value.conn) (state g.S.Store c.next_below.new.conn) c.loop-value.bound c.in-Err.fault _ _ _ c.loop-value.invariant c.in-Err.ensures.read

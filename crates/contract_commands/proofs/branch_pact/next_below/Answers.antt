@@ -2,23 +2,22 @@ use Rattle.std.proofs.Common.{Some, None, ap, ◌∙◌, subst}
 use Rattle.sqlite.specs.Held.{state}
 use Rattle.broker_core.specs.Text.{Text}
 use Rattle.registry_tables.specs.Registry.{IsNewestBelow}
-use Rattle.command_facts.proofs.PerformLemmas.{answers, read_both}
-use Rattle.broker_tables.proofs.QueryLemmas.{placed}
+use Rattle.broker_tables.proofs.QueryLemmas.{calm_answers, calm_both}
 use Rattle.contract_commands.proofs.branch_pact.next_below.Goals as goal
 
 pub returns-in-Ok-contract_of-clause-read : goal.returns-in-Ok-contract_of-clause-read
 returns-in-Ok-contract_of-clause-read g c =
     let number = c.in-Some.number in
     let content = c.in-Ok-contract_of.value in
-    placed _ _ _ _ (read_both (state g.S.Store c.args.conn.now) (state g.S.Store c.branch_number_below.new.conn) (state g.S.Store c.contract_of.new.conn) (Some number) content (Some (record { number = number; content = content })) _ _ _
+    calm_both (state g.S.Store c.args.conn.now) (state g.S.Store c.branch_number_below.new.conn) (state g.S.Store c.contract_of.new.conn) (Some number) content (Some (record { number = number; content = content })) _ _ _
     (λ s newest contract. (
       subst (λ (b : Text). IsNewestBelow s c.args.consumer.now b c.args.bound (Some number)) c.as_str-2.ensures
           (subst (λ (p : Text). IsNewestBelow s p c.as_str-2.result.now c.args.bound (Some number)) c.as_str.ensures newest),
       λ v is. contract v is ∙ ap (λ (p : Text). s.contracts (v, p)) c.as_str-then-number-bound.ensures,
-    )) (rw c.in-Some.is at c.in-Ok.ensures.call) c.in-Ok-contract_of.ensures.answers.call)
+    )) (rw c.in-Some.is at c.in-Ok.ensures) c.in-Ok-contract_of.ensures.answers
 
 pub returns-in-None-clause-read : goal.returns-in-None-clause-read
 returns-in-None-clause-read g c =
-    placed _ _ _ _ (answers (state g.S.Store c.args.conn.now) (state g.S.Store c.branch_number_below.new.conn) None None _ _
+    calm_answers (state g.S.Store c.args.conn.now) (state g.S.Store c.branch_number_below.new.conn) None None _ _
     (λ s newest. subst (λ (b : Text). IsNewestBelow s c.args.consumer.now b c.args.bound None) c.as_str-2.ensures
-    (subst (λ (p : Text). IsNewestBelow s p c.as_str-2.result.now c.args.bound None) c.as_str.ensures newest)) (rw c.in-None.is at c.in-Ok.ensures.call))
+    (subst (λ (p : Text). IsNewestBelow s p c.as_str-2.result.now c.args.bound None) c.as_str.ensures newest)) (rw c.in-None.is at c.in-Ok.ensures)

@@ -1,15 +1,12 @@
-use Rattle.std.proofs.Common.{Ok, ◌+◌, ap, ◌∙◌, arith}
+use Rattle.std.proofs.Common.{◌+◌, ap, ◌∙◌, arith}
 use Rattle.sqlite.specs.Held.{state}
 use Rattle.table_access.specs.declared.StoreFault.TheVariants.{Store}
-use Rattle.broker_tables.proofs.QueryLemmas.{in_place, read_never}
-use Rattle.command_facts.proofs.CalmLemmas.{calm_answers}
+use Rattle.broker_tables.proofs.QueryLemmas.{read_never, calm_answers}
 use Rattle.contract_commands.proofs.branch_pact.read_bound.Goals as goal
 
 pub returns-in-Some : goal.returns-in-Some
 returns-in-Some g c =
-    let old = state g.S.Store c.args.conn.now in
-    let new = state g.S.Store c.version_count.new.conn in
-    calm_answers old new c.in-Ok.value c.in-Some.bound _ _ (λ s is. c.in-Some.ensures.some ∙ ap (λ k. k + 1) is) (in_place old new (Ok c.in-Ok.value) _ c.in-Ok.ensures)
+    calm_answers (state g.S.Store c.args.conn.now) (state g.S.Store c.version_count.new.conn) c.in-Ok.value c.in-Some.bound _ _ (λ s is. c.in-Some.ensures.some ∙ ap (λ k. k + 1) is) c.in-Ok.ensures
 
 -- there are fewer than 2^32 - 1
 pub returns-in-None : goal.returns-in-None

@@ -1,6 +1,5 @@
 use Rattle.sqlite.specs.Held.{state}
-use Rattle.broker_tables.proofs.QueryLemmas.{in_place}
-use Rattle.command_facts.proofs.CalmLemmas.{calm_then}
+use Rattle.broker_tables.proofs.QueryLemmas.{in_place, calm_then}
 use Rattle.contract_commands.{specs.BranchPact.{IsBranchContent}, proofs.BranchLast.{above_all}}
 use Rattle.contract_commands.proofs.branch_pact.read_branch.Goals as goal
 

@@ -1,6 +1,5 @@
 use Rattle.sqlite.specs.Held.{state}
-use Rattle.broker_tables.proofs.QueryLemmas.{query_failed}
-use Rattle.command_facts.proofs.CalmLemmas.{calm_both}
+use Rattle.broker_tables.proofs.QueryLemmas.{query_failed, calm_both}
 use Rattle.contract_commands.proofs.BranchLast.{reaches_branch}
 use Rattle.contract_commands.proofs.branch_pact.read_branch_to_show.Goals as goal
 

@@ -1,6 +1,6 @@
 use Rattle.std.proofs.Common.{[], Err, ◌≡◌, sym, subst, ◌≤◌, ◌^◌, ℕ, List, length}
 use Rattle.sqlite.specs.Held.{state}
-use Rattle.table_access.proofs.CallLemmas.{statement_ok}
+use Rattle.table_access.proofs.CallLemmas.{then_ok}
 use Rattle.broker_core.specs.{State.{State}, Text.{version as version_named}, declared.command.Version.{Version}}
 use Rattle.broker_tables.{specs.Holds.{HoldsAfter}, proofs.FailLemmas.{calm_with}}
 use Rattle.command_facts.proofs.PerformLemmas.{unchanged}
@@ -21,7 +21,7 @@ returns-in-Ok-clause-answers g c =
     let number = c.in-New.number in
     let v = version_named c.args.pacticipant.now c.args.name.now in
     let same : version_named c.as_str.result.now c.as_str-in-New.result.now ≡ v = λ i. version_named (c.as_str.ensures i) (c.as_str-in-New.ensures i) in
-    statement_ok old new c.in-Ok.value number _ _ (λ adds s held can.
+    then_ok old new c.in-Ok.value number _ _ (λ adds s held can.
     let may = subst (λ (n : VersionNumber). CanName s v n) c.in-New.is can in
     let it = subst (λ (w : Version). AllowsVersionAs number w s → (t : State) × AddsVersion w number s t × HoldsAfter 2 old new t) same (adds s held) (new_allowed s v number may) in
     (it.0, new_named s v number it.0 may it.1, it.2))

@@ -1,4 +1,4 @@
-use Rattle.std.proofs.Common.{Ok, sym, subst, refl}
+use Rattle.std.proofs.Common.{sym, subst, refl}
 use Rattle.sqlite.specs.Held.{state}
 use Rattle.table_access.proofs.CallLemmas.{call_with, idle}
 use Rattle.contract_commands.specs.Pacts.{ShowsReached, HasReachedContent}
@@ -14,4 +14,4 @@ returns-in-Ok-clause-calm g c = λ clean s here has. c.show_pact_text.ensures.ca
 
 pub returns-in-Err-clause-answers : goal.returns-in-Err-clause-answers
 returns-in-Err-clause-answers g c =
-    idle (state g.S.Store c.args.conn.now) (Ok c.in-Err.answer) _ (λ s held. (subst (λ place. ShowsReached s place c.in-Err.answer) (sym c.in-Err.is) refl, refl))
+    idle (state g.S.Store c.args.conn.now) c.in-Err.answer _ (λ s held. (subst (λ place. ShowsReached s place c.in-Err.answer) (sym c.in-Err.is) refl, refl))

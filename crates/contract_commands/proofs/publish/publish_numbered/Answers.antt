@@ -4,7 +4,7 @@ use Rattle.broker_core.specs.{Change.{Transition, put_pact, content_number, name
 use Rattle.broker_core.specs.{declared.answer.Answer.TheVariants.{Done, Full}, declared.answer.Detail.TheVariants.{Content}, Text.{Text}}
 use Rattle.broker_core.specs.declared.command.PactPath.{PactPath}
 use Rattle.content_store.specs.Contents.{has_place, StoresIfRoom}
-use Rattle.table_access.proofs.CallLemmas.{statement_with, ended_with}
+use Rattle.table_access.proofs.CallLemmas.{call_with, ended_with}
 use Rattle.broker_tables.{specs.Room.{enough}, proofs.FailLemmas.{fails_taking, taking_then}}
 use Rattle.command_facts.{specs.Performs.{IsToChange}, proofs.PerformLemmas.{where_told, where_told_then}}
 use Rattle.contract_commands.specs.{Pacts.{CanPublish, CanRecord, PutsPact, RecordsContract, contracted}, declared.numbers.VersionNumber.{VersionNumber}}
@@ -62,7 +62,7 @@ returns-in-Err-record_contract-clause-calm g c clean s here can =
     let few : 5 ≤ enough = omega arith in
     let old = state g.S.Store c.args.conn.now in
     let mid = state g.S.Store c.put_text.new.conn in
-    let mid_clean : HasCleanDisk mid = omega (arith, c.in-Err-record_contract.ensures.answers.call.survives.clean, clean) in
+    let mid_clean : HasCleanDisk mid = omega (arith, c.in-Err-record_contract.ensures.answers.survives.clean, clean) in
     let new = state g.S.Store c.record_contract.new.conn in
     let path = c.args.path.now in
     let text = c.args.text.now in
@@ -70,8 +70,8 @@ returns-in-Err-record_contract-clause-calm g c clean s here can =
     let content = c.in-Some.content in
     let failed = c.in-Err-record_contract.ensures in
     let stored = rw c.in-Some.is at c.in-Ok.ensures.answers in
-    let it = stored.call.ok mid_clean s here.held tt in
+    let it = stored.ok mid_clean s here.held tt in
     fails_taking {A = Unit {0}} _ old new (Err c.in-Err-record_contract.fault) 5 few (CanPublish path version) (λ t. CanPublish path version t × (has_place t.contents text ≡ true)) _ (λ t held may. (may.0, to_publish path text version t may.0 may.1))
     (taking_then _ old mid new (Some content) (Err c.in-Err-record_contract.fault) 2 3 _ (CanPublish path version) (StoresIfRoom text) (CanRecord path version content)
-    (λ t may u next. subst (CanRecord path version content) (sym next.1) (can_record t text path version content next.0 may)) (statement_with old mid (Ok (Some content)) _ _ (λ a puts t held may. puts t held tt) stored)
-    failed.answers.call (λ clean t now may room. ended_with _ _ _ (λ long are. long are.1) (failed.calm clean t now may room))) clean s here (can, it.1.2)
+    (λ t may u next. subst (CanRecord path version content) (sym next.1) (can_record t text path version content next.0 may)) (call_with old mid (Ok (Some content)) _ _ (λ a puts t held may. puts t held tt) stored)
+    failed.answers (λ clean t now may room. ended_with _ _ _ (λ long are. long are.1) (failed.calm clean t now may room))) clean s here (can, it.1.2)

@@ -17,13 +17,13 @@ pub returns-in-UnknownReply-clause-answers : goal.returns-in-UnknownReply-clause
 returns-in-UnknownReply-clause-answers g c =
     let here = state g.S.Store c.args.conn.now in
     subst (λ (told : Comparison). PerformsWhereBetween here here (λ s. HasPacticipant s c.args.provider.now) (λ s out. Leads s c.args.provider.now c.args.report.now c.args.content told out) (Ok (BadForm UnknownReply)))
-    (sym c.in-UnknownReply.is) (idle here (Ok (BadForm UnknownReply)) _ (λ s held has. (s, refl, (held, takes_none enough here.now here.now refl))))
+    (sym c.in-UnknownReply.is) (idle here (BadForm UnknownReply) _ (λ s held has. (s, refl, (held, takes_none enough here.now here.now refl))))
 
 pub returns-in-Pattern-clause-answers : goal.returns-in-Pattern-clause-answers
 returns-in-Pattern-clause-answers g c =
     let here = state g.S.Store c.args.conn.now in
     subst (λ (told : Comparison). PerformsWhereBetween here here (λ s. HasPacticipant s c.args.provider.now) (λ s out. Leads s c.args.provider.now c.args.report.now c.args.content told out) (Ok Pattern))
-    (sym c.in-Pattern.is) (idle here (Ok Pattern) _ (λ s held has. (s, refl, (held, takes_none enough here.now here.now refl))))
+    (sym c.in-Pattern.is) (idle here Pattern _ (λ s held has. (s, refl, (held, takes_none enough here.now here.now refl))))
 
 pub returns-in-Failing-clause-calm : goal.returns-in-Failing-clause-calm
 returns-in-Failing-clause-calm g c = λ clean s here can.

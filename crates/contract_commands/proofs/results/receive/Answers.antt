@@ -1,7 +1,7 @@
-use Rattle.std.{specs.Prelude.{option_map}, proofs.Common.{◌≡◌, ◌∙◌, ℕ, Ok, Option, is_some}}
+use Rattle.std.{specs.Prelude.{option_map}, proofs.Common.{false, ◌≡◌, ℕ, Ok, Option, is_some}}
 use Rattle.sqlite.specs.{Held.{state}, State.{State as Connection}}
 use Rattle.broker_core.specs.{State.{State}, Text.{Text, version}, Change.{result_of_run}, Request.{is_known}, declared.command.Report.{Report}}
-use Rattle.broker_tables.{specs.{Calm.{CalmQueriesInPlaceBetween}, Numbers.{number_of}}, proofs.{QueryLemmas.{place_seq, stays_held}, FailLemmas.{fails_after}}}
+use Rattle.broker_tables.{specs.{Calm.{CalmQueriesBetween}, Numbers.{number_of}}, proofs.{QueryLemmas.{calm_then}, FailLemmas.{fails_after}}}
 use Rattle.contract_tables.specs.{Verified.{told_of}, declared.lookups.ResultRow.{ResultRow}}
 use Rattle.contract_commands.specs.{Pacts.{HasContent}, Results.{CanReceive, IsToReport, IsUnused, reported_version, IsNumbered, told_row}}
 use Rattle.contract_commands.proofs.ResultLemmas.{row_told, none_told, numbered, told_read, then_taken}
@@ -13,14 +13,10 @@ IsFound provider report number row s =
     IsNumbered s (reported_version provider report) number × (option_map told_row row ≡ option_map (told_of s.versions) (result_of_run s provider report.run))
 
 found_both : (old mid new : Connection) (provider : Text) (report : Report) (p name : Text) (number : Option ℕ) (row : Option ResultRow) → p ≡ provider → name ≡ report.provider_version
-    → CalmQueriesInPlaceBetween old mid (Ok number) (λ n s. (n ≡ number_of s.versions (version p name)) × (is_some n ≡ is_known s (version p name)))
-    → CalmQueriesInPlaceBetween mid new (Ok row) (λ found s. option_map told_row found ≡ option_map (told_of s.versions) (result_of_run s provider report.run)) → CalmQueriesInPlaceBetween old new (Ok row) (IsFound provider report number)
-found_both old mid new provider report p name number row is called one two =
-    place_seq old mid new number (Ok row) _ _ (IsFound provider report number)
-    (λ known found used s held.
-    let first = known s held in
-    let second = used s (stays_held old mid s first.1 held) in
-    ((numbered s provider report p name number is called first.0, second.0), second.1 ∙ first.1)) one two
+    → CalmQueriesBetween false old mid (Ok number) (λ n s. (n ≡ number_of s.versions (version p name)) × (is_some n ≡ is_known s (version p name)))
+    → CalmQueriesBetween false mid new (Ok row) (λ found s. option_map told_row found ≡ option_map (told_of s.versions) (result_of_run s provider report.run)) → CalmQueriesBetween false old new (Ok row) (IsFound provider report number)
+found_both old mid new provider report p name number row is called =
+    calm_then old mid new number (Ok row) _ _ (IsFound provider report number) (λ s known found used. (numbered s provider report p name number is called known, used))
 
 pub returns-in-Some-clause-answers : goal.returns-in-Some-clause-answers
 returns-in-Some-clause-answers g c =
@@ -62,4 +58,4 @@ returns-in-None-clause-calm g c =
     fails_after _ old two new found c.receive_new.result (IsFound provider report number) _ (CanReceive provider c.args.found.content) (λ s. IsUnused s provider report number × HasContent s c.args.found.content) to to
     (λ s held can first. ((record { version = first.0; owned = can.0; unused = none_told s (result_of_run s provider report.run) found c.in-None.is first.1 }, can.1), λ made. made))
     (found_both old one two provider report _ _ number found c.as_str.ensures c.as_str-2.ensures c.in-Ok.ensures c.in-Ok-read_run.ensures).call
-    c.receive_new.ensures.answers.call c.receive_new.ensures.calm
+    c.receive_new.ensures.answers c.receive_new.ensures.calm

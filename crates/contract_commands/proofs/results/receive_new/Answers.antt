@@ -32,4 +32,4 @@ returns-in-Some-clause-calm g c =
     let to = IsToReport provider report c.args.found in
     fails_after _ old mid (state g.S.Store c.receive_numbered.new.conn) (Some version) c.receive_numbered.result _ _ (λ s. IsUnused s provider report c.args.number × HasContent s c.args.found.content) (λ s. CanReport provider report version s × HasContent s c.args.found.content) to to
     (λ s held can first. (((as_numbered s (reported_version provider report) c.args.number version can.0.version.number_is can.0.version.known_is can.0.owned first, can.0.unused), can.1), λ made. made))
-    (rw c.in-Some.is at c.in-Ok.ensures.call) c.receive_numbered.ensures.answers.call c.receive_numbered.ensures.calm
+    (rw c.in-Some.is at c.in-Ok.ensures.call) c.receive_numbered.ensures.answers c.receive_numbered.ensures.calm

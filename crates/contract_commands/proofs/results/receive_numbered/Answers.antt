@@ -1,6 +1,6 @@
 use Rattle.std.proofs.Common.{◌&&◌, Ok, Err, None, Some, refl, arith}
 use Rattle.sqlite.specs.Held.{state}
-use Rattle.table_access.proofs.CallLemmas.{statement_ok}
+use Rattle.table_access.proofs.CallLemmas.{then_ok}
 use Rattle.contract_commands.specs.{Pacts.{HasContent}, Results.{reported_version, reported_result, recorded, AllowsReport, CanReport, IsToReport, Receives}}
 use Rattle.contract_commands.{specs.declared.results.Reported.TheVariants.{Recorded, Full}, proofs.NumberingLemmas.{may_be_named}}
 use Rattle.contract_commands.proofs.ResultLemmas.{newly_recorded, no_place, told_read, then_taken}
@@ -24,7 +24,7 @@ returns-in-Ok-record_report-clause-answers g c =
     let report = c.args.report.now in
     let found = c.args.found in
     let next = c.in-Some.next in
-    statement_ok old new c.in-Ok-record_report.value (Recorded next) _ _ (λ h. h)
+    then_ok old new c.in-Ok-record_report.value (Recorded next) _ _ (λ h. h)
     (then_taken old mid new (Some next) (Ok c.in-Ok-record_report.value) _ (CanReport provider report c.args.version) _ _ (λ u s t. Receives provider report found (Recorded next) s t)
     (λ s can first. (
       (can.0, first.1),
@@ -43,4 +43,4 @@ returns-in-Err-record_report-clause-calm g c =
     (λ s held can first. (
       (can.0, first.1, can.1),
       (next, recorded s r, newly_recorded s r can.0.1 next (recorded s r) (λ i. may_be_named s (reported_version provider report) c.args.version can.0.0 i && first.0 i) first.1 refl),
-    )) (rw c.in-Some.is at c.in-Ok.ensures.call) c.in-Err-record_report.ensures.answers.call c.in-Err-record_report.ensures.calm
+    )) (rw c.in-Some.is at c.in-Ok.ensures.call) c.in-Err-record_report.ensures.answers c.in-Err-record_report.ensures.calm

@@ -1,8 +1,7 @@
-use Rattle.std.proofs.Common.{◌∷◌, [], Ok}
+use Rattle.std.proofs.Common.{◌∷◌, []}
 use Rattle.sqlite.specs.Held.{state}
 use Rattle.broker_core.specs.declared.policy.Rule.TheVariants.{A5}
-use Rattle.broker_tables.proofs.QueryLemmas.{in_place}
-use Rattle.command_facts.proofs.CalmLemmas.{calm_both}
+use Rattle.broker_tables.proofs.QueryLemmas.{calm_both}
 use Rattle.contract_commands.proofs.PactLemmas.{asker_reaches}
 use Rattle.contract_commands.proofs.sides.read_contract_to_show.Goals as goal
 
@@ -14,4 +13,4 @@ returns g c =
     let found = c.admit_contract.result in
     calm_both (state g.S.Store c.args.conn.now) (state g.S.Store c.read_sides_to_show.new.conn) (state g.S.Store c.read_contract.new.conn) sides contract found _ _ _
     (λ s h k. asker_reaches s c.args.caller.now path A5 (path.provider ∷ path.consumer ∷ []) (record { sides = sides; contract = contract }) (h, k) found c.admit_contract.ensures)
-    c.in-Ok.ensures (in_place _ _ (Ok contract) _ c.in-Ok-read_contract.ensures)
+    c.in-Ok.ensures c.in-Ok-read_contract.ensures

@@ -1,7 +1,7 @@
 use Rattle.std.proofs.Common.{◌∙◌}
 use Rattle.sqlite.specs.Held.{state}
-use Rattle.command_facts.proofs.CalmLemmas.{calm_both}
 use Rattle.contract_commands.proofs.PactLemmas.{sole_publisher}
+use Rattle.broker_tables.proofs.QueryLemmas.{calm_both}
 use Rattle.contract_commands.proofs.sides.read_sides_to_publish.Goals as goal
 
 pub returns : goal.returns

@@ -1,7 +1,7 @@
 use Rattle.std.proofs.Common.{◌∙◌, ◌||◌, Bool, sym, ap}
 use Rattle.sqlite.specs.Held.{state}
-use Rattle.command_facts.proofs.CalmLemmas.{calm_both}
 use Rattle.contract_commands.proofs.PactLemmas.{two_owners}
+use Rattle.broker_tables.proofs.QueryLemmas.{calm_both}
 use Rattle.contract_commands.proofs.sides.read_sides_to_show.Goals as goal
 
 pub returns-then-provider : goal.returns-then-provider

@@ -1,6 +1,6 @@
 use Rattle.std.proofs.{Common.{refl}, lemmas.Result.{IfErr-weaker}}
 use Rattle.sqlite_tied.specs.Compute.{everything}
-use Rattle.table_access.proofs.CallLemmas.{statement_with}
+use Rattle.table_access.proofs.CallLemmas.{call_with}
 use Rattle.contract_tables.proofs.ContractRows.{contract_added, contract_ends}
 use Rattle.contract_tables.proofs.contracts.add_contract.Goals as goal
 
@@ -10,7 +10,7 @@ change-requires g c = refl
 
 pub returns-clause-changes : goal.returns-clause-changes
 returns-clause-changes g c =
-    statement_with _ _ c.change.result _ _
+    call_with _ _ c.change.result _ _
     (λ _ h s held t next. rw next.6 (contract_added c.args.version_number c.args.provider.now c.args.content _ _ s next.0 held next.1 next.2 h.0 h.1))
     (rw (c.params-to_sql.ensures, c.params-to_sql-2.ensures, c.params-to_sql-3.ensures) at c.change.ensures.leaves)
 

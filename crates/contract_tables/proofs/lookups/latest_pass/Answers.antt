@@ -1,18 +1,18 @@
 use Rattle.std.proofs.lemmas.Result.{IfOk-weaker, IfErr-weaker}
 use Rattle.table_access.proofs.Answered.{first_has}
-use Rattle.broker_tables.proofs.{QueryLemmas.{looked_result, looked_err}, Asked.{reads, still, why_refused}, NoVersion.{no_answer}}
+use Rattle.broker_tables.proofs.{QueryLemmas.{read_result, read_err}, Asked.{reads, still, why_refused}, NoVersion.{no_answer}}
 use Rattle.contract_tables.{specs.Verified.{pass_of, pass_cells}, proofs.{VersionResults.{join, join_found}, ReadableRows.{join_reads, join_none}}}
 use Rattle.contract_tables.proofs.lookups.latest_pass.Goals as goal
 
 pub returns-clause-answers : goal.returns-clause-answers
 returns-clause-answers g c =
     let asked = join c.args.content c.args.provider_version in
-    looked_result _ _ c.in-Ok.value c.first_pass.result _ _
+    read_result _ _ c.in-Ok.value c.first_pass.result _ _
     (IfOk-weaker c.first_pass.result _ _ (λ found read shown s held. (
       λ v is. join_found (λ r. r.number) (λ r. r.pass) c.args.content c.args.provider_version _ c.in-Ok.value.items found s v held is (reads asked _ _ s held _ shown).0 read,
       still asked _ _ held.broker _ shown,
     )) (rw c.deref.ensures.value at c.first_pass.ensures.ok))
-    (IfErr-weaker c.first_pass.result _ _ (λ fault why. why.0) c.first_pass.ensures.cause)
+    (λ none. IfErr-weaker c.first_pass.result _ _ (λ fault why. why.0) c.first_pass.ensures.cause)
     (λ s here shown. IfErr-weaker c.first_pass.result _ _
     (λ fault why. why.3 (join_reads c.args.content c.args.provider_version _ s here.held here.readable _ (reads asked _ _ s here.held _ shown).0 why.1 (first_has _ why.1 why.2)))
     (rw c.deref.ensures.value at c.first_pass.ensures.cause))
@@ -21,11 +21,11 @@ returns-clause-answers g c =
 pub returns-in-Err-clause-answers : goal.returns-in-Err-clause-answers
 returns-in-Err-clause-answers g c =
     let said = rw (c.params-to_sql.ensures, c.params-to_sql-2.ensures) at c.in-Err.ensures in
-    looked_err _ _ c.in-Err.fault _ _ _ (why_refused (join c.args.content c.args.provider_version) _ _) said.leaves said.cause
+    read_err _ _ c.in-Err.fault _ _ _ (why_refused (join c.args.content c.args.provider_version) _ _) said.leaves said.cause
 
 pub returns-clause-unknown : goal.returns-clause-unknown
 returns-clause-unknown g c clean s held none =
-    let shown = (rw (c.params-to_sql.ensures, c.params-to_sql-2.ensures) at c.in-Ok.ensures.leaves).call.ok clean in
+    let shown = (rw (c.params-to_sql.ensures, c.params-to_sql-2.ensures) at c.in-Ok.ensures.leaves).ok clean in
     let nothing = join_none c.args.content c.args.provider_version _ s held none _ (reads (join c.args.content c.args.provider_version) _ _ s held _ shown).0 in
     IfOk-weaker c.first_pass.result _ _ (λ found read. no_answer (λ r. pass_of r.number r.pass) pass_cells c.in-Ok.value.items found nothing read)
     (rw c.deref.ensures.value at c.first_pass.ensures.ok)

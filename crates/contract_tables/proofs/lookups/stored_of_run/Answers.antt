@@ -1,19 +1,19 @@
 use Rattle.std.proofs.lemmas.Result.{IfOk-weaker, IfErr-weaker}
 use Rattle.table_access.proofs.Answered.{first_has}
-use Rattle.broker_tables.proofs.{Asked.{reads, still, why_refused}, QueryLemmas.{looked_result, looked_err}}
+use Rattle.broker_tables.proofs.{Asked.{reads, still, why_refused}, QueryLemmas.{read_result, read_err}}
 use Rattle.contract_tables.proofs.{ResultLookups.{run, run_found}, ReadableRows.{run_reads}}
 use Rattle.contract_tables.proofs.lookups.stored_of_run.Goals as goal
 
 pub returns : goal.returns
 returns g c =
     let asked = run c.args.provider.now c.args.run.now in
-    looked_result _ _ c.in-Ok.value c.first_result.result _ _
+    read_result _ _ c.in-Ok.value c.first_result.result _ _
     (IfOk-weaker c.first_result.result _ _ (λ found read shown s held. (
       run_found (λ r. r.number) (λ r. r.content) (λ r. r.provider_version) (λ r. r.pass) c.args.provider.now c.args.run.now _ c.in-Ok.value.items s found held
           (reads asked _ _ s held _ shown).0 read,
       still asked _ _ held.broker _ shown,
     )) (rw c.deref.ensures.value at c.first_result.ensures.ok))
-    (IfErr-weaker c.first_result.result _ _ (λ fault why. why.0) c.first_result.ensures.cause)
+    (λ none. IfErr-weaker c.first_result.result _ _ (λ fault why. why.0) c.first_result.ensures.cause)
     (λ s here shown. IfErr-weaker c.first_result.result _ _
     (λ fault why. why.3 (run_reads c.args.provider.now c.args.run.now _ s here.held here.readable _ (reads asked _ _ s here.held _ shown).0 why.1 (first_has _ why.1 why.2)))
     (rw c.deref.ensures.value at c.first_result.ensures.cause))
@@ -22,4 +22,4 @@ returns g c =
 pub returns-in-Err : goal.returns-in-Err
 returns-in-Err g c =
     let said = rw (c.params-to_sql.ensures, c.params-to_sql-2.ensures) at c.in-Err.ensures in
-    looked_err _ _ c.in-Err.fault _ _ _ (why_refused (run c.args.provider.now c.args.run.now) _ _) said.leaves said.cause
+    read_err _ _ c.in-Err.fault _ _ _ (why_refused (run c.args.provider.now c.args.run.now) _ _) said.leaves said.cause

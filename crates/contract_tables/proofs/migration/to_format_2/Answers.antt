@@ -1,7 +1,10 @@
-use Rattle.table_access.proofs.CallLemmas.{statement_with}
 use Rattle.broker_tables.{specs.Former.{former_format}, proofs.Former.{checked_made}}
+use Rattle.table_access.proofs.CallLemmas.{call_with}
 use Rattle.contract_tables.proofs.migration.to_format_2.Goals as goal
 
-pub returns : goal.returns
-returns g c =
-    statement_with _ _ c.make_checked_results.result _ _ (λ _ makes s held. checked_made former_format _ _ s held (makes held.schema)) c.make_checked_results.ensures.makes
+pub returns-clause-makes : goal.returns-clause-makes
+returns-clause-makes g c =
+    call_with _ _ c.make_checked_results.result _ _ (λ _ makes s held. checked_made former_format _ _ s held (makes held.schema)) c.make_checked_results.ensures.makes
+
+pub returns-clause-calm : goal.returns-clause-calm
+returns-clause-calm g c clean inside unlimited it = c.make_checked_results.ensures.calm clean inside unlimited it.1.schema

@@ -1,6 +1,6 @@
 use Rattle.std.proofs.{Common.{refl, arith}, lemmas.Result.{IfErr-weaker}}
 use Rattle.sqlite_tied.specs.Compute.{everything}
-use Rattle.table_access.proofs.CallLemmas.{statement_with, ended_with}
+use Rattle.table_access.proofs.CallLemmas.{call_with, ended_with}
 use Rattle.contract_tables.proofs.ResultRows.{marked, mark_ends}
 use Rattle.contract_tables.proofs.results.mark_checked.Goals as goal
 
@@ -10,7 +10,7 @@ change-requires g c = refl
 
 pub returns-clause-puts : goal.returns-clause-puts
 returns-clause-puts g c =
-    statement_with _ _ c.change.result _ _ (λ _ h broker. marked c.args.number _ _ broker h.0 h.1) (rw c.params-to_sql.ensures at c.change.ensures.leaves)
+    call_with _ _ c.change.result _ _ (λ _ h broker. marked c.args.number _ _ broker h.0 h.1) (rw c.params-to_sql.ensures at c.change.ensures.leaves)
 
 pub returns-clause-calm : goal.returns-clause-calm
 returns-clause-calm g c =

@@ -1,6 +1,6 @@
 use Rattle.std.proofs.{Common.{refl}, lemmas.Result.{IfErr-weaker}}
 use Rattle.sqlite_tied.specs.Compute.{everything}
-use Rattle.table_access.proofs.CallLemmas.{statement_with, ended_with}
+use Rattle.table_access.proofs.CallLemmas.{call_with, ended_with}
 use Rattle.contract_tables.proofs.ResultRows.{pointed, point_ends}
 use Rattle.contract_tables.proofs.results.point_latest.Goals as goal
 
@@ -10,7 +10,7 @@ change-requires g c = refl
 
 pub returns-clause-points : goal.returns-clause-points
 returns-clause-points g c =
-    statement_with _ _ c.change.result _ _ (λ _ h broker. pointed c.args.content c.args.version_number c.args.number _ _ broker h.0 h.1)
+    call_with _ _ c.change.result _ _ (λ _ h broker. pointed c.args.content c.args.version_number c.args.number _ _ broker h.0 h.1)
     (rw (c.params-to_sql.ensures, c.params-to_sql-2.ensures, c.params-to_sql-3.ensures) at c.change.ensures.leaves)
 
 pub returns-clause-calm : goal.returns-clause-calm

@@ -1,6 +1,6 @@
 use Rattle.std.proofs.{Common.{sym, subst, arith, ◌∙◌}, lemmas.Result.{IfErr-weaker}}
 use Rattle.sqlite.specs.{Held.{state}, State.{HasCleanDisk}}
-use Rattle.table_access.proofs.CallLemmas.{statement_seq, ended_since, ended_with}
+use Rattle.table_access.proofs.CallLemmas.{seq, ended_since, ended_with}
 use Rattle.broker_tables.specs.Holds.{HoldsAfter, IsBroker}
 use Rattle.contract_tables.{specs.Verified.{Marks, Points}, proofs.ResultState.{now_recorded, put_broker, marked_broker, may_mark, may_point}}
 use Rattle.contract_tables.proofs.results.record_result.Goals as goal
@@ -11,11 +11,11 @@ returns-clause-changes g c =
     let one = state g.S.Store c.put_result.new.conn in
     let two = state g.S.Store c.mark.new.conn in
     let new = state g.S.Store c.point_latest.new.conn in
-    statement_seq old one new c.in-Ok.value c.point_latest.result _ (λ _. (IsBroker one.now → Marks c.args.checked c.args.number one two) × (IsBroker two.now → Points c.args.content c.args.version_number c.args.number two new)) _
+    seq old one new c.in-Ok.value c.point_latest.result _ (λ _. (IsBroker one.now → Marks c.args.checked c.args.number one two) × (IsBroker two.now → Points c.args.content c.args.version_number c.args.number two new)) _
     (λ put _ rest s held t next. subst (HoldsAfter 2 old new) (sym next.4)
     (now_recorded c.args.number c.args.content c.args.provider.now c.args.version_number c.args.pass c.args.checked _ old one two new s next.0 held next.1 next.2 next.3 (put held.broker) rest.0 rest.1))
     c.in-Ok.ensures.puts
-    (statement_seq one two new c.in-Ok-mark.value c.point_latest.result _ _ (λ _. (IsBroker one.now → Marks c.args.checked c.args.number one two) × (IsBroker two.now → Points c.args.content c.args.version_number c.args.number two new))
+    (seq one two new c.in-Ok-mark.value c.point_latest.result _ _ (λ _. (IsBroker one.now → Marks c.args.checked c.args.number one two) × (IsBroker two.now → Points c.args.content c.args.version_number c.args.number two new))
     (λ mark _ point. (mark, point)) c.in-Ok-mark.ensures.marks c.point_latest.ensures.points)
 
 pub returns-in-Err-mark-clause-calm : goal.returns-in-Err-mark-clause-calm
@@ -23,9 +23,9 @@ returns-in-Err-mark-clause-calm g c =
     let old = state g.S.Store c.args.conn.now in
     let one = state g.S.Store c.put_result.new.conn in
     let two = state g.S.Store c.mark.new.conn in
-    let put = c.in-Ok.ensures.puts.call in
+    let put = c.in-Ok.ensures.puts in
     λ clean s here allowed room.
-    let one_clean : HasCleanDisk one = omega (arith, c.in-Err-mark.ensures.marks.call.survives.clean, clean) in
+    let one_clean : HasCleanDisk one = omega (arith, c.in-Err-mark.ensures.marks.survives.clean, clean) in
     let row = put.ok one_clean here.held.broker in
     ended_with old two c.in-Err-mark.fault (λ never. absurd never) (ended_since old one two c.in-Err-mark.fault (put.goes_on one_clean here.inside) put.survives.counts
     (c.in-Err-mark.ensures.calm clean (put.survives.limit ∙ here.unlimited) (put_broker _ old one here.held.broker row)
@@ -37,10 +37,10 @@ returns-clause-calm g c =
     let one = state g.S.Store c.put_result.new.conn in
     let two = state g.S.Store c.mark.new.conn in
     let new = state g.S.Store c.point_latest.new.conn in
-    let put = c.in-Ok.ensures.puts.call in
-    let mark = c.in-Ok-mark.ensures.marks.call in
+    let put = c.in-Ok.ensures.puts in
+    let mark = c.in-Ok-mark.ensures.marks in
     λ clean s here allowed room.
-    let two_clean : HasCleanDisk two = omega (arith, c.point_latest.ensures.points.call.survives.clean, clean) in
+    let two_clean : HasCleanDisk two = omega (arith, c.point_latest.ensures.points.survives.clean, clean) in
     let one_clean : HasCleanDisk one = omega (arith, mark.survives.clean, two_clean) in
     let row = put.ok one_clean here.held.broker in
     let on = put.goes_on one_clean here.inside in

@@ -1,7 +1,7 @@
 use Rattle.std.proofs.{Common.{rules}, lemmas.List.Sorted.{answers_always}}
-use Rattle.broker_tables.proofs.{Asked.{FailsOnly, lists, why_list}, QueryLemmas.{read_err}}
-use Rattle.contract_tables.{specs.VersionResults.{FailsAsPass, ReadsAsPass}, proofs.QueryLemmas.{read_made}}
-use Rattle.contract_tables.proofs.{ToldResults.{told_passes, passes_told, told_moved}, ReadableRows.{told_reads}}
+use Rattle.broker_tables.proofs.{Asked.{FailsOnly, lists, why_list}, QueryLemmas.{read_err, calm_answers}}
+use Rattle.contract_tables.{specs.VersionResults.{FailsAsPass, ReadsAsPass}, proofs.ToldResults.{told_passes, passes_told, told_moved}}
+use Rattle.contract_tables.proofs.ReadableRows.{told_reads}
 use Rattle.contract_tables.proofs.told_versions.passes_for.Goals as goal
 
 refuses : FailsOnly FailsAsPass ReadsAsPass
@@ -11,7 +11,7 @@ refuses row fault why is = why.1
 pub returns : goal.returns
 returns g c =
     let said = rw c.params-to_sql.ensures at c.in-Ok.ensures in
-    read_made _ _ c.in-Ok.value _ _ _
+    calm_answers _ _ c.in-Ok.value _ _ _
     (λ s tell. (
       c.sort_unstable_by_key.ensures.sorted (λ x. x.number) (answers_always _ _ _ (λ f a r g called. search rules)),
       told_moved _ _ _ _ s c.args.content _ _ c.sort_unstable_by_key.ensures.permutation tell,

@@ -1,7 +1,7 @@
 use Rattle.std.{specs.{Prelude.{IsSorted}, Ordering.{nat_cmp}}, proofs.{Common.{inl, inr}, lemmas.Result.{IfErr-weaker}}}
 use Rattle.table_access.specs.Reading.{AreRead}
-use Rattle.broker_tables.proofs.QueryLemmas.{query_failed}
-use Rattle.contract_tables.{specs.ToldVersions.{IsTold}, proofs.{QueryLemmas.{both_told, computed}, ToldResults.{versions_told, none_untold}}}
+use Rattle.broker_tables.proofs.QueryLemmas.{query_failed, both_told}
+use Rattle.contract_tables.{specs.ToldVersions.{IsTold}, proofs.{QueryLemmas.{computed}, ToldResults.{versions_told, none_untold}}}
 use Rattle.contract_tables.proofs.told_versions.verified_versions.Goals as goal
 
 -- each result that is named is told of, so only a growth is refused

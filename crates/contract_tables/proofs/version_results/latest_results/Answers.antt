@@ -2,8 +2,8 @@ use Rattle.std.specs.{Prelude.{option_map, IsSorted}, List.Sorted.{IsStrictlySor
 use Rattle.std.proofs.Common.{refl, sym, subst, ◌≡◌, ◌∙◌, ap, [], arith, Some, Ok, map, true}
 use Rattle.sqlite.specs.{Held.{state}, State.{HasCleanDisk}}
 use Rattle.broker_core.specs.{declared.command.Version.{Version}, Listing.{Lists}, State.{latest_result}}
-use Rattle.broker_tables.{specs.{Numbers.{number_of}, Holds.{Holds}}, proofs.QueryLemmas.{query_stop, query_failed}}
-use Rattle.contract_tables.{specs.VersionResults.{pass_cmp, IsPassOf, marked}, proofs.{Rising.{sorted}, QueryLemmas.{calm_then, calm_computed}}}
+use Rattle.broker_tables.{specs.{Numbers.{number_of}, Holds.{Holds}}, proofs.QueryLemmas.{query_stop, query_failed, calm_then}}
+use Rattle.contract_tables.{specs.VersionResults.{pass_cmp, IsPassOf, marked}, proofs.{Rising.{sorted}, QueryLemmas.{calm_computed}}}
 use Rattle.contract_tables.proofs.VersionResults.{latest_listed}
 use Rattle.contract_tables.proofs.version_results.latest_results.Goals as goal
 

@@ -1,6 +1,6 @@
 use Rattle.std.proofs.Common.{◌∙◌}
 use Rattle.table_access.proofs.ReadLemmas.{number_found as found_number}
-use Rattle.broker_tables.proofs.{Asked.{is_answer, still, why_number}, QueryLemmas.{looked_ok, looked_err}}
+use Rattle.broker_tables.proofs.{Asked.{is_answer, still, why_number}, QueryLemmas.{read_ok, read_err}}
 use Rattle.deploy_tables.proofs.{DeployedRows.{number_at, number_found}, DeployedState.{found_is, is_number_there, none_is_there}}
 use Rattle.deploy_tables.proofs.ReadableRows.{number_at_reads}
 use Rattle.deploy_tables.proofs.deployments.is_deployed.Goals as goal
@@ -12,7 +12,7 @@ returns g c =
     let i = c.args.instance.now in
     let n = c.args.number in
     let found = c.in-Ok.value in
-    looked_ok _ _ found c.is_number.result _ _ (λ h s held.
+    read_ok _ _ found c.is_number.result _ _ (λ h s held.
     let told = c.is_number.ensures ∙ found_is found _ n (found_number found h.0 h.2
     ∙ number_found e p i _ h.0 held.broker (is_answer (number_at e p i) _ _ held.broker h.0 h.1)) in (
       (
@@ -25,4 +25,4 @@ returns g c =
 pub returns-in-Err : goal.returns-in-Err
 returns-in-Err g c =
     let said = rw (c.params-to_sql.ensures, c.params-to_sql-2.ensures, c.params-to_sql-3.ensures) at c.in-Err.ensures in
-    looked_err _ _ c.in-Err.fault _ _ _ (why_number (number_at c.args.environment.now c.args.pacticipant.now c.args.instance.now) _ _ (number_at_reads c.args.environment.now c.args.pacticipant.now c.args.instance.now _)) said.leaves said.cause
+    read_err _ _ c.in-Err.fault _ _ _ (why_number (number_at c.args.environment.now c.args.pacticipant.now c.args.instance.now) _ _ (number_at_reads c.args.environment.now c.args.pacticipant.now c.args.instance.now _)) said.leaves said.cause

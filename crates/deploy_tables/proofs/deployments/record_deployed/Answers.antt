@@ -1,6 +1,6 @@
 use Rattle.sqlite.specs.Held.{state}
 use Rattle.sqlite_tied.specs.Compute.{everything}
-use Rattle.table_access.proofs.CallLemmas.{statement_with}
+use Rattle.table_access.proofs.CallLemmas.{call_with}
 use Rattle.broker_tables.specs.Holds.{HoldsAfter}
 use Rattle.deploy_tables.proofs.DeployedState.{now_deployed, deployment_ends}
 use Rattle.std.proofs.{Common.{refl, sym, subst}, lemmas.Result.{IfErr-weaker}}
@@ -14,12 +14,10 @@ pub returns-clause-changes : goal.returns-clause-changes
 returns-clause-changes g c =
     let old = state g.S.Store c.args.conn.now in
     let new = state g.S.Store c.change.new.conn in
-    statement_with old new c.change.result _ _ (λ _ h s held t next. subst (HoldsAfter 2 old new) (sym next.3) (now_deployed c.args.environment.now c.args.pacticipant.now c.args.instance.now c.args.number next.0 old new h.0 s held next.1 next.2 h.1))
+    call_with old new c.change.result _ _ (λ _ h s held t next. subst (HoldsAfter 2 old new) (sym next.3) (now_deployed c.args.environment.now c.args.pacticipant.now c.args.instance.now c.args.number next.0 old new h.0 s held next.1 next.2 h.1))
     (rw (c.params-to_sql.ensures, c.params-to_sql-2.ensures, c.params-to_sql-3.ensures, c.params-to_sql-4.ensures) at c.change.ensures.leaves)
 
 pub returns-clause-calm : goal.returns-clause-calm
 returns-clause-calm g c =
-    let old = state g.S.Store c.args.conn.now in
-    let new = state g.S.Store c.change.new.conn in
     let said = rw (c.params-to_sql.ensures, c.params-to_sql-2.ensures, c.params-to_sql-3.ensures, c.params-to_sql-4.ensures) at c.change.ensures.cause in
-    λ clean s here may numbers. IfErr-weaker c.change.result _ _ (deployment_ends c.args.environment.now c.args.pacticipant.now c.args.instance.now c.args.number old new s here.held numbers may here.unlimited) (said clean)
+    λ clean s here may numbers. IfErr-weaker c.change.result _ _ (deployment_ends c.args.environment.now c.args.pacticipant.now c.args.instance.now c.args.number _ _ s here.held numbers may here.unlimited) (said clean)

@@ -1,7 +1,7 @@
 use Rattle.std.proofs.Common.{Bool, Err, refl}
 use Rattle.sqlite.specs.Held.{state}
 use Rattle.sqlite_tied.specs.Compute.{everything}
-use Rattle.table_access.proofs.CallLemmas.{statement_ok, statement_err}
+use Rattle.table_access.proofs.CallLemmas.{then_ok, then_err}
 use Rattle.broker_tables.proofs.QueryLemmas.{calm_by}
 use Rattle.deploy_tables.proofs.{DeployedState.{taken_out, none_taken}, Removals.{taking_out_ends}}
 use Rattle.deploy_tables.proofs.deployments.take_out.Goals as goal
@@ -12,19 +12,19 @@ change_counted-requires g c = refl
 
 pub returns-clause-taken : goal.returns-clause-taken
 returns-clause-taken g c =
-    statement_ok _ _ c.in-Ok.value _ _ _ (λ h s held version. taken_out c.args.environment.now c.args.pacticipant.now c.args.instance.now c.args.number _ _ c.in-Ok.value s held h version)
+    then_ok _ _ c.in-Ok.value _ _ _ (λ h s held version. taken_out c.args.environment.now c.args.pacticipant.now c.args.instance.now c.args.number _ _ c.in-Ok.value s held h version)
     (rw (c.params-to_sql.ensures, c.params-to_sql-2.ensures, c.params-to_sql-3.ensures, c.params-to_sql-4.ensures) at c.in-Ok.ensures.leaves)
 
 pub returns-clause-unknown : goal.returns-clause-unknown
 returns-clause-unknown g c =
-    statement_ok _ _ c.in-Ok.value _ _ _ (λ h s held none. none_taken c.args.environment.now c.args.pacticipant.now c.args.instance.now c.args.number _ _ c.in-Ok.value s held h none)
+    then_ok _ _ c.in-Ok.value _ _ _ (λ h s held none. none_taken c.args.environment.now c.args.pacticipant.now c.args.instance.now c.args.number _ _ c.in-Ok.value s held h none)
     (rw (c.params-to_sql.ensures, c.params-to_sql-2.ensures, c.params-to_sql-3.ensures, c.params-to_sql-4.ensures) at c.in-Ok.ensures.leaves)
 
 pub returns-in-Err-clause-taken : goal.returns-in-Err-clause-taken
-returns-in-Err-clause-taken g c = statement_err _ _ c.in-Err.fault _ _ c.in-Err.ensures.leaves
+returns-in-Err-clause-taken g c = then_err _ _ c.in-Err.fault _ _ c.in-Err.ensures.leaves
 
 pub returns-in-Err-clause-unknown : goal.returns-in-Err-clause-unknown
-returns-in-Err-clause-unknown g c = statement_err _ _ c.in-Err.fault _ _ c.in-Err.ensures.leaves
+returns-in-Err-clause-unknown g c = then_err _ _ c.in-Err.fault _ _ c.in-Err.ensures.leaves
 
 pub returns-in-Err-clause-calm : goal.returns-in-Err-clause-calm
 returns-in-Err-clause-calm g c =

@@ -1,14 +1,13 @@
-use Rattle.std.specs.{Prelude.{option_map}, Ordering.{int_cmp}, List.Sorted.{IsStrictlySortedBy}}
-use Rattle.std.proofs.Common.{◌≡◌, Ok, Some, None, sym, subst, ◌∙◌, inl, inr, ℕ, pos, [], ap, codes}
-use Rattle.sqlite.specs.{Held.{state}, Effect.{Database}}
-use Rattle.broker_tables.specs.{Schema.{in_contracts, in_latest}, Numbers.{number_of}, Rows.{rows_of, value_at}, Holds.{Holds}}
-use Rattle.broker_tables.proofs.{QueryLemmas.{in_place, query_ok}, VersionRows.{by_number}}
-use Rattle.contract_tables.{specs.{declared.version_results.LatestResult.{LatestResult}, VersionResults.{IsLatestOf, said_of}}, proofs.QueryLemmas.{calm_then}}
-use Rattle.contract_tables.proofs.VerifiedList.{told_as}
-use Rattle.broker_core.specs.{Listing.{Lists}, Machine.{IsMatrixRow, matrix_cmp}, declared.command.Version.{Version}, declared.answer.MatrixRow.{MatrixRow}}
-use Rattle.broker_core.{specs.{Text.{Text}, State.{State as Broker, Verification, latest_result, said_by}}, proofs.Lists.{contains_none}}
-use Rattle.table_access.specs.Columns.{text, text_cmp, whole_at, by_both}
+use Rattle.broker_core.specs.{Listing.{Lists}, Machine.{IsMatrixRow, matrix_cmp}, State.{State as Broker, Verification, latest_result}, Text.{Text}}
+use Rattle.broker_core.{specs.{declared.answer.MatrixRow.{MatrixRow}, declared.command.Version.{Version}}, proofs.Lists.{contains_none}}
+use Rattle.broker_tables.specs.{Holds.{Holds}, Numbers.{number_of}, Rows.{rows_of, value_at}, Schema.{in_contracts, in_latest}}
+use Rattle.broker_tables.proofs.{QueryLemmas.{calm_then, query_ok}, VersionRows.{by_number}}
+use Rattle.contract_tables.{specs.{VersionResults.{IsLatestOf, said_of}, declared.version_results.LatestResult.{LatestResult}}, proofs.VerifiedList.{told_as}}
 use Rattle.deploy_tables.proofs.MatrixLemmas.{either_side}
+use Rattle.sqlite.specs.{Effect.{Database}, Held.{state}}
+use Rattle.std.specs.{List.Sorted.{IsStrictlySortedBy}, Ordering.{int_cmp}, Prelude.{option_map}}
+use Rattle.std.proofs.Common.{None, Ok, Some, [], ap, codes, inl, inr, pos, subst, sym, ℕ, ◌∙◌, ◌≡◌}
+use Rattle.table_access.specs.Columns.{by_both, text, text_cmp, whole_at}
 use Rattle.deploy_tables.proofs.matrix_rows.matrix.Goals as goal
 
 -- ---- a version that isn't there has no contract and no result, so there is nothing in its matrix
@@ -44,7 +43,7 @@ pub returns-in-Some : goal.returns-in-Some
 returns-in-Some g c =
     let n = c.in-Some.number in
     calm_then _ _ _ (Some n) c.matrix_numbered.result _ _ _ (λ s told rows listed. listed (sym told.0))
-    (in_place _ _ (Ok (Some n)) _ (rw (c.as_str.ensures, c.as_str-2.ensures, c.in-Some.is) at c.in-Ok.ensures)) c.matrix_numbered.ensures
+    (rw (c.as_str.ensures, c.as_str-2.ensures, c.in-Some.is) at c.in-Ok.ensures) c.matrix_numbered.ensures
 
 pub returns-in-None : goal.returns-in-None
 returns-in-None g c =
@@ -52,4 +51,4 @@ returns-in-None g c =
     let it = h s held in
     let none = no_rows (state g.S.Store c.args.conn.now).now s held c.args.version.now (sym it.0.0) in
     (subst (Lists matrix_cmp (IsMatrixRow s c.args.version.now)) (sym c.new.ensures.items) none, it.1))
-    (in_place _ _ (Ok None) _ (rw (c.as_str.ensures, c.as_str-2.ensures, c.in-None.is) at c.in-Ok.ensures))
+    (rw (c.as_str.ensures, c.as_str-2.ensures, c.in-None.is) at c.in-Ok.ensures)

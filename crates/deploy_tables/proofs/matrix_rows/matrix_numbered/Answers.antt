@@ -1,12 +1,12 @@
 use Rattle.contract_tables.specs.Listings.{contract_cmp}
 use Rattle.deploy_tables.{specs.{Matrix.{IsOfContract}, Needs.{IsOwnContract}}, proofs.MatrixLemmas.{both_sides, of_listed}}
-use Rattle.deploy_tables.proofs.MatrixLoop.{query_failed, both_told, read_made}
+use Rattle.deploy_tables.proofs.MatrixLoop.{query_failed, both_told, calm_answers}
 use Rattle.deploy_tables.proofs.matrix_rows.matrix_numbered.Goals as goal
 
 pub returns : goal.returns
 returns g c =
     let v = c.args.version.now in
-    read_made _ _ _ c.each_row_once.result _ _
+    calm_answers _ _ _ c.each_row_once.result _ _
     (λ s read is. c.each_row_once.ensures s v (both_sides s v _ _ _ c.in-Ok-add.ensures.added
     (λ x. of_listed (λ d. IsOfContract s v d x) (IsOwnContract s v) contract_cmp c.in-Ok.value.items c.deref.result.now (read.0.0 v is) c.deref.ensures.value _ (read.0.1 x))
     (read.1 is)))

@@ -1,5 +1,6 @@
-use Rattle.contract_tables.{specs.VersionResults.{latest_cmp, IsLatestOf}, proofs.QueryLemmas.{calm_then}}
+use Rattle.contract_tables.specs.VersionResults.{latest_cmp, IsLatestOf}
 use Rattle.deploy_tables.{specs.Matrix.{IsOfContent}, proofs.MatrixLemmas.{of_listed}}
+use Rattle.broker_tables.proofs.QueryLemmas.{calm_then}
 use Rattle.deploy_tables.proofs.matrix_rows.provided.Goals as goal
 
 pub returns : goal.returns

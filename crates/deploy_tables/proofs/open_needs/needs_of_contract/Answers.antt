@@ -1,4 +1,4 @@
-use Rattle.contract_tables.proofs.QueryLemmas.{calm_then}
+use Rattle.broker_tables.proofs.QueryLemmas.{calm_then}
 use Rattle.deploy_tables.proofs.open_needs.needs_of_contract.Goals as goal
 
 pub returns : goal.returns

@@ -1,16 +1,16 @@
 use Rattle.std.proofs.Common.{arith}
-use Rattle.deploy_tables.proofs.MatrixLoop.{query_failed, read_both, read_made, of_more, of_all}
+use Rattle.deploy_tables.proofs.MatrixLoop.{query_failed, calm_answers, of_more, of_all, calm_both}
 use Rattle.deploy_tables.proofs.open_needs.needs_of_contracts.Goals as goal
 
 pub loop-contract-preserved : goal.loop-contract-preserved
 loop-contract-preserved g c =
-    read_both _ _ _ _ _ _ _ _ _ (λ s was here released. of_more _ _ _ _ _ _ _ c.loop-contract-test.true c.contract-item.is c.in-Ok-add.ensures.added
+    calm_both _ _ _ _ _ _ _ _ _ (λ s was here released. of_more _ _ _ _ _ _ _ c.loop-contract-test.true c.contract-item.is c.in-Ok-add.ensures.added
     (was released) (here released))
     c.loop-contract.invariant c.in-Ok.ensures
 
 pub returns : goal.returns
 returns g c =
-    read_made _ _ _ _ _ _ (λ s was released. of_all _ c.args.contracts.now c.loop-contract.contract-index _ (omega arith) (was released))
+    calm_answers _ _ _ _ _ _ (λ s was released. of_all _ c.args.contracts.now c.loop-contract.contract-index _ (omega arith) (was released))
     c.loop-contract.invariant
 
 pub returns-in-Err : goal.returns-in-Err

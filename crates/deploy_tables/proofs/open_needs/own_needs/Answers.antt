@@ -1,6 +1,7 @@
 use Rattle.std.proofs.Common.{refl}
-use Rattle.contract_tables.{specs.Listings.{contract_cmp}, proofs.QueryLemmas.{calm_then}}
+use Rattle.contract_tables.specs.Listings.{contract_cmp}
 use Rattle.deploy_tables.{specs.Needs.{IsOwnContract, IsNeedOfContract}, proofs.{MatrixLemmas.{of_listed}, MatrixLoop.{query_failed, both_told}}}
+use Rattle.broker_tables.proofs.QueryLemmas.{calm_then}
 use Rattle.deploy_tables.proofs.open_needs.own_needs.Goals as goal
 
 pub returns : goal.returns

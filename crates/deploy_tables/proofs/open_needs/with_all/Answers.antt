@@ -1,5 +1,5 @@
-use Rattle.std.specs.Prelude.{⊤}
-use Rattle.broker_tables.proofs.QueryLemmas.{in_place, query_with}
+use Rattle.std.specs.Prelude.{⊤, false}
+use Rattle.broker_tables.proofs.QueryLemmas.{query_with}
 use Rattle.contract_tables.proofs.QueryLemmas.{calm_computed, calm_known}
 use Rattle.deploy_tables.proofs.{MatrixLoop.{both_ways}, NeedLemmas.{partners_versions, when_none, when_some, with_some, with_none}}
 use Rattle.deploy_tables.proofs.open_needs.with_all.Goals as goal
@@ -10,7 +10,7 @@ returns-then-is_empty g c =
     calm_computed _ _ c.args.strict c.absent.result (λ _ s. ⊤) _ _
     (λ s _ found is e all. with_none s c.args.version.now e c.args.strict c.args.contract.now all.0 there all.1
     (when_none there c.is_empty.result c.is_empty.ensures c.if-is_empty.true) found.items is)
-    c.absent.ensures.all c.absent.ensures.cause (in_place _ _ _ _ (calm_known _ c.args.strict _ (λ s. tt)))
+    c.absent.ensures.all c.absent.ensures.cause (calm_known {takes = false} _ c.args.strict _ (λ s. tt))
 
 pub returns : goal.returns
 returns g c =

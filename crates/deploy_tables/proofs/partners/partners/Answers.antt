@@ -1,6 +1,7 @@
 use Rattle.std.proofs.Common.{sym, subst}
 use Rattle.broker_core.specs.Gate.{Stands}
-use Rattle.deploy_tables.{specs.{ContractsThere.{IsDeployedIn}, Partners.{ArePartners}}, proofs.{PartnerRows.{partners_are}, MatrixLoop.{both_ways, read_made}}}
+use Rattle.deploy_tables.{specs.{ContractsThere.{IsDeployedIn}, Partners.{ArePartners}}, proofs.PartnerRows.{partners_are}}
+use Rattle.deploy_tables.proofs.MatrixLoop.{both_ways, calm_answers}
 use Rattle.deploy_tables.proofs.partners.partners.Goals as goal
 
 pub returns-in-Ok-with_released : goal.returns-in-Ok-with_released
@@ -8,7 +9,7 @@ returns-in-Ok-with_released g c =
     let e = c.args.environment.now in
     let p = c.args.provider.now in
     let deployed = c.in-Ok.value.items in
-    read_made _ _ _ c.each_number_once.result _ _
+    calm_answers _ _ _ c.each_number_once.result _ _
     (λ s told released n.
     let are = subst (ArePartners s p (Stands s e)) (sym c.in-Ok-with_released.ensures)
     (partners_are s e p deployed c.args.released.now (subst (λ q. ArePartners s q (IsDeployedIn s e) deployed) c.as_str.ensures told) released.0) in

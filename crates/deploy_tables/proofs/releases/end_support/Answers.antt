@@ -1,7 +1,7 @@
 use Rattle.std.proofs.Common.{Bool, Err, refl, false}
 use Rattle.sqlite.specs.Held.{state}
 use Rattle.sqlite_tied.specs.Compute.{everything}
-use Rattle.table_access.proofs.CallLemmas.{statement_ok, statement_err}
+use Rattle.table_access.proofs.CallLemmas.{then_ok, then_err}
 use Rattle.broker_tables.proofs.QueryLemmas.{calm_by}
 use Rattle.broker_core.specs.{Text.{put_at, same_pair, same_text, same_version}, State.{State}}
 use Rattle.deploy_tables.proofs.{ReleasedRows.{now_ended, ended_count}, Removals.{support_ends}}
@@ -16,13 +16,13 @@ returns-clause-ended g c =
     let e = c.args.environment.now in
     let n = c.args.number in
     let count = c.in-Ok.value in
-    statement_ok _ _ count _ _ _ (λ h s held version.
+    then_ok _ _ count _ _ _ (λ h s held version.
     let t : State = record s { released = put_at (same_pair same_text same_version) s.released (e, version.0) false } in
     (t, ((version.0, version.1, refl), λ v is. ended_count e n _ _ count s v held is h), now_ended e n _ _ count s version.0 held version.1 h))
     (rw (c.params-to_sql.ensures, c.params-to_sql-2.ensures) at c.in-Ok.ensures.leaves)
 
 pub returns-in-Err-clause-ended : goal.returns-in-Err-clause-ended
-returns-in-Err-clause-ended g c = statement_err _ _ c.in-Err.fault _ _ c.in-Err.ensures.leaves
+returns-in-Err-clause-ended g c = then_err _ _ c.in-Err.fault _ _ c.in-Err.ensures.leaves
 
 pub returns-in-Err-clause-calm : goal.returns-in-Err-clause-calm
 returns-in-Err-clause-calm g c =

@@ -1,4 +1,4 @@
-use Rattle.std.{specs.{Ordering.{eq_by_cmp, is_lt}, Prelude.{Contains}}, proofs.{Common.{refl, rules, subst, sym}, lemmas.Fn.{dedup_same}}}
+use Rattle.std.{specs.Ordering.{eq_by_cmp, is_lt}, proofs.{Common.{refl, rules, subst, sym}, lemmas.Fn.{dedup_same}}}
 use Rattle.std.proofs.lemmas.List.Sorted.{ranks_by, answers_always}
 use Rattle.broker_core.{specs.{Listing.{Lists}, Machine.{matrix_cmp, IsMatrixRow}}, proofs.Once.{matrix_cmp_total}}
 use Rattle.deploy_tables.proofs.MatrixLemmas.{once, one_row}

@@ -1,7 +1,7 @@
 use Rattle.std.proofs.Common.{ap}
 use Rattle.sqlite.specs.Held.{state}
 use Rattle.broker_core.specs.{Change.{unchanged_with}, declared.answer.Answer.{Answer}}
-use Rattle.command_facts.proofs.CalmLemmas.{calm_answers}
+use Rattle.broker_tables.proofs.QueryLemmas.{calm_answers}
 use Rattle.environment_commands.proofs.can_i_deploy.show_gate.Goals as goal
 
 pub returns : goal.returns

@@ -1,7 +1,7 @@
 use Rattle.std.specs.Prelude.{codes, if◌then◌else◌}
 use Rattle.std.proofs.Common.{◌≡◌, ◌∷◌, [], ℕ, Bool, true, false, Some, Err, refl, sym, subst, ap, ◌∙◌, arith, ◌≤◌, ◌^◌, List, length}
 use Rattle.sqlite.specs.Held.{state}
-use Rattle.table_access.proofs.CallLemmas.{failed_then}
+use Rattle.table_access.proofs.CallLemmas.{failed_then, may_take}
 use Rattle.broker_core.specs.{Change.{deploy as deployment, already, done, is_text}, State.{State}, Text.{Text, put_at, same_place}}
 use Rattle.broker_core.specs.{declared.answer.Answer.TheVariants.{Done, Already}, declared.answer.Detail.TheVariants.{Plain}}
 use Rattle.broker_core.specs.declared.command.Version.{Version}
@@ -55,8 +55,8 @@ returns-in-Err-record_deployed-clause-calm g c =
     (λ s held there told. (
       (subst (λ (t : Text). IsEnvironment t s) (sym c.as_str-3.ensures) there.0, (v, there.1, sym c.as_str-4.ensures)),
       (Plain, next s e v i, deploys s e i v c.args.number c.in-Ok.value false c.as_str.result.now c.as_str-2.result.now c.as_str.ensures c.as_str-2.ensures there.1 told c.if-value.false),
-    )) c.in-Ok.ensures.call c.in-Err-record_deployed.ensures.changes.call (taking {A = Unit {0}} _ mid new (Err c.in-Err-record_deployed.fault) (codes "deployed" ∷ []) (refl, tt) 1 (omega arith) (MayBeDeployed c.as_str-3.result.now c.as_str-4.result.now c.args.number) (calm_with {A = Unit {0}} _ _ mid new (Err c.in-Err-record_deployed.fault) (codes "deployed" ∷ []) _ (λ long are. long (subst (λ (t : List ℕ). length t ≤ 10 ^ 7) (sym c.as_str-3.ensures) are.0, (subst (λ (t : List ℕ). length t ≤ 10 ^ 7) (sym c.as_str-4.ensures) are.1.0, (are.1.1.0, tt)))) c.in-Err-record_deployed.ensures.calm))
+    )) c.in-Ok.ensures.call c.in-Err-record_deployed.ensures.changes (taking {A = Unit {0}} _ mid new (Err c.in-Err-record_deployed.fault) (codes "deployed" ∷ []) (refl, tt) 1 (omega arith) (MayBeDeployed c.as_str-3.result.now c.as_str-4.result.now c.args.number) (calm_with {A = Unit {0}} _ _ mid new (Err c.in-Err-record_deployed.fault) (codes "deployed" ∷ []) _ (λ long are. long (subst (λ (t : List ℕ). length t ≤ 10 ^ 7) (sym c.as_str-3.ensures) are.0, (subst (λ (t : List ℕ). length t ≤ 10 ^ 7) (sym c.as_str-4.ensures) are.1.0, (are.1.1.0, tt)))) c.in-Err-record_deployed.ensures.calm))
 
 pub returns-in-Err-record_deployed-clause-answers : goal.returns-in-Err-record_deployed-clause-answers
 returns-in-Err-record_deployed-clause-answers g c =
-    failed_then (state g.S.Store c.args.conn.now) (state g.S.Store c.is_deployed.new.conn) (state g.S.Store c.record_deployed.new.conn) c.in-Ok.value c.in-Err-record_deployed.fault _ _ _ c.in-Ok.ensures.call c.in-Err-record_deployed.ensures.changes.call
+    failed_then (state g.S.Store c.args.conn.now) (state g.S.Store c.is_deployed.new.conn) (state g.S.Store c.record_deployed.new.conn) c.in-Ok.value c.in-Err-record_deployed.fault _ _ _ c.in-Ok.ensures.call (may_take _ _ _ _ c.in-Err-record_deployed.ensures.changes)

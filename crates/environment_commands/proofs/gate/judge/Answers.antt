@@ -2,8 +2,8 @@ use Rattle.std.{specs.Prelude.{MatchOption}, proofs.Common.{◌≡◌, ℕ, [], 
 use Rattle.sqlite.specs.Held.{state}
 use Rattle.broker_core.specs.{Gate.{Judges}, Text.{Text}}
 use Rattle.deploy_tables.specs.Needs.{AreFaults}
-use Rattle.command_facts.proofs.CalmLemmas.{calm_answers}
 use Rattle.environment_commands.proofs.GateJudgement.{judged}
+use Rattle.broker_tables.proofs.QueryLemmas.{calm_answers}
 use Rattle.environment_commands.proofs.gate.judge.Goals as goal
 
 pub returns : goal.returns

@@ -1,10 +1,9 @@
-use Rattle.std.proofs.Common.{Some, None, Option, Ok, true, refl, sym, ap, ◌∙◌}
+use Rattle.std.proofs.Common.{Some, None, Option, true, refl, sym, ap, ◌∙◌}
 use Rattle.sqlite.specs.Held.{state}
 use Rattle.broker_core.specs.{Machine.{StepOfCaller}, Request.{refused}, declared.answer.Answer.TheVariants.{Unknown}, declared.answer.Missing.{Missing}}
 use Rattle.broker_core.specs.declared.command.Command.TheVariants.{GetEnvironment}
 use Rattle.command_facts.{specs.Primitives.{broker_primitives}, proofs.{CallerSteps.{refuses}, PerformLemmas.{answered_then, shown_then}}}
-use Rattle.broker_tables.proofs.QueryLemmas.{in_place}
-use Rattle.contract_tables.proofs.QueryLemmas.{calm_then}
+use Rattle.broker_tables.proofs.QueryLemmas.{calm_then}
 use Rattle.environment_commands.proofs.PlaceLemmas.{without_marks}
 use Rattle.broker_core.specs.declared.answer.Missing.TheVariants as missing
 use Rattle.environment_commands.proofs.listing.get_environment.Goals as goal
@@ -25,4 +24,4 @@ returns-in-Some-clause-calm g c =
     let old = state g.S.Store c.args.conn.now in
     let mid = state g.S.Store c.marks_of.new.conn in
     let new = state g.S.Store c.list_environment.new.conn in
-    (calm_then old mid new (Some c.in-Some.marks) c.list_environment.result _ _ _ (λ s marks answer shown. shown) (in_place old mid (Ok (Some c.in-Some.marks)) _ (rw c.in-Some.is at c.in-Ok.ensures.answers)) c.list_environment.ensures).calm
+    (calm_then old mid new (Some c.in-Some.marks) c.list_environment.result _ _ _ (λ s marks answer shown. shown) (rw c.in-Some.is at c.in-Ok.ensures.answers) c.list_environment.ensures).calm

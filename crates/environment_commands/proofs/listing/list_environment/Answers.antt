@@ -2,8 +2,9 @@ use Rattle.std.proofs.Common.{refl, sym, subst}
 use Rattle.sqlite.specs.Held.{state}
 use Rattle.broker_core.specs.{Machine.{StepOfCaller}, Change.{unchanged_with}, declared.answer.Answer.{Answer}}
 use Rattle.broker_core.specs.declared.command.Command.TheVariants.{GetEnvironment}
-use Rattle.command_facts.{specs.Primitives.{broker_primitives}, proofs.CalmLemmas.{calm_answers}}
+use Rattle.command_facts.specs.Primitives.{broker_primitives}
 use Rattle.environment_commands.proofs.FollowLemmas.{is_listed}
+use Rattle.broker_tables.proofs.QueryLemmas.{calm_answers}
 use Rattle.environment_commands.proofs.listing.list_environment.Goals as goal
 
 pub returns : goal.returns

@@ -1,7 +1,7 @@
 use Rattle.std.proofs.Common.{List, ap}
 use Rattle.sqlite.specs.Held.{state}
 use Rattle.broker_core.specs.{Change.{unchanged_with}, declared.answer.Answer.TheVariants.{Shown}, declared.answer.MatrixRow.{MatrixRow}}
-use Rattle.command_facts.proofs.CalmLemmas.{calm_answers}
+use Rattle.broker_tables.proofs.QueryLemmas.{calm_answers}
 use Rattle.broker_core.specs.declared.answer.Shown.TheVariants as shown
 use Rattle.environment_commands.proofs.matrix.show_matrix.Goals as goal
 

@@ -1,5 +1,5 @@
 use Rattle.sqlite.specs.Held.{state}
-use Rattle.command_facts.proofs.CalmLemmas.{calm_answers}
+use Rattle.broker_tables.proofs.QueryLemmas.{calm_answers}
 use Rattle.environment_commands.proofs.places.read_admitted.Goals as goal
 
 pub returns : goal.returns

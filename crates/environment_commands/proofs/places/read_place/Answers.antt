@@ -1,7 +1,6 @@
-use Rattle.std.proofs.Common.{Ok, sym, ap, ◌∙◌}
+use Rattle.std.proofs.Common.{sym, ap, ◌∙◌}
 use Rattle.sqlite.specs.Held.{state}
-use Rattle.broker_tables.proofs.QueryLemmas.{in_place, query_failed}
-use Rattle.command_facts.proofs.CalmLemmas.{calm_both}
+use Rattle.broker_tables.proofs.QueryLemmas.{in_place, query_failed, calm_both}
 use Rattle.environment_commands.proofs.places.read_place.Goals as goal
 
 pub returns : goal.returns
@@ -9,7 +8,7 @@ returns g c =
     let version = c.in-Ok.value in
     let marks = c.in-Ok-marks_of.value in
     calm_both (state g.S.Store c.args.conn.now) (state g.S.Store c.read_granted.new.conn) (state g.S.Store c.marks_of.new.conn) version marks (record { version = version; marks = marks }) _ _ _
-    (λ s read found. record { version = read; marks_is = ap s.environments (sym c.as_str.ensures) ∙ sym found }) c.in-Ok.ensures (in_place _ _ (Ok marks) _ c.in-Ok-marks_of.ensures.answers)
+    (λ s read found. record { version = read; marks_is = ap s.environments (sym c.as_str.ensures) ∙ sym found }) c.in-Ok.ensures c.in-Ok-marks_of.ensures.answers
 
 pub returns-in-Err-marks_of : goal.returns-in-Err-marks_of
 returns-in-Err-marks_of g c =

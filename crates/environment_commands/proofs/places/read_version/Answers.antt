@@ -1,8 +1,7 @@
-use Rattle.std.proofs.Common.{◌≡◌, Ok, sym, ap, ◌∙◌}
+use Rattle.std.proofs.Common.{◌≡◌, sym, ap, ◌∙◌}
 use Rattle.sqlite.specs.Held.{state}
 use Rattle.broker_core.specs.{Request.{is_known}, Text.{version as version_named}}
-use Rattle.broker_tables.{specs.Numbers.{number_of}, proofs.QueryLemmas.{in_place, query_failed}}
-use Rattle.command_facts.proofs.CalmLemmas.{calm_both}
+use Rattle.broker_tables.{specs.Numbers.{number_of}, proofs.QueryLemmas.{in_place, query_failed, calm_both}}
 use Rattle.environment_commands.proofs.places.read_version.Goals as goal
 
 pub returns : goal.returns
@@ -12,7 +11,7 @@ returns g c =
     let same : c.args.version.now ≡ version_named c.as_str.result.now c.as_str-2.result.now = λ i. version_named (sym c.as_str.ensures i) (sym c.as_str-2.ensures i) in
     calm_both (state g.S.Store c.args.conn.now) (state g.S.Store c.read_owner.new.conn) (state g.S.Store c.version_of.new.conn) owner number (record { owner = owner; number = number }) _ _ _
     (λ s may found. record { owner = may; number_is = ap (number_of s.versions) same ∙ sym found.0; known_is = ap (is_known s) same ∙ sym found.1 })
-    c.in-Ok.ensures (in_place _ _ (Ok number) _ c.in-Ok-version_of.ensures)
+    c.in-Ok.ensures c.in-Ok-version_of.ensures
 
 pub returns-in-Err-version_of : goal.returns-in-Err-version_of
 returns-in-Err-version_of g c =

@@ -1,7 +1,7 @@
 use Rattle.std.specs.Prelude.{codes, if◌then◌else◌}
 use Rattle.std.proofs.Common.{◌≡◌, ◌∷◌, [], ℕ, Bool, true, false, Some, Err, refl, sym, subst, ap, ◌∙◌, arith, ◌≤◌, ◌^◌, List, length}
 use Rattle.sqlite.specs.Held.{state}
-use Rattle.table_access.proofs.CallLemmas.{failed_then}
+use Rattle.table_access.proofs.CallLemmas.{failed_then, may_take}
 use Rattle.broker_core.specs.{Change.{release as released, already, done}, State.{State}, Text.{Text, put_at, same_pair, same_text, same_version}}
 use Rattle.broker_core.specs.{declared.answer.Answer.TheVariants.{Done, Already}, declared.answer.Detail.TheVariants.{Plain}}
 use Rattle.broker_core.specs.declared.command.Version.{Version}
@@ -52,8 +52,8 @@ returns-in-Err-record_released-clause-calm g c =
     (λ s held there told.
     let free = stands s e v c.args.number c.in-Ok.value false c.as_str.result.now c.as_str.ensures there.1 told c.if-value.false in
     ((subst (λ (t : Text). IsEnvironment t s) (sym c.as_str-2.ensures) there.0, (v, there.1, (λ i. s.released (c.as_str-2.ensures i, v)) ∙ free)), (Plain, next s e v, releases s e v false free)))
-    c.in-Ok.ensures.call c.in-Err-record_released.ensures.changes.call (taking {A = Unit {0}} _ mid new (Err c.in-Err-record_released.fault) (codes "released" ∷ []) (refl, tt) 1 (omega arith) (MayBeReleased c.as_str-2.result.now c.args.number) (calm_with {A = Unit {0}} _ _ mid new (Err c.in-Err-record_released.fault) (codes "released" ∷ []) _ (λ long are. long (subst (λ (t : List ℕ). length t ≤ 10 ^ 7) (sym c.as_str-2.ensures) are.0, tt)) c.in-Err-record_released.ensures.calm))
+    c.in-Ok.ensures.call c.in-Err-record_released.ensures.changes (taking {A = Unit {0}} _ mid new (Err c.in-Err-record_released.fault) (codes "released" ∷ []) (refl, tt) 1 (omega arith) (MayBeReleased c.as_str-2.result.now c.args.number) (calm_with {A = Unit {0}} _ _ mid new (Err c.in-Err-record_released.fault) (codes "released" ∷ []) _ (λ long are. long (subst (λ (t : List ℕ). length t ≤ 10 ^ 7) (sym c.as_str-2.ensures) are.0, tt)) c.in-Err-record_released.ensures.calm))
 
 pub returns-in-Err-record_released-clause-answers : goal.returns-in-Err-record_released-clause-answers
 returns-in-Err-record_released-clause-answers g c =
-    failed_then (state g.S.Store c.args.conn.now) (state g.S.Store c.is_released.new.conn) (state g.S.Store c.record_released.new.conn) c.in-Ok.value c.in-Err-record_released.fault _ _ _ c.in-Ok.ensures.call c.in-Err-record_released.ensures.changes.call
+    failed_then (state g.S.Store c.args.conn.now) (state g.S.Store c.is_released.new.conn) (state g.S.Store c.record_released.new.conn) c.in-Ok.value c.in-Err-record_released.fault _ _ _ c.in-Ok.ensures.call (may_take _ _ _ _ c.in-Err-record_released.ensures.changes)

@@ -32,4 +32,4 @@ pub returns-in-Err-add_environment-clause-calm : goal.returns-in-Err-add_environ
 returns-in-Err-add_environment-clause-calm g c =
     change_fails _ (state g.S.Store c.args.conn.now) (state g.S.Store c.marks_of.new.conn) (state g.S.Store c.add_environment.new.conn) c.in-Ok.value (Err c.in-Err-add_environment.fault) Plain (codes "environments" ∷ codes "strict_environments" ∷ []) (refl, (refl, tt)) _ _ _
     (λ s out. StepOfCaller broker_primitives s c.args.caller.now (PutEnvironment c.args.environment.now c.args.marks) out)
-    (λ s h. adds s c.args.caller.now c.in-Ok.value c.args.marks c.args.environment.now c.as_str-in-None.result.now c.as_str-in-None.ensures c.requires c.in-None.ensures.changes (ap s.environments (sym c.as_str.ensures) ∙ sym h)) c.in-Ok.ensures.answers.call c.in-Err-add_environment.ensures.changes.call (calm_with {A = Unit {0}} _ _ _ _ (Err c.in-Err-add_environment.fault) (codes "environments" ∷ codes "strict_environments" ∷ []) _ (λ long named. long (name_short _ (subst IsName (sym c.as_str-in-None.ensures) named), tt)) c.in-Err-add_environment.ensures.calm)
+    (λ s h. adds s c.args.caller.now c.in-Ok.value c.args.marks c.args.environment.now c.as_str-in-None.result.now c.as_str-in-None.ensures c.requires c.in-None.ensures.changes (ap s.environments (sym c.as_str.ensures) ∙ sym h)) c.in-Ok.ensures.answers.call c.in-Err-add_environment.ensures.changes (calm_with {A = Unit {0}} _ _ _ _ (Err c.in-Err-add_environment.fault) (codes "environments" ∷ codes "strict_environments" ∷ []) _ (λ long named. long (name_short _ (subst IsName (sym c.as_str-in-None.ensures) named), tt)) c.in-Err-add_environment.ensures.calm)

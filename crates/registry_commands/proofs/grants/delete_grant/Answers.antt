@@ -1,10 +1,8 @@
-use Rattle.std.{specs.Prelude.{⊤}, proofs.Common.{Ok, Err, ◌≡◌, true, false, sym, ◌∙◌, ap}}
+use Rattle.std.{specs.Prelude.{⊤}, proofs.Common.{inl, Err, ◌≡◌, true, false, sym, ◌∙◌, ap}}
 use Rattle.sqlite.specs.Held.{state}
-use Rattle.broker_core.specs.{Text.{put_at, same_text, same_pair, Text}, State.{State}, Machine.{StepOfCaller}}
-use Rattle.broker_core.specs.{declared.command.Command.TheVariants.{DeleteGrant}, declared.answer.Answer.{Answer}, declared.answer.Answer.TheVariants.{Done}}
-use Rattle.broker_core.specs.declared.answer.Detail.TheVariants.{Plain}
-use Rattle.table_access.proofs.CallLemmas.{statement_err}
-use Rattle.broker_tables.proofs.QueryLemmas.{in_place, in_calm, query_failed}
+use Rattle.broker_core.specs.{Text.{put_at, same_text, same_pair, Text}, Machine.{StepOfCaller}, declared.command.Command.TheVariants.{DeleteGrant}}
+use Rattle.broker_core.specs.{declared.answer.Answer.TheVariants.{Done}, declared.answer.Detail.TheVariants.{Plain}}
+use Rattle.broker_tables.proofs.FailLemmas.{calm_after}
 use Rattle.command_facts.{specs.Primitives.{broker_primitives}, proofs.PerformLemmas.{answered_then, changed_then}}
 use Rattle.registry_commands.proofs.grants.delete_grant.Goals as goal
 
@@ -25,11 +23,6 @@ returns-in-Ok-remove_grant-clause-answers g c =
     )) c.in-Ok.ensures.call c.in-Ok-remove_grant.ensures.changes
 
 pub returns-in-Err-remove_grant-clause-calm : goal.returns-in-Err-remove_grant-clause-calm
-returns-in-Err-remove_grant-clause-calm g c =
-    let old = state g.S.Store c.args.conn.now in
-    let mid = state g.S.Store c.read_grant_facts.new.conn in
-    let new = state g.S.Store c.remove_grant.new.conn in
-    let fault = c.in-Err-remove_grant.fault in
-    let nothing = (λ (u : Unit {0}) (s : State). ⊤) in
-    (query_failed old mid new c.in-Ok.value fault _ nothing (λ (answer : Answer) (s : State). ⊤) (in_place old mid (Ok c.in-Ok.value) _ c.in-Ok.ensures)
-    (in_place mid new (Err fault) nothing (in_calm mid new (Err fault) nothing (statement_err mid new fault _ _ c.in-Err-remove_grant.ensures.changes) c.in-Err-remove_grant.ensures.calm))).calm
+returns-in-Err-remove_grant-clause-calm g c clean s here =
+    calm_after {B = Unit {0}} (state g.S.Store c.args.conn.now) (state g.S.Store c.read_grant_facts.new.conn) (state g.S.Store c.remove_grant.new.conn) c.in-Ok.value (Err c.in-Err-remove_grant.fault) _ _ (λ s. ⊤) (λ s. ⊤) (λ s held free told. tt)
+    c.in-Ok.ensures.call c.in-Err-remove_grant.ensures.changes (λ clean s here free. inl (c.in-Err-remove_grant.ensures.calm clean s here)) clean s here tt

@@ -35,4 +35,4 @@ pub returns-in-Err-add_grant-clause-calm : goal.returns-in-Err-add_grant-clause-
 returns-in-Err-add_grant-clause-calm g c =
     change_fails _ (state g.S.Store c.args.conn.now) (state g.S.Store c.read_grant_facts.new.conn) (state g.S.Store c.add_grant.new.conn) c.in-Ok.value (Err c.in-Err-add_grant.fault) Plain (codes "grants" ∷ []) (refl, tt) _ _ _
     (λ s out. StepOfCaller broker_primitives s c.args.caller.now (PutGrant c.args.team.now c.args.environment.now) out)
-    (λ s h. adds s c.args.caller.now c.in-Ok.value c.args.team.now c.args.environment.now c.as_str.result.now c.as_str-in-None.result.now c.as_str.ensures c.as_str-in-None.ensures c.in-None.ensures.changes h) c.in-Ok.ensures.call c.in-Err-add_grant.ensures.changes.call (calm_with {A = Unit {0}} _ _ _ _ (Err c.in-Err-add_grant.fault) (codes "grants" ∷ []) _ (λ long named. long (name_short _ (subst IsName (sym c.as_str.ensures) named.0), (name_short _ (subst IsName (sym c.as_str-in-None.ensures) named.1), tt))) c.in-Err-add_grant.ensures.calm)
+    (λ s h. adds s c.args.caller.now c.in-Ok.value c.args.team.now c.args.environment.now c.as_str.result.now c.as_str-in-None.result.now c.as_str.ensures c.as_str-in-None.ensures c.in-None.ensures.changes h) c.in-Ok.ensures.call c.in-Err-add_grant.ensures.changes (calm_with {A = Unit {0}} _ _ _ _ (Err c.in-Err-add_grant.fault) (codes "grants" ∷ []) _ (λ long named. long (name_short _ (subst IsName (sym c.as_str.ensures) named.0), (name_short _ (subst IsName (sym c.as_str-in-None.ensures) named.1), tt))) c.in-Err-add_grant.ensures.calm)

@@ -32,4 +32,4 @@ pub returns-in-Err-add_pacticipant-clause-calm : goal.returns-in-Err-add_pactici
 returns-in-Err-add_pacticipant-clause-calm g c =
     change_fails _ (state g.S.Store c.args.conn.now) (state g.S.Store c.read_pacticipant_facts.new.conn) (state g.S.Store c.add_pacticipant.new.conn) c.in-Ok.value (Err c.in-Err-add_pacticipant.fault) Plain (codes "pacticipants" ∷ []) (refl, tt) _ _ _
     (λ s out. StepOfCaller broker_primitives s c.args.caller.now (PutPacticipant c.args.pacticipant.now c.args.team.now) out)
-    (λ s h. adds s c.args.caller.now c.in-Ok.value c.args.pacticipant.now c.args.team.now c.as_str.result.now c.as_str-in-None.result.now c.as_str.ensures c.as_str-in-None.ensures c.in-None.ensures.changes h) c.in-Ok.ensures.call c.in-Err-add_pacticipant.ensures.changes.call (calm_with {A = Unit {0}} _ _ _ _ (Err c.in-Err-add_pacticipant.fault) (codes "pacticipants" ∷ []) _ (λ long named. long (name_short _ (subst IsName (sym c.as_str.ensures) named.0), (name_short _ (subst IsName (sym c.as_str-in-None.ensures) named.1), tt))) c.in-Err-add_pacticipant.ensures.calm)
+    (λ s h. adds s c.args.caller.now c.in-Ok.value c.args.pacticipant.now c.args.team.now c.as_str.result.now c.as_str-in-None.result.now c.as_str.ensures c.as_str-in-None.ensures c.in-None.ensures.changes h) c.in-Ok.ensures.call c.in-Err-add_pacticipant.ensures.changes (calm_with {A = Unit {0}} _ _ _ _ (Err c.in-Err-add_pacticipant.fault) (codes "pacticipants" ∷ []) _ (λ long named. long (name_short _ (subst IsName (sym c.as_str.ensures) named.0), (name_short _ (subst IsName (sym c.as_str-in-None.ensures) named.1), tt))) c.in-Err-add_pacticipant.ensures.calm)

@@ -5,7 +5,7 @@ use Rattle.broker_core.specs.{Change.{done}, State.{State}, declared.policy.Call
 use Rattle.registry_tables.specs.Registry.{AddsTeam}
 use Rattle.registry_commands.specs.{Facts.{IsTeamRead, PutsTeam, AddsNewTeam}, declared.put_team.TeamFacts.{TeamFacts}}
 use Rattle.command_facts.proofs.{FailLemmas.{change_fails}, PerformLemmas.{answered_then, changed_then}}
-use Rattle.table_access.proofs.CallLemmas.{failed_then}
+use Rattle.table_access.proofs.CallLemmas.{failed_then, may_take}
 use Rattle.broker_tables.proofs.FailLemmas.{calm_with}
 use Rattle.registry_commands.proofs.put_team.put_digest.Goals as goal
 
@@ -27,8 +27,8 @@ returns-clause-answers g c =
 pub returns-in-Err-add_team-clause-calm : goal.returns-in-Err-add_team-clause-calm
 returns-in-Err-add_team-clause-calm g c =
     change_fails _ (state g.S.Store c.args.conn.now) (state g.S.Store c.read_team_facts.new.conn) (state g.S.Store c.add_team.new.conn) c.in-Ok.value (Err c.in-Err-add_team.fault) Plain (codes "teams" ∷ []) (refl, tt) _ _ _ (λ s out. PutsTeam s c.args.caller.now c.args.team.now c.args.digest.now out)
-    (λ s h. adds s c.args.caller.now c.in-Ok.value c.args.team.now c.args.digest.now c.as_str.result.now c.as_str.ensures c.in-None.ensures.changes (c.in-None.ensures.unused s h.holder_is) h) c.in-Ok.ensures.call c.in-Err-add_team.ensures.changes.call (calm_with {A = Unit {0}} _ _ _ _ (Err c.in-Err-add_team.fault) (codes "teams" ∷ []) _ (λ long are. long (subst (λ (t : List ℕ). length t ≤ 10 ^ 7) (sym c.as_str.ensures) are.0, are.1)) c.in-Err-add_team.ensures.calm)
+    (λ s h. adds s c.args.caller.now c.in-Ok.value c.args.team.now c.args.digest.now c.as_str.result.now c.as_str.ensures c.in-None.ensures.changes (c.in-None.ensures.unused s h.holder_is) h) c.in-Ok.ensures.call c.in-Err-add_team.ensures.changes (calm_with {A = Unit {0}} _ _ _ _ (Err c.in-Err-add_team.fault) (codes "teams" ∷ []) _ (λ long are. long (subst (λ (t : List ℕ). length t ≤ 10 ^ 7) (sym c.as_str.ensures) are.0, are.1)) c.in-Err-add_team.ensures.calm)
 
 pub returns-in-Err-add_team-clause-answers : goal.returns-in-Err-add_team-clause-answers
 returns-in-Err-add_team-clause-answers g c =
-    failed_then (state g.S.Store c.args.conn.now) (state g.S.Store c.read_team_facts.new.conn) (state g.S.Store c.add_team.new.conn) c.in-Ok.value c.in-Err-add_team.fault _ _ _ c.in-Ok.ensures.call c.in-Err-add_team.ensures.changes.call
+    failed_then (state g.S.Store c.args.conn.now) (state g.S.Store c.read_team_facts.new.conn) (state g.S.Store c.add_team.new.conn) c.in-Ok.value c.in-Err-add_team.fault _ _ _ c.in-Ok.ensures.call (may_take _ _ _ _ c.in-Err-add_team.ensures.changes)

@@ -1,7 +1,6 @@
 use Rattle.std.proofs.Common.{sym, ◌∙◌, ap}
 use Rattle.sqlite.specs.Held.{state}
-use Rattle.broker_tables.proofs.QueryLemmas.{query_failed}
-use Rattle.command_facts.proofs.CalmLemmas.{calm_both}
+use Rattle.broker_tables.proofs.QueryLemmas.{query_failed, calm_both}
 use Rattle.registry_commands.proofs.put_team.read_team_facts.Goals as goal
 
 pub returns : goal.returns

@@ -1,6 +1,6 @@
-use Rattle.std.{specs.Prelude.{unwrap_or}, proofs.Common.{[], ◌∷◌, codes, ◌≡◌, Ok, Option, Some, sym, ap, subst, ◌∙◌, refl, ◌≤◌, ◌^◌, length}}
+use Rattle.std.{specs.Prelude.{unwrap_or}, proofs.Common.{[], ◌∷◌, codes, ◌≡◌, Option, Some, sym, ap, subst, ◌∙◌, refl, ◌≤◌, ◌^◌, length}}
 use Rattle.sqlite.specs.{Held.{state}, State.{State as View}}
-use Rattle.table_access.proofs.CallLemmas.{statement_with, idle, memory_ok}
+use Rattle.table_access.proofs.CallLemmas.{call_with, idle}
 use Rattle.broker_core.specs.{Text.{Text}, Change.{joined}, State.{State}}
 use Rattle.broker_tables.{specs.Holds.{Holds, HoldsAfter}, proofs.{RoomLemmas.{takes_none}, FailLemmas.{calm_with}}}
 use Rattle.registry_commands.proofs.versions.put_on_branch.Goals as goal
@@ -11,7 +11,7 @@ held_as now s t is held = (subst (Holds now.now) (sym is) held, takes_none 2 now
 pub returns-in-Some-clause-changes : goal.returns-in-Some-clause-changes
 returns-in-Some-clause-changes g c =
     let is_branch : c.args.branch.now ≡ Some c.as_str.result.now = c.in-Some.is ∙ ap Some (sym c.as_str.ensures) in
-    statement_with (state g.S.Store c.args.conn.now) (state g.S.Store c.add_branch.new.conn) c.add_branch.result _ _
+    call_with (state g.S.Store c.args.conn.now) (state g.S.Store c.add_branch.new.conn) c.add_branch.result _ _
     (λ u h s held t next. h s held t (next.0, next.1, next.2 c.as_str.result.now is_branch, next.3 ∙ ap (λ (o : Option Text). joined s next.0 o) is_branch)) c.add_branch.ensures.changes
 
 pub returns-in-Some-clause-calm : goal.returns-in-Some-clause-calm
@@ -21,8 +21,4 @@ returns-in-Some-clause-calm g c clean s here next =
 
 pub returns-in-None-clause-changes : goal.returns-in-None-clause-changes
 returns-in-None-clause-changes g c =
-    let now = state g.S.Store c.args.conn.now in
-    record {
-      call = idle now (Ok tt) _ (λ s held t next. held_as now s t (next.3 ∙ ap (λ (o : Option Text). joined s next.0 o) c.in-None.is) held);
-      memory = memory_ok now now tt;
-    }
+    idle _ _ _ (λ s held t next. held_as (state g.S.Store c.args.conn.now) s t (next.3 ∙ ap (λ (o : Option Text). joined s next.0 o) c.in-None.is) held)

@@ -31,5 +31,5 @@ returns-in-Err-record_version-clause-calm g c =
     let v = c.args.version.now in
     let branch = c.args.branch.now in
     taking_fails _ 3 (omega arith) (state g.S.Store c.args.conn.now) (state g.S.Store c.read_naming_facts.new.conn) (state g.S.Store c.record_version.new.conn) c.in-Ok.value (Err c.in-Err-record_version.fault) Plain _ _ (RecordsVersion v branch c.in-Ok.value.version.number c.in-Ok.value.versions.count) (IsStepOf c.args.caller.now (PutVersion v branch))
-    (λ s h. records s c.args.caller.now v branch c.in-Ok.value c.in-None.ensures.changes h) c.in-Ok.ensures.call c.in-Err-record_version.ensures.changes.call
+    (λ s h. records s c.args.caller.now v branch c.in-Ok.value c.in-None.ensures.changes h) c.in-Ok.ensures.call c.in-Err-record_version.ensures.changes
     (λ clean s here may room. ended_with _ _ _ (λ long named. long (name_short _ named.0.0, (name_short _ named.0.1, (optional_short _ named.1, tt)))) (c.in-Err-record_version.ensures.calm clean s here may.1.0 room))

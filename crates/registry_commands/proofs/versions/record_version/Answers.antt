@@ -1,6 +1,6 @@
 use Rattle.std.proofs.Common.{[], ◌∷◌, codes, refl, ◌∙◌, sym, ap, arith}
 use Rattle.sqlite.specs.Held.{state}
-use Rattle.table_access.proofs.CallLemmas.{statement_seq, ended_with}
+use Rattle.table_access.proofs.CallLemmas.{seq, ended_with}
 use Rattle.broker_core.specs.{State.{State}, Change.{joined}}
 use Rattle.broker_tables.proofs.{FailLemmas.{taking, taking_then, calm_with}, RoomLemmas.{takes_then}}
 use Rattle.registry_commands.proofs.versions.record_version.Goals as goal
@@ -12,7 +12,7 @@ returns-clause-changes g c =
     let new = state g.S.Store c.put_on_branch.new.conn in
     let v = c.args.version.now in
     let branch = c.args.branch.now in
-    statement_seq old mid new c.in-Ok.value c.put_on_branch.result _ _ _ (λ named_as u put s held t next.
+    seq old mid new c.in-Ok.value c.put_on_branch.result _ _ _ (λ named_as u put s held t next.
     let it = named_as s held next.0 in
     let done = put it.0 it.2.0 t (v, it.1.1, it.1.2, next.1 ∙ ap (λ (w : State). joined w v branch) (sym it.1.0)) in
     (done.0, takes_then 2 2 old.now mid.now new.now it.2.1 done.1))
@@ -24,7 +24,7 @@ returns-clause-calm g c =
     let mid = state g.S.Store c.ensure_version.new.conn in
     let new = state g.S.Store c.put_on_branch.new.conn in
     taking_then _ old mid new c.in-Ok.value c.put_on_branch.result 2 1 _ _ _ _ (λ s can t next. (joined t c.args.version.now c.args.branch.now, (c.args.version.now, next.1, next.2, refl)))
-    c.in-Ok.ensures.changes c.put_on_branch.ensures.changes.call (taking _ mid new c.put_on_branch.result (codes "branches" ∷ []) (refl, tt) 1 (omega arith) _ (calm_with _ _ mid new c.put_on_branch.result (codes "branches" ∷ []) _ (λ long are. long are.1.1) c.put_on_branch.ensures.calm))
+    c.in-Ok.ensures.changes c.put_on_branch.ensures.changes (taking _ mid new c.put_on_branch.result (codes "branches" ∷ []) (refl, tt) 1 (omega arith) _ (calm_with _ _ mid new c.put_on_branch.result (codes "branches" ∷ []) _ (λ long are. long are.1.1) c.put_on_branch.ensures.calm))
 
 pub returns-in-Err-clause-calm : goal.returns-in-Err-clause-calm
 returns-in-Err-clause-calm g c clean s here may room = ended_with _ _ _ (λ long are. long (are.0, (are.1.0, (omega arith, tt)))) (c.in-Err.ensures.calm clean s here may tt)

@@ -1,7 +1,7 @@
 use Rattle.std.proofs.{Common.{◌≡◌, refl, sym, ap, subst, ◌∙◌, Some, true, false, Ok, arith}, lemmas.Result.{IfErr-weaker}}
 use Rattle.sqlite.specs.{State.{HasCleanDisk}, Held.{state}}
 use Rattle.broker_core.specs.{declared.command.Marks.{Marks}, Text.{put_at, same_text}, State.{State}}
-use Rattle.table_access.proofs.CallLemmas.{statement_with, statement_seq, ended_since}
+use Rattle.table_access.proofs.CallLemmas.{call_with, seq, ended_since}
 use Rattle.broker_tables.{specs.{Holds.{HoldsAfter}, Room.{LeaveNumbers}, Refusals.{HoldsOpen}}, proofs.RoomLemmas.{takes_more, takes_then}}
 use Rattle.registry_tables.{specs.Registry.{marks}, proofs.EnvironmentRows.{put_both, there_now}}
 use Rattle.registry_tables.proofs.environments.add_environment.Goals as goal
@@ -14,7 +14,7 @@ returns-then-strict-clause-changes g c =
     let e = c.args.environment.now in
     let first = marks c.args.gated false in
     let last = marks c.args.gated true in
-    statement_seq old mid new c.in-Ok.value c.put_strict.result _ _ _ (λ one _ two s held t next.
+    seq old mid new c.in-Ok.value c.put_strict.result _ _ _ (λ one _ two s held t next.
     let between : State = record s { environments = put_at same_text s.environments e (Some first) } in
     let same : last ≡ marks c.args.gated c.args.strict = ap (marks c.args.gated) (sym c.if-strict.true) in
     let before = one s held between (next.0, refl) in
@@ -31,8 +31,8 @@ returns-then-strict-clause-calm g c =
     let e = c.args.environment.now in
     let first = marks c.args.gated false in
     λ clean s here next numbers.
-    let call = c.in-Ok.ensures.changes.call in
-    let mid_clean : HasCleanDisk mid = omega (arith, c.put_strict.ensures.changes.call.survives.clean, clean) in
+    let call = c.in-Ok.ensures.changes in
+    let mid_clean : HasCleanDisk mid = omega (arith, c.put_strict.ensures.changes.survives.clean, clean) in
     let between : State = record s { environments = put_at same_text s.environments e (Some first) } in
     let now : HoldsOpen mid between = record {
       inside = (call.goes_on mid_clean here.inside).0;
@@ -49,7 +49,7 @@ returns-else-strict-clause-changes g c =
     let new = state g.S.Store c.put_environment.new.conn in
     let e = c.args.environment.now in
     let first = marks c.args.gated false in
-    statement_with old new (Ok c.in-Ok.value) _ _ (λ _ one s held t next.
+    call_with old new (Ok c.in-Ok.value) _ _ (λ _ one s held t next.
     let same : first ≡ marks c.args.gated c.args.strict = ap (marks c.args.gated) (sym c.if-strict.false) in
     let after = one s held _ (next.0, refl) in
     subst (HoldsAfter 2 old new) (ap (λ (m : Marks). record s { environments = put_at same_text s.environments e (Some m) }) same ∙ sym next.1)

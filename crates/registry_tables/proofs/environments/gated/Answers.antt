@@ -1,7 +1,7 @@
 use Rattle.std.{specs.Prelude.{option_map}, proofs.{Common.{◌∙◌, ap, pos, inl, inr}, lemmas.Result.{IfOk-weaker, IfErr-weaker, MatchResult-from_both}}}
 use Rattle.sqlite.specs.{Held.{state}, declared.types.Value.TheVariants.{Int}}
 use Rattle.table_access.proofs.Answered.{refusal_ends, first_has}
-use Rattle.broker_tables.proofs.{Asked.{is_answer, still, why_number}, QueryLemmas.{looked_result, looked_err}, TruthLemmas.{mark_in_column}}
+use Rattle.broker_tables.proofs.{Asked.{is_answer, still, why_number}, QueryLemmas.{read_result, read_err}, TruthLemmas.{mark_in_column}}
 use Rattle.registry_tables.proofs.{EnvironmentRows.{gated, gated_found, gated_reads, no_mark, mark_is_number}, MarkText.{mark_asks, mark_found, mark_lost}}
 use Rattle.registry_tables.proofs.environments.gated.Goals as goal
 
@@ -10,12 +10,12 @@ returns-clause-answers g c =
     let old = state g.S.Store c.args.conn.now in
     let new = state g.S.Store c.number_of.new.conn in
     let e = c.args.environment.now in
-    looked_result old new c.in-Ok.value c.truth_of.result _ _
+    read_result old new c.in-Ok.value c.truth_of.result _ _
     (IfOk-weaker c.truth_of.result _ _ (λ truth is h s held. (
       is ∙ gated_found e old.now h.0 s c.in-Ok.value held (is_answer (gated e) old new held.broker h.0 h.1) h.2,
       still (gated e) old new held.broker h.0 h.1,
     )) c.truth_of.ensures.ok)
-    (IfErr-weaker c.truth_of.result _ _ (λ fault why. why.0) c.truth_of.ensures.cause)
+    (λ none. IfErr-weaker c.truth_of.result _ _ (λ fault why. why.0) c.truth_of.ensures.cause)
     (λ s here h. IfErr-weaker c.truth_of.result _ _ (λ fault why.
     let it = no_mark c.in-Ok.value _ h.2 why.1 in
     it.2 (gated_reads e old.now s here.held here.readable h.0 (is_answer (gated e) old new here.held.broker h.0 h.1) it.0 (first_has h.0 it.0 it.1))) c.truth_of.ensures.cause)
@@ -24,14 +24,14 @@ returns-clause-answers g c =
 pub returns-in-Err-clause-answers : goal.returns-in-Err-clause-answers
 returns-in-Err-clause-answers g c =
     let said = rw c.params-to_sql.ensures at c.in-Err.ensures in
-    looked_err _ _ c.in-Err.fault _ _ _
+    read_err _ _ c.in-Err.fault _ _ _
     (why_number (gated c.args.environment.now) _ _ (λ s held readable rows h row has. mark_is_number row (gated_reads c.args.environment.now _ s held readable rows h row has)))
     said.leaves said.cause
 
 pub returns-clause-mark : goal.returns-clause-mark
 returns-clause-mark g c clean asked =
     let old = state g.S.Store c.args.conn.now in
-    let shown = (rw c.params-to_sql.ensures at c.in-Ok.ensures.leaves).call.ok clean in
+    let shown = (rw c.params-to_sql.ensures at c.in-Ok.ensures.leaves).ok clean in
     MatchResult-from_both c.truth_of.result _ _
     (IfOk-weaker c.truth_of.result _ _ (λ truth exact. mark_found c.args.environment.now old (state g.S.Store c.number_of.new.conn) asked.1 shown.0 shown.1 truth (mark_in_column truth ∙ ap (option_map (λ n. Int (pos n))) exact ∙ shown.2)) c.truth_of.ensures.exact)
     (IfErr-weaker c.truth_of.result _ _ (λ fault why. let it = no_mark c.in-Ok.value _ shown.2 why.1 in inr (why.0, mark_lost c.args.environment.now old (state g.S.Store c.number_of.new.conn) asked.1 shown.0 shown.1 it.0 it.1 it.2)) c.truth_of.ensures.cause)

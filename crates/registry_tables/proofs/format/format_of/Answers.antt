@@ -1,6 +1,6 @@
 use Rattle.std.{specs.Prelude.{IsSomeAnd}, proofs.{lemmas.Result.{IfOk-weaker, IfErr-weaker}, Common.{◌≡◌, Option, Some, None, refl, inl, inr}}}
 use Rattle.sqlite.specs.{Held.{state}, Table.{Table}}
-use Rattle.table_access.proofs.CallLemmas.{statement_result}
+use Rattle.table_access.proofs.CallLemmas.{then_result}
 use Rattle.broker_tables.specs.Schema.{meta}
 use Rattle.registry_tables.{specs.Format.{IsMetaTable, table_of}, proofs.{FormatRuns.{format_refused}, FoundFormat.{format_found, format_read, no_format}}}
 use Rattle.registry_tables.proofs.format.format_of.Goals as goal
@@ -14,15 +14,15 @@ returns-clause-finds g c =
     let old = state g.S.Store c.args.conn.now in
     let new = state g.S.Store c.select.new.conn in
     let has = marked (table_of meta.name old.now.schema) (c.is_marked.ensures.marked.0 c.if-not-is_marked.false) in
-    statement_result old new c.in-Ok.value c.one_number.result _ _
-    (IfOk-weaker c.one_number.result _ _ (λ found it shown. (format_found old new has.0 has.1 has.2 c.in-Ok.value.items shown found it, format_read old new has.0 has.1 has.2 c.in-Ok.value.items shown)) (rw c.deref.ensures.value at c.one_number.ensures.ok)) (IfErr-weaker c.one_number.result _ _ (λ fault why. why.0) c.one_number.ensures.cause) c.in-Ok.ensures.leaves
+    then_result old new c.in-Ok.value c.one_number.result _ _
+    (IfOk-weaker c.one_number.result _ _ (λ found it shown. (format_found old new has.0 has.1 has.2 c.in-Ok.value.items shown found it, format_read old new has.0 has.1 has.2 c.in-Ok.value.items shown)) (rw c.deref.ensures.value at c.one_number.ensures.ok)) (λ none. IfErr-weaker c.one_number.result _ _ (λ fault why. why.0) c.one_number.ensures.cause) c.in-Ok.ensures.leaves
 
 pub returns-clause-cause : goal.returns-clause-cause
 returns-clause-cause g c clean unlimited =
     let old = state g.S.Store c.args.conn.now in
     let new = state g.S.Store c.select.new.conn in
     let has = marked (table_of meta.name old.now.schema) (c.is_marked.ensures.marked.0 c.if-not-is_marked.false) in
-    let shown = c.in-Ok.ensures.leaves.call.ok clean in
+    let shown = c.in-Ok.ensures.leaves.ok clean in
     IfErr-weaker c.one_number.result _ _ (λ fault why. inr (why.0, inl (no_format old new has.0 has.1 has.2 c.in-Ok.value.items shown why.1 why.2 why.3))) (rw c.deref.ensures.value at c.one_number.ensures.cause)
 
 pub returns-in-Err-clause-cause : goal.returns-in-Err-clause-cause

@@ -1,13 +1,13 @@
 use Rattle.std.proofs.Common.{◌∷◌, []}
 use Rattle.sqlite.specs.Held.{state}
-use Rattle.table_access.proofs.CallLemmas.{statement_seq}
+use Rattle.table_access.proofs.CallLemmas.{seq}
 use Rattle.broker_tables.{specs.{Making.{IsBlank}, Refusals.{AreShort}}, proofs.MakingFails.{calm_then}}
 use Rattle.registry_tables.{specs.Registry.{HasEmptyRegistry}, proofs.MetaRow.{has_registry, empty_registry}}
 use Rattle.registry_tables.proofs.making.make_tables.Goals as goal
 
 pub returns-clause-makes : goal.returns-clause-makes
 returns-clause-makes g c =
-    statement_seq _ _ _ c.in-Ok.value c.put_meta.result _ _ _ (λ one _ two blank. has_registry c.args.format c.args.digest.now _ _ _ blank (one blank.schema) two) c.in-Ok.ensures.makes c.put_meta.ensures.puts
+    seq _ _ _ c.in-Ok.value c.put_meta.result _ _ _ (λ one _ two blank. has_registry c.args.format c.args.digest.now _ _ _ blank (one blank.schema) two) c.in-Ok.ensures.makes c.put_meta.ensures.puts
 
 pub returns-clause-calm : goal.returns-clause-calm
 returns-clause-calm g c =

@@ -1,7 +1,7 @@
 use Rattle.std.proofs.{Common.{refl}, lemmas.Result.{IfErr-weaker}}
 use Rattle.sqlite.specs.Held.{state}
 use Rattle.sqlite_tied.specs.Compute.{everything}
-use Rattle.table_access.proofs.CallLemmas.{statement_with}
+use Rattle.table_access.proofs.CallLemmas.{call_with}
 use Rattle.broker_tables.proofs.MakingFails.{has_failed}
 use Rattle.registry_tables.proofs.{MetaRow.{put_sql, meta_put}, MetaFails.{meta_fails}}
 use Rattle.registry_tables.proofs.making.put_meta.Goals as goal
@@ -12,7 +12,7 @@ change-requires g c = refl
 
 pub returns-clause-puts : goal.returns-clause-puts
 returns-clause-puts g c =
-    statement_with _ _ c.change.result _ _ (λ _ h. meta_put c.args.format c.args.digest.now _ _ h.0 h.1) (rw (c.params-to_sql.ensures, c.params-to_sql-2.ensures) at c.change.ensures.leaves)
+    call_with _ _ c.change.result _ _ (λ _ h. meta_put c.args.format c.args.digest.now _ _ h.0 h.1) (rw (c.params-to_sql.ensures, c.params-to_sql-2.ensures) at c.change.ensures.leaves)
 
 pub returns-clause-calm : goal.returns-clause-calm
 returns-clause-calm g c clean inside unlimited it =

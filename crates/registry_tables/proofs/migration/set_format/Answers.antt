@@ -1,12 +1,17 @@
-use Rattle.std.proofs.Common.{refl}
+use Rattle.broker_tables.proofs.MakingFails.{has_failed}
+use Rattle.registry_tables.proofs.FormatRow.{format_fails, format_set, set_sql}
 use Rattle.sqlite_tied.specs.Compute.{everything}
-use Rattle.table_access.proofs.CallLemmas.{statement_with}
-use Rattle.registry_tables.proofs.FormatRow.{format_set}
+use Rattle.std.proofs.{Common.{[], refl}, lemmas.Result.{IfErr-weaker}}
+use Rattle.table_access.proofs.CallLemmas.{call_with}
 use Rattle.registry_tables.proofs.migration.set_format.Goals as goal
 
 pub change-requires : goal.change-requires
 unfolding everything
 change-requires g c = refl
 
-pub returns : goal.returns
-returns g c = statement_with _ _ c.change.result _ _ (λ _ h s held. format_set _ _ h.0 s held h.1) c.change.ensures.leaves
+pub returns-clause-sets : goal.returns-clause-sets
+returns-clause-sets g c = call_with _ _ c.change.result _ _ (λ _ h s held. format_set _ _ s held h.0 h.1) c.change.ensures.leaves
+
+pub returns-clause-calm : goal.returns-clause-calm
+returns-clause-calm g c clean inside unlimited it =
+    IfErr-weaker c.change.result _ _ (λ fault refused. has_failed set_sql [] _ _ fault refused (format_fails _ _ it.0 it.1 it.2.0 unlimited)) (c.change.ensures.cause clean)

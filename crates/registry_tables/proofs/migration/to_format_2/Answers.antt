@@ -1,7 +1,17 @@
-use Rattle.table_access.proofs.CallLemmas.{statement_seq}
-use Rattle.broker_tables.{specs.Former.{former_format}, proofs.Former.{strict_made}}
+use Rattle.broker_tables.{specs.{Former.{added_tables, former_format}, Schema.{checked_results}}, proofs.{Former.{strict_made}, MakingFails.{calm_then}}}
+use Rattle.registry_tables.specs.Format.{CanBecomeFormat2}
+use Rattle.std.proofs.Common.{[], ◌∷◌}
+use Rattle.table_access.proofs.CallLemmas.{seq}
 use Rattle.registry_tables.proofs.migration.to_format_2.Goals as goal
 
-pub returns : goal.returns
-returns g c =
-    statement_seq _ _ _ c.in-Ok.value c.set_format.result _ _ _ (λ made _ sets s held. sets s (strict_made former_format _ _ s held (made held.schema))) c.in-Ok.ensures.makes c.set_format.ensures
+pub returns-clause-makes : goal.returns-clause-makes
+returns-clause-makes g c =
+    seq _ _ _ c.in-Ok.value c.set_format.result _ _ _ (λ made _ sets s held. sets s (strict_made former_format _ _ s held (made held.schema))) c.in-Ok.ensures.makes c.set_format.ensures.sets
+
+pub returns-clause-calm : goal.returns-clause-calm
+returns-clause-calm g c =
+    calm_then (CanBecomeFormat2 (checked_results ∷ [])) (CanBecomeFormat2 added_tables) _ _ _ c.in-Ok.value c.set_format.result _ _ c.in-Ok.ensures.makes c.set_format.ensures.sets c.set_format.ensures.calm
+    (λ made it. (it.0, strict_made former_format _ _ it.0 it.1 (made it.1.schema), it.2))
+
+pub returns-in-Err-clause-calm : goal.returns-in-Err-clause-calm
+returns-in-Err-clause-calm g c clean inside unlimited it = c.in-Err.ensures.calm clean inside unlimited it.1.schema

@@ -1,4 +1,4 @@
-use Rattle.std.proofs.Common.{◌≡◌, Some, None, ◌∙◌, refl, string_bytes}
+use Rattle.std.proofs.Common.{◌≡◌, false, Some, None, ◌∙◌, refl, string_bytes}
 use Rattle.sqlite.specs.Held.{state}
 use Rattle.table_access.proofs.CallLemmas.{memory_ok, memory_store}
 use Rattle.broker_tables.proofs.{QueryLemmas.{read_ok, read_err, read_never}, Asked.{is_answer, still, why_text}}
@@ -24,10 +24,10 @@ pub returns-in-Err-clause-reads : goal.returns-in-Err-clause-reads
 returns-in-Err-clause-reads g c = read_err _ _ c.in-Err.fault _ _ _ (why_text office _ _ (office_reads _)) c.in-Err.ensures.leaves c.in-Err.ensures.cause
 
 pub returns-in-Some-clause-memory : goal.returns-in-Some-clause-memory
-returns-in-Some-clause-memory g c broker none = memory_ok (state g.S.Store c.args.conn.now) (state g.S.Store c.text_of.new.conn) _
+returns-in-Some-clause-memory g c broker none = memory_ok false (state g.S.Store c.args.conn.now) (state g.S.Store c.text_of.new.conn) _
 
 pub returns-in-None-clause-memory : goal.returns-in-None-clause-memory
-returns-in-None-clause-memory g c broker none = memory_store (state g.S.Store c.args.conn.now) (state g.S.Store c.text_of.new.conn) _ refl
+returns-in-None-clause-memory g c broker none = memory_store _ false (state g.S.Store c.args.conn.now) (state g.S.Store c.text_of.new.conn) _ (λ none. refl)
 
 pub returns-in-Err-clause-memory : goal.returns-in-Err-clause-memory
 returns-in-Err-clause-memory g c broker none clean inside is =

@@ -1,18 +1,18 @@
 use Rattle.std.proofs.{Common.{inl, inr}, lemmas.Result.{IfOk-weaker, IfErr-weaker}}
 use Rattle.sqlite.specs.Held.{state}
-use Rattle.table_access.proofs.CallLemmas.{then_result, then_err}
+use Rattle.table_access.proofs.CallLemmas.{then_result, then_err, may_take}
 use Rattle.table_access.proofs.rows.list_of.Goals as goal
 
 pub returns-clause-leaves : goal.returns-clause-leaves
 returns-clause-leaves g c =
     then_result (state g.S.Store c.args.conn.now) (state g.S.Store c.select.new.conn) c.in-Ok.value c.read_all.result _ _
-    (IfOk-weaker c.read_all.result _ _ (λ items are shown. (c.in-Ok.value.items, shown, are)) (rw c.deref.ensures.value at c.read_all.ensures.ok)) c.in-Ok.ensures.leaves.call
+    (IfOk-weaker c.read_all.result _ _ (λ items are shown. (c.in-Ok.value.items, shown, are)) (rw c.deref.ensures.value at c.read_all.ensures.ok)) (λ none. absurd (cc)) c.in-Ok.ensures.leaves
 
 pub returns-clause-cause : goal.returns-clause-cause
-returns-clause-cause g c clean = IfErr-weaker c.read_all.result _ _ (λ fault why. inr (c.in-Ok.value.items, c.in-Ok.ensures.leaves.call.ok clean, why.0, why.1, why.2)) (rw c.deref.ensures.value at c.read_all.ensures.cause)
+returns-clause-cause g c clean = IfErr-weaker c.read_all.result _ _ (λ fault why. inr (c.in-Ok.value.items, c.in-Ok.ensures.leaves.ok clean, why.0, why.1, why.2)) (rw c.deref.ensures.value at c.read_all.ensures.cause)
 
 pub returns-in-Err-clause-leaves : goal.returns-in-Err-clause-leaves
-returns-in-Err-clause-leaves g c = then_err (state g.S.Store c.args.conn.now) (state g.S.Store c.select.new.conn) c.in-Err.fault _ _ c.in-Err.ensures.leaves.call
+returns-in-Err-clause-leaves g c = then_err (state g.S.Store c.args.conn.now) (state g.S.Store c.select.new.conn) c.in-Err.fault _ _ (may_take _ _ _ _ c.in-Err.ensures.leaves)
 
 pub returns-in-Err-clause-cause : goal.returns-in-Err-clause-cause
 returns-in-Err-clause-cause g c clean = inl (c.in-Err.ensures.cause clean)

@@ -1,0 +1,47 @@
+-- DELETE from a table of the broker to which no other refers: what it leaves, and that it fails only as the store fails.
+use Rattle.std.proofs.Common.{◌≡◌, ◌∙◌, ℕ, List, [], ◌∷◌, filter, length, slice_get, Bool, true, false, not, sym, ap, subst, Some, None, Ok}
+use Rattle.sqlite.specs.{Command.TheVariants.{Delete}, Order.{Row}, Schema.{Schema}, State.{State, Executes}, Table.{Table}, Term.{Term, col}}
+use Rattle.sqlite.specs.Tree.{IsAscending}
+use Rattle.sqlite_schema.specs.Rules.{references_fit}
+use Rattle.sqlite_rules.specs.Lists.{Has}
+use Rattle.table_access.specs.{declared.StoreFault.{StoreFault}, Calls.{HasFailed, FailsToRun, fault_of}, Sound.{IsNumbered}}
+use Rattle.table_access.{specs.Statements.{ChangesOnly, from_table, keeps}, proofs.{Answered.{Runs}, Deleted.{IsLeaf, delete_fails}, Edits.{IsAlone}}}
+use Rattle.table_access.proofs.{SoundLemmas.{has_place, at_has}, Steps.{Means, deletes, deletes_counted}}
+use Rattle.broker_tables.{specs.{Schema.{broker_schema}, Holds.{IsBroker}}, proofs.{Frames.{meant, runs_here}, Inserted.{plainly, apart}, Placed.{calm}}}
+
+-- The text, with these parameters, takes the rows that WHERE keeps out of the table at this place. `refl` finds each field
+-- but the last, under `unfolding understood everything`.
+pub record TakesFrom (at : ℕ) (t : Table) (sql : List ℕ) (params : Row) (terms : List Term) : Type 0 where
+  pub means : Means broker_schema sql (Delete at (record { lets = []; body = from_table t.tree terms (col 1 0 ∷ []) [] }))
+  pub runs : Runs broker_schema sql params (from_table t.tree terms (col 1 0 ∷ []) [])
+  pub alone : IsAlone broker_schema t.tree
+  pub fits : (removes : Bool) → references_fit broker_schema (plainly t) false removes ≡ true
+
+module _ {at : ℕ} {t : Table} {sql : List ℕ} {params : Row} {terms : List Term} (takes : TakesFrom at t sql params terms) (old new : State) (broker : IsBroker old.now) (there : slice_get old.now.schema.tables at ≡ Some (plainly t)) where
+  listed : Has old.now.schema.tables (plainly t)
+  listed = has_place _ at (plainly t) there
+
+  numbered : IsNumbered (old.now.trees t.tree)
+  numbered = at_has _ old.now.schema.tables (plainly t) broker.kept.numbered listed
+
+  -- where it is done, these rows are gone, the count says how many they were, and no other table changes
+  pub taken_from : (count : ℕ) → Executes sql params old new (Ok count) → ChangesOnly t.tree old new × (new.now.trees t.tree ≡ filter (λ r. not (keeps terms params r)) (old.now.trees t.tree))
+      × (count ≡ length (filter (keeps terms params) (old.now.trees t.tree)))
+  taken_from count h =
+      let means = meant old.now broker sql takes.means in
+      let it = deletes t.name t.tree t.columns t.key t.primary t.uniques t.orders t.checks t.references sql params old new at there terms means (calm old.now broker) numbered count h in
+      (it.0, it.1, deletes_counted t.name t.tree t.columns t.key t.primary t.uniques t.orders t.checks t.references sql params old new at there terms means count h)
+
+  -- and without a limit of steps it fails only as the store fails
+  pub taking_ends : old.step_limit ≡ None → (fault : StoreFault) → FailsToRun sql params old new fault → HasFailed old new fault
+  taking_ends unlimited fault (error, is, h) =
+      let here : (P : Schema → Type 0) → P broker_schema → P old.now.schema = λ P. subst P (sym broker.schema) in
+      let leaf : IsLeaf t.name t.tree t.columns t.key t.primary t.uniques t.orders t.checks t.references old.now.schema = record {
+        apart = here (λ s. IsAscending (λ a b. a.tree ≡ b.tree → ⊥) s.tables) apart;
+        calm = calm old.now broker;
+        alone = here (λ s. IsAlone s t.tree) takes.alone;
+        fits = here (λ s. (removes : Bool) → references_fit s (plainly t) false removes ≡ true) takes.fits;
+      } in
+      let it = delete_fails t.name t.tree t.columns t.key t.primary t.uniques t.orders t.checks t.references sql params old new at there terms (meant old.now broker sql takes.means)
+      (runs_here old.now broker sql params _ takes.runs) unlimited leaf listed numbered.0 broker.kept.sound.obeys.rules error h in
+      record { cause = it.0; fault_is = is ∙ ap fault_of it.1; has = it.2; over = it.3.autocommit; blamed = it.4 }
