@@ -23,16 +23,19 @@ pub blank_none : (db : Database) (found : Option ℕ) → db.schema ≡ no_schem
 blank_none db None blank it = refl
 blank_none db (Some n) blank it = let none : table_of meta.name db.schema ≡ None = ap (table_of meta.name) blank in absurd (let found = it.1 in cc)
 
-one_format : (n k : ℕ) (office : Text) (rows : List Row) → IsMeta n office rows → map (λ row. column row in_meta.format) rows ≡ Int (pos k) ∷ [] → k ≡ n
-one_format n k office [] one is = absurd cc
-one_format n k office (r ∷ []) one is =
-    let mine : whole_at in_meta.format r ≡ pos n = ap (λ (xs : List (ℤ × ℤ × Text)). first_of xs) one in
-    let shown : whole_at in_meta.format r ≡ pos k = (let same : column r in_meta.format ≡ Int (pos k) = cc in ap id_in same) in
-    (let both : pos k ≡ pos n = sym shown ∙ mine in cc)
+-- the format in the one row of meta
+pub one_told : (n : ℕ) (office : Text) (r : Row) → IsMeta n office (r ∷ []) → whole_at in_meta.format r ≡ pos n
+one_told n office r one = ap (λ (xs : List (ℤ × ℤ × Text)). first_of xs) one
   where
     first_of : List (ℤ × ℤ × Text) → ℤ
     first_of [] = pos 0
     first_of (x ∷ xs) = x.1
+
+one_format : (n k : ℕ) (office : Text) (rows : List Row) → IsMeta n office rows → map (λ row. column row in_meta.format) rows ≡ Int (pos k) ∷ [] → k ≡ n
+one_format n k office [] one is = absurd cc
+one_format n k office (r ∷ []) one is =
+    let shown : whole_at in_meta.format r ≡ pos k = (let same : column r in_meta.format ≡ Int (pos k) = cc in ap id_in same) in
+    (let both : pos k ≡ pos n = sym shown ∙ one_told n office r one in cc)
 one_format n k office (r ∷ q ∷ rows) one is = absurd cc
 
 -- the table of a broker's database that is found by meta's name
@@ -40,9 +43,11 @@ meta_there : (n : ℕ) (office : Text) (db : Database) → IsMarked n office db 
 unfolding same_name
 meta_there n office db marked = ap (table_of meta.name) marked.schema
 
+pub meta_is : (n : ℕ) (office : Text) (db : Database) → IsMarked n office db → (t : Table) → table_of meta.name db.schema ≡ Some t → t ≡ meta
+meta_is n office db marked t at = let both : Some t ≡ Some meta = sym at ∙ meta_there n office db marked in cc
+
 pub marked_some : (n : ℕ) (office : Text) (db : Database) (found : Option ℕ) → IsMarked n office db → Finds db found → found ≡ Some n
 marked_some n office db None marked it =
     absurd (it meta (meta_there n office db marked) (((refl, refl), ((refl, refl), ((refl, refl), tt))), refl) (sym (length-map (db.trees in_meta.tree) _) ∙ ap length marked.row))
 marked_some n office db (Some k) marked it =
-    let same : it.0 ≡ meta = (let both : Some it.0 ≡ Some meta = sym it.1 ∙ meta_there n office db marked in cc) in
-    ap Some (one_format n k office (db.trees in_meta.tree) marked.row (subst (λ (t : Table). map (λ row. column row in_meta.format) (db.trees t.tree) ≡ Int (pos k) ∷ []) same it.3))
+    ap Some (one_format n k office (db.trees in_meta.tree) marked.row (subst (λ (t : Table). map (λ row. column row in_meta.format) (db.trees t.tree) ≡ Int (pos k) ∷ []) (meta_is n office db marked it.0 it.1) it.3))

@@ -141,7 +141,7 @@ module _ {X : Type 0} (shown : Held X → State) (settled : (c : Held X) (t : Tr
 
     -- ---- a migration
 
-    migrates_former : (s : Broker) (given : Result (Unit {0}) OpenFault) → IsOnDisk (λ db. StoresFormer db s) trees → Migrated (shown first) (shown last) given
+    migrates_former : (s : Broker) (given : Result (Unit {0}) OpenFault) → IsOnDisk (λ db. StoresFormer db s) trees → Migrated shown first last given
         → (new : Kept) × PeriodLeads (OfFormer s) Migrating new × AreTreesOf new end
     migrates_former s given are migrated = by given (migrated.migrates clean s held) (migrated.refuses clean s held)
       where

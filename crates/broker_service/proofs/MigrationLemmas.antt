@@ -1,24 +1,25 @@
 -- What a migration finds, and what it leaves of a state.
 use Rattle.std.specs.{Prelude.{if◌then◌else◌, option_map, IsTrue, ◌↔◌, IsSomeAnd, Result, Ok, Err, OnOk, IfErr}, Option.{option_map_or}}
-use Rattle.std.proofs.Common.{◌≡◌, ◌≢◌, ◌==◌, ◌∷◌, [], inl, inr, ℕ, List, Bool, true, false, not, ◌&&◌, refl, sym, ap, subst, ◌∙◌, drop, Option, Some, None, Result, Ok, Err}
+use Rattle.std.proofs.Common.{◌≡◌, ◌≢◌, ◌==◌, ◌∷◌, [], ◌⊎◌, inl, inr, ℕ, List, Bool, true, false, not, ◌&&◌, refl, sym, ap, subst, ◌∙◌, drop, find, slice_get, arith, Option, Some, None, Result, Ok, Err}
 use Rattle.std.proofs.lemmas.Bool.{eqb-true, eqb-false}
-use Rattle.sqlite.specs.{Effect.{Database}, State.{State}, Table.{Table}}
-use Rattle.table_access.specs.{declared.StoreFault.{StoreFault}, Durability.{HoldsDurably}}
+use Rattle.sqlite.specs.{Effect.{Database}, Held.{Held}, Schema.{Schema}, State.{State}, Table.{Table}, declared.types.Value.TheVariants.{Int}}
+use Rattle.sqlite_rules.specs.Lists.{Has}
+use Rattle.table_access.{specs.{declared.StoreFault.{StoreFault}, Durability.{HoldsDurably}}, proofs.SoundLemmas.{has_place, whole_in}}
 use Rattle.broker_core.specs.{declared.answer.Answer.TheVariants.{Shown}, declared.answer.Shown.TheVariants.{Gate}}
 use Rattle.broker_core.specs.{declared.command.Command.TheVariants.{CanIDeploy}, declared.command.Marks.{Marks}, declared.command.Version.{Version}}
 use Rattle.broker_core.specs.{declared.need.Kind.TheVariants.{Failed, Claimed}, declared.need.Latest.{Latest}, declared.need.Need.{Need}}
 use Rattle.broker_core.specs.{declared.need.PairFault.{PairFault}, Change.{Transition, unchanged_with}, Faults.{fault_of, kind_of}}
 use Rattle.broker_core.specs.{Gate.{IsGood, IsPermitted, IsFault, Judges}, Machine.{TakesEffect}, State.{State as Broker, is_strict}, Text.{Text}}
 use Rattle.sqlite_schema.specs.{declared.schema.Column.{Column}, Names.{same_name}}
-use Rattle.broker_tables.specs.{Schema.{no_schema, schema_of}, Making.{IsBlank, IsMarked}, Former.{HoldsFormer, IsUnmarked, former_tables, former_format}}
-use Rattle.broker_tables.proofs.Former.{unmarked}
-use Rattle.registry_tables.specs.Format.{AreLike, AreKeys, HasForm, HasFormerTables, IsOfFormat, FindsFormer}
+use Rattle.broker_tables.specs.{Schema.{no_schema, schema_of, in_meta}, Holds.{IsMeta}, Making.{IsBlank, IsMarked}}
+use Rattle.broker_tables.{specs.Former.{HoldsFormer, IsUnmarked, former_tables, former_format}, proofs.Former.{unmarked}}
+use Rattle.registry_tables.specs.Format.{AreLike, AreKeys, HasForm, HasFormerTables, HasNoFormat, SharesTree, IsOfFormat, FindsFormer}
 use Rattle.command_facts.specs.Primitives.{broker_primitives}
 use Rattle.broker_service.specs.{Calls.{Migrated}, Ends.{IsUnchangedUnless}}
 use Rattle.broker_service.specs.Migration.{StoresFormer, BringsUpOrNot, MigratesOrRefuses, WasGood, WasPermitted, WasFault, WasJudged, Showed, JudgesAsBefore, former_kind, former_fault, former_marks}
 use Rattle.broker_service.specs.{Opening.{Refuses, IsUnchangedUnlessStore, judgement, open_fault}, Stored.{Stores, HoldsState}}
 use Rattle.broker_service.specs.{declared.opening.OpenFault.{OpenFault}, declared.opening.OpenFault.TheVariants.{Format}}
-use Rattle.broker_service.proofs.{Judgements.{blank_none, marked_some}, OpenFailures.{judgement_is_none}}
+use Rattle.broker_service.proofs.{Judgements.{one_told, meta_is, blank_none, marked_some}, OpenFailures.{judgement_is_none}}
 use Rattle.table_access.specs.declared.StoreFault.TheVariants as store_fault
 use Rattle.broker_tables.specs.Schema as tables
 
@@ -77,6 +78,16 @@ pub former_found : (db : Database) (s : Broker) (found : Option ℕ) → HoldsFo
 former_found db s None held (inl foreign) = marked_some former_format s.office db None (former_marked db s held) foreign
 former_found db s None held (inr (tells, lacks)) = absurd (lacks (former_tables_there db s held))
 former_found db s (Some n) held it = marked_some former_format s.office db (Some n) (former_marked db s held) it.0
+
+-- and nothing keeps its format from being told
+pub former_told : (db : Database) (s : Broker) → HoldsFormer db s → ¬ (HasNoFormat db ⊎ SharesTree db)
+former_told db s held (inl (table, at, is, (row, rows, none))) =
+    let one : db.trees in_meta.tree ≡ row ∷ [] = subst (λ (t : Table). db.trees t.tree ≡ row ∷ []) (meta_is former_format s.office db (former_marked db s held) table at) rows in
+    let there = has_place db.schema.tables 0 tables.meta (ap (λ (c : Schema). slice_get c.tables 0) held.schema) in
+    let number = whole_in db held.kept.sound tables.meta there row (subst (λ xs. Has xs row) (sym one) (inl refl)) 1 _ refl refl refl refl refl in
+    none former_format (number ∙ ap Int (one_told former_format s.office row (subst (IsMeta former_format s.office) one held.meta))) (omega arith)
+former_told db s held (inr (table, at, is, other)) =
+    other (subst (λ (t : Table). find (λ u. u.tree == t.tree) db.schema.tables ≡ Some t) (sym (meta_is former_format s.office db (former_marked db s held) table at)) (ap (λ (c : Schema). find (λ u. u.tree == in_meta.tree) c.tables) held.schema))
 
 -- the judgement by what is found is right
 judged_former : (db : Database) (found : Option ℕ) → FindsFormer db found → MigratesOrRefuses db (judgement former_format found)
@@ -224,33 +235,35 @@ refused_other old new (Some n) it = go (n == former_format) refl
     go false e = it (λ is. eqb-false n former_format e (let same : n ≡ former_format = cc in same))
 
 -- a format was found
-pub migrated : (old new : State) (found : Option ℕ) → BringsUpOrNot old new (Ok found) → Migrated old new (judgement former_format found)
-migrated old new found up = record {
-  migrates = λ clean s keeps. always (judgement former_format found) (HoldsState s new) (up.ends clean s keeps).1;
+pub migrated : {X : Type 0} (shown : Held X → State) (old new : Held X) (found : Option ℕ) → BringsUpOrNot shown old new (Ok found) → Migrated shown old new (judgement former_format found)
+migrated shown old new found up = record {
+  migrates = λ clean s keeps. always (judgement former_format found) (HoldsState s (shown new)) (up.ends clean s keeps).1;
   refuses = λ clean s keeps.
       let is : Ok tt ≡ judgement former_format found = sym (ap (judgement former_format) (up.ends clean s keeps).0) in
-      subst (λ (r : Result (Unit {0}) OpenFault). IfErr r (Refuses (λ db. StoresFormer db s) (λ db. Stores db s) new)) is tt;
-  judges = λ clean. judged_former old.now found (up.found clean).1;
+      subst (λ (r : Result (Unit {0}) OpenFault). IfErr r (Refuses (λ db. StoresFormer db s) (λ db. Stores db s) (shown new))) is tt;
+  judges = λ clean. judged_former (shown old).now found (up.found clean).1;
   calm = λ clean fresh is. absurd (judgement_is_none former_format found is);
+  calm_former = λ s fit clean fresh holds is. absurd (judgement_is_none former_format found is);
   blank = λ clean keeps.
       let it = up.found clean in
-      inl (ap (judgement former_format) (blank_former old.now found (held_now IsBlank old keeps it.0).schema it.1));
+      inl (ap (judgement former_format) (blank_former (shown old).now found (held_now IsBlank (shown old) keeps it.0).schema it.1));
   marked = λ clean n office other keeps.
       let it = up.found clean in
-      inl (ap (judgement former_format) (marked_former n office old.now found other (held_now (IsMarked n office) old keeps it.0) it.1));
-  unchanged = λ clean. refused_other old new found (up.unchanged clean);
+      inl (ap (judgement former_format) (marked_former n office (shown old).now found other (held_now (IsMarked n office) (shown old) keeps it.0) it.1));
+  unchanged = λ clean. refused_other (shown old) (shown new) found (up.unchanged clean);
   over = up.over;
   survives = up.survives;
   spares = up.spares;
 }
 
 -- the database failed
-pub unmigrated : (old new : State) (why : StoreFault) → BringsUpOrNot old new (Err why) → Migrated old new (Err (open_fault why))
-unmigrated old new store_fault.Memory up = record {
+pub unmigrated : {X : Type 0} (shown : Held X → State) (old new : Held X) (why : StoreFault) → BringsUpOrNot shown old new (Err why) → Migrated shown old new (Err (open_fault why))
+unmigrated shown old new store_fault.Memory up = record {
   migrates = λ _ _ _. tt;
   refuses = up.ends;
   judges = λ _. tt;
   calm = λ clean fresh is. absurd (cc);
+  calm_former = λ s fit clean fresh holds is. absurd (cc);
   blank = λ _ _. inr (inl refl);
   marked = λ _ _ _ _ _. inr (inl refl);
   unchanged = up.unchanged;
@@ -258,11 +271,12 @@ unmigrated old new store_fault.Memory up = record {
   survives = up.survives;
   spares = up.spares;
 }
-unmigrated old new store_fault.Store up = record {
+unmigrated shown old new store_fault.Store up = record {
   migrates = λ _ _ _. tt;
   refuses = up.ends;
   judges = λ _. tt;
   calm = λ clean fresh is. up.calm clean fresh refl;
+  calm_former = λ s fit clean fresh holds is. up.calm_former s fit clean fresh holds refl;
   blank = λ _ _. inr (inr refl);
   marked = λ _ _ _ _ _. inr (inr refl);
   unchanged = up.unchanged;

@@ -1,6 +1,6 @@
 -- Why a database isn't opened or migrated: the store failed, or the table meta is such that no format is told.
 use Rattle.std.specs.Prelude.{if◌then◌else◌}
-use Rattle.std.proofs.Common.{◌≡◌, ◌⊎◌, inl, inr, ℕ, Option, Some, None, Result, Ok, Err, IfErr, Bool, true, false, ◌==◌, arith, refl, sym, subst, ◌∙◌}
+use Rattle.std.proofs.Common.{◌≡◌, ◌⊎◌, inl, inr, ℕ, Option, Some, None, Result, Ok, Err, IfErr, Bool, true, false, ◌==◌, arith, refl, subst, ◌∙◌}
 use Rattle.std.proofs.lemmas.Result.{IfErr-weaker}
 use Rattle.sqlite.specs.{Effect.{Database}, State.{State, HasCleanDisk}}
 use Rattle.table_access.specs.{Calls.{HasFailed}, Unit.{FailsToBegin}, declared.StoreFault.{StoreFault}, declared.StoreFault.TheVariants.{Memory, Store}}

@@ -1,10 +1,9 @@
 -- What a transaction leaves of the connection that it began on.
-use Rattle.std.specs.Prelude.{⊤, is_ok}
+use Rattle.std.specs.Prelude.{is_ok}
 use Rattle.std.proofs.Common.{◌≡◌, ◌⊎◌, ◌↔◌, inl, inr, Bool, true, false, refl, IsTrue, IsOkAnd, IfOk, Result, Ok, Err, sym, subst, ◌∙◌, arith}
 use Rattle.sqlite.{specs.{Effect.{Database, IsDatabase}, Tree.{Trees}, State.{State, HasCleanDisk, Survives}}, proofs.StateLemmas.{survives_then}}
-use Rattle.table_access.specs.{Unit.{Begins, IsLeft, IsOver}, declared.StoreFault.{StoreFault}}
-use Rattle.table_access.specs.{Calls.{CallsTablesBetween, CallsStoreBetween, KeepsLastCommit, GoesOn}, Durability.{HoldsDurably, HoldsEither}}
-use Rattle.table_access.proofs.{CallLemmas.{left_commit, statement_err, statement_seq}, EndLemmas.{begins, commits, refused, keeps_unsure}}
+use Rattle.table_access.specs.{Unit.{Begins, IsLeft, IsOver}, declared.StoreFault.{StoreFault}, Calls.{CallsTablesBetween, KeepsLastCommit, GoesOn}}
+use Rattle.table_access.{specs.Durability.{HoldsDurably, HoldsEither}, proofs.{CallLemmas.{left_commit}, EndLemmas.{begins, commits, refused, keeps_unsure}}}
 use Rattle.broker_service.specs.Ends.{IsAsBefore, IsUnchangedUnless, AddsNoCrashState, CommitsAtMostOnce, LeavesNoTransaction}
 use Rattle.broker_service.specs.Transaction.{Finishes, Concludes, EndsOrFails, worst, conclusion}
 use Rattle.table_access.specs.declared.StoreFault.TheVariants as fault
@@ -72,13 +71,6 @@ keeps_on P old new it keeps = record {
 -- a connection that is left alone survives
 pub outlives_itself : {P : Trees → Type 0} (c : State) → Survives c c P
 outlives_itself {P} c = record { clean = omega arith; shield = λ h. h; counts = omega arith; limit = refl; closes = λ _ h. inl h; crash = λ _ db h. inl h }
-
--- ---- calls in turn within a transaction
-
--- the second fails
-pub second_fails : {A B C : Type 0} (old mid new : State) (a : A) (fault : StoreFault) (P : A → Type 0) (Q : B → Type 0) (R : C → Type 0)
-    → CallsStoreBetween old mid (Ok a) P → CallsStoreBetween mid new (Err fault) Q → CallsStoreBetween old new (Err fault) R
-second_fails old mid new a fault P Q R one two = statement_err old new fault (λ _. ⊤) R (statement_seq old mid new a (Err fault) P Q (λ _. ⊤) (λ _ _ _. tt) one two)
 
 -- a crash leaves what it left, or more
 pub outlives_as : {P Q : Trees → Type 0} (a b : State) → ((trees : Trees) → P trees → Q trees) → Survives a b P → Survives a b Q

@@ -42,7 +42,7 @@ tokens_step s token command caller who out it sound = elim (it sound) [ inl step
 
 -- a query, and then a command
 pub fails_then : {A : Type 0} (TooBig : Type 0) (old mid new : State) (a : A) (r : Result Answer StoreFault) (P : A → Broker → Type 0) (Q : Answer → Type 0) (Allows Made Changes : Broker → Type 0) → ((s : Broker) → P a s → Made s → Changes s)
-    → CalmQueriesBetween old mid (Ok a) P → CallsTablesBetween mid new r Q → FailsFromBetween mid new r TooBig Allows Made → FailsFromBetween old new r TooBig Allows Changes
+    → CalmQueriesBetween true old mid (Ok a) P → CallsTablesBetween mid new r Q → FailsFromBetween mid new r TooBig Allows Made → FailsFromBetween old new r TooBig Allows Changes
 fails_then TooBig old mid new a r P Q Allows Made Changes more one = fails_after TooBig old mid new a r P Q Allows Allows Changes Made (λ s held allowed read. (allowed, more s read)) one.call
 
 -- ---- what a command came to is no failure

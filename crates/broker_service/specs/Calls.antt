@@ -8,7 +8,7 @@ use Rattle.table_access.specs.declared.StoreFault.TheVariants as faults
 use Rattle.broker_core.specs.Change.{instance_of}
 use Rattle.broker_core.specs.Laws.{IsDone}
 use Rattle.broker_core.specs.Machine.{is_step}
-use Rattle.broker_core.specs.State.{State as Broker}
+use Rattle.broker_core.specs.State.{State as Broker, opening}
 use Rattle.broker_core.specs.Text.{Text}
 use Rattle.broker_core.specs.declared.answer.Answer.{Answer}
 use Rattle.broker_core.specs.declared.answer.Answer.TheVariants as answers
@@ -24,7 +24,7 @@ use Rattle.broker_service.specs.Causes.{HoldsReadable, IsNotKept, KeepsRoom, Sta
 use Rattle.broker_service.specs.Ends.{Applies, IsAsBefore, AddsNoCrashState, CommitsAtMostOnce, LeavesNoTransaction}
 use Rattle.broker_service.specs.Handed.{left_by, verdict}
 use Rattle.broker_service.specs.Headline.{RecordsExactly}
-use Rattle.broker_service.specs.Migration.{StoresFormer, HoldsFormerState, MigratesOrRefuses, IsFormer}
+use Rattle.broker_service.specs.Migration.{StoresFormer, HoldsFormerState, MigratesOrRefuses, IsFormer, OnlyIfNotMigrated}
 use Rattle.broker_service.specs.Opening.{Refuses, MakesNew, RefusesNew, IsUnchangedUnlessStore, OpensOrRefuses, Judged, IsFresh, TellsNothing, OnlyIfUntold, OnlyIfStoreFailed}
 use Rattle.broker_service.specs.Stored.{Stores, HoldsState}
 use Rattle.broker_service.specs.declared.broker.Refused.{Refused}
@@ -87,7 +87,7 @@ module _ {X : Type 0} (shown : Held X → State) where
     pub refuses : IfErr given (λ r. RefusesNew office (shown old) (shown r.connection) r.fault)
     -- Store: on a connection as it is opened and a database without tables, the store failed, or COMMIT was refused for
     -- want of memory; no statement that makes a table or an index is refused
-    pub calm : OnlyIfStoreFailed shown office old (left_by given) (verdict given ≡ Err fault.Store)
+    pub calm : OnlyIfStoreFailed shown IsBlank (opening office) old (left_by given) (verdict given ≡ Err fault.Store)
     -- NotEmpty: there is a table, an index or a view
     pub not_empty : IsErrAnd given (λ r. r.fault ≡ fault.NotEmpty) ↔ (¬ ((shown old).now.schema ≡ no_schema))
     -- and the connection is handed back as it was
@@ -129,29 +129,34 @@ module _ {X : Type 0} (shown : Held X → State) where
     -- on a disk that fails, and when the program is stopped in the call: what a crash leaves, it left before
     pub survives : Survives (shown old) (shown (left_by given)) (λ _. ⊥)
 
--- What a migration leaves of a connection, and what it answers.
-pub record Migrated (old new : State) (given : Result (Unit {0}) OpenFault) : Type 0 where
-  -- of a broker's database of format 1: it is one of today's with the same state, of which the gate says what it said
-  -- (the law `former_gate`)
-  pub migrates : HasCleanDisk new → (s : Broker) → HoldsFormerState s old → OnOk given (HoldsState s new)
-  -- or a failure: it is of format 1 with that state, and after Store a crash may leave today's
-  pub refuses : HasCleanDisk new → (s : Broker) → HoldsFormerState s old
-      → IfErr given (Refuses (λ db. StoresFormer db s) (λ db. Stores db s) new)
-  -- a failure aside: the database had the tables of format 1, or it is told what it is instead
-  pub judges : HasCleanDisk new → MigratesOrRefuses old.now given
-  -- Store: on a connection as it is opened, the store failed, or meta has no number as its format; or the database had
-  -- the tables of format 1, and a change or the commit was refused
-  pub calm : HasCleanDisk new → IsFresh old → given ≡ Err fault.Store → TellsNothing old new ⊎ IsFormer old.now
-  -- of a database without tables: NotABroker, or a failure
-  pub blank : HasCleanDisk new → HoldsDurably IsBlank old → Judged former_format None given
-  -- of one that is marked with another format: which that is, or a failure
-  pub marked : HasCleanDisk new → (n : ℕ) (office : List ℕ) → n ≢ former_format → HoldsDurably (IsMarked n office) old
-      → Judged former_format (Some n) given
-  -- whatever the database is: where it isn't migrated it is as it was, or after Store the last commit is the old one
-  pub unchanged : HasCleanDisk new → IfErr given (IsUnchangedUnlessStore old new)
-  -- whatever the answer is, no transaction is left open
-  pub over : LeavesNoTransaction old new
-  -- on a disk that fails, and when the program is stopped in the call: at most one commit
-  pub survives : CommitsAtMostOnce old new
-  -- and none on a database that isn't of format 1, whatever the answer is: what a crash leaves, it left before
-  pub spares : HasCleanDisk new → ¬ (IsFormer old.now) → AddsNoCrashState old new
+  -- What a migration leaves of a connection, and what it answers.
+  pub record Migrated (old new : Held X) (given : Result (Unit {0}) OpenFault) : Type 0 where
+    -- of a broker's database of format 1: it is one of today's with the same state, of which the gate says what it said
+    -- (the law `former_gate`)
+    pub migrates : HasCleanDisk (shown new) → (s : Broker) → HoldsFormerState s (shown old)
+        → OnOk given (HoldsState s (shown new))
+    -- or a failure: it is of format 1 with that state, and after Store a crash may leave today's
+    pub refuses : HasCleanDisk (shown new) → (s : Broker) → HoldsFormerState s (shown old)
+        → IfErr given (Refuses (λ db. StoresFormer db s) (λ db. Stores db s) (shown new))
+    -- a failure aside: the database had the tables of format 1, or it is told what it is instead
+    pub judges : HasCleanDisk (shown new) → MigratesOrRefuses (shown old).now given
+    -- Store: on a connection as it is opened, the store failed, or meta has no number as its format; or the database had
+    -- the tables of format 1, and a change or the commit was refused
+    pub calm : HasCleanDisk (shown new) → IsFresh (shown old) → given ≡ Err fault.Store
+        → TellsNothing (shown old) (shown new) ⊎ IsFormer (shown old).now
+    -- and where it held a state in that format that can be read back: the store failed, or COMMIT was refused for want of
+    -- memory; no statement that makes a table or an index, or sets the format, is refused
+    pub calm_former : OnlyIfNotMigrated shown old new (given ≡ Err fault.Store)
+    -- of a database without tables: NotABroker, or a failure
+    pub blank : HasCleanDisk (shown new) → HoldsDurably IsBlank (shown old) → Judged former_format None given
+    -- of one that is marked with another format: which that is, or a failure
+    pub marked : HasCleanDisk (shown new) → (n : ℕ) (office : List ℕ) → n ≢ former_format
+        → HoldsDurably (IsMarked n office) (shown old) → Judged former_format (Some n) given
+    -- whatever the database is: where it isn't migrated it is as it was, or after Store the last commit is the old one
+    pub unchanged : HasCleanDisk (shown new) → IfErr given (IsUnchangedUnlessStore (shown old) (shown new))
+    -- whatever the answer is, no transaction is left open
+    pub over : LeavesNoTransaction (shown old) (shown new)
+    -- on a disk that fails, and when the program is stopped in the call: at most one commit
+    pub survives : CommitsAtMostOnce (shown old) (shown new)
+    -- and none on a database that isn't of format 1, whatever the answer is: what a crash leaves, it left before
+    pub spares : HasCleanDisk (shown new) → ¬ (IsFormer (shown old).now) → AddsNoCrashState (shown old) (shown new)

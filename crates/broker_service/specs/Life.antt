@@ -132,7 +132,7 @@ module _ {X : Type 0} (shown : Held X → State) where
       (given : Result (BrokerView X) (Refused X)) × Opened shown old given × GivenRuns shown given calls new
   PeriodRuns (Making office calls) old new =
       (given : Result (BrokerView X) (Refused X)) × Created shown old office given × GivenRuns shown given calls new
-  PeriodRuns Migrating old new = (given : Result (Unit {0}) OpenFault) × Migrated (shown old) (shown new) given
+  PeriodRuns Migrating old new = (given : Result (Unit {0}) OpenFault) × Migrated shown old new given
   PeriodRuns NotOpened old new = ⊥
 
   -- Over any store: whatever a crash leaves of that connection keeps what the period leads to.

@@ -1,6 +1,7 @@
 -- how a broker's database of format 1 becomes one of today's, and what was said of a version before
-use Rattle.std.specs.Prelude.{◌≡◌, ◌≢◌, ◌⊎◌, ◌↔◌, ℕ, List, Bool, false, if◌then◌else◌, IsTrue, IsFalse, IsSome, IsSomeAnd, Option, Some, None, option_map, Result, Ok, Err, IfOk}
+use Rattle.std.specs.Prelude.{◌≡◌, ◌≢◌, ◌⊎◌, ◌↔◌, ℕ, List, [], ◌∷◌, Bool, false, if◌then◌else◌, IsTrue, IsFalse, IsSome, IsSomeAnd, Option, Some, None, option_map, Result, Ok, Err, IfOk}
 use Rattle.sqlite.specs.Effect.{Database}
+use Rattle.sqlite.specs.Held.{Held}
 use Rattle.sqlite.specs.State.{State, HasCleanDisk}
 use Rattle.table_access.specs.declared.StoreFault.{StoreFault}
 use Rattle.table_access.specs.declared.StoreFault.TheVariants as faults
@@ -25,10 +26,12 @@ use Rattle.broker_core.specs.State.{State as Broker, is_gated}
 use Rattle.broker_core.specs.Text.{Text}
 use Rattle.broker_tables.specs.Holds.{Holds}
 use Rattle.broker_tables.specs.Former.{HoldsFormer, IsUnmarked, former_format}
+use Rattle.broker_tables.specs.Readable.{IsReadable}
+use Rattle.broker_tables.specs.Refusals.{AreShort}
 use Rattle.registry_tables.specs.Format.{IsOfFormat, IsForeign, HasFormerTables, FindsFormer, FailsToFind}
 use Rattle.command_facts.specs.Primitives.{broker_primitives}
 use Rattle.broker_service.specs.Ends.{AddsNoCrashState, CommitsAtMostOnce, IsUnchangedUnless, LeavesNoTransaction}
-use Rattle.broker_service.specs.Opening.{IsFresh, TellsNothing}
+use Rattle.broker_service.specs.Opening.{IsFresh, TellsNothing, OnlyIfStoreFailed}
 use Rattle.broker_service.specs.Stored.{Stores, HoldsState}
 use Rattle.broker_service.specs.Transaction.{EndsOrFails}
 use Rattle.broker_service.specs.declared.opening.OpenFault.{OpenFault}
@@ -105,6 +108,21 @@ BringsUp old new = (s : Broker) → HoldsFormer old s → Holds new s
 abbrev pub IsFormer : Database → Type 0
 IsFormer db = IsOfFormat former_format db × HasFormerTables db.schema
 
+-- The state can be read back, so that its names are names, and the digest of its office's token has ten million bytes at
+-- most; that of any token has 64.
+abbrev pub CanBeStoredAgain : Broker → Type 0
+CanBeStoredAgain s = IsReadable s × AreShort (s.office ∷ [])
+
+-- On a connection as it is opened that holds such a state in format 1, this is answered only if the store failed, or if
+-- today's database was made, whole, and COMMIT was refused for want of memory.
+abbrev pub OnlyIfNotMigrated : {X : Type 0} → (Held X → State) → Held X → Held X → Type 0 → Type 0
+OnlyIfNotMigrated shown old new Answered =
+    (s : Broker) → CanBeStoredAgain s → OnlyIfStoreFailed shown (λ db. StoresFormer db s) s old new Answered
+
+-- for private clauses: the database is of format 1 and holds such a state
+abbrev pub CanBeMigrated : Database → Type 0
+CanBeMigrated db = (s : Broker) × HoldsFormer db s × CanBeStoredAgain s
+
 -- For private clauses: no format is told, or the tables of format 1 are there.
 abbrev pub FailsToBringUp : State → State → StoreFault → Type 0
 FailsToBringUp old new fault = FailsToFind old new fault ⊎ IsFormer old.now
@@ -126,12 +144,18 @@ abbrev pub MigratesOrFails : Broker → State → Result (Option ℕ) StoreFault
 MigratesOrFails s new =
     EndsOrFails (λ db. StoresFormer db s) (λ db. Stores db s) (λ found. (found ≡ Some former_format) × HoldsState s new) new
 
--- and what that is on any database
-pub record BringsUpOrNot (old new : State) (result : Result (Option ℕ) StoreFault) : Type 0 where
-  pub found : HasCleanDisk new → IfOk result (λ found. IsTrue old.is_open × FindsFormer old.now found)
-  pub ends : HasCleanDisk new → (s : Broker) → HoldsFormerState s old → MigratesOrFails s new result
-  pub unchanged : HasCleanDisk new → IsUnchangedUnless (λ found. found ≡ Some former_format) old new result
-  pub over : LeavesNoTransaction old new
-  pub survives : CommitsAtMostOnce old new
-  pub spares : HasCleanDisk new → ¬ (IsFormer old.now) → AddsNoCrashState old new
-  pub calm : HasCleanDisk new → IsFresh old → result ≡ Err faults.Store → TellsNothing old new ⊎ IsFormer old.now
+-- and what that is on any database; shown is what a connection shows
+pub record BringsUpOrNot {X : Type 0} (shown : Held X → State) (old new : Held X)
+    (result : Result (Option ℕ) StoreFault) : Type 0 where
+  pub found : HasCleanDisk (shown new)
+      → IfOk result (λ found. IsTrue (shown old).is_open × FindsFormer (shown old).now found)
+  pub ends : HasCleanDisk (shown new) → (s : Broker) → HoldsFormerState s (shown old)
+      → MigratesOrFails s (shown new) result
+  pub unchanged : HasCleanDisk (shown new)
+      → IsUnchangedUnless (λ found. found ≡ Some former_format) (shown old) (shown new) result
+  pub over : LeavesNoTransaction (shown old) (shown new)
+  pub survives : CommitsAtMostOnce (shown old) (shown new)
+  pub spares : HasCleanDisk (shown new) → ¬ (IsFormer (shown old).now) → AddsNoCrashState (shown old) (shown new)
+  pub calm : HasCleanDisk (shown new) → IsFresh (shown old) → result ≡ Err faults.Store
+      → TellsNothing (shown old) (shown new) ⊎ IsFormer (shown old).now
+  pub calm_former : OnlyIfNotMigrated shown old new (result ≡ Err faults.Store)

@@ -9,7 +9,7 @@ use Rattle.table_access.specs.declared.StoreFault.TheVariants as fault
 use Rattle.table_access.specs.Calls.{KeepsLastCommit, HasFailed}
 use Rattle.table_access.specs.Durability.{HoldsDurably, HoldsEither}
 use Rattle.table_access.specs.Unit.{RefusesCommit}
-use Rattle.broker_core.specs.State.{opening}
+use Rattle.broker_core.specs.State.{State as Broker, opening}
 use Rattle.broker_core.specs.Text.{Text}
 use Rattle.broker_tables.specs.Holds.{Holds, format}
 use Rattle.broker_tables.specs.Making.{IsBlank, HasTables}
@@ -105,17 +105,19 @@ TellsNothing old new = HasFailed old new fault.Store ⊎ (HasNoFormat old.now �
 abbrev pub OnlyIfUntold : State → State → Type 0 → Type 0
 OnlyIfUntold old new Answered = HasCleanDisk new → IsFresh old → Answered → TellsNothing old new
 
--- ---- why no broker is made
+-- ---- why today's tables aren't made
 
--- the tables of a new broker were made, and COMMIT was refused for want of memory; shown is what a connection shows
-pub record IsUncommitted {X : Type 0} (shown : Held X → State) (office : Text) (new : Held X) : Type 0 where
+-- they were made, all of them, and hold this state, and COMMIT was refused for want of memory; shown is what a
+-- connection shows
+pub record IsUncommitted {X : Type 0} (shown : Held X → State) (s : Broker) (new : Held X) : Type 0 where
   pub worked : Held X
-  pub made : Holds (shown worked).now (opening office)
+  pub made : Holds (shown worked).now s
   pub refused : RefusesCommit shown worked new fault.Memory
 
--- On a connection as it is opened, and a database without tables, this is answered only if the store failed, or if
--- COMMIT was refused for want of memory.
-abbrev pub OnlyIfStoreFailed : {X : Type 0} → (Held X → State) → Text → Held X → Held X → Type 0 → Type 0
-OnlyIfStoreFailed shown office old new Answered =
-    HasCleanDisk (shown new) → IsFresh (shown old) → HoldsDurably IsBlank (shown old) → Answered
-    → HasFailed (shown old) (shown new) fault.Store ⊎ IsUncommitted shown office new
+-- On a connection as it is opened that holds such a database, of which one that holds this state is to be made, this is
+-- answered only if the store failed, or if COMMIT was refused for want of memory.
+abbrev pub OnlyIfStoreFailed : {X : Type 0} → (Held X → State) → (Database → Type 0) → Broker → Held X → Held X → Type 0
+    → Type 0
+OnlyIfStoreFailed shown Before s old new Answered =
+    HasCleanDisk (shown new) → IsFresh (shown old) → HoldsDurably Before (shown old) → Answered
+    → HasFailed (shown old) (shown new) fault.Store ⊎ IsUncommitted shown s new

@@ -4,10 +4,11 @@ ghost use Rattle.sqlite.specs.Held.{state};
 ghost use Rattle.table_access.specs.Calls.{CallsStore};
 ghost use Rattle.broker_core.specs.State.{State as BrokerState};
 ghost use Rattle.broker_tables.specs.Holds.{format};
+ghost use Rattle.broker_tables.specs.Making.{IsCalmOver};
 ghost use Rattle.broker_tables.specs.Former.{HoldsFormer, HoldsUnmarked, former_format, added_tables};
 ghost use Rattle.registry_tables.specs.Format.{FindsFormer, FailsOnlyFor};
 ghost use Rattle.broker_service.specs.Calls.{Migrated};
-ghost use Rattle.broker_service.specs.Migration.{BringsUp, BringsUpOrNot, FailsToBringUp};
+ghost use Rattle.broker_service.specs.Migration.{BringsUp, BringsUpOrNot, CanBeMigrated, FailsToBringUp};
 
 use crate::ending::conclude;
 use crate::opening::{OpenFault, judge, make_indexes, open_fault};
@@ -17,9 +18,10 @@ use table_access::{StoreFault, begin};
 
 /// Makes the tables that format 1 has not, and sets the format.
 fn add_tables<S: Alter>(conn: &mut Connection<S>) -> Result<(), StoreFault>
-    ensures { CallsStore S.Store conn.old conn.new result
+    ensures adds { CallsStore S.Store conn.old conn.new result
         (λ _ old new. (s : BrokerState) → HoldsFormer old.now s
         → HoldsUnmarked format added_tables new.now s) }
+    ensures calm { IsCalmOver S.Store conn.old conn.new result CanBeMigrated }
 {
     done!(contract_tables::to_format_2(conn));
     registry_tables::to_format_2(conn)
@@ -27,8 +29,9 @@ fn add_tables<S: Alter>(conn: &mut Connection<S>) -> Result<(), StoreFault>
 
 /// Makes the tables and the indexes that format 1 has not, and sets the format.
 fn add_all<S: Alter>(conn: &mut Connection<S>) -> Result<(), StoreFault>
-    ensures { CallsStore S.Store conn.old conn.new result
+    ensures brings { CallsStore S.Store conn.old conn.new result
         (λ _ old new. BringsUp old.now new.now) }
+    ensures calm { IsCalmOver S.Store conn.old conn.new result CanBeMigrated }
 {
     done!(add_tables(conn));
     make_indexes(conn)
@@ -40,6 +43,7 @@ fn bring_up<S: Alter>(conn: &mut Connection<S>) -> Result<Option<u32>, StoreFaul
     ensures brings { CallsStore S.Store conn.old conn.new result
         (λ found old new. FindsFormer old.now found × (found ≡ Some former_format → BringsUp old.now new.now)) }
     ensures cause { FailsOnlyFor (state S.Store conn.old) (state S.Store conn.new) result FailsToBringUp }
+    ensures calm { IsCalmOver S.Store conn.old conn.new result CanBeMigrated }
 {
     match done!(format_to_migrate(conn)) {
         Some(1) => {
@@ -60,7 +64,7 @@ fn is_former(found: &Result<Option<u32>, StoreFault>) -> bool
 /// Upgrades a database in one transaction, which is committed if its format was 1, and else rolled back. The answer is
 /// the format that was found.
 fn run<S: Alter>(conn: &mut Connection<S>) -> Result<Option<u32>, StoreFault>
-    ensures { BringsUpOrNot (state S.Store conn.old) (state S.Store conn.new) result }
+    ensures { BringsUpOrNot (state S.Store) conn.old conn.new result }
 {
     done!(begin(conn));
     let found = bring_up(conn);
@@ -78,9 +82,11 @@ fn run<S: Alter>(conn: &mut Connection<S>) -> Result<Option<u32>, StoreFault>
 /// one; today's is refused too. After both, and after `Memory`, the database is as it was.
 /// `Store`: the database refused the commit, or another call for another cause than memory, or the format isn't a number
 /// from 0 to 2^32 - 1; the last commit is the old one, and after a refused commit a crash may leave today's database,
-/// whole. On a database that isn't of format 1 nothing is committed, whatever fails.
+/// whole. On a connection as it is opened, and a database that a broker of format 1 left, that is only if the store
+/// failed, or if memory ran out for the commit: no table and no index is refused. On a database that isn't of format 1
+/// nothing is committed, whatever fails.
 pub fn migrate<S: Alter>(conn: &mut Connection<S>) -> Result<(), OpenFault>
-    ensures { Migrated (state S.Store conn.old) (state S.Store conn.new) result }
+    ensures { Migrated (state S.Store) conn.old conn.new result }
 {
     match run(conn) {
         Ok(found) => judge(1, found),

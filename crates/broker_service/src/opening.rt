@@ -8,7 +8,7 @@ ghost use Rattle.table_access.specs.Statements.{MakesIndexes};
 ghost use Rattle.broker_core.specs.State.{opening};
 ghost use Rattle.broker_tables.specs.Schema.{no_schema, registry_part, contents, contract_part, all_tables, all_indexes, schema_of};
 ghost use Rattle.broker_tables.specs.Holds.{Holds, format};
-ghost use Rattle.broker_tables.specs.Making.{IsBlank, HasTables, HasNoRows, IsCalmOver, IsMarked};
+ghost use Rattle.broker_tables.specs.Making.{IsBlank, HasTables, HasShortKeys, IsCalmOver, IsMarked};
 ghost use Rattle.broker_tables.specs.Refusals.{AreShort};
 ghost use Rattle.registry_tables.specs.Format.{Finds};
 ghost use Rattle.command_facts.specs.Primitives.{broker_primitives};
@@ -88,7 +88,7 @@ pub(crate) fn make_indexes<S: Alter>(conn: &mut Connection<S>) -> Result<(), Sto
         (λ _ old new. old.now.schema ≡ schema_of all_tables
         → MakesIndexes all_indexes old.now new.now) }
     ensures calm { IsCalmOver S.Store conn.old conn.new result
-        (λ db. (db.schema ≡ schema_of all_tables) × HasNoRows db) }
+        (λ db. (db.schema ≡ schema_of all_tables) × HasShortKeys db) }
 {
     done!(content_store::make_index(conn));
     done!(contract_tables::make_indexes(conn));
@@ -114,7 +114,8 @@ fn make<S: Alter>(conn: &mut Connection<S>, digest: &str) -> Result<(), StoreFau
     ensures unchanged { HasCleanDisk (state S.Store conn.new)
         → IsUnchangedUnless (λ _. Unit {0}) (state S.Store conn.old) (state S.Store conn.new) result }
     ensures calm { AreShort (digest.now ∷ [])
-        → OnlyIfStoreFailed (state S.Store) digest.now conn.old conn.new (result ≡ Err StoreFault.Store) }
+        → OnlyIfStoreFailed (state S.Store) IsBlank (opening digest.now) conn.old conn.new
+        (result ≡ Err StoreFault.Store) }
     ensures over { LeavesNoTransaction (state S.Store conn.old) (state S.Store conn.new) }
     ensures survives { CommitsAtMostOnce (state S.Store conn.old) (state S.Store conn.new) }
 {
@@ -134,8 +135,8 @@ pub(crate) fn create<S: Alter>(
         (state S.Store conn.old) (state S.Store conn.new)) }
     ensures refuses { IfErr result (RefusesNew (broker_primitives.digest_of office.now)
         (state S.Store conn.old) (state S.Store conn.new)) }
-    ensures calm { OnlyIfStoreFailed (state S.Store) (broker_primitives.digest_of office.now) conn.old conn.new
-        (result ≡ Err OpenFault.Store) }
+    ensures calm { OnlyIfStoreFailed (state S.Store) IsBlank (opening (broker_primitives.digest_of office.now))
+        conn.old conn.new (result ≡ Err OpenFault.Store) }
     ensures not_empty { (result ≡ Err OpenFault.NotEmpty)
         ↔ (¬ ((state S.Store conn.old).now.schema ≡ no_schema)) }
     ensures same { result ≡ Err OpenFault.NotEmpty → conn.new ≡ conn.old }

@@ -1,11 +1,16 @@
+use Rattle.broker_service.specs.Migration.{CanBeMigrated}
+use Rattle.broker_tables.{specs.{Holds.{format}, Making.{HasShortKeys}, Schema.{all_tables, schema_of}}, proofs.Former.{migrated, unmarked_keys}}
+use Rattle.broker_tables.proofs.MakingFails.{calm_then}
 use Rattle.sqlite.specs.Held.{state}
-use Rattle.table_access.proofs.CallLemmas.{statement_seq}
-use Rattle.broker_tables.proofs.Former.{migrated}
+use Rattle.std.proofs.Common.{◌≡◌}
+use Rattle.table_access.proofs.CallLemmas.{seq}
 use Rattle.broker_service.proofs.migration.add_all.Goals as goal
 
-pub returns : goal.returns
-returns g c =
-    let old = state g.S.Store c.args.conn.now in
-    let mid = state g.S.Store c.add_tables.new.conn in
-    let new = state g.S.Store c.make_indexes.new.conn in
-    statement_seq old mid new tt c.make_indexes.result _ _ _ (λ has _ makes s held. let before = has s held in migrated mid.now new.now s before (makes before.schema)) c.in-Ok.ensures c.make_indexes.ensures.makes
+pub returns-clause-brings : goal.returns-clause-brings
+returns-clause-brings g c =
+    seq _ _ _ tt c.make_indexes.result _ _ _ (λ has _ makes s held. let before = has s held in migrated _ _ s before (makes before.schema)) c.in-Ok.ensures.adds c.make_indexes.ensures.makes
+
+pub returns-clause-calm : goal.returns-clause-calm
+returns-clause-calm g c =
+    calm_then CanBeMigrated (λ db. (db.schema ≡ schema_of all_tables) × HasShortKeys db) _ _ _ tt c.make_indexes.result _ _ c.in-Ok.ensures.adds c.make_indexes.ensures.makes c.make_indexes.ensures.calm
+    (λ has it. let before = has it.0 it.1 in (before.schema, unmarked_keys format _ it.0 it.2.0 before))

@@ -30,7 +30,7 @@ returns-in-Ok-clause-calm g c clean fresh blank is =
     let digest = c.as_str-in-Ok.result.now in
     let digest_is : digest ≡ broker_primitives.digest_of c.args.office.now = c.as_str-in-Ok.ensures.value ∙ c.in-Ok.ensures.ok ∙ ap broker_primitives.digest_of c.as_str.ensures in
     let short : AreShort (digest ∷ []) = (subst (λ (text : Text). length text ≤ 10 ^ 7) (sym digest_is) (digest_short c.args.office.now), tt) in
-    subst (λ (text : Text). HasFailed (state g.S.Store old) (state g.S.Store new) fault.Store ⊎ IsUncommitted (state g.S.Store) text new) digest_is
+    subst (λ (text : Text). HasFailed (state g.S.Store old) (state g.S.Store new) fault.Store ⊎ IsUncommitted (state g.S.Store) (opening text) new) digest_is
     (c.in-Err-make.ensures.calm short clean fresh blank (ap Err (told_store c.in-Err-make.fault (ap Err (sym c.open_fault.ensures) ∙ is))))
 
 pub returns-clause-calm : goal.returns-clause-calm

@@ -10,22 +10,22 @@ pub returns-clause-found : goal.returns-clause-found
 returns-clause-found g c clean =
     IfOk-weaker c.conclude.result _ _ (λ found it. (it.0, subst (λ (db : Database). Finds db found) it.1 it.2.0))
     (transaction_told (state g.S.Store c.args.conn.now) (state g.S.Store c.begin.new.conn) (state g.S.Store c.format_of-found.new.conn) (state g.S.Store c.conclude.new.conn) _ _ c.conclude.result
-    (looked (state g.S.Store c.args.conn.now) (state g.S.Store c.begin.new.conn) (state g.S.Store c.format_of-found.new.conn) (state g.S.Store c.conclude.new.conn) _ c.format_of-found.result c.conclude.result c.in-Ok.ensures.begun c.begin.ensures.survives c.format_of-found.ensures.finds.call c.conclude.ensures.concludes) clean)
+    (looked (state g.S.Store c.args.conn.now) (state g.S.Store c.begin.new.conn) (state g.S.Store c.format_of-found.new.conn) (state g.S.Store c.conclude.new.conn) _ c.format_of-found.result c.conclude.result c.in-Ok.ensures.begun c.begin.ensures.survives c.format_of-found.ensures.finds c.conclude.ensures.concludes) clean)
 
 pub returns-clause-same : goal.returns-clause-same
 returns-clause-same g c clean =
     transaction_as_before (state g.S.Store c.args.conn.now) (state g.S.Store c.begin.new.conn) (state g.S.Store c.format_of-found.new.conn) (state g.S.Store c.conclude.new.conn) _ _ c.conclude.result
-    (looked (state g.S.Store c.args.conn.now) (state g.S.Store c.begin.new.conn) (state g.S.Store c.format_of-found.new.conn) (state g.S.Store c.conclude.new.conn) _ c.format_of-found.result c.conclude.result c.in-Ok.ensures.begun c.begin.ensures.survives c.format_of-found.ensures.finds.call c.conclude.ensures.concludes) refl clean
+    (looked (state g.S.Store c.args.conn.now) (state g.S.Store c.begin.new.conn) (state g.S.Store c.format_of-found.new.conn) (state g.S.Store c.conclude.new.conn) _ c.format_of-found.result c.conclude.result c.in-Ok.ensures.begun c.begin.ensures.survives c.format_of-found.ensures.finds c.conclude.ensures.concludes) refl clean
 
 pub returns-clause-survives : goal.returns-clause-survives
 returns-clause-survives g c =
     transaction_undone (state g.S.Store c.args.conn.now) (state g.S.Store c.begin.new.conn) (state g.S.Store c.format_of-found.new.conn) (state g.S.Store c.conclude.new.conn) _ _ c.conclude.result
-    (looked (state g.S.Store c.args.conn.now) (state g.S.Store c.begin.new.conn) (state g.S.Store c.format_of-found.new.conn) (state g.S.Store c.conclude.new.conn) _ c.format_of-found.result c.conclude.result c.in-Ok.ensures.begun c.begin.ensures.survives c.format_of-found.ensures.finds.call c.conclude.ensures.concludes) refl
+    (looked (state g.S.Store c.args.conn.now) (state g.S.Store c.begin.new.conn) (state g.S.Store c.format_of-found.new.conn) (state g.S.Store c.conclude.new.conn) _ c.format_of-found.result c.conclude.result c.in-Ok.ensures.begun c.begin.ensures.survives c.format_of-found.ensures.finds c.conclude.ensures.concludes) refl
 
 pub returns-clause-over : goal.returns-clause-over
 returns-clause-over g c =
     transaction_over (state g.S.Store c.args.conn.now) (state g.S.Store c.begin.new.conn) (state g.S.Store c.format_of-found.new.conn) (state g.S.Store c.conclude.new.conn) _ _ c.conclude.result
-    (looked (state g.S.Store c.args.conn.now) (state g.S.Store c.begin.new.conn) (state g.S.Store c.format_of-found.new.conn) (state g.S.Store c.conclude.new.conn) _ c.format_of-found.result c.conclude.result c.in-Ok.ensures.begun c.begin.ensures.survives c.format_of-found.ensures.finds.call c.conclude.ensures.concludes)
+    (looked (state g.S.Store c.args.conn.now) (state g.S.Store c.begin.new.conn) (state g.S.Store c.format_of-found.new.conn) (state g.S.Store c.conclude.new.conn) _ c.format_of-found.result c.conclude.result c.in-Ok.ensures.begun c.begin.ensures.survives c.format_of-found.ensures.finds c.conclude.ensures.concludes)
 
 pub returns-in-Err-clause-same : goal.returns-in-Err-clause-same
 returns-in-Err-clause-same g c clean = not_begun (state g.S.Store c.args.conn.now) (state g.S.Store c.begin.new.conn) (c.in-Err.ensures.refused clean) c.begin.ensures.survives clean
@@ -36,7 +36,7 @@ returns-in-Err-clause-over g c = unbegun_over (state g.S.Store c.args.conn.now) 
 pub returns-clause-calm : goal.returns-clause-calm
 returns-clause-calm g c clean fresh is =
     elim (looking_fails (state g.S.Store c.args.conn.now) (state g.S.Store c.begin.new.conn) (state g.S.Store c.format_of-found.new.conn) (state g.S.Store c.conclude.new.conn) _ _ c.conclude.result
-    (looked (state g.S.Store c.args.conn.now) (state g.S.Store c.begin.new.conn) (state g.S.Store c.format_of-found.new.conn) (state g.S.Store c.conclude.new.conn) _ c.format_of-found.result c.conclude.result c.in-Ok.ensures.begun c.begin.ensures.survives c.format_of-found.ensures.finds.call c.conclude.ensures.concludes) clean fresh
+    (looked (state g.S.Store c.args.conn.now) (state g.S.Store c.begin.new.conn) (state g.S.Store c.format_of-found.new.conn) (state g.S.Store c.conclude.new.conn) _ c.format_of-found.result c.conclude.result c.in-Ok.ensures.begun c.begin.ensures.survives c.format_of-found.ensures.finds c.conclude.ensures.concludes) clean fresh
     (λ _. ⊥) (λ worked unlimited. IfErr-weaker c.format_of-found.result _ _ (λ fault why. inl why) (c.format_of-found.ensures.cause worked unlimited)) (λ found it never. never) is) [ inl why ↦ why | inr never ↦ absurd never ]
 
 pub returns-in-Err-clause-calm : goal.returns-in-Err-clause-calm

@@ -1,7 +1,7 @@
-use Rattle.std.proofs.Common.{inl}
+use Rattle.std.proofs.Common.{◌∷◌, [], inl}
 use Rattle.sqlite.specs.Held.{state}
 use Rattle.broker_core.specs.State.{opening}
-use Rattle.broker_tables.specs.{Making.{IsBlank}, Room.{HasAllNumbers}}
+use Rattle.broker_tables.specs.{Making.{IsBlank}, Refusals.{AreShort}, Room.{HasAllNumbers}}
 use Rattle.table_access.specs.Durability.{HoldsDurably}
 use Rattle.broker_service.{specs.Stored.{Stores, HoldsState}, proofs.{MakeLemmas.{made, make_ends, made_calm}, OpenFailures.{unbegun_fails}}}
 use Rattle.broker_service.proofs.Transaction.{transaction_unchanged, transaction_over, transaction_once, unbegun_ends, unbegun_unchanged, unbegun_over, once_at_most}
@@ -10,22 +10,22 @@ use Rattle.broker_service.proofs.opening.make.Goals as goal
 pub returns-clause-ends : goal.returns-clause-ends
 returns-clause-ends g c =
     make_ends c.args.digest.now (state g.S.Store c.args.conn.now) (state g.S.Store c.begin.new.conn) (state g.S.Store c.make_all-made.new.conn) (state g.S.Store c.conclude.new.conn) c.conclude.result
-    (made c.args.digest.now (state g.S.Store c.args.conn.now) (state g.S.Store c.begin.new.conn) (state g.S.Store c.make_all-made.new.conn) (state g.S.Store c.conclude.new.conn) c.make_all-made.result c.conclude.result c.is_ok-keeps.result c.in-Ok.ensures.begun c.begin.ensures.survives c.make_all-made.ensures.makes.call c.is_ok-keeps.ensures.value c.conclude.ensures.concludes)
+    (made c.args.digest.now (state g.S.Store c.args.conn.now) (state g.S.Store c.begin.new.conn) (state g.S.Store c.make_all-made.new.conn) (state g.S.Store c.conclude.new.conn) c.make_all-made.result c.conclude.result c.is_ok-keeps.result c.in-Ok.ensures.begun c.begin.ensures.survives c.make_all-made.ensures.makes c.is_ok-keeps.ensures.value c.conclude.ensures.concludes)
 
 pub returns-clause-unchanged : goal.returns-clause-unchanged
 returns-clause-unchanged g c =
     transaction_unchanged (state g.S.Store c.args.conn.now) (state g.S.Store c.begin.new.conn) (state g.S.Store c.make_all-made.new.conn) (state g.S.Store c.conclude.new.conn) _ _ c.conclude.result
-    (made c.args.digest.now (state g.S.Store c.args.conn.now) (state g.S.Store c.begin.new.conn) (state g.S.Store c.make_all-made.new.conn) (state g.S.Store c.conclude.new.conn) c.make_all-made.result c.conclude.result c.is_ok-keeps.result c.in-Ok.ensures.begun c.begin.ensures.survives c.make_all-made.ensures.makes.call c.is_ok-keeps.ensures.value c.conclude.ensures.concludes)
+    (made c.args.digest.now (state g.S.Store c.args.conn.now) (state g.S.Store c.begin.new.conn) (state g.S.Store c.make_all-made.new.conn) (state g.S.Store c.conclude.new.conn) c.make_all-made.result c.conclude.result c.is_ok-keeps.result c.in-Ok.ensures.begun c.begin.ensures.survives c.make_all-made.ensures.makes c.is_ok-keeps.ensures.value c.conclude.ensures.concludes)
 
 pub returns-clause-over : goal.returns-clause-over
 returns-clause-over g c =
     transaction_over (state g.S.Store c.args.conn.now) (state g.S.Store c.begin.new.conn) (state g.S.Store c.make_all-made.new.conn) (state g.S.Store c.conclude.new.conn) _ _ c.conclude.result
-    (made c.args.digest.now (state g.S.Store c.args.conn.now) (state g.S.Store c.begin.new.conn) (state g.S.Store c.make_all-made.new.conn) (state g.S.Store c.conclude.new.conn) c.make_all-made.result c.conclude.result c.is_ok-keeps.result c.in-Ok.ensures.begun c.begin.ensures.survives c.make_all-made.ensures.makes.call c.is_ok-keeps.ensures.value c.conclude.ensures.concludes)
+    (made c.args.digest.now (state g.S.Store c.args.conn.now) (state g.S.Store c.begin.new.conn) (state g.S.Store c.make_all-made.new.conn) (state g.S.Store c.conclude.new.conn) c.make_all-made.result c.conclude.result c.is_ok-keeps.result c.in-Ok.ensures.begun c.begin.ensures.survives c.make_all-made.ensures.makes c.is_ok-keeps.ensures.value c.conclude.ensures.concludes)
 
 pub returns-clause-survives : goal.returns-clause-survives
 returns-clause-survives g c =
     transaction_once (state g.S.Store c.args.conn.now) (state g.S.Store c.begin.new.conn) (state g.S.Store c.make_all-made.new.conn) (state g.S.Store c.conclude.new.conn) _ _ c.conclude.result
-    (made c.args.digest.now (state g.S.Store c.args.conn.now) (state g.S.Store c.begin.new.conn) (state g.S.Store c.make_all-made.new.conn) (state g.S.Store c.conclude.new.conn) c.make_all-made.result c.conclude.result c.is_ok-keeps.result c.in-Ok.ensures.begun c.begin.ensures.survives c.make_all-made.ensures.makes.call c.is_ok-keeps.ensures.value c.conclude.ensures.concludes)
+    (made c.args.digest.now (state g.S.Store c.args.conn.now) (state g.S.Store c.begin.new.conn) (state g.S.Store c.make_all-made.new.conn) (state g.S.Store c.conclude.new.conn) c.make_all-made.result c.conclude.result c.is_ok-keeps.result c.in-Ok.ensures.begun c.begin.ensures.survives c.make_all-made.ensures.makes c.is_ok-keeps.ensures.value c.conclude.ensures.concludes)
 
 pub returns-in-Err-clause-ends : goal.returns-in-Err-clause-ends
 returns-in-Err-clause-ends g c =
@@ -43,9 +43,9 @@ returns-in-Err-clause-survives g c = once_at_most (state g.S.Store c.args.conn.n
 pub returns-clause-calm : goal.returns-clause-calm
 unfolding made
 returns-clause-calm g c short clean =
-    made_calm (state g.S.Store) c.args.digest.now c.args.conn.now c.begin.new.conn c.make_all-made.new.conn c.conclude.new.conn c.conclude.result
-    (made c.args.digest.now (state g.S.Store c.args.conn.now) (state g.S.Store c.begin.new.conn) (state g.S.Store c.make_all-made.new.conn) (state g.S.Store c.conclude.new.conn) c.make_all-made.result c.conclude.result c.is_ok-keeps.result c.in-Ok.ensures.begun c.begin.ensures.survives c.make_all-made.ensures.makes.call c.is_ok-keeps.ensures.value c.conclude.ensures.concludes)
-    c.make_all-made.ensures.calm (c.conclude.ensures.refused clean) short clean
+    made_calm (state g.S.Store) (λ db. IsBlank db × AreShort (c.args.digest.now ∷ [])) IsBlank (opening c.args.digest.now) c.args.conn.now c.begin.new.conn c.make_all-made.new.conn c.conclude.new.conn _ _ c.conclude.result
+    (made c.args.digest.now (state g.S.Store c.args.conn.now) (state g.S.Store c.begin.new.conn) (state g.S.Store c.make_all-made.new.conn) (state g.S.Store c.conclude.new.conn) c.make_all-made.result c.conclude.result c.is_ok-keeps.result c.in-Ok.ensures.begun c.begin.ensures.survives c.make_all-made.ensures.makes c.is_ok-keeps.ensures.value c.conclude.ensures.concludes)
+    c.make_all-made.ensures.calm (c.conclude.ensures.refused clean) (λ db blank. (blank, short)) (λ u makes _ blank. (makes blank).0) clean
 
 pub returns-in-Err-clause-calm : goal.returns-in-Err-clause-calm
 returns-in-Err-clause-calm g c short clean fresh holds is =

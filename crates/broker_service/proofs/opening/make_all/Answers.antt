@@ -1,9 +1,9 @@
-use Rattle.std.proofs.Common.{◌≡◌, ◌++◌, ◌∷◌, [], ℕ, List, Ok, Err}
+use Rattle.broker_tables.specs.{Holds.{format}, Making.{HasShortKeys, HasTables, IsBlank}, Refusals.{AreShort}}
+use Rattle.broker_tables.{specs.Schema.{all_tables, contents, contract_part, registry_part, schema_of}, proofs.MakingFails.{calm_then, none_short}}
+use Rattle.broker_tables.proofs.Opening.{has_all, opens, opens_with_room}
 use Rattle.sqlite.specs.Held.{state}
-use Rattle.table_access.proofs.CallLemmas.{statement_seq}
-use Rattle.broker_tables.specs.{Schema.{registry_part, contents, contract_part, all_tables, schema_of}, Holds.{format}, Making.{IsBlank, HasTables, HasNoRows}}
-use Rattle.broker_tables.{specs.Refusals.{AreShort}, proofs.{Opening.{has_all, opens, opens_with_room}, MakingFails.{calm_then, made_no_rows}}}
-use Rattle.broker_service.proofs.Transaction.{second_fails}
+use Rattle.std.proofs.Common.{Err, List, Ok, [], ℕ, ◌++◌, ◌∷◌, ◌≡◌}
+use Rattle.table_access.proofs.CallLemmas.{failed_then, seq, seq}
 use Rattle.broker_service.proofs.opening.make_all.Goals as goal
 
 pub returns-clause-makes : goal.returns-clause-makes
@@ -13,9 +13,9 @@ returns-clause-makes g c =
     let second = state g.S.Store c.make_rest.new.conn in
     let new = state g.S.Store c.make_indexes.new.conn in
     let digest = c.args.digest.now in
-    statement_seq old second new c.in-Ok-make_rest.value c.make_indexes.result (λ _. IsBlank old.now → HasTables all_tables format digest second.now) _ _
+    seq old second new c.in-Ok-make_rest.value c.make_indexes.result (λ _. IsBlank old.now → HasTables all_tables format digest second.now) _ _
     (λ has u makes blank. let before = has blank in let all = has_all format digest second.now new.now before (makes before.schema) in (opens digest new.now all, opens_with_room format digest new.now all))
-    (statement_seq old first second c.in-Ok.value (Ok c.in-Ok-make_rest.value) _ _ (λ _. IsBlank old.now → HasTables all_tables format digest second.now) (λ has u rest blank. rest digest (has blank)) c.in-Ok.ensures.makes c.in-Ok-make_rest.ensures.makes)
+    (seq old first second c.in-Ok.value (Ok c.in-Ok-make_rest.value) _ _ (λ _. IsBlank old.now → HasTables all_tables format digest second.now) (λ has u rest blank. rest digest (has blank)) c.in-Ok.ensures.makes c.in-Ok-make_rest.ensures.makes)
     c.make_indexes.ensures.makes
 
 pub returns-in-Err-make_rest-clause-makes : goal.returns-in-Err-make_rest-clause-makes
@@ -23,7 +23,7 @@ returns-in-Err-make_rest-clause-makes g c =
     let old = state g.S.Store c.args.conn.now in
     let first = state g.S.Store c.make_first.new.conn in
     let second = state g.S.Store c.make_rest.new.conn in
-    second_fails old first second c.in-Ok.value c.in-Err-make_rest.fault _ _ _ c.in-Ok.ensures.makes c.in-Err-make_rest.ensures.makes
+    failed_then old first second c.in-Ok.value c.in-Err-make_rest.fault _ _ _ c.in-Ok.ensures.makes c.in-Err-make_rest.ensures.makes
 
 pub returns-clause-calm : goal.returns-clause-calm
 returns-clause-calm g c =
@@ -32,10 +32,10 @@ returns-clause-calm g c =
     let second = state g.S.Store c.make_rest.new.conn in
     let new = state g.S.Store c.make_indexes.new.conn in
     let digest = c.args.digest.now in
-    calm_then (λ db. IsBlank db × AreShort (digest ∷ [])) (λ db. (db.schema ≡ schema_of all_tables) × HasNoRows db) old second new c.in-Ok-make_rest.value c.make_indexes.result
+    calm_then (λ db. IsBlank db × AreShort (digest ∷ [])) (λ db. (db.schema ≡ schema_of all_tables) × HasShortKeys db) old second new c.in-Ok-make_rest.value c.make_indexes.result
     (λ _. IsBlank old.now → HasTables all_tables format digest second.now) _
-    (statement_seq old first second c.in-Ok.value (Ok c.in-Ok-make_rest.value) _ _ (λ _. IsBlank old.now → HasTables all_tables format digest second.now) (λ has u rest blank. rest digest (has blank)) c.in-Ok.ensures.makes c.in-Ok-make_rest.ensures.makes)
-    c.make_indexes.ensures.makes c.make_indexes.ensures.calm (λ has it. let all = has it.0 in (all.schema, made_no_rows all_tables format digest second.now all))
+    (seq old first second c.in-Ok.value (Ok c.in-Ok-make_rest.value) _ _ (λ _. IsBlank old.now → HasTables all_tables format digest second.now) (λ has u rest blank. rest digest (has blank)) c.in-Ok.ensures.makes c.in-Ok-make_rest.ensures.makes)
+    c.make_indexes.ensures.makes c.make_indexes.ensures.calm (λ has it. let all = has it.0 in (all.schema, none_short format digest second.now all))
 
 pub returns-in-Err-make_rest-clause-calm : goal.returns-in-Err-make_rest-clause-calm
 returns-in-Err-make_rest-clause-calm g c =
