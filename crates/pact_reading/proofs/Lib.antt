@@ -1,4 +1,3 @@
-pub mod Patterns
 pub mod Refusals
 pub mod Again
 pub mod Digests

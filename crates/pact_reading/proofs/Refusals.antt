@@ -7,9 +7,10 @@ use Rattle.pact_file.specs.{File.{most_bytes, file_of, sides_of, items_of}, Inte
 use Rattle.pact_file.specs.{Normal.{InteractionRead, InteractionsRead, InOrder, Normal, IsRefusal, if_short}, Pact.{Header, Interaction, Pact, normal_text}}
 use Rattle.pact_file.specs.{Parts.{optional_at}, Rules.{TableRead, rules_or_fault, RulesRead, IsRulesOf}, declared.fault.PactFault.{PactFault}}
 use Rattle.pact_file.proofs.{Agreement.{one_answer}, Again.{one_read}, SetLemmas.{one_such}, Steps.{ok_same, ok_err, err_same}}
-use Rattle.pact_reading.{specs.Readings.{TellsRefusal, HasPatternIfPact, IsNoPact, IsPatternAsked}, proofs.Patterns.{refused_regex}}
+use Rattle.pact_reading.specs.Readings.{TellsRefusal, HasPatternIfPact, IsNoPact, IsPatternAsked}
 use Rattle.pact_rules.specs.{Lists.{OneOf, IsIn}, Rules.{Rules as Table, has_regex}, RuleReading.{IsReading}, declared.rule_fault.RuleFault.{RuleFault}}
 use Rattle.pact_rules.specs.{declared.rule_fault.RuleFault.TheVariants.{Pattern}, Reading.{just, Follows, ◌>>=◌, EachRead}}
+use Rattle.pact_rules.proofs.ReadingLemmas.{refused_regex}
 use Rattle.reply_check.specs.{Recorded.{Reply}, Verdicts.{IsKnown, AreKnown, IsFirstUnknown, UsesPattern}, Meeting.{HasPattern}}
 
 -- what may be read as x where the same reading may be refused has P

@@ -13,7 +13,7 @@ use Rattle.pact_rules.specs.declared.table.BodyRule as code
 before_not_after : (a b : List ℕ) → IsBefore a b → is_lt (slice_cmp nat_cmp b a) ≡ false
 before_not_after a b h = rw (nat_list_cmp_total.antisymm b a, h) refl
 
-pub never_both : (a b : List ℕ) → IsBefore a b → IsBefore b a → ⊥
+never_both : (a b : List ℕ) → IsBefore a b → IsBefore b a → ⊥
 never_both a b h k = true≢false (ap is_lt (sym k) ∙ before_not_after a b h)
 
 -- ---- weights and lengths alone

@@ -3,7 +3,7 @@ use Rattle.std.proofs.Common.{◌≡◌, ℕ, pos, negsuc, true, false, List, []
 use Rattle.pact_rules.specs.Trees.{Node, null, truth, whole, text, list, object, Nodes, no_nodes, node, Fields, no_fields, field}
 use Rattle.pact_rules.specs.declared.rule_fault.RuleFault.TheVariants.{OldRules, BadPath, SamePathTwice, Unsupported, BadBound, Pattern, BadCombine}
 use Rattle.pact_rules.specs.{Rules.{equality, same_type, regex, include, integer, is_null, Entry, BodyRule, HeaderRule, has_regex}, Choice.{chosen}}
-use Rattle.pact_rules.specs.{Matching.{holds, entry_holds}, Tables.{header_entry}, RuleReading.{found_in, no_pattern}, Walks.{own_place}}
+use Rattle.pact_rules.specs.{Matching.{holds, entry_holds}, Tables.{header_entry}, RuleReading.{found_in, table_in, no_pattern}, Walks.{own_place}}
 use Rattle.pact_paths.specs.{Paths.{Token, named, indexed, any, key, item, Location}, PathReading.{tokens_in}}
 
 -- ---- the choice
@@ -97,6 +97,9 @@ match name more = object (field (codes "match") (text name) more)
 abbrev category : List ℕ → Fields → Node
 category name entries = object (field name (object entries) no_fields)
 
+abbrev by_type : Nodes
+by_type = node (match (codes "type") no_fields) no_nodes
+
 abbrev at_root : Nodes → Node
 at_root matchers = category (codes "body") (field (codes "$") (entry matchers) no_fields)
 
@@ -146,11 +149,17 @@ refused_pattern : found_in no_pattern (at_root (node (match (codes "regex") (fie
 unfolding tokens_in
 refused_pattern = refl
 
--- an entry without matchers is read, and has no effect
-without_effect : found_in no_pattern (object (field (codes "body") (object (field (codes "$") (entry no_nodes) no_fields)) (field (codes "path") (whole (pos 5)) no_fields)))
-    ≡ Ok (record { body = record { path = []; entry = record { any = false; matchers = [] } } ∷ []; headers = [] })
+-- an entry without matchers is read, and isn't in the table
+without_effect : table_in no_pattern (object (field (codes "body") (object (field (codes "$") (entry no_nodes) no_fields)) (field (codes "path") (whole (pos 5)) no_fields)))
+    ≡ Ok (record { body = []; headers = [] })
 unfolding tokens_in
 without_effect = refl
+
+-- the entries are in the order of the paths' texts, here $.a and $.b, which isn't that of the keys
+in_text_order : table_in no_pattern (category (codes "body") (field (codes "$.b") (entry by_type) (field (codes "$['a']") (entry by_type) no_fields)))
+    ≡ Ok (record { body = rule (named (codes "a") ∷ []) ∷ rule (named (codes "b") ∷ []) ∷ []; headers = [] })
+unfolding tokens_in
+in_text_order = refl
 
 -- ---- the parts of a table
 

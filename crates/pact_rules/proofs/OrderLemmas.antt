@@ -1,9 +1,11 @@
 -- Rules in a map, in the order of their texts.
-use Rattle.std.specs.{Ordering.{is_eq, match_ordering}, Cmp.Lexicographic.{slice_cmp}, Map.{lookup, keys_of}, BTreeMap.{is_at, insert_entry}}
-use Rattle.std.specs.{List.{AllByRecursion, list_any, filter}, List.Sorted.{IsStrictlySortedBy}}
-use Rattle.std.proofs.Common.{◌≡◌, ◌⊎◌, ℕ, Bool, true, false, cond, ◌||◌, List, [], ◌∷◌, map, Option, Some, is_some, String, Global, Ordering, Less, Equal, Greater, nat_cmp, string_bytes, string_cmp, bytes_eq, refl, sym, ap, ◌∙◌, inl, inr, ⊎_elim, true≢false}
-use Rattle.std.proofs.{lemmas.Bool.{cond_both}, lemmas.Map.Text.{is_eq-slice_cmp}, lemmas.Slice.Eq.{bytes_eq-Decides}}
-use Rattle.pact_rules.specs.{Lists.{IsIn}, Rules.{IsBefore, IsOrderedBy}, OrderedReading.{IsKeyedBy, put}}
+use Rattle.std.specs.{Ordering.{is_eq, match_ordering, ordering_reverse}, Cmp.Lexicographic.{slice_cmp}, Map.{lookup}, BTreeMap.{is_at, insert_entry}}
+use Rattle.std.specs.List.{AllByRecursion, list_any, filter}
+use Rattle.std.proofs.Common.{◌≡◌, ℕ, Bool, true, false, cond, ◌||◌, List, [], ◌∷◌, map, Option, Some, is_some, String, Global, Ordering, Less, Equal, Greater, nat_cmp, string_bytes, string_cmp, bytes_eq, refl, sym, ap, ◌∙◌, subst, ⊎_elim, true≢false}
+use Rattle.std.proofs.{lemmas.Bool.{cond_both, or_parts, or_left, or_right, or_cases}, lemmas.Cmp.{nat_list_cmp_total}}
+use Rattle.std.proofs.{lemmas.List.Elements.{All-filter, All-from_recursion, recursion_from_All}, lemmas.Map.Text.{is_eq-slice_cmp}}
+use Rattle.std.proofs.lemmas.Slice.Eq.{bytes_eq-Decides}
+use Rattle.pact_rules.specs.{Rules.{IsBefore, IsOrderedBy, put}, RuleViews.{IsKeyedBy}}
 
 -- texts that compare equal are equal
 pub equal_texts : (a b : List ℕ) → slice_cmp nat_cmp a b ≡ Equal → a ≡ b
@@ -55,51 +57,61 @@ module _ {X A : Type 0} (view : X → A) (text : A → List ℕ) where
       found_or (is_eq (slice_cmp nat_cmp name (string_bytes e.0))) _ e.1 (lookup (is_at (λ k. slice_cmp nat_cmp name (string_bytes k))) es) (has_text name es keyed.1)
       ∙ ap (λ t. t || list_any (λ r. bytes_eq name (text r)) (map (λ (e : String Global × X). view e.1) es)) (is_eq-slice_cmp name (string_bytes e.0) ∙ ap (bytes_eq name) keyed.0)
 
-  before_all : (k : String Global) (a : A) (es : List (String Global × X)) → string_bytes k ≡ text a → IsKeyedBy view text es → AllByRecursion (λ y. string_cmp k y ≡ Less) (keys_of es)
-      → AllByRecursion (λ y. IsBefore (text a) (text y)) (map (λ (e : String Global × X). view e.1) es)
-  before_all k a [] is keyed all = tt
-  before_all k a (e ∷ es) is keyed all =
-      (ap (λ x. slice_cmp nat_cmp x (text (view e.1))) (sym is) ∙ ap (slice_cmp nat_cmp (string_bytes k)) (sym keyed.0) ∙ all.0, before_all k a es is keyed.1 all.1)
-
-  -- the order of the keys is that of the values
-  pub in_order : (es : List (String Global × X)) → IsKeyedBy view text es → IsStrictlySortedBy string_cmp (keys_of es) → IsOrderedBy text (map (λ (e : String Global × X). view e.1) es)
-  unfolding IsStrictlySortedBy
-  in_order [] keyed sorted = tt
-  in_order (e ∷ es) keyed sorted = (before_all e.0 (view e.1) es keyed.0 keyed.1 sorted.0, in_order es keyed.1 sorted.1)
-
 -- ---- one more in its place
 
-pub all_put : {A : Type 0} (text : A → List ℕ) (P : A → Type 0) (x : A) (ys : List A) → P x → AllByRecursion P ys → AllByRecursion P (put text x ys)
-all_put text P x [] h all = (h, tt)
-all_put text P x (y ∷ ys) h all =
-    match_any (slice_cmp nat_cmp (text x) (text y)) (x ∷ y ∷ ys) (x ∷ ys) (y ∷ put text x ys) (AllByRecursion P)
-    (λ less. (h, all)) (λ equal. (h, all.1)) (λ greater. (all.0, all_put text P x ys h all.1))
+module _ {A : Type 0} (text : A → List ℕ) where
+  pub all_put : (P : A → Type 0) (x : A) (ys : List A) → P x → AllByRecursion P ys → AllByRecursion P (put text x ys)
+  all_put P x [] h all = (h, tt)
+  all_put P x (y ∷ ys) h all =
+      match_any (slice_cmp nat_cmp (text x) (text y)) (x ∷ y ∷ ys) (x ∷ ys) (y ∷ put text x ys) (AllByRecursion P)
+      (λ less. (h, all)) (λ equal. (h, all.1)) (λ greater. (all.0, all_put P x ys h all.1))
+
+  -- what is before the first is before the others
+  before_all : (x y : A) (ys : List A) → IsBefore (text x) (text y) → AllByRecursion (λ z. IsBefore (text y) (text z)) ys → AllByRecursion (λ z. IsBefore (text x) (text z)) ys
+  before_all x y [] h all = tt
+  before_all x y (z ∷ zs) h all = (nat_list_cmp_total.trans (text x) (text y) (text z) h all.0, before_all x y zs h all.1)
+
+  pub order_put : (x : A) (ys : List A) → IsOrderedBy text ys → IsOrderedBy text (put text x ys)
+  order_put x [] order = (tt, tt)
+  order_put x (y ∷ ys) order =
+      match_any (slice_cmp nat_cmp (text x) (text y)) (x ∷ y ∷ ys) (x ∷ ys) (y ∷ put text x ys) (IsOrderedBy text) (λ less. ((less, before_all x y ys less order.0), order))
+      (λ equal. (subst (λ t. AllByRecursion (λ z. IsBefore t (text z)) ys) (sym (equal_texts (text x) (text y) equal)) order.0, order.1))
+      (λ greater. (all_put (λ z. IsBefore (text y) (text z)) x ys (nat_list_cmp_total.antisymm (text y) (text x) ∙ ap ordering_reverse greater) order.0, order_put x ys order.1))
+
+  -- where no other has its text, those before it stay
+  pub any_put : (p : A → Bool) (x : A) (ys : List A) → list_any (λ y. bytes_eq (text x) (text y)) ys ≡ false → list_any p (put text x ys) ≡ (p x || list_any p ys)
+  any_put p x [] free = refl
+  any_put p x (y ∷ ys) free =
+      let f = or_parts (bytes_eq (text x) (text y)) _ free in
+      match_any (slice_cmp nat_cmp (text x) (text y)) (x ∷ y ∷ ys) (x ∷ ys) (y ∷ put text x ys) (λ zs. list_any p zs ≡ (p x || list_any p (y ∷ ys))) (λ less. refl)
+      (λ equal. absurd (true≢false (sym (ap is_eq equal) ∙ is_eq-slice_cmp (text x) (text y) ∙ f.0)))
+      (λ greater. ap (λ b. p y || b) (any_put p x ys f.1) ∙ swap (p y) (p x) (list_any p ys)) where
+        swap : (a b c : Bool) → (a || (b || c)) ≡ (b || (a || c))
+        swap true true c = refl
+        swap true false c = refl
+        swap false b c = refl
 
 -- ---- some of a list
 
 module _ {A : Type 0} (p : A → Bool) where
-  pub all_kept : (P : A → Type 0) (xs : List A) → AllByRecursion P xs → AllByRecursion P (filter p xs)
-  all_kept P [] all = tt
-  all_kept P (x ∷ xs) all = cond_both (p x) (x ∷ filter p xs) (filter p xs) (AllByRecursion P) (λ passes. (all.0, all_kept P xs all.1)) (λ fails. all_kept P xs all.1)
-
   pub order_kept : (text : A → List ℕ) (xs : List A) → IsOrderedBy text xs → IsOrderedBy text (filter p xs)
   order_kept text [] order = tt
   order_kept text (x ∷ xs) order =
-      cond_both (p x) (x ∷ filter p xs) (filter p xs) (IsOrderedBy text) (λ passes. (all_kept (λ y. IsBefore (text x) (text y)) xs order.0, order_kept text xs order.1)) (λ fails. order_kept text xs order.1)
+      let behind = All-filter p (λ y. IsBefore (text x) (text y)) xs (All-from_recursion (λ y. IsBefore (text x) (text y)) xs order.0) in
+      cond_both (p x) (x ∷ filter p xs) (filter p xs) (IsOrderedBy text)
+      (λ passes. (recursion_from_All (λ y. IsBefore (text x) (text y)) (filter p xs) behind, order_kept text xs order.1)) (λ fails. order_kept text xs order.1)
 
-  pub all_pass : (xs : List A) → AllByRecursion (λ y. p y ≡ true) (filter p xs)
-  all_pass [] = tt
-  all_pass (x ∷ xs) = cond_both (p x) (x ∷ filter p xs) (filter p xs) (AllByRecursion (λ y. p y ≡ true)) (λ passes. (passes, all_pass xs)) (λ fails. all_pass xs)
+  -- those that are kept pass
+  pub all_pass : (P : A → Type 0) (xs : List A) → AllByRecursion P xs → AllByRecursion (λ y. (p y ≡ true) × P y) (filter p xs)
+  all_pass P [] all = tt
+  all_pass P (x ∷ xs) all =
+      cond_both (p x) (x ∷ filter p xs) (filter p xs) (AllByRecursion (λ y. (p y ≡ true) × P y)) (λ passes. ((passes, all.0), all_pass P xs all.1)) (λ fails. all_pass P xs all.1)
 
-  pub in_kept : (z : A) (xs : List A) → IsIn z (filter p xs) → IsIn z xs × (p z ≡ true)
-  in_kept z [] h = absurd h
-  in_kept z (x ∷ xs) h =
-      let later : IsIn z (filter p xs) → IsIn z (x ∷ xs) × (p z ≡ true) = λ i. let m = in_kept z xs i in (inr m.0, m.1) in
-      cond_both (p x) (x ∷ filter p xs) (filter p xs) (λ kept. IsIn z kept → IsIn z (x ∷ xs) × (p z ≡ true))
-      (λ passes. ⊎_elim (λ same. (inl same, ap p same ∙ passes)) later) (λ fails. later) h
-
-  pub kept_in : (z : A) (xs : List A) → IsIn z xs → p z ≡ true → IsIn z (filter p xs)
-  kept_in z [] h pass = absurd h
-  kept_in z (x ∷ xs) h pass =
-      cond_both (p x) (x ∷ filter p xs) (filter p xs) (IsIn z) (λ passes. ⊎_elim inl (λ i. inr (kept_in z xs i pass)) h)
-      (λ fails. ⊎_elim (λ same. absurd (true≢false (sym pass ∙ ap p same ∙ fails))) (λ i. kept_in z xs i pass) h)
+  -- one of these stays if each of them passes
+  pub any_kept : (q : A → Bool) (xs : List A) → ((x : A) → q x ≡ true → p x ≡ true) → list_any q xs ≡ true → list_any q (filter p xs) ≡ true
+  any_kept q [] h t = t
+  any_kept q (x ∷ xs) h t =
+      let more : list_any q xs ≡ true → list_any q (filter p xs) ≡ true = any_kept q xs h in
+      let either = or_cases (q x) (list_any q xs) t in
+      cond_both (p x) (x ∷ filter p xs) (filter p xs) (λ ys. list_any q ys ≡ true) (λ passes. ⊎_elim (or_left (q x) (list_any q (filter p xs))) (λ u. or_right (q x) (list_any q (filter p xs)) (more u)) either)
+      (λ fails. ⊎_elim (λ u. absurd (true≢false (sym (h x u) ∙ fails))) more either)

@@ -1,13 +1,13 @@
 -- A reading that succeeds where the grammar's patterns are accepted succeeds with the same value where none is, or meets a pattern there.
 use Rattle.std.specs.{List.{list_any, AllByRecursion}, Option.{ok_or}, Str.{str_eq_ignore_ascii_case}}
-use Rattle.std.proofs.Common.{◌≡◌, ◌⊎◌, ℕ, Bool, true, false, not, cond, List, [], ◌∷◌, ◌++◌, append_assoc, Option, Some, None, Result, Ok, Err, bytes_eq, codes, is_some, ◌&&◌, ◌||◌, refl, sym, ap, ◌∙◌, subst, inl, inr, ⊎_elim}
+use Rattle.std.proofs.Common.{◌≡◌, ◌⊎◌, ℕ, Bool, true, false, not, cond, List, [], ◌∷◌, ◌++◌, append_assoc, Option, Some, None, Result, Ok, Err, bytes_eq, codes, is_some, ◌&&◌, ◌||◌, refl, sym, ap, ◌∙◌, subst, inl, inr, ⊎_elim, arith}
+use Rattle.std.proofs.{lemmas.Bool.{or_left, or_right, or_cases}, lemmas.Bool.Decides.{nat_tests}}
 use Rattle.pact_rules.specs.declared.rule_fault.RuleFault.TheVariants.{Form, OldRules, BadPath, SamePathTwice, Unsupported, BadBound, Pattern, BadCombine, Memory}
-use Rattle.pact_rules.specs.RuleReading.{no_pattern, as_text, as_object, as_list, optional_at, bound, in_order, has_old_key, pattern_at, same_type_at, named_matcher, matcher_by, matcher_at, matchers_at, combine_of, entry_at, path_or_fault, path_at, body_rule_at, header_rule_at, is_null_node, FailsAs}
+use Rattle.pact_rules.specs.RuleReading.{no_pattern, as_text, as_object, as_list, optional_at, bound, in_order, has_old_key, pattern_at, same_type_at, named_matcher, matcher_by, matcher_at, matchers_at, combine_of, entry_at, path_or_fault, path_at, entries_at, body_rule_at, body_at, header_rule_at, headers_at, body_in, headers_in, is_null_node, category_at, categories_at, found_in, table_in, FailsAs}
 use Rattle.pact_rules.specs.{Trees.{Node, Nodes, no_nodes, node, Fields, no_fields, field}, Matching.{is_pattern}, declared.rule_fault.RuleFault.{RuleFault}}
-use Rattle.pact_rules.specs.Rules.{Matcher, equality, same_type, regex, include, integer, is_null, Entry, BodyRule, HeaderRule, Rules, no_rules, rule_text, name_key}
-use Rattle.pact_rules.specs.Tables.{HasValidPattern}
-use Rattle.pact_rules.specs.OrderedReading.{put, ordered_body, ordered_headers, ordered_body_in, ordered_headers_in, ordered_category, ordered_categories, ordered_found}
-use Rattle.pact_rules.{specs.Outcome.{◌>>=◌, guard}, proofs.OrderLemmas.{all_put}}
+use Rattle.pact_rules.specs.Rules.{Matcher, equality, same_type, regex, include, integer, is_null, Entry, BodyRule, HeaderRule, Rules, no_rules, IsOrderedBy, put, rule_text, name_key, has_effect, is_regex, IsRegex, entry_has_regex, has_regex}
+use Rattle.pact_rules.specs.{Tables.{HasValidPattern, IsTable, effective}, Outcome.{◌>>=◌, guard}}
+use Rattle.pact_rules.proofs.OrderLemmas.{all_put, order_put, any_put, order_kept, all_pass, any_kept}
 use Rattle.pact_paths.specs.{declared.path_reader.PathFault.{PathFault}, Paths.{Token}, PathReading.{path_in}, Readings.{IsReading as IsPathReading}}
 use Rattle.pact_paths.{specs.Spelling.{path_text}, proofs.ReadingLemmas.{path_reads}}
 use Rattle.pact_paths.specs.declared.path_reader.PathFault.TheVariants as read_fault
@@ -28,185 +28,276 @@ path_found k m e out finds h = path_fault k m e (path_in k) out finds refl h
 pub same_Ok : {A F : Type 0} {x y : A} → ◌≡◌ {A = Result A F} (Ok x) (Ok y) → x ≡ y
 same_Ok e = cc
 
--- what is read where the grammar's patterns are accepted is of this kind, and where none is, the same is read or a pattern is met
-abbrev pub Goes : {A : Type 0} → (A → Type 0) → Result A RuleFault → Result A RuleFault → Type 0
-Goes {A} P all few = (x : A) → all ≡ Ok x → P x × ((few ≡ Ok x) ⊎ (few ≡ Err Pattern))
+-- what is read where the grammar's patterns are accepted is P, and where none is, the same is read, or a pattern is met and what is read is Q
+abbrev pub Goes : {A : Type 0} → (A → Type 0) → (A → Type 0) → Result A RuleFault → Result A RuleFault → Type 0
+Goes {A} P Q all few = (x : A) → all ≡ Ok x → P x × ((few ≡ Ok x) ⊎ ((few ≡ Err Pattern) × Q x))
 
-goes_done : {A : Type 0} (P : A → Type 0) (x : A) → P x → Goes P (Ok x) (Ok x)
-goes_done P x h y e = (subst P (same_Ok e) h, inl e)
+goes_done : {A : Type 0} (P Q : A → Type 0) (x : A) → P x → Goes P Q (Ok x) (Ok x)
+goes_done P Q x h y e = (subst P (same_Ok e) h, inl e)
 
-goes_fault : {A : Type 0} (P : A → Type 0) (e : RuleFault) → Goes P (Err e) (Err e)
-goes_fault P e x h = cc
+goes_fault : {A : Type 0} (P Q : A → Type 0) (e : RuleFault) → Goes P Q (Err e) (Err e)
+goes_fault P Q e x h = cc
+
+goes_as : {A : Type 0} (P R Q : A → Type 0) (r s : Result A RuleFault) → ((x : A) → P x → R x) → Goes P Q r s → Goes R Q r s
+goes_as P R Q r s f h x e = let g = h x e in (f x g.0, g.1)
 
 -- where two steps of reading rules succeed in a row, the first gave some value and the second succeeds on it
-pub bind_ok : {A B : Type 0} (r : Result A RuleFault) (f : A → Result B RuleFault) (y : B) → (r >>= f) ≡ Ok y → (x : A) × (r ≡ Ok x) × (f x ≡ Ok y)
+bind_ok : {A B : Type 0} (r : Result A RuleFault) (f : A → Result B RuleFault) (y : B) → (r >>= f) ≡ Ok y → (x : A) × (r ≡ Ok x) × (f x ≡ Ok y)
 bind_ok (Ok x) f y e = (x, refl, e)
 bind_ok (Err d) f y e = cc
 
-goes_bind : {A B : Type 0} (P : A → Type 0) (Q : B → Type 0) (r s : Result A RuleFault) (f g : A → Result B RuleFault) → Goes P r s
-    → ((x : A) → P x → Goes Q (f x) (g x)) → Goes Q (r >>= f) (s >>= g)
-goes_bind P Q r s f g h k y e =
+-- and what a pattern in the first part makes of the whole
+abbrev Also : {B : Type 0} → (B → Type 0) → Type 0 → (B → Type 0) → B → Type 0
+Also R met S y = R y × (met → S y)
+
+goes_bind : {A B : Type 0} (P Q : A → Type 0) (R S : B → Type 0) (r s : Result A RuleFault) (f g : A → Result B RuleFault) → Goes P Q r s
+    → ((x : A) → P x → Goes (Also R (Q x) S) S (f x) (g x)) → Goes R S (r >>= f) (s >>= g)
+goes_bind P Q R S r s f g h k y e =
     let b = bind_ok r f y e in
     let first = h b.0 b.1 in
     let next = k b.0 first.0 y b.2 in (
-      next.0,
-      ⊎_elim (λ p. ⊎_elim (λ q. inl (ap (λ t. t >>= g) p ∙ q)) (λ q. inr (ap (λ t. t >>= g) p ∙ q)) next.1) (λ p. inr (ap (λ t. t >>= g) p)) first.1,
+      next.0.0,
+      ⊎_elim (λ p. ⊎_elim (λ q. inl (ap (λ t. t >>= g) p ∙ q)) (λ q. inr (ap (λ t. t >>= g) p ∙ q.0, q.1)) next.1) (λ p. inr (ap (λ t. t >>= g) p.0, next.0.1 p.1)) first.1,
     )
 
 -- behind a step in which no pattern has a part
-goes_on : {A B : Type 0} (Q : B → Type 0) (r : Result A RuleFault) (f g : A → Result B RuleFault) → ((x : A) → Goes Q (f x) (g x)) → Goes Q (r >>= f) (r >>= g)
-goes_on Q (Ok x) f g k = k x
-goes_on Q (Err e) f g k = goes_fault Q e
+goes_on : {A B : Type 0} (P Q : B → Type 0) (r : Result A RuleFault) (f g : A → Result B RuleFault) → ((x : A) → Goes P Q (f x) (g x)) → Goes P Q (r >>= f) (r >>= g)
+goes_on P Q (Ok x) f g k = k x
+goes_on P Q (Err e) f g k = goes_fault P Q e
 
-goes_if : {A : Type 0} (P : A → Type 0) (b : Bool) (r s t u : Result A RuleFault) → Goes P r s → Goes P t u → Goes P (cond b r t) (cond b s u)
-goes_if P true r s t u h k = h
-goes_if P false r s t u h k = k
+goes_unless : {B : Type 0} (P Q : B → Type 0) (b : Bool) (e : RuleFault) (f g : Unit {0} → Result B RuleFault) → (b ≡ false → Goes P Q (f tt) (g tt)) → Goes P Q (guard (not b) e >>= f) (guard (not b) e >>= g)
+goes_unless P Q true e f g k = goes_fault P Q e
+goes_unless P Q false e f g k = k refl
 
-pattern_goes : (fs : Fields) → Goes HasValidPattern (pattern_at is_pattern fs) (pattern_at no_pattern fs)
-pattern_goes fs = goes_on HasValidPattern (ok_or (as_text (optional_at fs (codes "regex"))) Pattern) _ _ (λ source. by source (is_pattern source) refl) where
-  by : (source : List ℕ) (b : Bool) → is_pattern source ≡ b → Goes HasValidPattern (guard b Pattern >>= (λ (u : Unit {0}). Ok (regex source))) (Err Pattern)
-  by source true is x e = (subst HasValidPattern (same_Ok e) is, inr refl)
+goes_if : {A : Type 0} (P Q : A → Type 0) (b : Bool) (r s t u : Result A RuleFault) → Goes P Q r s → Goes P Q t u → Goes P Q (cond b r t) (cond b s u)
+goes_if P Q true r s t u h k = h
+goes_if P Q false r s t u h k = k
+
+-- ---- a matcher
+
+abbrev MatcherGoes : Result Matcher RuleFault → Result Matcher RuleFault → Type 0
+MatcherGoes all few = Goes HasValidPattern IsRegex all few
+
+pattern_goes : (fs : Fields) → MatcherGoes (pattern_at is_pattern fs) (pattern_at no_pattern fs)
+pattern_goes fs = goes_on HasValidPattern IsRegex (ok_or (as_text (optional_at fs (codes "regex"))) Pattern) _ _ (λ source. by source (is_pattern source) refl) where
+  by : (source : List ℕ) (b : Bool) → is_pattern source ≡ b → MatcherGoes (guard b Pattern >>= (λ (u : Unit {0}). Ok (regex source))) (Err Pattern)
+  by source true is x e = (subst HasValidPattern (same_Ok e) is, inr (refl, ap is_regex (sym (same_Ok e))))
   by source false is x e = cc
 
-same_type_goes : (fs : Fields) → Goes HasValidPattern (same_type_at is_pattern fs) (same_type_at no_pattern fs)
+same_type_goes : (fs : Fields) → MatcherGoes (same_type_at is_pattern fs) (same_type_at no_pattern fs)
 same_type_goes fs =
-    goes_on HasValidPattern (bound (optional_at fs (codes "min"))) _ _ (λ min.
-    goes_on HasValidPattern (bound (optional_at fs (codes "max"))) _ _ (λ max.
-    goes_on HasValidPattern (guard (in_order min max) BadBound) _ _ (λ u. goes_done HasValidPattern (same_type min max) tt)))
+    goes_on HasValidPattern IsRegex (bound (optional_at fs (codes "min"))) _ _ (λ min.
+    goes_on HasValidPattern IsRegex (bound (optional_at fs (codes "max"))) _ _ (λ max.
+    goes_on HasValidPattern IsRegex (guard (in_order min max) BadBound) _ _ (λ u. goes_done HasValidPattern IsRegex (same_type min max) tt)))
 
-named_goes : (in_header : Bool) (fs : Fields) (name : List ℕ)
-    → Goes HasValidPattern (named_matcher is_pattern in_header fs name) (named_matcher no_pattern in_header fs name)
+named_goes : (in_header : Bool) (fs : Fields) (name : List ℕ) → MatcherGoes (named_matcher is_pattern in_header fs name) (named_matcher no_pattern in_header fs name)
 named_goes in_header fs name =
-    goes_if HasValidPattern (bytes_eq name (codes "equality")) _ _ _ _ (goes_done HasValidPattern equality tt)
-    (goes_if HasValidPattern (bytes_eq name (codes "type")) _ _ _ _ (same_type_goes fs)
-    (goes_if HasValidPattern (bytes_eq name (codes "regex")) _ _ _ _ (pattern_goes fs)
-    (goes_if HasValidPattern (bytes_eq name (codes "include")) _ _ _ _
-    (goes_on HasValidPattern (ok_or (as_text (optional_at fs (codes "value"))) Form) _ _ (λ part. goes_done HasValidPattern (include part) tt))
-    (goes_if HasValidPattern (not in_header && (bytes_eq name (codes "integer") || bytes_eq name (codes "number"))) _ _ _ _
-    (goes_done HasValidPattern integer tt)
-    (goes_if HasValidPattern (not in_header && bytes_eq name (codes "null")) _ _ _ _ (goes_done HasValidPattern is_null tt)
-    (goes_fault HasValidPattern (Unsupported name)))))))
+    goes_if HasValidPattern IsRegex (bytes_eq name (codes "equality")) _ _ _ _ (goes_done HasValidPattern IsRegex equality tt)
+    (goes_if HasValidPattern IsRegex (bytes_eq name (codes "type")) _ _ _ _ (same_type_goes fs)
+    (goes_if HasValidPattern IsRegex (bytes_eq name (codes "regex")) _ _ _ _ (pattern_goes fs)
+    (goes_if HasValidPattern IsRegex (bytes_eq name (codes "include")) _ _ _ _
+    (goes_on HasValidPattern IsRegex (ok_or (as_text (optional_at fs (codes "value"))) Form) _ _ (λ part. goes_done HasValidPattern IsRegex (include part) tt))
+    (goes_if HasValidPattern IsRegex (not in_header && (bytes_eq name (codes "integer") || bytes_eq name (codes "number"))) _ _ _ _ (goes_done HasValidPattern IsRegex integer tt)
+    (goes_if HasValidPattern IsRegex (not in_header && bytes_eq name (codes "null")) _ _ _ _ (goes_done HasValidPattern IsRegex is_null tt)
+    (goes_fault HasValidPattern IsRegex (Unsupported name)))))))
 
-matcher_by_goes : (in_header : Bool) (fs : Fields) (n : Option Node)
-    → Goes HasValidPattern (matcher_by is_pattern in_header fs n) (matcher_by no_pattern in_header fs n)
+matcher_by_goes : (in_header : Bool) (fs : Fields) (n : Option Node) → MatcherGoes (matcher_by is_pattern in_header fs n) (matcher_by no_pattern in_header fs n)
 matcher_by_goes in_header fs None =
-    goes_if HasValidPattern (is_some (optional_at fs (codes "regex"))) _ _ _ _ (pattern_goes fs)
-    (goes_if HasValidPattern (is_some (optional_at fs (codes "min")) || is_some (optional_at fs (codes "max"))) _ _ _ _ (same_type_goes fs)
-    (goes_fault HasValidPattern (Unsupported (codes "?"))))
-matcher_by_goes in_header fs (Some n) = goes_on HasValidPattern (ok_or (as_text (Some n)) Form) _ _ (λ name. named_goes in_header fs name)
+    goes_if HasValidPattern IsRegex (is_some (optional_at fs (codes "regex"))) _ _ _ _ (pattern_goes fs)
+    (goes_if HasValidPattern IsRegex (is_some (optional_at fs (codes "min")) || is_some (optional_at fs (codes "max"))) _ _ _ _ (same_type_goes fs)
+    (goes_fault HasValidPattern IsRegex (Unsupported (codes "?"))))
+matcher_by_goes in_header fs (Some n) = goes_on HasValidPattern IsRegex (ok_or (as_text (Some n)) Form) _ _ (λ name. named_goes in_header fs name)
 
-matcher_goes : (in_header : Bool) (n : Node) → Goes HasValidPattern (matcher_at is_pattern in_header n) (matcher_at no_pattern in_header n)
-matcher_goes in_header n = goes_on HasValidPattern (ok_or (as_object n) Form) _ _ (λ fs. matcher_by_goes in_header fs (optional_at fs (codes "match")))
+matcher_goes : (in_header : Bool) (n : Node) → MatcherGoes (matcher_at is_pattern in_header n) (matcher_at no_pattern in_header n)
+matcher_goes in_header n = goes_on HasValidPattern IsRegex (ok_or (as_object n) Form) _ _ (λ fs. matcher_by_goes in_header fs (optional_at fs (codes "match")))
+
+-- ---- an entry
 
 abbrev AreValid : List Matcher → Type 0
 AreValid ms = AllByRecursion HasValidPattern ms
 
-matchers_goes : (in_header : Bool) (ns : Nodes) → Goes AreValid (matchers_at is_pattern in_header ns) (matchers_at no_pattern in_header ns)
-matchers_goes in_header no_nodes = goes_done AreValid [] tt
-matchers_goes in_header (node n ns) =
-    goes_bind HasValidPattern AreValid (matcher_at is_pattern in_header n) (matcher_at no_pattern in_header n) _ _ (matcher_goes in_header n) (λ m valid.
-    goes_bind AreValid AreValid (matchers_at is_pattern in_header ns) (matchers_at no_pattern in_header ns) _ _ (matchers_goes in_header ns)
-    (λ ms others. goes_done AreValid (m ∷ ms) (valid, others)))
+abbrev AnyRegex : List Matcher → Type 0
+AnyRegex ms = list_any is_regex ms ≡ true
 
-abbrev pub HasValidPatterns : Entry → Type 0
+matchers_goes : (in_header : Bool) (ns : Nodes) → Goes AreValid AnyRegex (matchers_at is_pattern in_header ns) (matchers_at no_pattern in_header ns)
+matchers_goes in_header no_nodes = goes_done AreValid AnyRegex [] tt
+matchers_goes in_header (node n ns) =
+    goes_bind HasValidPattern IsRegex AreValid AnyRegex (matcher_at is_pattern in_header n) (matcher_at no_pattern in_header n) _ _ (matcher_goes in_header n) (λ m valid.
+    goes_bind AreValid AnyRegex (Also AreValid (IsRegex m) AnyRegex) AnyRegex (matchers_at is_pattern in_header ns) (matchers_at no_pattern in_header ns) _ _
+    (matchers_goes in_header ns) (λ ms others. goes_done (Also (Also AreValid (IsRegex m) AnyRegex) (AnyRegex ms) AnyRegex) AnyRegex (m ∷ ms)
+    (((valid, others), or_left (is_regex m) (list_any is_regex ms)), or_right (is_regex m) (list_any is_regex ms))))
+
+abbrev HasValidPatterns : Entry → Type 0
 HasValidPatterns e = AreValid e.matchers
 
-entry_goes : (in_header : Bool) (n : Node) → Goes HasValidPatterns (entry_at is_pattern in_header n) (entry_at no_pattern in_header n)
+abbrev EntryRegex : Entry → Type 0
+EntryRegex e = entry_has_regex e ≡ true
+
+entry_goes : (in_header : Bool) (n : Node) → Goes HasValidPatterns EntryRegex (entry_at is_pattern in_header n) (entry_at no_pattern in_header n)
 entry_goes in_header n =
-    goes_on HasValidPatterns (ok_or (as_object n) Form) _ _ (λ fs.
-    goes_on HasValidPatterns (ok_or (as_list (optional_at fs (codes "matchers"))) Form) _ _ (λ ns.
-    goes_on HasValidPatterns (combine_of is_pattern (optional_at fs (codes "combine"))) _ _ (λ any.
-    goes_bind AreValid HasValidPatterns (matchers_at is_pattern in_header ns) (matchers_at no_pattern in_header ns) _ _ (matchers_goes in_header ns)
-    (λ ms valid. goes_done HasValidPatterns (record { any = any; matchers = ms }) valid))))
+    goes_on HasValidPatterns EntryRegex (ok_or (as_object n) Form) _ _ (λ fs.
+    goes_on HasValidPatterns EntryRegex (ok_or (as_list (optional_at fs (codes "matchers"))) Form) _ _ (λ ns.
+    goes_on HasValidPatterns EntryRegex (combine_of is_pattern (optional_at fs (codes "combine"))) _ _ (λ any.
+    goes_bind AreValid AnyRegex HasValidPatterns EntryRegex (matchers_at is_pattern in_header ns) (matchers_at no_pattern in_header ns) _ _ (matchers_goes in_header ns)
+    (λ ms valid. goes_done (Also HasValidPatterns (AnyRegex ms) EntryRegex) EntryRegex (record { any = any; matchers = ms }) (valid, λ t. t)))))
 
-abbrev pub BodyHeld : BodyRule → Type 0
-BodyHeld r = HasValidPatterns r.entry
+-- ---- the entries of a category
 
-pub body_rule_goes : (before : List BodyRule) (k : List ℕ) (n : Node) → Goes BodyHeld (body_rule_at is_pattern before k n) (body_rule_at no_pattern before k n)
+-- an entry of valid patterns, whose text no other has
+abbrev Joins : {A : Type 0} → (A → List ℕ) → (A → Entry) → List A → A → Type 0
+Joins text entry before x = HasValidPatterns (entry x) × (list_any (λ y. bytes_eq (text x) (text y)) before ≡ false)
+
+abbrev pub BodyJoins : List BodyRule → BodyRule → Type 0
+BodyJoins before r = Joins rule_text (λ (r : BodyRule). r.entry) before r
+
+abbrev pub BodyRegex : BodyRule → Type 0
+BodyRegex r = EntryRegex r.entry
+
+pub body_rule_goes : (before : List BodyRule) (k : List ℕ) (n : Node) → Goes (BodyJoins before) BodyRegex (body_rule_at is_pattern before k n) (body_rule_at no_pattern before k n)
 body_rule_goes before k n =
-    goes_on BodyHeld (path_at k) _ _ (λ path.
-    goes_on BodyHeld (guard (not (list_any (λ r. bytes_eq (path_text path) (rule_text r)) before)) SamePathTwice) _ _ (λ u.
-    goes_bind HasValidPatterns BodyHeld (entry_at is_pattern false n) (entry_at no_pattern false n) _ _ (entry_goes false n)
-    (λ e valid. goes_done BodyHeld (record { path = path; entry = e }) valid)))
+    goes_on (BodyJoins before) BodyRegex (path_at k) _ _ (λ path.
+    goes_unless (BodyJoins before) BodyRegex (list_any (λ r. bytes_eq (path_text path) (rule_text r)) before) SamePathTwice _ _ (λ free.
+    goes_bind HasValidPatterns EntryRegex (BodyJoins before) BodyRegex (entry_at is_pattern false n) (entry_at no_pattern false n) _ _ (entry_goes false n)
+    (λ e valid. goes_done (Also (BodyJoins before) (EntryRegex e) BodyRegex) BodyRegex (record { path = path; entry = e }) ((valid, free), λ t. t))))
 
-abbrev pub HeaderHeld : HeaderRule → Type 0
-HeaderHeld h = HasValidPatterns h.entry
+abbrev pub HeaderJoins : List HeaderRule → HeaderRule → Type 0
+HeaderJoins before h = Joins name_key (λ (h : HeaderRule). h.entry) before h
 
-pub header_rule_goes : (before : List HeaderRule) (k : List ℕ) (n : Node)
-    → Goes HeaderHeld (header_rule_at is_pattern before k n) (header_rule_at no_pattern before k n)
+abbrev pub HeaderRegex : HeaderRule → Type 0
+HeaderRegex h = EntryRegex h.entry
+
+pub header_rule_goes : (before : List HeaderRule) (k : List ℕ) (n : Node) → Goes (HeaderJoins before) HeaderRegex (header_rule_at is_pattern before k n) (header_rule_at no_pattern before k n)
 header_rule_goes before k n =
-    goes_on HeaderHeld (guard (not (list_any (λ h. str_eq_ignore_ascii_case k h.name) before)) SamePathTwice) _ _ (λ u.
-    goes_bind HasValidPatterns HeaderHeld (entry_at is_pattern true n) (entry_at no_pattern true n) _ _ (entry_goes true n)
-    (λ e valid. goes_done HeaderHeld (record { name = k; entry = e }) valid))
+    goes_unless (HeaderJoins before) HeaderRegex (list_any (λ h. str_eq_ignore_ascii_case k h.name) before) SamePathTwice _ _ (λ free.
+    goes_bind HasValidPatterns EntryRegex (HeaderJoins before) HeaderRegex (entry_at is_pattern true n) (entry_at no_pattern true n) _ _ (entry_goes true n)
+    (λ e valid. goes_done (Also (HeaderJoins before) (EntryRegex e) HeaderRegex) HeaderRegex (record { name = k; entry = e }) ((valid, free), λ t. t)))
 
--- what was held before stays so
-abbrev StillAll : {A : Type 0} → (A → Type 0) → List A → List A → Type 0
-StillAll P before xs = AllByRecursion P before → AllByRecursion P xs
+-- what held before still holds
+abbrev Still : {A : Type 0} → (A → Type 0) → (A → Type 0) → A → A → Type 0
+Still P Q before after = (P before → P after) × (Q before → Q after)
 
-goes_with : {A : Type 0} (P : A → Type 0) (text : A → List ℕ) (before : List A) (x : A) (r s : Result (List A) RuleFault) → P x
-    → Goes (StillAll P (put text x before)) r s → Goes (StillAll P before) r s
-goes_with P text before x r s h goes xs e = let g = goes xs e in (λ all. g.0 (all_put text P x before h all), g.1)
+module _ {A : Type 0} (text : A → List ℕ) (entry : A → Entry) where
+  abbrev AreHeld : List A → Type 0
+  AreHeld xs = AllByRecursion (λ x. HasValidPatterns (entry x)) xs × IsOrderedBy text xs
 
-body_goes : (before : List BodyRule) (fs : Fields) → Goes (StillAll BodyHeld before) (ordered_body is_pattern before fs) (ordered_body no_pattern before fs)
-body_goes before no_fields = goes_done (StillAll BodyHeld before) before (λ all. all)
-body_goes before (field k n fs) =
-    goes_bind BodyHeld (StillAll BodyHeld before) (body_rule_at is_pattern before k n) (body_rule_at no_pattern before k n) _ _ (body_rule_goes before k n)
-    (λ r held. goes_with BodyHeld rule_text before r _ _ held (body_goes (put rule_text r before) fs))
+  abbrev AnyEntry : List A → Type 0
+  AnyEntry xs = list_any (λ x. entry_has_regex (entry x)) xs ≡ true
 
-headers_goes : (before : List HeaderRule) (fs : Fields)
-    → Goes (StillAll HeaderHeld before) (ordered_headers is_pattern before fs) (ordered_headers no_pattern before fs)
-headers_goes before no_fields = goes_done (StillAll HeaderHeld before) before (λ all. all)
-headers_goes before (field k n fs) =
-    goes_bind HeaderHeld (StillAll HeaderHeld before) (header_rule_at is_pattern before k n) (header_rule_at no_pattern before k n) _ _
-    (header_rule_goes before k n)
-    (λ h held. goes_with HeaderHeld name_key before h _ _ held (headers_goes (put name_key h before) fs))
+  joined : (before after : List A) (x : A) → Joins text entry before x → Still AreHeld AnyEntry (put text x before) after → Also (Still AreHeld AnyEntry before) (EntryRegex (entry x)) AnyEntry after
+  joined before after x h still =
+      let any = any_put text (λ y. entry_has_regex (entry y)) x before h.1 in
+      let regex_before = list_any (λ y. entry_has_regex (entry y)) before in (
+        (
+          λ held. still.0 (all_put text (λ y. HasValidPatterns (entry y)) x before h.0 held.0, order_put text x before held.1),
+          λ t. still.1 (any ∙ or_right (entry_has_regex (entry x)) regex_before t),
+        ),
+        λ t. still.1 (any ∙ or_left (entry_has_regex (entry x)) regex_before t),
+      )
 
-abbrev pub RulesHeld : Rules → Type 0
-RulesHeld rules = AllByRecursion BodyHeld rules.body × AllByRecursion HeaderHeld rules.headers
+  entries_go : (read : (List ℕ → Bool) → List A → List ℕ → Node → Result A RuleFault)
+      → ((before : List A) (k : List ℕ) (n : Node) → Goes (Joins text entry before) (λ x. EntryRegex (entry x)) (read is_pattern before k n) (read no_pattern before k n))
+      → (before : List A) (fs : Fields) → Goes (Still AreHeld AnyEntry before) AnyEntry (entries_at text (read is_pattern) before fs) (entries_at text (read no_pattern) before fs)
+  entries_go read goes before no_fields = goes_done (Still AreHeld AnyEntry before) AnyEntry before (λ h. h, λ h. h)
+  entries_go read goes before (field k n fs) =
+      goes_bind (Joins text entry before) (λ x. EntryRegex (entry x)) (Still AreHeld AnyEntry before) AnyEntry (read is_pattern before k n) (read no_pattern before k n) _ _ (goes before k n)
+      (λ x h. goes_as (Still AreHeld AnyEntry (put text x before)) (Also (Still AreHeld AnyEntry before) (EntryRegex (entry x)) AnyEntry) AnyEntry _ _ (λ after still. joined before after x h still)
+      (entries_go read goes (put text x before) fs))
+
+abbrev BodyHeld : List BodyRule → Type 0
+BodyHeld rs = AreHeld rule_text (λ (r : BodyRule). r.entry) rs
+
+abbrev any_body : List BodyRule → Bool
+any_body rs = list_any (λ r. entry_has_regex r.entry) rs
+
+abbrev AnyBody : List BodyRule → Type 0
+AnyBody rs = any_body rs ≡ true
+
+abbrev HeadersHeld : List HeaderRule → Type 0
+HeadersHeld hs = AreHeld name_key (λ (h : HeaderRule). h.entry) hs
+
+abbrev any_header : List HeaderRule → Bool
+any_header hs = list_any (λ h. entry_has_regex h.entry) hs
+
+abbrev AnyHeader : List HeaderRule → Type 0
+AnyHeader hs = any_header hs ≡ true
+
+-- ---- a table
+
+abbrev RulesHeld : Rules → Type 0
+RulesHeld rules = BodyHeld rules.body × HeadersHeld rules.headers
+
+abbrev pub HasRegex : Rules → Type 0
+HasRegex rules = has_regex rules ≡ true
 
 abbrev pub StillHeld : Rules → Rules → Type 0
-StillHeld before rules = RulesHeld before → RulesHeld rules
+StillHeld before rules = Still RulesHeld HasRegex before rules
 
-body_in_goes : (before : Rules) (n : Node) → Goes (StillHeld before) (ordered_body_in is_pattern before n) (ordered_body_in no_pattern before n)
+-- either list of rules for another
+regex_parts : (a b : Rules) → (AnyBody a.body → AnyBody b.body) → (AnyHeader a.headers → AnyHeader b.headers) → HasRegex a → HasRegex b
+regex_parts a b body headers h =
+    ⊎_elim (λ p. or_left (any_body b.body) (any_header b.headers) (body p)) (λ q. or_right (any_body b.body) (any_header b.headers) (headers q)) (or_cases (any_body a.body) (any_header a.headers) h)
+
+body_in_goes : (before : Rules) (n : Node) → Goes (StillHeld before) HasRegex (body_in is_pattern before n) (body_in no_pattern before n)
 body_in_goes before n =
-    goes_on (StillHeld before) (ok_or (as_object n) Form) _ _ (λ fs.
-    goes_bind (StillAll BodyHeld before.body) (StillHeld before) (ordered_body is_pattern before.body fs) (ordered_body no_pattern before.body fs) _ _
-    (body_goes before.body fs)
-    (λ b held. goes_done (StillHeld before) (record { body = b; headers = before.headers }) (λ all. (held all.0, all.1))))
+    goes_on (StillHeld before) HasRegex (ok_or (as_object n) Form) _ _ (λ fs.
+    goes_bind (Still BodyHeld AnyBody before.body) AnyBody (StillHeld before) HasRegex (body_at is_pattern before.body fs) (body_at no_pattern before.body fs) _ _
+    (entries_go rule_text (λ (r : BodyRule). r.entry) body_rule_at body_rule_goes before.body fs) (λ body still.
+    let rules : Rules = record { body = body; headers = before.headers } in
+    goes_done (Also (StillHeld before) (AnyBody body) HasRegex) HasRegex rules
+    ((λ all. (still.0 all.0, all.1), regex_parts before rules still.1 (λ q. q)), or_left (any_body body) (any_header before.headers))))
 
-headers_in_goes : (before : Rules) (n : Node) → Goes (StillHeld before) (ordered_headers_in is_pattern before n) (ordered_headers_in no_pattern before n)
+headers_in_goes : (before : Rules) (n : Node) → Goes (StillHeld before) HasRegex (headers_in is_pattern before n) (headers_in no_pattern before n)
 headers_in_goes before n =
-    goes_on (StillHeld before) (ok_or (as_object n) Form) _ _ (λ fs.
-    goes_bind (StillAll HeaderHeld before.headers) (StillHeld before) (ordered_headers is_pattern before.headers fs) (ordered_headers no_pattern before.headers fs) _ _ (headers_goes before.headers fs)
-    (λ h held. goes_done (StillHeld before) (record { body = before.body; headers = h }) (λ all. (all.0, held all.1))))
+    goes_on (StillHeld before) HasRegex (ok_or (as_object n) Form) _ _ (λ fs.
+    goes_bind (Still HeadersHeld AnyHeader before.headers) AnyHeader (StillHeld before) HasRegex (headers_at is_pattern before.headers fs) (headers_at no_pattern before.headers fs) _ _
+    (entries_go name_key (λ (h : HeaderRule). h.entry) header_rule_at header_rule_goes before.headers fs) (λ headers still.
+    let rules : Rules = record { body = before.body; headers = headers } in
+    goes_done (Also (StillHeld before) (AnyHeader headers) HasRegex) HasRegex rules
+    ((λ all. (all.0, still.0 all.1), regex_parts before rules (λ p. p) still.1), or_right (any_body before.body) (any_header headers))))
 
-pub category_goes : (before : Rules) (k : List ℕ) (n : Node)
-    → Goes (StillHeld before) (ordered_category is_pattern before k n) (ordered_category no_pattern before k n)
+pub category_goes : (before : Rules) (k : List ℕ) (n : Node) → Goes (StillHeld before) HasRegex (category_at is_pattern before k n) (category_at no_pattern before k n)
 category_goes before k n =
-    goes_if (StillHeld before) (bytes_eq k (codes "body")) _ _ _ _ (goes_if (StillHeld before) (is_null_node n) _ _ _ _ same (body_in_goes before n))
-    (goes_if (StillHeld before) (bytes_eq k (codes "header")) _ _ _ _ (goes_if (StillHeld before) (is_null_node n) _ _ _ _ same (headers_in_goes before n))
-    (goes_if (StillHeld before) (bytes_eq k (codes "path") || bytes_eq k (codes "query")) _ _ _ _ same (goes_fault (StillHeld before) (Unsupported k)))) where
-      same : Goes (StillHeld before) (Ok before) (Ok before)
-      same = goes_done (StillHeld before) before (λ all. all)
+    rules_if (bytes_eq k (codes "body")) _ _ _ _ (rules_if (is_null_node n) _ _ _ _ same (body_in_goes before n))
+    (rules_if (bytes_eq k (codes "header")) _ _ _ _ (rules_if (is_null_node n) _ _ _ _ same (headers_in_goes before n))
+    (rules_if (bytes_eq k (codes "path") || bytes_eq k (codes "query")) _ _ _ _ same (goes_fault (StillHeld before) HasRegex (Unsupported k)))) where
+      rules_if : (b : Bool) (r s t u : Result Rules RuleFault) → Goes (StillHeld before) HasRegex r s → Goes (StillHeld before) HasRegex t u → Goes (StillHeld before) HasRegex (cond b r t) (cond b s u)
+      rules_if b r s t u h k = goes_if (StillHeld before) HasRegex b r s t u h k
 
-categories_goes : (before : Rules) (fs : Fields) → Goes (StillHeld before) (ordered_categories is_pattern before fs) (ordered_categories no_pattern before fs)
-categories_goes before no_fields = goes_done (StillHeld before) before (λ all. all)
+      same : Goes (StillHeld before) HasRegex (Ok before) (Ok before)
+      same = goes_done (StillHeld before) HasRegex before (λ h. h, λ h. h)
+
+categories_goes : (before : Rules) (fs : Fields) → Goes (StillHeld before) HasRegex (categories_at is_pattern before fs) (categories_at no_pattern before fs)
+categories_goes before no_fields = goes_done (StillHeld before) HasRegex before (λ h. h, λ h. h)
 categories_goes before (field k n fs) =
-    goes_bind (StillHeld before) (StillHeld before) (ordered_category is_pattern before k n) (ordered_category no_pattern before k n) _ _
-    (category_goes before k n)
-    (λ found held rules e. let g = categories_goes found fs rules e in (λ all. g.0 (held all), g.1))
+    goes_bind (StillHeld before) HasRegex (StillHeld before) HasRegex (category_at is_pattern before k n) (category_at no_pattern before k n) _ _ (category_goes before k n)
+    (λ found still. goes_as (StillHeld found) (Also (StillHeld before) (HasRegex found) HasRegex) HasRegex _ _ (λ after more. ((λ h. more.0 (still.0 h), λ t. more.1 (still.1 t)), more.1)) (categories_goes found fs))
 
--- what is read can be held
-pub found_held : (tree : Node) (f : Rules) → ordered_found is_pattern tree ≡ Ok f → RulesHeld f
-found_held tree f e =
-    let members = bind_ok (ok_or (as_object tree) Form) _ f e in
-    let checked = bind_ok (guard (not (has_old_key members.0)) OldRules) _ f members.2 in
-    (categories_goes no_rules members.0 f checked.2).0 (tt, tt)
+regex_effect : (ms : List Matcher) (any : Bool) → AnyRegex ms → has_effect (record { any = any; matchers = ms }) ≡ true
+regex_effect [] any h = absurd cc
+regex_effect (m ∷ ms) any h = grind (arith, nat_tests)
+
+-- what is read is a table
+pub table_goes : (tree : Node) → Goes IsTable HasRegex (table_in is_pattern tree) (table_in no_pattern tree)
+table_goes tree =
+    goes_bind RulesHeld HasRegex IsTable HasRegex (found_in is_pattern tree) (found_in no_pattern tree) _ _
+    (goes_on RulesHeld HasRegex (ok_or (as_object tree) Form) _ _ (λ fs. goes_on RulesHeld HasRegex (guard (not (has_old_key fs)) OldRules) _ _ (λ u.
+    goes_as (StillHeld no_rules) RulesHeld HasRegex _ _ (λ found still. still.0 ((tt, tt), (tt, tt))) (categories_goes no_rules fs))))
+    (λ found held. goes_done (Also IsTable (HasRegex found) HasRegex) HasRegex (effective found) (
+      record {
+        order = order_kept (λ (r : BodyRule). has_effect r.entry) rule_text found.body held.0.1;
+        names = order_kept (λ (h : HeaderRule). has_effect h.entry) name_key found.headers held.1.1;
+        body = all_pass (λ (r : BodyRule). has_effect r.entry) (λ (r : BodyRule). HasValidPatterns r.entry) found.body held.0.0;
+        headers = all_pass (λ (h : HeaderRule). has_effect h.entry) (λ (h : HeaderRule). HasValidPatterns h.entry) found.headers held.1.0;
+      },
+      regex_parts found (effective found)
+          (any_kept (λ (r : BodyRule). has_effect r.entry) (λ (r : BodyRule). entry_has_regex r.entry) found.body (λ r t. regex_effect r.entry.matchers r.entry.any t))
+          (any_kept (λ (h : HeaderRule). has_effect h.entry) (λ (h : HeaderRule). entry_has_regex h.entry) found.headers (λ h t. regex_effect h.entry.matchers h.entry.any t)),
+    ))
 
 -- a pattern that is met behind what was read is met in the whole
-pub stops_on : {A B : Type 0} (P : A → Type 0) (r s : Result A RuleFault) (f : A → Result B RuleFault) (x : A) → Goes P r s → r ≡ Ok x → f x ≡ Err Pattern
+pub stops_on : {A B : Type 0} (P Q : A → Type 0) (r s : Result A RuleFault) (f : A → Result B RuleFault) (x : A) → Goes P Q r s → r ≡ Ok x → f x ≡ Err Pattern
     → (s >>= f) ≡ Err Pattern
-stops_on P r s f x goes e h = ⊎_elim (λ p. ap (λ t. t >>= f) p ∙ h) (λ p. ap (λ t. t >>= f) p) (goes x e).1
+stops_on P Q r s f x goes e h = ⊎_elim (λ p. ap (λ t. t >>= f) p ∙ h) (λ p. ap (λ t. t >>= f) p.0) (goes x e).1
 
 -- a fault of the first part is one of the whole
 pub fails_on : {A B : Type 0} (e : RuleFault) (read : (List ℕ → Bool) → Result A RuleFault) (whole : (List ℕ → Bool) → Result B RuleFault) (next : (List ℕ → Bool) → A → Result B RuleFault)
@@ -220,6 +311,10 @@ fails_on SamePathTwice read whole next h f = h is_pattern ∙ ap (λ t. t >>= ne
 fails_on (Unsupported name) read whole next h f = h is_pattern ∙ ap (λ t. t >>= next is_pattern) f
 fails_on BadBound read whole next h f = h is_pattern ∙ ap (λ t. t >>= next is_pattern) f
 fails_on BadCombine read whole next h f = h is_pattern ∙ ap (λ t. t >>= next is_pattern) f
+
+-- whether another has the text
+pub is_taken : {A : Type 0} (text : A → List ℕ) (before : List A) (t name key : List ℕ) (r b : Bool) → t ≡ name → name ≡ key → r ≡ list_any (λ x. bytes_eq t (text x)) before → r ≡ b → list_any (λ x. bytes_eq key (text x)) before ≡ b
+is_taken text before t name key r b is same h k = sym (ap (λ y. list_any (λ x. bytes_eq y (text x)) before) (is ∙ same)) ∙ sym h ∙ k
 
 pub taken_path : (before : List BodyRule) (k : List ℕ) (n : Node) (p : List Token) → path_at k ≡ Ok p → list_any (λ r. bytes_eq (path_text p) (rule_text r)) before ≡ true
     → body_rule_at is_pattern before k n ≡ Err SamePathTwice
@@ -252,4 +347,4 @@ pub none_more : (in_header : Bool) (n : Node) (ns : Nodes) (m : Matcher) → mat
     → matchers_at no_pattern in_header (node n ns) ≡ Err Pattern
 none_more in_header n ns m e h =
     let then = λ (m : Matcher). matchers_at no_pattern in_header ns >>= (λ x. Ok (m ∷ x)) in
-    ⊎_elim (λ p. ap (λ r. r >>= then) p ∙ ap (λ r. r >>= (λ x. Ok (m ∷ x))) h) (λ p. ap (λ r. r >>= then) p) (matcher_goes in_header n m e).1
+    ⊎_elim (λ p. ap (λ r. r >>= then) p ∙ ap (λ r. r >>= (λ x. Ok (m ∷ x))) h) (λ p. ap (λ r. r >>= then) p.0) (matcher_goes in_header n m e).1

@@ -11,7 +11,6 @@ pub mod Choice
 pub mod Matching
 pub mod Tables
 pub mod RuleReading
-pub mod OrderedReading
 pub mod Refusals
 pub mod Walks
 pub mod Survivors

@@ -1,8 +1,9 @@
 -- Reading a table of rules, with the first fault in the order: the table's form, old rules, then the categories and
 -- entries in the order of their keys; of an entry its path, the same path, its form, combine, and its matchers in
--- turn; of a matcher its form, its name, its bounds and its pattern. The names are those of the Pact Specification,
--- version 3.
-use Rattle.std.specs.Prelude.{◌≡◌, ◌⊎◌, ℕ, pos, Bool, true, false, ◌&&◌, ◌||◌, not, List, [], ◌∷◌, ◌++◌, codes, Option, Some, None, Result, Ok, Err, bytes_eq, is_some, nat_le, nat_eq, if◌then◌else◌}
+-- turn; of a matcher its form, its name, its bounds and its pattern. A table is the entries with an effect: those of
+-- the body in the order of their paths' canonical text, those of headers in the order of their names without ASCII
+-- case. The names are those of the Pact Specification, version 3.
+use Rattle.std.specs.Prelude.{◌≡◌, ◌⊎◌, ℕ, pos, Bool, true, false, ◌&&◌, ◌||◌, not, List, [], ◌∷◌, codes, Option, Some, None, Result, Ok, Err, bytes_eq, is_some, nat_le, nat_eq, if◌then◌else◌}
 use Rattle.std.specs.List.{list_any}
 use Rattle.std.specs.Option.{ok_or}
 use Rattle.std.specs.Str.{str_eq_ignore_ascii_case}
@@ -15,8 +16,8 @@ use Rattle.pact_rules.specs.Trees.{Node, whole, text, list, object, Nodes, no_no
 use Rattle.pact_rules.specs.Matching.{get_field, kind, begins, is_pattern}
 use Rattle.pact_rules.specs.declared.rule_fault.RuleFault.{RuleFault}
 use Rattle.pact_rules.specs.declared.rule_fault.RuleFault.TheVariants.{Form, OldRules, BadPath, SamePathTwice, Unsupported, BadBound, Pattern, BadCombine, Memory}
-use Rattle.pact_rules.specs.Rules.{Matcher, equality, same_type, regex, include, integer, is_null, Entry, BodyRule, HeaderRule, Rules, no_rules, rule_text}
-use Rattle.pact_rules.specs.Tables.{IsTableOf}
+use Rattle.pact_rules.specs.Rules.{Matcher, equality, same_type, regex, include, integer, is_null, Entry, BodyRule, HeaderRule, Rules, no_rules, put, rule_text, name_key}
+use Rattle.pact_rules.specs.Tables.{effective}
 
 -- an optional member: null counts as absent
 abbrev pub unless_null : Option Node → Option Node
@@ -67,6 +68,14 @@ path_at k = path_or_fault (path_in k)
 
 abbrev pub include_at : Fields → Result Matcher RuleFault
 include_at fs = ok_or (as_text (optional_at fs (codes "value"))) Form >>= (λ part. Ok (include part))
+
+-- the entries of an object, each read in the order of the keys, beside those before it, and put in at its place in the
+-- order of the texts
+abbrev pub entries_at : {A : Type 0} → (A → List ℕ) → (List A → List ℕ → Node → Result A RuleFault)
+    → List A → Fields → Result (List A) RuleFault
+entries_at text_of read before no_fields = Ok before
+entries_at text_of read before (field k n fs) =
+    read before k n >>= (λ entry. entries_at text_of read (put text_of entry before) fs)
 
 module _ (accepts : List ℕ → Bool) where
   abbrev pub pattern_at : Fields → Result Matcher RuleFault
@@ -136,8 +145,7 @@ module _ (accepts : List ℕ → Bool) where
     Ok (record { path = path; entry = entry })
 
   abbrev pub body_at : List BodyRule → Fields → Result (List BodyRule) RuleFault
-  body_at before no_fields = Ok before
-  body_at before (field k n fs) = body_rule_at before k n >>= (λ r. body_at (before ++ r ∷ []) fs)
+  body_at before fs = entries_at rule_text body_rule_at before fs
 
   -- a header entry: two names are one where they differ in ASCII case alone
   abbrev pub header_rule_at : List HeaderRule → List ℕ → Node → Result HeaderRule RuleFault
@@ -147,8 +155,7 @@ module _ (accepts : List ℕ → Bool) where
     Ok (record { name = k; entry = entry })
 
   abbrev pub headers_at : List HeaderRule → Fields → Result (List HeaderRule) RuleFault
-  headers_at before no_fields = Ok before
-  headers_at before (field k n fs) = header_rule_at before k n >>= (λ h. headers_at (before ++ h ∷ []) fs)
+  headers_at before fs = entries_at name_key header_rule_at before fs
 
   abbrev pub body_in : Rules → Node → Result Rules RuleFault
   body_in before n = do
@@ -175,12 +182,16 @@ module _ (accepts : List ℕ → Bool) where
   categories_at before no_fields = Ok before
   categories_at before (field k n fs) = category_at before k n >>= (λ found. categories_at found fs)
 
-  -- the entries of a table, those without effect among them, in the order of the keys
+  -- the entries that are found, those without effect among them
   abbrev pub found_in : Node → Result Rules RuleFault
   found_in tree = do
     fs ← ok_or (as_object tree) Form
     guarded ← guard (not (has_old_key fs)) OldRules
     categories_at no_rules fs
+
+  -- and the table of them
+  abbrev pub table_in : Node → Result Rules RuleFault
+  table_in tree = found_in tree >>= (λ found. Ok (effective found))
 
 -- what is looked at first, before any memory is taken: a table is an object without keys of version 2
 abbrev pub members_in : Node → Result Fields RuleFault
@@ -200,14 +211,11 @@ matchers_in tree = do
 abbrev pub no_pattern : List ℕ → Bool
 no_pattern source = false
 
--- What reading a table may give. Ok is the table of the entries that are found where each pattern that the grammar
--- reads is accepted, and a fault is the first one then. Beside it, a pattern may be refused: then one is met before
--- any other fault.
+-- What reading a table may give: the table, or the first fault, where each pattern that the grammar reads is accepted.
+-- Beside it, a pattern may be refused: then one is met before any other fault.
 abbrev pub IsReading : Node → Result Rules RuleFault → Type 0
-IsReading tree (Ok table) = (found : Rules) × (found_in is_pattern tree ≡ Ok found) × IsTableOf found table
-IsReading tree (Err fault) =
-    (found_in is_pattern tree ≡ Err fault)
-    ⊎ ((fault ≡ Pattern) × (found_in no_pattern tree ≡ Err Pattern))
+IsReading tree answer =
+    (table_in is_pattern tree ≡ answer) ⊎ ((answer ≡ Err Pattern) × (table_in no_pattern tree ≡ Err Pattern))
 
 -- What a function returned, seen by view, is what reading gives, unless memory ran out or a pattern was refused.
 abbrev pub FailsAs : {Y : Type 0} → RuleFault → ((List ℕ → Bool) → Result Y RuleFault) → Type 0

@@ -1,5 +1,6 @@
 -- What the parts of a table stand for.
-use Rattle.std.specs.Prelude.{List, map, String, string_bytes}
+use Rattle.std.specs.Prelude.{◌≡◌, ℕ, List, map, String, string_bytes}
+use Rattle.std.specs.List.{AllByRecursion}
 use Rattle.std.specs.declared.alloc.Global.{Global}
 use Rattle.pact_rules.specs.Rules as rules
 use Rattle.pact_rules.specs.declared.table.Matcher.{Matcher}
@@ -35,3 +36,7 @@ body_rules es = map (λ e. rule_view e.1) es
 
 abbrev pub header_rules : List (String Global × HeaderRule) → List rules.HeaderRule
 header_rules es = map (λ e. header_view e.1) es
+
+-- for private clauses: each value of a map stands under its text
+abbrev pub IsKeyedBy : {X A : Type 0} → (X → A) → (A → List ℕ) → List (String Global × X) → Type 0
+IsKeyedBy view text es = AllByRecursion (λ e. string_bytes e.0 ≡ text (view e.1)) es

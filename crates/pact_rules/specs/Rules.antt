@@ -1,6 +1,6 @@
 -- The matching rules of a response (Pact Specification, version 3).
 use Rattle.std.specs.Prelude.{◌≡◌, ℕ, Bool, true, false, not, ◌||◌, ◌==◌, List, [], ◌∷◌, length, Option}
-use Rattle.std.specs.Ordering.{nat_cmp}
+use Rattle.std.specs.Ordering.{nat_cmp, match_ordering}
 use Rattle.std.specs.declared.cmp.Ordering.TheVariants.{Less}
 use Rattle.std.specs.Cmp.Lexicographic.{slice_cmp}
 use Rattle.std.specs.List.{AllByRecursion, list_any}
@@ -45,6 +45,11 @@ IsBefore a b = slice_cmp nat_cmp a b ≡ Less
 abbrev pub IsOrderedBy : {A : Type 0} → (A → List ℕ) → List A → Type 0
 IsOrderedBy text [] = Unit {0}
 IsOrderedBy text (x ∷ xs) = AllByRecursion (λ y. IsBefore (text x) (text y)) xs × IsOrderedBy text xs
+
+-- put in at its place in the order of the texts, instead of one of the same text
+abbrev pub put : {A : Type 0} → (A → List ℕ) → A → List A → List A
+put text x [] = x ∷ []
+put text x (y ∷ ys) = match_ordering (slice_cmp nat_cmp (text x) (text y)) (x ∷ y ∷ ys) (x ∷ ys) (y ∷ put text x ys)
 
 abbrev pub rule_text : BodyRule → List ℕ
 rule_text r = path_text r.path

@@ -1,9 +1,8 @@
--- Which rules are a table, and which table holds what was found.
-use Rattle.std.specs.Prelude.{◌≡◌, ◌↔◌, ℕ, true, List, Option, option_map}
-use Rattle.std.specs.List.{AllByRecursion, find}
+-- Which rules are a table, and which of those that were found it holds.
+use Rattle.std.specs.Prelude.{◌≡◌, ℕ, true, List, Option, option_map}
+use Rattle.std.specs.List.{AllByRecursion, filter, find}
 use Rattle.std.specs.Str.{str_eq_ignore_ascii_case}
-use Rattle.pact_rules.specs.Lists.{IsIn}
-use Rattle.pact_rules.specs.Rules.{Matcher, equality, same_type, regex, include, integer, is_null, Entry, BodyRule, HeaderRule, Rules, IsOrderedBy, IsInOrder, name_key, has_effect}
+use Rattle.pact_rules.specs.Rules.{Matcher, equality, same_type, regex, include, integer, is_null, Entry, HeaderRule, Rules, IsOrderedBy, IsInOrder, name_key, has_effect}
 use Rattle.pact_rules.specs.Matching.{is_pattern}
 
 -- the grammar of patterns reads its pattern, where it has one
@@ -26,12 +25,12 @@ pub record IsTable (rules : Rules) : Type 0 where
   pub body : AllByRecursion (λ r. IsEffective r.entry) rules.body
   pub headers : AllByRecursion (λ h. IsEffective h.entry) rules.headers
 
--- a table of the entries that were found: it has just those with an effect, in order
-pub record IsTableOf (found table : Rules) : Type 0 where
-  pub order : IsInOrder table.body
-  pub names : IsOrderedBy name_key table.headers
-  pub body : (r : BodyRule) → IsIn r table.body ↔ (IsIn r found.body × (has_effect r.entry ≡ true))
-  pub headers : (h : HeaderRule) → IsIn h table.headers ↔ (IsIn h found.headers × (has_effect h.entry ≡ true))
+-- the table of the entries that were found: those with an effect, in the same order
+abbrev pub effective : Rules → Rules
+effective found = record {
+  body = filter (λ r. has_effect r.entry) found.body;
+  headers = filter (λ h. has_effect h.entry) found.headers;
+}
 
 -- the entry of a header, by its name without ASCII case
 abbrev pub header_entry : List HeaderRule → List ℕ → Option Entry

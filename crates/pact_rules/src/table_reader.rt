@@ -1,15 +1,13 @@
 //! Reading a whole table: its categories, and the entries of each.
 
 ghost use Rattle.std.specs.Prelude.{◌≡◌, MatchResult, IfOk, Ok, Err, map, string_bytes, bytes_eq};
-ghost use Rattle.std.specs.List.{filter, AllByRecursion, list_any};
+ghost use Rattle.std.specs.List.{filter, list_any};
 ghost use Rattle.pact_rules.specs.TreeView.{tree_view, object_view};
-ghost use Rattle.pact_rules.specs.Rules.{rule_text, name_key, has_effect, no_rules, IsOrderedBy};
-ghost use Rattle.pact_rules.specs.RuleViews.{rule_view, header_view, body_rules, header_rules};
-ghost use Rattle.pact_rules.specs.RuleReading.{IsReading, Reads, path_at, body_rule_at, header_rule_at};
-ghost use Rattle.pact_rules.specs.RuleReading.{has_old_key as has_old_key_of, members_in};
-ghost use Rattle.pact_rules.specs.OrderedReading.{IsKeyedBy, ordered_body, ordered_headers, ordered_body_in};
-ghost use Rattle.pact_rules.specs.OrderedReading.{ordered_headers_in, ordered_category, ordered_categories};
-ghost use Rattle.pact_rules.specs.OrderedReading.{ordered_found};
+ghost use Rattle.pact_rules.specs.Rules.{rule_text, name_key, has_effect, no_rules};
+ghost use Rattle.pact_rules.specs.RuleViews.{rule_view, header_view, body_rules, header_rules, IsKeyedBy};
+ghost use Rattle.pact_rules.specs.RuleReading.{IsReading, Reads, path_at, body_rule_at, header_rule_at, body_at};
+ghost use Rattle.pact_rules.specs.RuleReading.{headers_at, body_in, headers_in, category_at, categories_at};
+ghost use Rattle.pact_rules.specs.RuleReading.{found_in as found_of, has_old_key as has_old_key_of, members_in};
 ghost use Rattle.pact_rules.specs.declared.rule_fault.RuleFault.{RuleFault as RuleFaultModel};
 ghost use Rattle.pact_rules.specs.declared.rule_fault.RuleFault.TheVariants.{Memory};
 
@@ -78,7 +76,7 @@ fn read_body(
 ) -> Result<BTreeMap<String, BodyRule>, RuleFault>
     requires { IsKeyedBy rule_view rule_text before.entries }
     ensures value { Reads (λ m. body_rules m.entries) result
-        (λ accepts. ordered_body accepts (body_rules before.entries) (object_view members.now.entries)) }
+        (λ accepts. body_at accepts (body_rules before.entries) (object_view members.now.entries)) }
     ensures keyed { IfOk result (λ m. IsKeyedBy rule_view rule_text m.entries) }
 {
     let mut rules = before;
@@ -135,7 +133,7 @@ fn read_headers(
 ) -> Result<BTreeMap<String, HeaderRule>, RuleFault>
     requires { IsKeyedBy header_view name_key before.entries }
     ensures value { Reads (λ m. header_rules m.entries) result
-        (λ accepts. ordered_headers accepts (header_rules before.entries) (object_view members.now.entries)) }
+        (λ accepts. headers_at accepts (header_rules before.entries) (object_view members.now.entries)) }
     ensures keyed { IfOk result (λ m. IsKeyedBy header_view name_key m.entries) }
 {
     let mut rules = before;
@@ -155,11 +153,10 @@ struct Found {
 
 impl Model for Found {
     ghost use Rattle.pact_rules.specs.Rules.{Rules, rule_text, name_key};
-    ghost use Rattle.pact_rules.specs.OrderedReading.{IsKeyedBy};
 
     ghost Value = { Rules };
 
-    ghost use Rattle.pact_rules.specs.RuleViews.{rule_view, header_view, body_rules, header_rules};
+    ghost use Rattle.pact_rules.specs.RuleViews.{rule_view, header_view, body_rules, header_rules, IsKeyedBy};
 
     ghost view = { λ f. record {
       body = body_rules f.body.entries;
@@ -178,7 +175,7 @@ impl Found {
         tree: &Tree,
     ) -> Result<Found, RuleFault>
         ensures { Reads (λ f. f) result
-            (λ accepts. ordered_body_in accepts self (tree_view tree.now)) }
+            (λ accepts. body_in accepts self (tree_view tree.now)) }
     {
         let Found { body, headers } = self;
         let Some(members) = object_of(tree) else {
@@ -195,7 +192,7 @@ impl Found {
         tree: &Tree,
     ) -> Result<Found, RuleFault>
         ensures { Reads (λ f. f) result
-            (λ accepts. ordered_headers_in accepts self (tree_view tree.now)) }
+            (λ accepts. headers_in accepts self (tree_view tree.now)) }
     {
         let Found { body, headers } = self;
         let Some(members) = object_of(tree) else {
@@ -214,7 +211,7 @@ impl Found {
         tree: &Tree,
     ) -> Result<Found, RuleFault>
         ensures { Reads (λ f. f) result
-            (λ accepts. ordered_category accepts self name.now (tree_view tree.now)) }
+            (λ accepts. category_at accepts self name.now (tree_view tree.now)) }
     {
         if name == "body" {
             if is_null(tree) {
@@ -255,7 +252,7 @@ fn categories(
     members: &BTreeMap<String, Tree>,
 ) -> Result<Found, RuleFault>
     ensures { Reads (λ f. f) result
-        (λ accepts. ordered_categories accepts no_rules (object_view members.now.entries)) }
+        (λ accepts. categories_at accepts no_rules (object_view members.now.entries)) }
 {
     let mut found = Found {
         body: BTreeMap::new(alloc),
@@ -268,7 +265,7 @@ fn categories(
 }
 
 fn found_in(alloc: Global, patterns: &mut Patterns, tree: &Tree) -> Result<Found, RuleFault>
-    ensures reading { Reads (λ f. f) result (λ accepts. ordered_found accepts (tree_view tree.now)) }
+    ensures reading { Reads (λ f. f) result (λ accepts. found_of accepts (tree_view tree.now)) }
     ensures first { (e : RuleFaultModel) → members_in (tree_view tree.now) ≡ Err e → result ≡ Err e }
 {
     let Some(members) = object_of(tree) else {
@@ -285,10 +282,8 @@ fn effective_body(
     alloc: Global,
     rules: BTreeMap<String, BodyRule>,
 ) -> Result<Vec<BodyRule>, AllocError>
-    requires { IsKeyedBy rule_view rule_text rules.entries }
-    ensures items { IfOk result (λ v. map rule_view v.items
+    ensures { IfOk result (λ v. map rule_view v.items
         ≡ filter (λ r. has_effect r.entry) (body_rules rules.entries)) }
-    ensures order { IfOk result (λ v. IsOrderedBy rule_text (map rule_view v.items)) }
 {
     let mut kept = Vec::new(alloc);
     for (_, rule) in rules {
@@ -304,10 +299,8 @@ fn effective_headers(
     alloc: Global,
     rules: BTreeMap<String, HeaderRule>,
 ) -> Result<Vec<HeaderRule>, AllocError>
-    requires { IsKeyedBy header_view name_key rules.entries }
-    ensures items { IfOk result (λ v. map header_view v.items
+    ensures { IfOk result (λ v. map header_view v.items
         ≡ filter (λ h. has_effect h.entry) (header_rules rules.entries)) }
-    ensures order { IfOk result (λ v. IsOrderedBy name_key (map header_view v.items)) }
 {
     let mut kept = Vec::new(alloc);
     for (_, rule) in rules {

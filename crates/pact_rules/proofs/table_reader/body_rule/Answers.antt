@@ -1,16 +1,13 @@
-use Rattle.std.{specs.List.{list_any}, proofs.{Common.{◌≡◌, ◌∙◌, ℕ, List, Bool, true, false, bytes_eq, sym, ap}, lemmas.Result.{err_from_is_err_and}}}
-use Rattle.pact_rules.specs.{Rules.{BodyRule, rule_text}, RuleViews.{body_rules}, RuleReading.{entry_at}, TreeView.{tree_view}}
-use Rattle.pact_rules.proofs.PatternLemmas.{fails_on, taken_path, free_path}
+use Rattle.std.proofs.{Common.{true, false}, lemmas.Result.{err_from_is_err_and}}
+use Rattle.pact_rules.specs.{Rules.{rule_text}, RuleViews.{body_rules}, RuleReading.{entry_at}, TreeView.{tree_view}}
+use Rattle.pact_rules.proofs.PatternLemmas.{fails_on, is_taken, taken_path, free_path}
 use Rattle.pact_rules.proofs.table_reader.body_rule.Goals as goal
-
-taken : (before : List BodyRule) (t text path : List ℕ) (r b : Bool) → t ≡ text → text ≡ path → r ≡ list_any (λ x. bytes_eq t (rule_text x)) before → r ≡ b → list_any (λ x. bytes_eq path (rule_text x)) before ≡ b
-taken before t text path r b is same h k = sym (ap (λ y. list_any (λ x. bytes_eq y (rule_text x)) before) (is ∙ same)) ∙ sym h ∙ k
 
 pub returns-then-is_path_taken-clause-value : goal.returns-then-is_path_taken-clause-value
 returns-then-is_path_taken-clause-value c =
     let before = body_rules c.args.before.now.entries in
     taken_path before c.args.key.now (tree_view c.args.tree.now) c.in_ok-path.path c.in_ok-path.ensures.reading
-    (taken before c.as_str.result.now _ _ c.is_path_taken.result true c.as_str.ensures.value c.in_ok-text.ensures.canonical c.is_path_taken.ensures c.if-is_path_taken.true)
+    (is_taken rule_text before c.as_str.result.now _ _ c.is_path_taken.result true c.as_str.ensures.value c.in_ok-text.ensures.canonical c.is_path_taken.ensures c.if-is_path_taken.true)
 
 pub returns-in_err-entry-clause-value : goal.returns-in_err-entry-clause-value
 returns-in_err-entry-clause-value c =
@@ -18,5 +15,5 @@ returns-in_err-entry-clause-value c =
     let before = body_rules c.args.before.now.entries in
     rw (p.1, p.2) (fails_on c.in_err-entry.field-0.0 (λ accepts. entry_at accepts false (tree_view c.args.tree.now)) _ _
     (free_path before c.args.key.now (tree_view c.args.tree.now) c.in_ok-path.path c.in_ok-path.ensures.reading
-    (taken before c.as_str.result.now _ _ c.is_path_taken.result false c.as_str.ensures.value c.in_ok-text.ensures.canonical c.is_path_taken.ensures c.if-is_path_taken.false))
+    (is_taken rule_text before c.as_str.result.now _ _ c.is_path_taken.result false c.as_str.ensures.value c.in_ok-text.ensures.canonical c.is_path_taken.ensures c.if-is_path_taken.false))
     c.in_err-entry.ensures.reading)

@@ -1,7 +1,7 @@
 use Rattle.std.proofs.Common.{◌≡◌, ◌∙◌, string_bytes, sym, ap, subst}
-use Rattle.pact_rules.specs.{Matching.{is_pattern}, TreeView.{tree_view, object_view}, Rules.{rule_text}, RuleViews.{rule_view, body_rules}, Outcome.{◌>>=◌}}
-use Rattle.pact_rules.specs.{RuleReading.{no_pattern, body_rule_at}, OrderedReading.{IsKeyedBy, put, ordered_body}}
-use Rattle.pact_rules.proofs.{OrderLemmas.{put_in_map, still_keyed}, PatternLemmas.{BodyHeld, stops_on, body_rule_goes}}
+use Rattle.pact_rules.specs.{Matching.{is_pattern}, TreeView.{tree_view, object_view}, Rules.{put, rule_text}, RuleViews.{rule_view, body_rules, IsKeyedBy}}
+use Rattle.pact_rules.{specs.{Outcome.{◌>>=◌}, RuleReading.{no_pattern, body_rule_at, body_at}}, proofs.OrderLemmas.{put_in_map, still_keyed}}
+use Rattle.pact_rules.proofs.PatternLemmas.{BodyJoins, BodyRegex, stops_on, body_rule_goes}
 use Rattle.pact_rules.proofs.table_reader.read_body.Goals as goal
 
 pub loop-key-preserved : goal.loop-key-preserved
@@ -18,10 +18,10 @@ loop-key-preserved c =
     let entries = c.in_ok-insert.ensures.entries in
     let next : body_rules c.insert.new.self.entries ≡ put rule_text r (body_rules es) = ap body_rules entries ∙ put_in_map rule_view rule_text es found.text found.rule h.keyed found.ensures.text in record {
       keyed = subst (IsKeyedBy rule_view rule_text) (sym entries) (still_keyed rule_view rule_text es found.text found.rule h.keyed found.ensures.text);
-      value = ap (λ b. ordered_body is_pattern b left) next
-          ∙ sym (ap (λ x. x >>= (λ r. ordered_body is_pattern (put rule_text r (body_rules es)) left)) read)
-          ∙ sym (ap (ordered_body is_pattern (body_rules es)) step) ∙ h.value;
-      stops = λ stop. h.stops (ap (ordered_body no_pattern (body_rules es)) step
-          ∙ stops_on BodyHeld (body_rule_at is_pattern (body_rules es) k n) (body_rule_at no_pattern (body_rules es) k n) (λ r. ordered_body no_pattern (put rule_text r (body_rules es)) left) r (body_rule_goes (body_rules es) k n) read
-          (ap (λ b. ordered_body no_pattern b left) (sym next) ∙ stop));
+      value = ap (λ b. body_at is_pattern b left) next
+          ∙ sym (ap (λ x. x >>= (λ r. body_at is_pattern (put rule_text r (body_rules es)) left)) read)
+          ∙ sym (ap (body_at is_pattern (body_rules es)) step) ∙ h.value;
+      stops = λ stop. h.stops (ap (body_at no_pattern (body_rules es)) step
+          ∙ stops_on (BodyJoins (body_rules es)) BodyRegex (body_rule_at is_pattern (body_rules es) k n) (body_rule_at no_pattern (body_rules es) k n) (λ r. body_at no_pattern (put rule_text r (body_rules es)) left) r (body_rule_goes (body_rules es) k n) read
+          (ap (λ b. body_at no_pattern b left) (sym next) ∙ stop));
     }

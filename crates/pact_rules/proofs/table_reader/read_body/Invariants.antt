@@ -1,6 +1,6 @@
 use Rattle.std.proofs.Common.{◌≡◌, Err}
-use Rattle.pact_rules.specs.{Matching.{is_pattern}, Rules.{rule_text}, RuleViews.{rule_view, body_rules}, RuleReading.{no_pattern}}
-use Rattle.pact_rules.specs.{OrderedReading.{IsKeyedBy, ordered_body}, TreeView.{object_view}, declared.rule_fault.RuleFault.TheVariants.{Pattern}}
+use Rattle.pact_rules.specs.{Matching.{is_pattern}, Rules.{rule_text}, RuleViews.{rule_view, body_rules, IsKeyedBy}, RuleReading.{no_pattern, body_at}}
+use Rattle.pact_rules.specs.{TreeView.{object_view}, declared.rule_fault.RuleFault.TheVariants.{Pattern}}
 use Rattle.pact_rules.proofs.table_reader.read_body.Given as goal
 
 -- what is read, with what is left, is the whole; and a pattern that is met in what is left is met in the whole
@@ -11,6 +11,6 @@ invariant-loop-key l =
     let so_far = body_rules l.rules.entries in
     let start = body_rules l.fn.before.entries in record {
       keyed : IsKeyedBy rule_view rule_text l.rules.entries;
-      value : ordered_body is_pattern so_far left ≡ ordered_body is_pattern start all;
-      stops : ordered_body no_pattern so_far left ≡ Err Pattern → ordered_body no_pattern start all ≡ Err Pattern;
+      value : body_at is_pattern so_far left ≡ body_at is_pattern start all;
+      stops : body_at no_pattern so_far left ≡ Err Pattern → body_at no_pattern start all ≡ Err Pattern;
     }

@@ -1,7 +1,7 @@
 use Rattle.std.proofs.Common.{◌≡◌, ◌∙◌, string_bytes, sym, ap, subst}
-use Rattle.pact_rules.specs.{Matching.{is_pattern}, TreeView.{tree_view, object_view}, Rules.{name_key}, RuleViews.{header_view, header_rules}, Outcome.{◌>>=◌}}
-use Rattle.pact_rules.specs.{RuleReading.{no_pattern, header_rule_at}, OrderedReading.{IsKeyedBy, put, ordered_headers}}
-use Rattle.pact_rules.proofs.{OrderLemmas.{put_in_map, still_keyed}, PatternLemmas.{HeaderHeld, stops_on, header_rule_goes}}
+use Rattle.pact_rules.specs.{Matching.{is_pattern}, TreeView.{tree_view, object_view}, Rules.{put, name_key}, RuleViews.{header_view, header_rules, IsKeyedBy}}
+use Rattle.pact_rules.{specs.{Outcome.{◌>>=◌}, RuleReading.{no_pattern, header_rule_at, headers_at}}, proofs.OrderLemmas.{put_in_map, still_keyed}}
+use Rattle.pact_rules.proofs.PatternLemmas.{HeaderJoins, HeaderRegex, stops_on, header_rule_goes}
 use Rattle.pact_rules.proofs.table_reader.read_headers.Goals as goal
 
 pub loop-key-preserved : goal.loop-key-preserved
@@ -18,10 +18,10 @@ loop-key-preserved c =
     let entries = c.in_ok-insert.ensures.entries in
     let next : header_rules c.insert.new.self.entries ≡ put name_key r (header_rules es) = ap header_rules entries ∙ put_in_map header_view name_key es found.name found.rule h.keyed found.ensures.text in record {
       keyed = subst (IsKeyedBy header_view name_key) (sym entries) (still_keyed header_view name_key es found.name found.rule h.keyed found.ensures.text);
-      value = ap (λ b. ordered_headers is_pattern b left) next
-          ∙ sym (ap (λ x. x >>= (λ r. ordered_headers is_pattern (put name_key r (header_rules es)) left)) read)
-          ∙ sym (ap (ordered_headers is_pattern (header_rules es)) step) ∙ h.value;
-      stops = λ stop. h.stops (ap (ordered_headers no_pattern (header_rules es)) step
-          ∙ stops_on HeaderHeld (header_rule_at is_pattern (header_rules es) k n) (header_rule_at no_pattern (header_rules es) k n) (λ r. ordered_headers no_pattern (put name_key r (header_rules es)) left) r (header_rule_goes (header_rules es) k n) read
-          (ap (λ b. ordered_headers no_pattern b left) (sym next) ∙ stop));
+      value = ap (λ b. headers_at is_pattern b left) next
+          ∙ sym (ap (λ x. x >>= (λ r. headers_at is_pattern (put name_key r (header_rules es)) left)) read)
+          ∙ sym (ap (headers_at is_pattern (header_rules es)) step) ∙ h.value;
+      stops = λ stop. h.stops (ap (headers_at no_pattern (header_rules es)) step
+          ∙ stops_on (HeaderJoins (header_rules es)) HeaderRegex (header_rule_at is_pattern (header_rules es) k n) (header_rule_at no_pattern (header_rules es) k n) (λ r. headers_at no_pattern (put name_key r (header_rules es)) left) r (header_rule_goes (header_rules es) k n) read
+          (ap (λ b. headers_at no_pattern b left) (sym next) ∙ stop));
     }

@@ -1,6 +1,6 @@
 use Rattle.std.proofs.Common.{◌≡◌, Err}
-use Rattle.pact_rules.specs.{Matching.{is_pattern}, Rules.{name_key}, RuleViews.{header_view, header_rules}, RuleReading.{no_pattern}}
-use Rattle.pact_rules.specs.{OrderedReading.{IsKeyedBy, ordered_headers}, TreeView.{object_view}, declared.rule_fault.RuleFault.TheVariants.{Pattern}}
+use Rattle.pact_rules.specs.{Matching.{is_pattern}, Rules.{name_key}, RuleViews.{header_view, header_rules, IsKeyedBy}, RuleReading.{no_pattern, headers_at}}
+use Rattle.pact_rules.specs.{TreeView.{object_view}, declared.rule_fault.RuleFault.TheVariants.{Pattern}}
 use Rattle.pact_rules.proofs.table_reader.read_headers.Given as goal
 
 -- what is read, with what is left, is the whole; and a pattern that is met in what is left is met in the whole
@@ -11,6 +11,6 @@ invariant-loop-key l =
     let so_far = header_rules l.rules.entries in
     let start = header_rules l.fn.before.entries in record {
       keyed : IsKeyedBy header_view name_key l.rules.entries;
-      value : ordered_headers is_pattern so_far left ≡ ordered_headers is_pattern start all;
-      stops : ordered_headers no_pattern so_far left ≡ Err Pattern → ordered_headers no_pattern start all ≡ Err Pattern;
+      value : headers_at is_pattern so_far left ≡ headers_at is_pattern start all;
+      stops : headers_at no_pattern so_far left ≡ Err Pattern → headers_at no_pattern start all ≡ Err Pattern;
     }

@@ -1,6 +1,6 @@
 use Rattle.std.{specs.List.{filter}, proofs.{Common.{◌∙◌, map, ap}, lemmas.Result.{err_from_is_err_and}}}
 use Rattle.pact_rules.specs.{TreeView.{tree_view}, Rules.{BodyRule, HeaderRule, Rules, has_effect}, RuleViews.{rule_view, header_view}}
-use Rattle.pact_rules.proofs.ReadingLemmas.{is_table, is_read, is_fault}
+use Rattle.pact_rules.proofs.ReadingLemmas.{is_read, is_fault}
 use Rattle.pact_rules.proofs.table.RuleTable.read_with.Goals as goal
 
 pub returns-in_err-body-clause-reading : goal.returns-in_err-body-clause-reading
@@ -10,14 +10,12 @@ returns-in_err-body-clause-reading c =
 
 pub invariant_of-result : goal.invariant_of-result
 invariant_of-result c =
-    is_table (tree_view c.args.tree.now) c.in_ok-body.field-0 (record { body = map rule_view c.in_ok-body-2.body.items; headers = map header_view c.in_ok-headers.headers.items }) c.in_ok-body.ensures.reading
-    c.in_ok-body-2.ensures.order c.in_ok-headers.ensures.order
-    (c.in_ok-body-2.ensures.items ∙ ap (λ (r : Rules). filter (λ (b : BodyRule). has_effect b.entry) r.body) c.body.view_is)
-    (c.in_ok-headers.ensures.items ∙ ap (λ (r : Rules). filter (λ (h : HeaderRule). has_effect h.entry) r.headers) c.body.view_is)
+    (is_read (tree_view c.args.tree.now) c.in_ok-body.field-0 (record { body = map rule_view c.in_ok-body-2.body.items; headers = map header_view c.in_ok-headers.headers.items }) c.in_ok-body.ensures.reading
+    (c.in_ok-body-2.ensures ∙ ap (λ (r : Rules). filter (λ (b : BodyRule). has_effect b.entry) r.body) c.body.view_is)
+    (c.in_ok-headers.ensures ∙ ap (λ (r : Rules). filter (λ (h : HeaderRule). has_effect h.entry) r.headers) c.body.view_is)).1
 
 pub returns-clause-reading : goal.returns-clause-reading
 returns-clause-reading c =
-    is_read (tree_view c.args.tree.now) c.in_ok-body.field-0 (record { body = map rule_view c.in_ok-body-2.body.items; headers = map header_view c.in_ok-headers.headers.items }) c.in_ok-body.ensures.reading
-    c.in_ok-body-2.ensures.order c.in_ok-headers.ensures.order
-    (c.in_ok-body-2.ensures.items ∙ ap (λ (r : Rules). filter (λ (b : BodyRule). has_effect b.entry) r.body) c.body.view_is)
-    (c.in_ok-headers.ensures.items ∙ ap (λ (r : Rules). filter (λ (h : HeaderRule). has_effect h.entry) r.headers) c.body.view_is)
+    (is_read (tree_view c.args.tree.now) c.in_ok-body.field-0 (record { body = map rule_view c.in_ok-body-2.body.items; headers = map header_view c.in_ok-headers.headers.items }) c.in_ok-body.ensures.reading
+    (c.in_ok-body-2.ensures ∙ ap (λ (r : Rules). filter (λ (b : BodyRule). has_effect b.entry) r.body) c.body.view_is)
+    (c.in_ok-headers.ensures ∙ ap (λ (r : Rules). filter (λ (h : HeaderRule). has_effect h.entry) r.headers) c.body.view_is)).0
