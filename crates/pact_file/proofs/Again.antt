@@ -1,6 +1,6 @@
 -- The normal text of a pact is read as that pact.
 use Rattle.std.specs.{Option.{ok_or}, Str.{IsUtf8, bytes_eq}}
-use Rattle.std.proofs.Common.{◌≡◌, ◌⊎◌, inl, inr, ℕ, suc, ◌+◌, ◌≤◌, List, [], ◌∷◌, length, codes, map, not, Bool, true, false, cond, nat_le, Option, Some, None, option_and_then, Result, Ok, Err, refl, sym, ap, ◌∙◌, subst, ⊎_elim, leb-true, le-leb, arith}
+use Rattle.std.proofs.Common.{◌≡◌, ◌⊎◌, inl, inr, ℕ, suc, ◌+◌, ◌≤◌, List, [], ◌∷◌, length, codes, map, not, Bool, true, false, cond, nat_le, Option, Some, None, option_and_then, Result, Ok, Err, refl, sym, ap, ◌∙◌, subst, leb-true, le-leb, arith}
 use Rattle.serde_json.specs.{Data.{Data, Items, no_items, item}, Events.{items_len}, Find.{get, as_array}, View.{items_of}}
 use Rattle.serde_json.proofs.OnLiterals.{serde_json_on_literals}
 use Rattle.broker_core.specs.Name.{is_name}
@@ -14,7 +14,7 @@ use Rattle.pact_file.specs.{Sorting.{insert_all_sorted, same_text}, Sound.{IsSou
 use Rattle.pact_file.{specs.declared.fault.Place.TheVariants.{Consumer, ConsumerName, Provider, ProviderName, Interactions}, proofs.Agreement.{one_answer}}
 use Rattle.pact_file.proofs.{Objects.{is_json}, Itself.{interaction_again, listed_again}, Steps.{bind_ok, found_ok, guard_ok, ok_same}}
 use Rattle.pact_file.proofs.{OrderedSets.{IsGood, key_total, ordered, ordered_few, one_order}, ReadBack.{read-compact_text}}
-use Rattle.pact_file.proofs.{ReadLemmas.{read_ok, is_tree, file_sound, items_sound, each_sound, interactions_sound}, SetLemmas.{rising_apart}}
+use Rattle.pact_file.proofs.{ReadLemmas.{read_ok, is_tree, file_sound, items_sound, each_one, each_sound, interactions_sound}, SetLemmas.{rising_apart}}
 use Rattle.pact_file.proofs.{SoundData.{kept, whole, shallow, text_utf8}, SoundParts.{of_object_at, of_text_at, of_pact}}
 use Rattle.pact_rules.specs.{Outcome.{guard}, Reading.{just, EachRead}, Lists.{IsIn}}
 
@@ -22,15 +22,6 @@ use Rattle.pact_rules.specs.{Outcome.{guard}, Reading.{just, EachRead}, Lists.{I
 
 abbrev IsAgain : Interaction → Type 0
 IsAgain z = (j : ℕ) → InteractionRead j (interaction_data z) (Ok z)
-
-each_again : (i : ℕ) (ds : List Data) (xs : List Interaction) → EachRead InteractionRead i ds (Ok xs) → (z : Interaction) → IsIn z xs → IsAgain z
-unfolding EachRead
-each_again i [] xs e z m = absurd (subst (IsIn z) (sym (ok_same _ _ e)) m)
-each_again i (d ∷ ds) xs e z m =
-    let first = read_ok (InteractionRead i d) _ xs e in
-    let others = read_ok (EachRead InteractionRead (i + 1) ds) _ xs first.2 in
-    let same : first.0 ∷ others.0 ≡ xs = ok_same _ _ others.2 in
-    ⊎_elim (λ is. subst IsAgain (sym is) (λ j. interaction_again i j d first.0 first.1)) (each_again (i + 1) ds others.0 others.1 z) (subst (IsIn z) (sym same) m)
 
 normals_read : (i : ℕ) (xs : List Interaction) → ((z : Interaction) → IsIn z xs → IsAgain z) → EachRead InteractionRead i (map interaction_data xs) (Ok xs)
 unfolding EachRead
@@ -68,20 +59,18 @@ normals_len : (xs : List Interaction) → items_len (items_of (map interaction_d
 normals_len [] = refl
 normals_len (x ∷ xs) = ap suc (normals_len xs)
 
-fewer : (m n k : ℕ) → m ≤ n → nat_le n k ≡ true → nat_le m k ≡ true
-fewer m n k h e = let few : n ≤ k = leb-true n k e in le-leb m k (omega arith)
-
-items_few : (file : Data) (ds : List Data) → items_at file ≡ Ok ds → nat_le (length ds) most_interactions ≡ true
+items_few : (file : Data) (ds : List Data) → items_at file ≡ Ok ds → length ds ≤ most_interactions
 unfolding items_at
 items_few file ds e =
     let items = bind_ok (ok_or (option_and_then as_array (get (codes "interactions") file)) (Shape Interactions)) _ ds e in
     let few = bind_ok (guard (nat_le (items_len items.0) most_interactions) TooMany) _ ds items.2 in
-    ap (λ l. nat_le (length l) most_interactions) (sym (ok_same _ _ few.2)) ∙ ap (λ n. nat_le n most_interactions) (listed_len items.0) ∙ guard_ok _ _ few.0 few.1
+    let n : length ds ≡ items_len items.0 = ap length (sym (ok_same _ _ few.2)) ∙ listed_len items.0 in
+    leb-true (length ds) most_interactions (ap (λ k. nat_le k most_interactions) n ∙ guard_ok _ _ few.0 few.1)
 
-items_again : (p : Pact) → nat_le (length p.interactions) most_interactions ≡ true → items_at (pact_data p) ≡ Ok (map interaction_data p.interactions)
+items_again : (p : Pact) → length p.interactions ≤ most_interactions → items_at (pact_data p) ≡ Ok (map interaction_data p.interactions)
 unfolding items_at serde_json_on_literals
 items_again p few =
-    let count : nat_le (items_len (items_of (map interaction_data p.interactions))) most_interactions ≡ true = ap (λ n. nat_le n most_interactions) (normals_len p.interactions) ∙ few in
+    let count : nat_le (items_len (items_of (map interaction_data p.interactions))) most_interactions ≡ true = ap (λ n. nat_le n most_interactions) (normals_len p.interactions) ∙ le-leb (length p.interactions) most_interactions few in
     rw (count, listed_again (map interaction_data p.interactions)) refl
 
 interactions_again : (file : Data) (p : Pact) → IsSound 100 file → InteractionsRead file (Ok p.interactions) → InteractionsRead (pact_data p) (Ok p.interactions)
@@ -90,9 +79,10 @@ interactions_again file p h r =
     let xs = p.interactions in
     let items = read_ok (just (items_at file)) _ xs r in
     let found = read_ok (EachRead InteractionRead 0 items.0) _ xs items.2 in
-    let good = each_sound 0 items.0 found.0 (items_sound file items.0 h items.1) found.1 in
-    let again = each_again 0 items.0 found.0 found.1 in
-    let few = fewer (length xs) (length items.0) most_interactions (omega (arith, order_length found.0 xs good found.2, each_length 0 items.0 found.0 found.1)) (items_few file items.0 items.1) in
+    let sound = items_sound file items.0 h items.1 in
+    let good = each_sound 0 items.0 found.0 sound found.1 in
+    let again = each_one IsAgain (λ i d x is_sound read j. interaction_again i j d x read) 0 items.0 found.0 sound found.1 in
+    let few : length xs ≤ most_interactions = omega (arith, order_length found.0 xs good found.2, each_length 0 items.0 found.0 found.1, items_few file items.0 items.1) in
     (Ok (map interaction_data xs), items_again p few, (Ok xs, normals_read 0 xs (λ z m. again z (found.2.1.known z m)), in_order_itself found.0 xs found.2))
 
 -- ---- the sides
@@ -157,9 +147,6 @@ short_case false p q h = absurd cc
 if_short_ok : (p q : Pact) → if_short p ≡ Ok q → (p ≡ q) × (nat_le (length (normal_text q)) most_bytes ≡ true)
 if_short_ok p q h = let r = short_case (nat_le (length (normal_text p)) most_bytes) p q h in (r.0, ap (λ (x : Pact). nat_le (length (normal_text x)) most_bytes) (sym r.0) ∙ r.1)
 
-if_short_again : (p : Pact) → nat_le (length (normal_text p)) most_bytes ≡ true → if_short p ≡ Ok p
-if_short_again p h = rw h refl
-
 -- the normal text of a pact that is read of some file is itself a pact file that reads as the same pact
 pub read_again : (bytes : List ℕ) (p : Pact) → Normal bytes (Ok p) → Normal (normal_text p) (Ok p)
 unfolding Normal
@@ -173,7 +160,7 @@ read_again bytes p e =
     let i : InteractionsRead file.0 (Ok p.interactions) = subst (λ (x : Pact). InteractionsRead file.0 (Ok x.interactions)) short.0 found.1 in
     let two = sides_are file.0 p.consumer p.provider good s in
     let sound = of_pact p two.consumer.text two.provider.text (interactions_sound file.0 p.interactions good i) in
-    (Ok (pact_data p), file_again p sound short.1, (Ok (p.consumer, p.provider), sides_again p two, (Ok p.interactions, interactions_again file.0 p good i, if_short_again p short.1)))
+    (Ok (pact_data p), file_again p sound short.1, (Ok (p.consumer, p.provider), sides_again p two, (Ok p.interactions, interactions_again file.0 p good i, ap (λ t. cond t (Ok p) (Err TooLong)) short.1)))
 
 pub normal_again : NormalAgain
 normal_again bytes p e = (read_again bytes p e, λ answer h. by_case answer (one_answer (normal_text p) answer (Ok p) h (read_again bytes p e))) where

@@ -8,16 +8,10 @@ use Rattle.pact_file.proofs.SetLemmas.{one_ordered_set}
 pub name_total : IsTotalOrder name_cmp
 name_total = on_total (λ (h : Header). h.name) nat_list_cmp_total
 
-pub has_headers : (response : Data) (found headers : List Header) → headers_found response ≡ Some found → ¬ HasTwins found → IsSetInOrder name_cmp found headers → HasHeaders response headers
-has_headers response found headers is apart ordered = record { found = found; read = is; apart = apart; ordered = ordered }
-
-pub lacks_headers : (response : Data) (found : List Header) → headers_found response ≡ Some found → HasTwins found → LacksHeaders response
-lacks_headers response found is twins headers h = h.apart (subst HasTwins (same_Some _ _ (sym is ∙ h.read)) twins)
-
 pub either : {V : Type 0} (response : Data) (found : List Header) (items : V → List Header) (o : Option V) → headers_found response ≡ Some found
     → MatchOption o (HasTwins found) (λ v. (¬ HasTwins found) × IsSetInOrder name_cmp found (items v)) → MatchOption o (LacksHeaders response) (λ v. HasHeaders response (items v))
-either response found items None is h = lacks_headers response found is h
-either response found items (Some v) is h = has_headers response found (items v) is h.0 h.1
+either response found items None is twins = λ headers h. h.apart (subst HasTwins (same_Some _ _ (sym is ∙ h.read)) twins)
+either response found items (Some v) is h = record { found = found; read = is; apart = h.0; ordered = h.1 }
 
 -- a response has one list of headers
 pub one_list : (response : Data) (xs ys : List Header) → HasHeaders response xs → HasHeaders response ys → xs ≡ ys

@@ -2,8 +2,7 @@
 use Rattle.std.specs.{Prelude.{⊤}, Option.{ok_or}}
 use Rattle.std.proofs.Common.{◌≡◌, ℕ, List, [], ◌∷◌, codes, map, is_some, Option, Some, None, option_map, option_and_then, Result, Ok, Err, refl, ap, subst}
 use Rattle.std.proofs.lemmas.Option.{same_Some}
-use Rattle.serde_json.specs.{Data.{Data, null, boolean, number, string, array, object}, Find.{get, as_str, as_array, as_object}, View.{items_of}}
-use Rattle.serde_json.proofs.OnLiterals.{serde_json_on_literals}
+use Rattle.serde_json.{specs.{Data.{Data, null, object}, Find.{get, as_str, as_array, as_object}, View.{items_of}}, proofs.OnLiterals.{serde_json_on_literals}}
 use Rattle.pact_file.specs.Pact.{State, Interaction, params_data, state_data, interaction_data}
 use Rattle.pact_file.specs.Parts.{unless_null, optional_at, text_at, if_object, object_at, listed, all_of, state_in, one_state, states_from, states_in, status_in}
 use Rattle.pact_file.specs.{Interactions.{at, parts_at}, Headers.{HeadersRead}, Normal.{InteractionRead}, Rules.{rules_or_fault, RulesRead}}
@@ -23,11 +22,7 @@ AreGiven (s ∷ ss) = IsGiven s.params × AreGiven ss
 
 unless_twice : (d e : Data) → unless_null d ≡ Some e → unless_null e ≡ Some e
 unless_twice null e h = absurd cc
-unless_twice (boolean b) e h = subst (λ x. unless_null x ≡ Some x) (same_Some _ _ h) refl
-unless_twice (number n) e h = subst (λ x. unless_null x ≡ Some x) (same_Some _ _ h) refl
-unless_twice (string s) e h = subst (λ x. unless_null x ≡ Some x) (same_Some _ _ h) refl
-unless_twice (array ds) e h = subst (λ x. unless_null x ≡ Some x) (same_Some _ _ h) refl
-unless_twice (object ms) e h = subst (λ x. unless_null x ≡ Some x) (same_Some _ _ h) refl
+unless_twice d e h = subst (λ x. unless_null x ≡ Some x) (same_Some _ _ h) refl
 
 given_case : (o p : Option Data) → option_and_then unless_null o ≡ p → IsGiven p
 given_case o None h = tt
@@ -82,12 +77,8 @@ states_again x h = rw (listed_again (map state_data x.states), each_again x.stat
 -- ---- the interaction
 
 object_again : (d e : Data) → if_object d ≡ Some e → if_object e ≡ Some e
-object_again null e h = absurd cc
-object_again (boolean b) e h = absurd cc
-object_again (number n) e h = absurd cc
-object_again (string s) e h = absurd cc
-object_again (array ds) e h = absurd cc
 object_again (object ms) e h = subst (λ x. if_object x ≡ Some x) (same_Some _ _ h) refl
+object_again d e h = absurd cc
 
 object_found : (k : List ℕ) (d e : Data) → object_at k d ≡ Some e → if_object e ≡ Some e
 object_found k d e h = let p = then_some if_object (get k d) e h in object_again p.0 e p.2

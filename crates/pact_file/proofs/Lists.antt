@@ -1,11 +1,16 @@
 -- Reading values one after the other, as a loop does.
-use Rattle.std.proofs.Common.{◌≡◌, List, [], ◌∷◌, ◌++◌, map, Option, Some, None, option_map, refl, sym, ap, ◌∙◌, append_assoc, append-nil}
+use Rattle.std.proofs.Common.{◌≡◌, ℕ, ◌+◌, ◌<◌, List, [], ◌∷◌, ◌++◌, map, length, get_or, drop, Option, Some, None, option_map, refl, sym, ap, ◌∙◌, append_assoc, append-nil}
+use Rattle.std.proofs.lemmas.List.{drop_more}
 use Rattle.pact_file.specs.Parts.{all_of, listed}
 use Rattle.serde_json.specs.{View.{view, items_view}, declared.value.Value.{Value}}
 
 pub listed_view : (vs : List Value) → listed (items_view vs) ≡ map view vs
 listed_view [] = refl
 listed_view (v ∷ vs) = ap (λ ds. view v ∷ ds) (listed_view vs)
+
+-- what is left from a place on
+pub left_at : {A : Type 0} (xs : List A) (i : ℕ) (x : A) → i < length xs → x ≡ get_or xs i x → drop i xs ≡ x ∷ drop (i + 1) xs
+left_at xs i x lt is = drop_more xs i x lt ∙ ap (λ y. y ∷ drop (i + 1) xs) (sym is)
 
 -- what was read before, and what is still read
 abbrev pub with_front : {B : Type 0} → List B → Option (List B) → Option (List B)

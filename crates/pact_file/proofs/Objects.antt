@@ -8,7 +8,7 @@ use Rattle.pact_rules.specs.{declared.tree.TreeFault.TheVariants.{TooDeep}, Outc
 use Rattle.pact_rules.{specs.declared.tree.TreeFault.{TreeFault}, proofs.Bridge.{no_float}}
 use Rattle.pact_file.specs.{File.{as_file_fault}, Objects.{IsSomeText, json_of, tree_or_fault, object_of, with_fault}, Sound.{IsSound}}
 use Rattle.pact_file.specs.{declared.fault.PactFault.{PactFault}, declared.fault.PactFault.TheVariants.{Memory as PactMemory}}
-use Rattle.pact_file.specs.{declared.object.FileFault.{FileFault}, declared.object.FileFault.TheVariants.{NotJson, Tree, NotObject, Memory}}
+use Rattle.pact_file.specs.{declared.object.FileFault.{FileFault}, declared.object.FileFault.TheVariants.{NotJson, NotObject, Memory}}
 use Rattle.pact_file.proofs.{ReadKept.{read_kept}, SoundData.{sound}, Steps.{bind_ok, found_ok, ok_same, err_same, ok_err}}
 
 -- ---- a text as JSON
@@ -36,15 +36,8 @@ tree_ok (Ok a) x h = (a, refl)
 tree_ok (Err e) x h = absurd cc
 
 whole_case : (t : Bool) (o : Option Node) (n : Node) → cond t (whole_or o) (Err TooDeep) ≡ Ok n → (t ≡ true) × (o ≡ Some n)
-whole_case true None n h = absurd cc
 whole_case true (Some m) n h = (refl, ap Some (ok_same _ _ h))
-whole_case false o n h = absurd cc
-
--- a value that is read of UTF-8 and that is a tree
-read_sound : (bytes : List ℕ) (d : Data) (t : Node) → IsUtf8 bytes → read bytes ≡ Some d → tree_in d ≡ Ok t → IsSound 100 d
-read_sound bytes d t utf8 is tree =
-    let parts = whole_case (nat_le (depth d) 100) (whole_tree d) t tree in
-    sound 100 d (read_kept bytes d utf8 is) (no_float d t parts.1) (leb-true (depth d) 100 parts.0)
+whole_case t o n h = absurd cc
 
 -- where a text reads as one object, that is sound data, nesting at most 100
 pub object_sound : (bytes : List ℕ) (d : Data) → object_of bytes ≡ Ok d → IsSound 100 d
@@ -55,17 +48,15 @@ object_sound bytes d e =
     let is = bind_ok (guard (is_some (as_object json.0)) NotObject) _ d tree.2 in
     let found_text = json_case (is_utf8 bytes) (read bytes) json.0 json.1 in
     let found = tree_ok (tree_in json.0) tree.0 tree.1 in
-    subst (IsSound 100) (ok_same _ _ is.2) (read_sound bytes json.0 found.0 (IsUtf8-from_is_utf8 bytes found_text.0) found_text.1 found.1)
+    let parts = whole_case (nat_le (depth json.0) 100) (whole_tree json.0) found.0 found.1 in
+    subst (IsSound 100) (ok_same _ _ is.2)
+    (sound 100 json.0 (read_kept bytes json.0 (IsUtf8-from_is_utf8 bytes found_text.0) found_text.1) (no_float json.0 found.0 parts.1) (leb-true (depth json.0) 100 parts.0))
 
 -- ---- what is read is a text
 
-read_nothing : read [] ≡ None
-unfolding serde_json_on_literals
-read_nothing = refl
-
 pub json_text : (bytes : List ℕ) (d : Data) → json_of bytes ≡ Ok d → IsSomeText bytes
-unfolding json_of
-json_text [] d e = ok_err d NotJson (sym e ∙ is_no_json [] (λ text. read_nothing))
+unfolding json_of serde_json_on_literals
+json_text [] d e = ok_err d NotJson (sym e ∙ is_no_json [] (λ text. refl))
 json_text (b ∷ bs) d e = (IsUtf8-from_is_utf8 (b ∷ bs) (json_case (is_utf8 (b ∷ bs)) (read (b ∷ bs)) d e).0, omega arith)
 
 -- the text is read, of which the bytes are
@@ -73,23 +64,15 @@ pub of_text : (bytes text : List ℕ) (r : Result Value FileFault) → text ≡ 
 unfolding json_of
 of_text bytes text r is utf8 h = rw (is_utf8-from_IsUtf8 bytes utf8) (subst (λ t. Gives Memory view r (ok_or (read t) NotJson)) is h)
 
-tree_not_memory : {A : Type 0} (r : Result A TreeFault) → tree_or_fault r ≡ Err Memory → ⊥
-tree_not_memory (Ok x) h = absurd cc
-tree_not_memory (Err e) h = absurd cc
-
 -- a value that is no tree isn't told as want of memory
-pub tree_apart : (d : Data) (e : FileFault) → Err e ≡ tree_or_fault (tree_in d) → e ≡ Memory → ⊥
-tree_apart d e h is = tree_not_memory (tree_in d) (sym h ∙ ap Err is)
-
-memory_alone : (e : FileFault) → as_file_fault e ≡ PactMemory → e ≡ Memory
-memory_alone NotJson h = absurd cc
-memory_alone (Tree f) h = absurd cc
-memory_alone NotObject h = absurd cc
-memory_alone Memory h = refl
+pub tree_apart : {A : Type 0} (r : Result A TreeFault) (e : FileFault) → Err e ≡ tree_or_fault r → e ≡ Memory → ⊥
+tree_apart (Ok x) e h is = absurd cc
+tree_apart (Err f) e h is = absurd cc
 
 -- what follows of want of memory follows where it is the other fault
 pub memory_as : {A B P : Type 0} (e : FileFault) (fault : PactFault) → fault ≡ as_file_fault e → (◌≡◌ {A = Result A FileFault} (Err e) (Err Memory) → P) → ◌≡◌ {A = Result B PactFault} (Err fault) (Err PactMemory) → P
-memory_as e fault is h memory = h (ap Err (memory_alone e (sym is ∙ err_same fault PactMemory memory)))
+memory_as Memory fault is h memory = h refl
+memory_as e fault is h memory = let same : as_file_fault e ≡ PactMemory = sym is ∙ err_same fault PactMemory memory in absurd cc
 
 -- ---- another fault for each
 

@@ -54,11 +54,10 @@ state_same s t h =
 
 states_same : (ss ts : List State) → items_of (map state_data ss) ≡ items_of (map state_data ts) → ss ≡ ts
 states_same [] [] h = refl
-states_same [] (t ∷ ts) h = absurd cc
-states_same (s ∷ ss) [] h = absurd cc
 states_same (s ∷ ss) (t ∷ ts) h =
     let f = item_same _ _ _ _ h in
     ap₂ (λ x xs. x ∷ xs) (state_same s t f.0) (states_same ss ts f.1)
+states_same ss ts h = absurd cc
 
 -- an interaction is known by its normal form
 pub interaction_same : (x y : Interaction) → interaction_data x ≡ interaction_data y → x ≡ y

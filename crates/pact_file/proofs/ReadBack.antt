@@ -4,7 +4,7 @@ use Rattle.std.proofs.Common.{◌≡◌, ℕ, suc, max, ◌≤◌, pos, negsuc, 
 use Rattle.std.proofs.{lemmas.Cmp.{nat_list_cmp_total}, lemmas.Bool.{or_parts}}
 use Rattle.json.{specs.{Token.{Token}, Lex.{tokens}}, proofs.{Printed.Tokens.{tokens-print}, Printed.Trees.{value-json_tokens, ArePrintable-json_tokens}}}
 use Rattle.json.proofs.Printed.Decimals.{IsNumber-decimal, IsNumber-signed_decimal}
-use Rattle.serde_json.specs.Data.{unsigned, negative, float, Data, null, boolean, number, string, array, object, Items, no_items, item, Members, no_members, member, put, depth, items_depth, members_depth}
+use Rattle.serde_json.specs.Data.{unsigned, negative, float, Data, number, array, object, Items, no_items, item, Members, no_members, member, put, depth, items_depth, members_depth}
 use Rattle.serde_json.specs.Read.{of_json, of_items, of_members, max_depth, read}
 use Rattle.serde_json.specs.Written.{outline, items_outline, members_outline, compact_text, has_float, items_have_float, members_have_float}
 use Rattle.serde_json.proofs.{Numbers.{number_of-decimal, number_of-negative}, Texts.{print-outline}}
@@ -44,15 +44,13 @@ below_more (member l e ms) k d more h b = (h.0.1, below_more ms k d more h.1 b)
 -- the outline's numbers are numbers, it nests as deep, and it is read as the value
 mutual
   reads_back : (d : Data) → IsKept d → has_float d ≡ false → tree.HasNumbers (outline d) × (tree.depth (outline d) ≡ depth d) × (of_json (outline d) ≡ Some d)
-  reads_back null h w = (tt, refl, refl)
-  reads_back (boolean b) h w = (tt, refl, refl)
   reads_back (number (unsigned n)) h w = (IsNumber-decimal n h, refl, ap (option_map number) (number_of-decimal n h))
   reads_back (number (negative (pos n))) h w = absurd h
   reads_back (number (negative (negsuc n))) h w = (IsNumber-signed_decimal (negsuc n) h, refl, ap (option_map number) (number_of-negative n h))
   reads_back (number (float x)) h w = absurd cc
-  reads_back (string s) h w = (tt, refl, refl)
   reads_back (array ds) h w = let r = items_read_back ds h w in (r.0, ap suc r.1, ap (option_map array) r.2)
   reads_back (object ms) h w = let r = members_read_back ms h w in (r.0, ap suc r.1, ap (option_map object) (r.2 no_members tt))
+  reads_back d h w = (tt, refl, refl)
 
   items_read_back : (ds : Items) → AreKept ds → items_have_float ds ≡ false
       → tree.ItemsHaveNumbers (items_outline ds) × (tree.items_depth (items_outline ds) ≡ items_depth ds) × (of_items (items_outline ds) ≡ Some ds)

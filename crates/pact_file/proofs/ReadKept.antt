@@ -1,13 +1,13 @@
 -- What is read has whole numbers of 64 bits, and an object's keys in order, each once.
-use Rattle.std.specs.{Ordering.{nat_cmp, match_ordering, ordering_reverse}, Cmp.Lexicographic.{slice_cmp}, Float.{binary64, float_is_finite}, Str.{IsUtf8}}
-use Rattle.std.proofs.Common.{◌≡◌, ℕ, zero, suc, ◌<◌, ◌≤◌, ◌^◌, ◌&&◌, ◌==◌, nat_lt, nat_le, List, drop, get_or, Bool, true, false, cond, Float, Option, Some, None, option_map, option_and_then, Ordering, Less, Equal, Greater, refl, ap, ◌∙◌, subst, ltb-true, leb-true, arith}
+use Rattle.std.specs.{Ordering.{nat_cmp, match_ordering}, Cmp.Lexicographic.{slice_cmp}, Float.{binary64, float_is_finite}, Str.{IsUtf8}}
+use Rattle.std.proofs.Common.{◌≡◌, ℕ, zero, suc, ◌<◌, ◌≤◌, ◌^◌, ◌&&◌, ◌==◌, nat_lt, nat_le, List, drop, get_or, Bool, true, false, cond, Float, Option, Some, None, option_map, option_and_then, Ordering, Less, Equal, Greater, refl, subst, ltb-true, leb-true, arith}
 use Rattle.std.proofs.{lemmas.Bool.{and_parts, cond_both}, lemmas.Cmp.{nat_list_cmp_total}, lemmas.Option.{same_Some, cond_some}}
 use Rattle.fast_float.specs.Text.{Parts, scan, digits_of, nearest, with_sign}
 use Rattle.json.specs.Lex.{tokens}
 use Rattle.serde_json.specs.Data.{Num, unsigned, negative, float, Data, number, array, object, Items, item, Members, no_members, member, put}
 use Rattle.serde_json.specs.Read.{is_integer, float_of, number_from, number_of, of_json, of_items, of_members, max_depth, read}
 use Rattle.pact_rules.specs.Kept.{IsBelow, IsNumber, IsKept, AreKept, MembersAreKept}
-use Rattle.pact_file.proofs.{Steps.{map_some, then_some}, Utf8Tokens.{HasTexts, ItemsHaveTexts, MembersHaveTexts, value_texts}}
+use Rattle.pact_file.proofs.{SetLemmas.{turned}, Steps.{map_some, then_some}, Utf8Tokens.{HasTexts, ItemsHaveTexts, MembersHaveTexts, value_texts}}
 use Rattle.json.specs.Json as json
 
 -- ---- numbers
@@ -15,25 +15,21 @@ use Rattle.json.specs.Json as json
 float_case : (b : Bool) (x : Float) (n : Num) → cond b (Some (float x)) None ≡ Some n → IsNumber n
 float_case b x n h = subst IsNumber (cond_some b (float x) n h).1 tt
 
-plain_case : (t : Bool) (m : ℕ) (rest : Option Num) (n : Num) → (t ≡ true → m < 2 ^ 64) → (rest ≡ Some n → IsNumber n) → cond t (Some (unsigned m)) rest ≡ Some n → IsNumber n
-plain_case true m rest n fits other h = subst IsNumber (same_Some _ _ h) (fits refl)
-plain_case false m rest n fits other h = other h
+whole_case : (t : Bool) (m : Num) (rest : Option Num) (n : Num) → (t ≡ true → IsNumber m) → (rest ≡ Some n → IsNumber n) → cond t (Some m) rest ≡ Some n → IsNumber n
+whole_case true m rest n fits other h = subst IsNumber (same_Some _ _ h) (fits refl)
+whole_case false m rest n fits other h = other h
 
 signed : (m : ℕ) → 0 < m → m ≤ 2 ^ 63 → IsNumber (negative (with_sign true m))
 signed zero some fits = absurd (omega arith)
 signed (suc k) some fits = omega arith
 
-signed_case : (t : Bool) (m : ℕ) (rest : Option Num) (n : Num) → (t ≡ true → (0 < m) × (m ≤ 2 ^ 63)) → (rest ≡ Some n → IsNumber n) → cond t (Some (negative (with_sign true m))) rest ≡ Some n → IsNumber n
-signed_case true m rest n fits other h = let f = fits refl in subst IsNumber (same_Some _ _ h) (signed m f.0 f.1)
-signed_case false m rest n fits other h = other h
-
 from_parts : (sign : Bool) (p : Parts) (n : Num) → number_from sign p ≡ Some n → IsNumber n
 from_parts false p n h =
-    plain_case (is_integer p && nat_lt (digits_of p) (2 ^ 64)) (digits_of p) (float_of false p) n (λ t. ltb-true (digits_of p) (2 ^ 64) (and_parts (is_integer p) _ t).1) (λ o. float_case (float_is_finite (nearest binary64 false p)) (nearest binary64 false p) n o) h
+    whole_case (is_integer p && nat_lt (digits_of p) (2 ^ 64)) (unsigned (digits_of p)) (float_of false p) n (λ t. ltb-true (digits_of p) (2 ^ 64) (and_parts (is_integer p) _ t).1) (λ o. float_case (float_is_finite (nearest binary64 false p)) (nearest binary64 false p) n o) h
 from_parts true p n h =
-    signed_case (is_integer p && nat_lt 0 (digits_of p) && nat_le (digits_of p) (2 ^ 63)) (digits_of p) (float_of true p) n
+    whole_case (is_integer p && nat_lt 0 (digits_of p) && nat_le (digits_of p) (2 ^ 63)) (negative (with_sign true (digits_of p))) (float_of true p) n
     (λ t. let parts = and_parts (is_integer p && nat_lt 0 (digits_of p)) _ t in
-    (ltb-true 0 (digits_of p) (and_parts (is_integer p) _ parts.0).1, leb-true (digits_of p) (2 ^ 63) parts.1))
+    signed (digits_of p) (ltb-true 0 (digits_of p) (and_parts (is_integer p) _ parts.0).1) (leb-true (digits_of p) (2 ^ 63) parts.1))
     (λ o. float_case (float_is_finite (nearest binary64 true p)) (nearest binary64 true p) n o) h
 
 number_kept : (s : List ℕ) (n : Num) → number_of s ≡ Some n → IsNumber n
@@ -48,9 +44,6 @@ lower : (k l : List ℕ) (ms : Members) → slice_cmp nat_cmp k l ≡ Less → I
 lower k l no_members h b = tt
 lower k l (member m d ms) h b = (nat_list_cmp_total.trans k l m h b.0, lower k l ms h b.1)
 
-turned : (k l : List ℕ) → slice_cmp nat_cmp k l ≡ Greater → slice_cmp nat_cmp l k ≡ Less
-turned k l h = nat_list_cmp_total.antisymm l k ∙ ap ordering_reverse h
-
 below_case : (o : Ordering) (j k l : List ℕ) (d e : Data) (ms : Members) → slice_cmp nat_cmp j k ≡ Less → slice_cmp nat_cmp j l ≡ Less → IsBelow j ms → IsBelow j (put k d ms) → IsBelow j (match_ordering o (member k d (member l e ms)) (member l d ms) (member l e (put k d ms)))
 below_case Less j k l d e ms p q b c = (p, (q, b))
 below_case Equal j k l d e ms p q b c = (q, b)
@@ -64,7 +57,7 @@ put_case : (o : Ordering) (k l : List ℕ) (d e : Data) (ms : Members) → slice
     → MembersAreKept (match_ordering o (member k d (member l e ms)) (member l d ms) (member l e (put k d ms)))
 put_case Less k l d e ms is u h m r = ((is, lower k l ms is m.0), h, m, u)
 put_case Equal k l d e ms is u h m r = (m.0, h, m.2, m.3)
-put_case Greater k l d e ms is u h m r = (below_put l k d ms (turned k l is) m.0, m.1, r, m.3)
+put_case Greater k l d e ms is u h m r = (below_put l k d ms (turned (slice_cmp nat_cmp) nat_list_cmp_total k l Greater is) m.0, m.1, r, m.3)
 
 put_kept : (k : List ℕ) (d : Data) (ms : Members) → IsUtf8 k → IsKept d → MembersAreKept ms → MembersAreKept (put k d ms)
 put_kept k d no_members u h m = (tt, h, tt, u)
@@ -74,12 +67,11 @@ put_kept k d (member l e ms) u h m = put_case (slice_cmp nat_cmp k l) k l d e ms
 
 mutual
   json_kept : (j : json.Json) (d : Data) → HasTexts j → of_json j ≡ Some d → IsKept d
-  json_kept json.null d t h = subst IsKept (same_Some _ _ h) tt
-  json_kept (json.boolean b) d t h = subst IsKept (same_Some _ _ h) tt
   json_kept (json.number s) d t h = let n = map_some number (number_of s) d h in subst IsKept n.2 (number_kept s n.0 n.1)
   json_kept (json.string s) d t h = subst IsKept (same_Some _ _ h) t
   json_kept (json.array js) d t h = let ds = map_some array (of_items js) d h in subst IsKept ds.2 (items_kept js ds.0 t ds.1)
   json_kept (json.object ms) d t h = let m = map_some object (of_members ms no_members) d h in subst IsKept m.2 (members_kept ms no_members m.0 t tt m.1)
+  json_kept j d t h = subst IsKept (same_Some _ _ h) tt
 
   items_kept : (js : json.Items) (ds : Items) → ItemsHaveTexts js → of_items js ≡ Some ds → AreKept ds
   items_kept json.no_items ds t h = subst AreKept (same_Some _ _ h) tt

@@ -1,21 +1,21 @@
 -- What a reading that succeeds went through, and that what is read of sound data is sound.
 use Rattle.std.specs.{Prelude.{⊤}, Option.{ok_or}}
-use Rattle.std.proofs.Common.{◌≡◌, inl, inr, ℕ, zero, suc, ◌+◌, ◌≤◌, ◌<◌, nat_le, List, [], ◌∷◌, length, map, codes, get_or, Bool, true, false, cond, is_some, Some, None, option_and_then, Result, Ok, Err, refl, sym, ap, ◌∙◌, subst, ⊎_elim, le-leb, arith}
+use Rattle.std.proofs.Common.{◌≡◌, inl, inr, ℕ, zero, suc, ◌+◌, ◌≤◌, ◌<◌, nat_le, List, [], ◌∷◌, length, map, codes, get_or, Bool, true, cond, is_some, Some, None, option_and_then, Result, Ok, Err, refl, sym, ap, ◌∙◌, subst, ⊎_elim, le-leb, arith}
 use Rattle.serde_json.specs.{declared.value.Value.{Value}, Data.{Data, Items, no_items, item, depth}, Events.{items_len}, Find.{get, as_array, as_object}}
 use Rattle.serde_json.specs.View.{view, items_view, items_of}
-use Rattle.pact_rules.specs.{Reading.{◌>>=◌, Follows, just, EachRead, GivesOne}, Lists.{IsIn}, Trees.{Node}, Rules.{no_rules, Rules as Table}}
-use Rattle.pact_rules.specs.{RuleReading.{IsReading}, TreeReading.{whole_tree, tree_in}, declared.tree.TreeFault.{TreeFault}}
-use Rattle.pact_rules.{specs.{declared.rule_fault.RuleFault.{RuleFault}, Outcome.{guard, Gives}}, proofs.Bridge.{has_tree}}
+use Rattle.pact_rules.specs.{Reading.{◌>>=◌, just, EachRead, GivesOne}, Lists.{IsIn}, Trees.{Node}, Rules.{no_rules, Rules as Table}, RuleReading.{IsReading}}
+use Rattle.pact_rules.specs.{TreeReading.{whole_tree, tree_in}, declared.tree.TreeFault.{TreeFault}, declared.rule_fault.RuleFault.{RuleFault}}
+use Rattle.pact_rules.{specs.Outcome.{guard, Gives}, proofs.Bridge.{has_tree}}
 use Rattle.pact_file.specs.declared.fault.Part.TheVariants.{Headers, Whole, Description, States, Request, Response, Status}
 use Rattle.pact_file.specs.{File.{most_bytes, most_interactions, as_file_fault, file_of, sides_of, items_of as items_at, seen_of}, Interactions.{at, parts_at}}
 use Rattle.pact_file.specs.{Headers.{HeadersRead}, Normal.{InteractionRead, InteractionsRead, PactRead, Normal, if_short}}
-use Rattle.pact_file.specs.{Pact.{Interaction, Pact, interaction_data, normal_text}, Parts.{text_at, object_at, states_in, status_in, listed, optional_at}}
-use Rattle.pact_file.specs.{Rules.{TableRead, rules_or_fault, RulesRead, IsRulesOf}, Sound.{IsSound, AreSound}, PartsView.{as_pact_fault}}
-use Rattle.pact_file.specs.{declared.fault.PactFault.{PactFault}, declared.fault.PactFault.TheVariants.{Memory, Rules, Shape, TooLong, TooMany}}
-use Rattle.pact_file.specs.{declared.fault.Place.TheVariants.{Interactions}, Objects.{IsSomeText, json_of, object_of}}
-use Rattle.pact_file.proofs.SoundParts.{of_get, of_object_at, of_text_at, of_array, of_states, of_parts}
-use Rattle.pact_file.proofs.Steps.{bind_ok, bind_first, bind_second, first_of, found_ok, ok_same, ok_err, then_some}
-use Rattle.pact_file.proofs.{Objects.{object_ok, object_sound, json_text}, SoundData.{shallow, whole as is_whole}}
+use Rattle.pact_file.specs.Pact.{Interaction, Pact, interaction_data, pact_with, normal_text}
+use Rattle.pact_file.specs.{Parts.{text_at, object_at, states_in, status_in, listed, optional_at}, Rules.{TableRead, rules_or_fault, RulesRead, IsRulesOf}}
+use Rattle.pact_file.specs.{Sound.{IsSound, AreSound}, PartsView.{as_pact_fault}, declared.fault.PactFault.{PactFault}}
+use Rattle.pact_file.specs.{declared.fault.PactFault.TheVariants.{Memory, Rules, Shape, TooLong, TooMany}, declared.fault.Place.TheVariants.{Interactions}}
+use Rattle.pact_file.{specs.Objects.{IsSomeText, json_of, object_of}, proofs.SoundParts.{of_get, of_object_at, of_text_at, of_array, of_states, of_parts}}
+use Rattle.pact_file.proofs.{Steps.{bind_ok, bind_second, first_of, found_ok, ok_same, ok_err, then_some}, Objects.{object_ok, object_sound, json_text}}
+use Rattle.pact_file.proofs.SoundData.{shallow, whole as is_whole}
 use Rattle.pact_rules.specs.declared.rule_fault.RuleFault.TheVariants as rule_fault
 
 -- ---- trees
@@ -48,24 +48,14 @@ unfolding IsRulesOf
 rules_of response d n t some is h = subst (λ o. TableRead o (Ok t)) some (n, is, h)
 
 pub pact_fault_apart : (i : ℕ) (fault : RuleFault) → ¬ (as_pact_fault i fault ≡ Memory) → (¬ (fault ≡ rule_fault.Memory)) × (as_pact_fault i fault ≡ Rules i fault)
-pact_fault_apart i rule_fault.Form h = ((λ e. absurd cc), refl)
-pact_fault_apart i rule_fault.OldRules h = ((λ e. absurd cc), refl)
-pact_fault_apart i rule_fault.BadPath h = ((λ e. absurd cc), refl)
-pact_fault_apart i rule_fault.SamePathTwice h = ((λ e. absurd cc), refl)
-pact_fault_apart i (rule_fault.Unsupported name) h = ((λ e. absurd cc), refl)
-pact_fault_apart i rule_fault.BadBound h = ((λ e. absurd cc), refl)
-pact_fault_apart i rule_fault.Pattern h = ((λ e. absurd cc), refl)
-pact_fault_apart i rule_fault.BadCombine h = ((λ e. absurd cc), refl)
 pact_fault_apart i rule_fault.Memory h = absurd (h refl)
+pact_fault_apart i fault h = ((λ e. absurd cc), refl)
 
 -- ---- steps
 
-pub follows_ok : {A B : Type 0} (r : Result A PactFault) (next : A → Result B PactFault → Type 0) (y : B) → Follows r next (Ok y) → (x : A) × (r ≡ Ok x) × next x (Ok y)
-follows_ok (Ok x) next y h = (x, refl, h)
-follows_ok (Err e) next y h = absurd cc
-
 pub read_ok : {A B : Type 0} (first : Result A PactFault → Type 0) (next : A → Result B PactFault → Type 0) (y : B) → (first >>= next) (Ok y) → (x : A) × first (Ok x) × next x (Ok y)
-read_ok first next y h = let f = follows_ok h.0 next y h.2 in (f.0, subst first f.1 h.1, f.2)
+read_ok first next y (Ok x, h, k) = (x, h, k)
+read_ok first next y (Err e, h, k) = absurd cc
 
 -- ---- what is read is sound
 
@@ -102,14 +92,19 @@ pub listed_sound : (ds : Items) → AreSound 98 ds → AllSound (listed ds)
 listed_sound no_items h = tt
 listed_sound (item d ds) h = (h.0, listed_sound ds h.1)
 
-pub each_sound : (i : ℕ) (ds : List Data) (xs : List Interaction) → AllSound ds → EachRead InteractionRead i ds (Ok xs) → (z : Interaction) → IsIn z xs → IsSound 98 (interaction_data z)
+-- what is so of an interaction that is read of a sound value is so of each of a list
+pub each_one : (P : Interaction → Type 0) → ((i : ℕ) (d : Data) (x : Interaction) → IsSound 98 d → InteractionRead i d (Ok x) → P x)
+    → (i : ℕ) (ds : List Data) (xs : List Interaction) → AllSound ds → EachRead InteractionRead i ds (Ok xs) → (z : Interaction) → IsIn z xs → P z
 unfolding EachRead
-each_sound i [] xs h e z m = absurd (subst (IsIn z) (sym (ok_same _ _ e)) m)
-each_sound i (d ∷ ds) xs h e z m =
+each_one P one i [] xs h e z m = absurd (subst (IsIn z) (sym (ok_same _ _ e)) m)
+each_one P one i (d ∷ ds) xs h e z m =
     let first = read_ok (InteractionRead i d) _ xs e in
     let others = read_ok (EachRead InteractionRead (i + 1) ds) _ xs first.2 in
     let same : first.0 ∷ others.0 ≡ xs = ok_same _ _ others.2 in
-    ⊎_elim (λ is. subst (λ w. IsSound 98 (interaction_data w)) (sym is) (interaction_sound i d first.0 h.0 first.1)) (each_sound (i + 1) ds others.0 h.1 others.1 z) (subst (IsIn z) (sym same) m)
+    ⊎_elim (λ is. subst P (sym is) (one i d first.0 h.0 first.1)) (each_one P one (i + 1) ds others.0 h.1 others.1 z) (subst (IsIn z) (sym same) m)
+
+pub each_sound : (i : ℕ) (ds : List Data) (xs : List Interaction) → AllSound ds → EachRead InteractionRead i ds (Ok xs) → (z : Interaction) → IsIn z xs → IsSound 98 (interaction_data z)
+each_sound i ds xs h e = each_one (λ x. IsSound 98 (interaction_data x)) interaction_sound i ds xs h e
 
 -- ---- the file
 
@@ -133,9 +128,6 @@ of_file bytes d (Ok p) is h = (Ok d, is, h)
 of_file bytes d (Err e) is h = λ memory. (Ok d, is, h memory)
 
 -- what is looked at first
-pub seen_sides : (file : Data) (e d : PactFault) → sides_of file ≡ Err e → seen_of file ≡ Err d → e ≡ d
-seen_sides file e d h k = bind_first (sides_of file) _ e d h k
-
 pub seen_items : (file : Data) (sides : List ℕ × List ℕ) (d : PactFault) → sides_of file ≡ Ok sides → seen_of file ≡ Err d → items_at file ≡ Err d
 seen_items file sides d h k = first_of (items_at file) d (bind_second (sides_of file) _ sides d h k)
 
@@ -183,11 +175,10 @@ interactions_sound file xs h r =
 
 -- ---- the length of the normal text
 
-pub too_long : (p : Pact) (b : Bool) → b ≡ nat_le (length (normal_text p)) most_bytes → b ≡ false → if_short p ≡ Err TooLong
-too_long p b is h = ap (λ t. cond t (Ok p) (Err TooLong)) (sym is ∙ h)
-
-pub short_enough : (p : Pact) (b : Bool) → b ≡ nat_le (length (normal_text p)) most_bytes → b ≡ true → if_short p ≡ Ok p
-short_enough p b is h = ap (λ t. cond t (Ok p) (Err TooLong)) (sym is ∙ h)
+-- of a pact whose interactions were passed as a slice
+pub short_is : (c q : List ℕ) (xs ys : List Interaction) (b t : Bool) → ys ≡ xs → b ≡ nat_le (length (normal_text (pact_with c q ys))) most_bytes → b ≡ t
+    → if_short (pact_with c q xs) ≡ cond t (Ok (pact_with c q xs)) (Err TooLong)
+short_is c q xs ys b t same is h = ap (λ u. cond u (Ok (pact_with c q xs)) (Err TooLong)) (ap (λ zs. nat_le (length (normal_text (pact_with c q zs))) most_bytes) (sym same) ∙ sym is ∙ h)
 
 -- a pact of equal parts
 pub same_pact : {c d q r : List ℕ} (xs : List Interaction) → c ≡ d → q ≡ r → ◌≡◌ {A = Pact} (record { consumer = c; provider = q; interactions = xs }) (record { consumer = d; provider = r; interactions = xs })

@@ -1,19 +1,17 @@
 -- Where a binary search finds the place of a new one in a list whose keys rise.
-use Rattle.std.specs.{Cmp.{IsTotalOrder}, List.{AllByRecursion}, List.Sorted.{IsSortedBy, IsNonDecreasingBy}}
-use Rattle.std.specs.Ordering.{is_lt, ordering_index, ordering_reverse, match_ordering}
+use Rattle.std.specs.{Cmp.{IsTotalOrder}, List.Sorted.{IsSortedBy, IsNonDecreasingBy}, Ordering.{is_lt, ordering_index, ordering_reverse, match_ordering}}
 use Rattle.std.proofs.Common.{◌≡◌, ℕ, zero, suc, ◌+◌, ◌≤◌, ◌<◌, List, [], ◌∷◌, ◌++◌, Bool, true, false, cond, Ordering, Less, Equal, Greater, Option, Some, None, option_map, get_or, length, take, drop, refl, sym, ap, ◌∙◌, subst, arith}
-use Rattle.std.proofs.{lemmas.List.Sorted.{searchable_from_sorted}, lemmas.Option.{same_Some}}
-use Rattle.pact_file.{specs.{Sets.{IsRising}, Sorting.{insert_sorted}}, proofs.{SetLemmas.{Below, turned, lower}, SortedSets.{next}, Steps.{map_some}}}
+use Rattle.std.proofs.lemmas.List.Sorted.{searchable_from_sorted}
+use Rattle.pact_file.{specs.{Sets.{IsRising}, Sorting.{insert_sorted}}, proofs.{SetLemmas.{Below, turned}, SortedSets.{next}}}
 
 module _ {A : Type 0} (cmp : A → A → Ordering) (total : IsTotalOrder cmp) where
   -- ---- the keys rise as a search asks it
 
   neighbours : (xs : List A) (k : ℕ) (d : A) → k + 1 < length xs → IsRising cmp xs → cmp (get_or xs k d) (get_or xs (k + 1) d) ≡ Less
-  neighbours [] k d h r = absurd (omega (arith, h))
-  neighbours (x ∷ []) k d h r = absurd (omega (arith, h))
   neighbours (x ∷ y ∷ ys) zero d h r = r.0.0
   neighbours (x ∷ y ∷ ys) (suc k) d h r =
       subst (λ z. cmp (get_or (y ∷ ys) k d) z ≡ Less) (sym (next cmp total x (y ∷ ys) k d)) (neighbours (y ∷ ys) k d (omega (arith, h)) r.1)
+  neighbours xs k d h r = absurd (omega (arith, h))
 
   pub in_order : (xs : List A) → IsRising cmp xs → IsSortedBy (λ a b. is_lt (cmp a b)) xs
   in_order xs r k d low below =
@@ -63,31 +61,3 @@ module _ {A : Type 0} (cmp : A → A → Ordering) (total : IsTotalOrder cmp) wh
         let past : cmp x y ≡ Greater = sym (total.congr z x y e) ∙ turned cmp total y z Less less in
         ap (λ o. with_first o x y ys (insert_sorted cmp same x ys)) past ∙ ap (option_map (λ zs. y ∷ zs)) (meets x ys k d r.1 (omega (arith, h)) e)
         ∙ kept_or_not y ys (same x z)
-
-    -- ---- the keys rise afterwards
-
-    below_case : (o : Ordering) (b : Bool) (w x y : A) (ys new : List A) → cmp w x ≡ Less → Below cmp total w (y ∷ ys) → ((more : List A) → insert_sorted cmp same x ys ≡ Some more → Below cmp total w more)
-        → match_ordering o (Some (x ∷ y ∷ ys)) (cond b (Some (y ∷ ys)) None) (option_map (λ more. y ∷ more) (insert_sorted cmp same x ys)) ≡ Some new → Below cmp total w new
-    below_case Less b w x y ys new h r k e = subst (Below cmp total w) (same_Some _ _ e) (h, r)
-    below_case Equal true w x y ys new h r k e = subst (Below cmp total w) (same_Some _ _ e) r
-    below_case Equal false w x y ys new h r k e = absurd cc
-    below_case Greater b w x y ys new h r k e = let m = map_some (λ more. y ∷ more) (insert_sorted cmp same x ys) new e in subst (Below cmp total w) m.2 (r.0, k m.0 m.1)
-
-    stays_below : (w x : A) (list new : List A) → cmp w x ≡ Less → Below cmp total w list → insert_sorted cmp same x list ≡ Some new → Below cmp total w new
-    unfolding insert_sorted
-    stays_below w x [] new h r e = subst (Below cmp total w) (same_Some _ _ e) (h, tt)
-    stays_below w x (y ∷ ys) new h r e = below_case (cmp x y) (same x y) w x y ys new h r (λ more k. stays_below w x ys more h r.1 k) e
-
-    rising_case : (o : Ordering) (b : Bool) (x y : A) (ys new : List A) → cmp x y ≡ o → IsRising cmp (y ∷ ys) → ((more : List A) → insert_sorted cmp same x ys ≡ Some more → IsRising cmp more)
-        → match_ordering o (Some (x ∷ y ∷ ys)) (cond b (Some (y ∷ ys)) None) (option_map (λ more. y ∷ more) (insert_sorted cmp same x ys)) ≡ Some new → IsRising cmp new
-    rising_case Less b x y ys new is r k e = subst (IsRising cmp) (same_Some _ _ e) ((is, lower cmp total x y ys is r.0), r)
-    rising_case Equal true x y ys new is r k e = subst (IsRising cmp) (same_Some _ _ e) r
-    rising_case Equal false x y ys new is r k e = absurd cc
-    rising_case Greater b x y ys new is r k e =
-        let m = map_some (λ more. y ∷ more) (insert_sorted cmp same x ys) new e in
-        subst (IsRising cmp) m.2 (stays_below y x ys m.0 (turned cmp total x y Greater is) r.0 m.1, k m.0 m.1)
-
-    pub still_rising : (x : A) (list new : List A) → IsRising cmp list → insert_sorted cmp same x list ≡ Some new → IsRising cmp new
-    unfolding insert_sorted
-    still_rising x [] new r e = subst (IsRising cmp) (same_Some _ _ e) (tt, tt)
-    still_rising x (y ∷ ys) new r e = rising_case (cmp x y) (same x y) x y ys new refl r (λ more k. still_rising x ys more r.1 k) e

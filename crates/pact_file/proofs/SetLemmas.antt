@@ -66,13 +66,39 @@ module _ {A : Type 0} (cmp : A → A → Ordering) (total : IsTotalOrder cmp) wh
       let e : Less ≡ Equal = sym (each_such (λ y. cmp x y ≡ Less) xs t.0 r.0 t.1) ∙ t.2.0 in cc
   rising_apart D (x ∷ xs) r (inr h) = rising_apart D xs r.1 h
 
+  -- ---- inserting
+
+  module _ (same : A → A → Bool) where
+    -- what is so of each way in which x goes in is so of what inserting makes of a list
+    module _ (P : List A → List A → Type 0) (x : A) (none : P [] (x ∷ [])) (less : (y : A) (ys : List A) → cmp x y ≡ Less → P (y ∷ ys) (x ∷ y ∷ ys))
+        (equal : (y : A) (ys : List A) → cmp x y ≡ Equal → same x y ≡ true → P (y ∷ ys) (y ∷ ys)) (greater : (y : A) (ys more : List A) → cmp x y ≡ Greater → P ys more → P (y ∷ ys) (y ∷ more)) where
+      inserted_case : (o : Ordering) (b : Bool) (y : A) (ys new : List A) → cmp x y ≡ o → same x y ≡ b → ((more : List A) → insert_sorted cmp same x ys ≡ Some more → P ys more)
+          → match_ordering o (Some (x ∷ y ∷ ys)) (cond b (Some (y ∷ ys)) None) (option_map (λ more. y ∷ more) (insert_sorted cmp same x ys)) ≡ Some new → P (y ∷ ys) new
+      inserted_case Less b y ys new is eq k e = subst (P (y ∷ ys)) (same_Some _ _ e) (less y ys is)
+      inserted_case Equal true y ys new is eq k e = subst (P (y ∷ ys)) (same_Some _ _ e) (equal y ys is eq)
+      inserted_case Equal false y ys new is eq k e = absurd cc
+      inserted_case Greater b y ys new is eq k e = let m = map_some (λ more. y ∷ more) (insert_sorted cmp same x ys) new e in subst (P (y ∷ ys)) m.2 (greater y ys m.0 is (k m.0 m.1))
+
+      inserted : (list new : List A) → insert_sorted cmp same x list ≡ Some new → P list new
+      unfolding insert_sorted
+      inserted [] new e = subst (P []) (same_Some _ _ e) none
+      inserted (y ∷ ys) new e = inserted_case (cmp x y) (same x y) y ys new refl refl (λ more k. inserted ys more k) e
+
+    abbrev pub Stays : A → List A → List A → Type 0
+    Stays x list new = (IsRising cmp list → IsRising cmp new) × ((w : A) → cmp w x ≡ Less → Below w list → Below w new)
+
+    -- the keys still rise, above what is below them all
+    pub stays : (x : A) (list new : List A) → insert_sorted cmp same x list ≡ Some new → Stays x list new
+    stays x list new e =
+        inserted (Stays x) x (λ r. (tt, tt), λ w h b. (h, tt)) (λ y ys is. (λ r. ((is, lower x y ys is r.0), r), λ w h b. (h, b))) (λ y ys is eq. (λ r. r, λ w h b. b))
+        (λ y ys more is p. (λ r. (p.1 y (turned x y Greater is) r.0, p.0 r.1), λ w h b. (b.0, p.1 w h b.1))) list new e
+
   -- ---- placing
 
   module _ (same : A → A → Bool) (Differ : A → A → Type 0) (Good : A → Type 0)
       (alike : (x y : A) → Good x → Good y → same x y ≡ true → (x ≡ y) × ¬ (Differ y x)) (unlike : (x y : A) → same x y ≡ false → Differ y x) where
-    -- the new list has x beside those of the list, in order
+    -- the new list has x beside those of the list
     record IsPlaced (x : A) (list new : List A) : Type 0 where
-      rising : IsRising cmp new
       fresh : IsIn x new
       old : (z : A) → IsIn z list → IsIn z new
       known : (z : A) → IsIn z new → (z ≡ x) ⊎ IsIn z list
@@ -87,7 +113,6 @@ module _ {A : Type 0} (cmp : A → A → Ordering) (total : IsTotalOrder cmp) wh
 
     here : (x y : A) (ys : List A) → cmp x y ≡ Less → IsRising cmp (y ∷ ys) → IsPlaced x (y ∷ ys) (x ∷ y ∷ ys)
     here x y ys h r = record {
-      rising = ((h, lower x y ys h r.0), r);
       fresh = inl refl;
       old = λ z k. inr k;
       known = λ z k. k;
@@ -101,7 +126,6 @@ module _ {A : Type 0} (cmp : A → A → Ordering) (total : IsTotalOrder cmp) wh
 
     there : (x y : A) (ys : List A) → x ≡ y → ¬ (Differ y x) → IsRising cmp (y ∷ ys) → IsPlaced x (y ∷ ys) (y ∷ ys)
     there x y ys is alone r = record {
-      rising = r;
       fresh = inl is;
       old = λ z k. k;
       known = λ z k. inr k;
@@ -109,18 +133,8 @@ module _ {A : Type 0} (cmp : A → A → Ordering) (total : IsTotalOrder cmp) wh
       few = omega arith;
     }
 
-    past_below : (x y : A) (ys more : List A) → cmp y x ≡ Less → Below y ys → ((z : A) → IsIn z more → (z ≡ x) ⊎ IsIn z ys) → Below y more
-    past_below x y ys more h b known = all_below more known where
-      all_below : (zs : List A) → ((z : A) → IsIn z zs → (z ≡ x) ⊎ IsIn z ys) → Below y zs
-      all_below [] f = tt
-      all_below (z ∷ zs) f = (
-        ⊎_elim (λ first. subst (λ w. cmp y w ≡ Less) (sym first) h) (each_such (λ w. cmp y w ≡ Less) ys z b) (f z (inl refl)),
-        all_below zs (λ w k. f w (inr k)),
-      )
-
-    past : (x y : A) (ys more : List A) → cmp x y ≡ Greater → IsRising cmp (y ∷ ys) → IsPlaced x ys more → IsPlaced x (y ∷ ys) (y ∷ more)
-    past x y ys more h r p = record {
-      rising = (past_below x y ys more (turned x y Greater h) r.0 p.known, p.rising);
+    past : (x y : A) (ys more : List A) → cmp x y ≡ Greater → IsPlaced x ys more → IsPlaced x (y ∷ ys) (y ∷ more)
+    past x y ys more h p = record {
       fresh = inr p.fresh;
       old = λ z. ⊎_elim inl (λ k. inr (p.old z k));
       known = λ z. ⊎_elim (λ first. inr (inl first)) (λ k. ⊎_elim inl (λ m. inr (inr m)) (p.known z k));
@@ -128,35 +142,24 @@ module _ {A : Type 0} (cmp : A → A → Ordering) (total : IsTotalOrder cmp) wh
       few = omega (arith, p.few);
     }
 
-    placed_case : (o : Ordering) (b : Bool) (x y : A) (ys new : List A) → cmp x y ≡ o → same x y ≡ b → Good x → Good y → IsRising cmp (y ∷ ys)
-        → ((more : List A) → insert_sorted cmp same x ys ≡ Some more → IsPlaced x ys more)
-        → match_ordering o (Some (x ∷ y ∷ ys)) (cond b (Some (y ∷ ys)) None) (option_map (λ more. y ∷ more) (insert_sorted cmp same x ys)) ≡ Some new → IsPlaced x (y ∷ ys) new
-    placed_case Less b x y ys new is eq g h r k e = subst (IsPlaced x (y ∷ ys)) (same_Some _ _ e) (here x y ys is r)
-    placed_case Equal true x y ys new is eq g h r k e = let a = alike x y g h eq in subst (IsPlaced x (y ∷ ys)) (same_Some _ _ e) (there x y ys a.0 a.1 r)
-    placed_case Equal false x y ys new is eq g h r k e = absurd cc
-    placed_case Greater b x y ys new is eq g h r k e =
-        let m = map_some (λ more. y ∷ more) (insert_sorted cmp same x ys) new e in
-        subst (IsPlaced x (y ∷ ys)) m.2 (past x y ys m.0 is r (k m.0 m.1))
-
     is_placed : (x : A) (list new : List A) → Good x → ((z : A) → IsIn z list → Good z) → IsRising cmp list → insert_sorted cmp same x list ≡ Some new → IsPlaced x list new
-    unfolding insert_sorted
-    is_placed x [] new g h r e =
-        subst (IsPlaced x []) (same_Some _ _ e) (record { rising = (tt, tt); fresh = inl refl; old = λ z k. absurd k; known = λ z k. k; apart = λ z k. absurd k; few = omega arith })
-    is_placed x (y ∷ ys) new g h r e =
-        placed_case (cmp x y) (same x y) x y ys new refl refl g (h y (inl refl)) r (λ more k. is_placed x ys more g (λ z m. h z (inr m)) r.1 k) e
+    is_placed x list new g h r e =
+        inserted same (λ list new. ((z : A) → IsIn z list → Good z) → IsRising cmp list → IsPlaced x list new) x
+        (λ h r. record { fresh = inl refl; old = λ z k. absurd k; known = λ z k. k; apart = λ z k. absurd k; few = omega arith })
+        (λ y ys is h r. here x y ys is r) (λ y ys is eq h r. let a = alike x y g (h y (inl refl)) eq in there x y ys a.0 a.1 r)
+        (λ y ys more is p h r. past x y ys more is (p (λ z m. h z (inr m)) r.1)) list new e h r
 
     abbrev Clashes : A → A → Type 0
     Clashes y x = (cmp y x ≡ Equal) × Differ y x
 
     refused_case : (o : Ordering) (b : Bool) (x y : A) (ys : List A) → cmp x y ≡ o → same x y ≡ b → (insert_sorted cmp same x ys ≡ None → OneOf (λ z. Clashes z x) ys)
         → match_ordering o (Some (x ∷ y ∷ ys)) (cond b (Some (y ∷ ys)) None) (option_map (λ more. y ∷ more) (insert_sorted cmp same x ys)) ≡ None → OneOf (λ z. Clashes z x) (y ∷ ys)
-    refused_case Less b x y ys is eq k e = absurd cc
-    refused_case Equal true x y ys is eq k e = absurd cc
     refused_case Equal false x y ys is eq k e = inl (turned x y Equal is, unlike x y eq)
     refused_case Greater b x y ys is eq k e = inr (k (none_map (insert_sorted cmp same x ys) e)) where
       none_map : (o : Option (List A)) → option_map (λ more. y ∷ more) o ≡ None → o ≡ None
       none_map None h = refl
       none_map (Some more) h = absurd cc
+    refused_case o b x y ys is eq k e = absurd cc
 
     is_refused : (x : A) (list : List A) → insert_sorted cmp same x list ≡ None → OneOf (λ z. Clashes z x) list
     unfolding insert_sorted
@@ -196,7 +199,7 @@ module _ {A : Type 0} (cmp : A → A → Ordering) (total : IsTotalOrder cmp) wh
     all_placed list (x ∷ xs) new g h r e =
         let m = then_some (λ more. insert_all_sorted cmp same more xs) (insert_sorted cmp same x list) new e in
         let p = is_placed x list m.0 (h x (inl refl)) g r m.1 in
-        grown x list xs m.0 new p (all_placed m.0 xs new (still_good x list m.0 (h x (inl refl)) g p.known) (λ z k. h z (inr k)) p.rising m.2)
+        grown x list xs m.0 new p (all_placed m.0 xs new (still_good x list m.0 (h x (inl refl)) g p.known) (λ z k. h z (inr k)) ((stays same x list m.0 m.1).0 r) m.2)
 
     -- a clash in what is insert_sorted, or of one that is there with one of these
     abbrev ClashesWith : List A → List A → Type 0
@@ -219,7 +222,7 @@ module _ {A : Type 0} (cmp : A → A → Ordering) (total : IsTotalOrder cmp) wh
       by_case again None is k = clash_first x list xs (is_refused x list is)
       by_case again (Some more) is k =
           let p = is_placed x list more (h x (inl refl)) g r is in
-          clash_more x list xs more p.known (again more (still_good x list more (h x (inl refl)) g p.known) p.rising k)
+          clash_more x list xs more p.known (again more (still_good x list more (h x (inl refl)) g p.known) ((stays same x list more is).0 r) k)
 
     -- ---- from nothing
 

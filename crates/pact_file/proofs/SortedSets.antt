@@ -32,9 +32,8 @@ module _ {A : Type 0} (cmp : A → A → Ordering) (total : IsTotalOrder cmp) wh
   -- ---- how many have the key of x
 
   abbrev one : Ordering → ℕ
-  one Less = 0
   one Equal = 1
-  one Greater = 0
+  one o = 0
 
   abbrev many : A → List A → ℕ
   many x xs = sum_by (λ y. one (cmp x y)) xs
@@ -53,9 +52,8 @@ module _ {A : Type 0} (cmp : A → A → Ordering) (total : IsTotalOrder cmp) wh
   twin_of x [] h = absurd (omega (arith, h))
   twin_of x (y ∷ ys) h = by_case (λ k. twin_of x ys k) (cmp x y) refl where
     by_case : (1 ≤ many x ys → OneOf (IsTwin x) ys) → (o : Ordering) → cmp x y ≡ o → OneOf (IsTwin x) (y ∷ ys)
-    by_case later Less e = inr (later (omega (arith, h, sum_by-cons (λ z. one (cmp x z)) y ys, ap one e)))
     by_case later Equal e = inl (e, tt)
-    by_case later Greater e = inr (later (omega (arith, h, sum_by-cons (λ z. one (cmp x z)) y ys, ap one e)))
+    by_case later o e = inr (later (omega (arith, h, sum_by-cons (λ z. one (cmp x z)) y ys, ap one e)))
 
   twin_as : (x y : A) (xs : List A) → cmp x y ≡ Equal → OneOf (IsTwin x) xs → OneOf (IsTwin y) xs
   twin_as x y [] e h = absurd h
@@ -66,9 +64,8 @@ module _ {A : Type 0} (cmp : A → A → Ordering) (total : IsTotalOrder cmp) wh
   many_twins x [] h = absurd (omega (arith, h))
   many_twins x (y ∷ ys) h = by_case (λ k. many_twins x ys k) (cmp x y) refl where
     by_case : (2 ≤ many x ys → HasTwins ys) → (o : Ordering) → cmp x y ≡ o → HasTwins (y ∷ ys)
-    by_case later Less e = inr (later (omega (arith, h, sum_by-cons (λ z. one (cmp x z)) y ys, ap one e)))
     by_case later Equal e = inl (twin_as x y ys e (twin_of x ys (omega (arith, h, sum_by-cons (λ z. one (cmp x z)) y ys, ap one e))))
-    by_case later Greater e = inr (later (omega (arith, h, sum_by-cons (λ z. one (cmp x z)) y ys, ap one e)))
+    by_case later o e = inr (later (omega (arith, h, sum_by-cons (λ z. one (cmp x z)) y ys, ap one e)))
 
   -- in another order there are twins just where there were
   twins_moved : (xs ys : List A) → IsPermutation xs ys → HasTwins xs → HasTwins ys
@@ -80,8 +77,7 @@ module _ {A : Type 0} (cmp : A → A → Ordering) (total : IsTotalOrder cmp) wh
 
   less_is : (o : Ordering) → true ≡ is_lt o → o ≡ Less
   less_is Less e = refl
-  less_is Equal e = absurd (true≢false e)
-  less_is Greater e = absurd (true≢false e)
+  less_is o e = absurd (true≢false e)
 
   pub next : (x : A) (xs : List A) (k : ℕ) (d : A) → get_or (x ∷ xs) (suc k + 1) d ≡ get_or xs (k + 1) d
   next x xs k d = let e : suc k + 1 ≡ suc (k + 1) = omega arith in ap (λ i. get_or (x ∷ xs) i d) e
@@ -95,17 +91,14 @@ module _ {A : Type 0} (cmp : A → A → Ordering) (total : IsTotalOrder cmp) wh
       ((first, lower cmp total x y ys first more.0), more)
 
   equal_is : (o p : Ordering) → o ≡ ordering_reverse p → false ≡ is_lt o → is_lt p ≡ false → o ≡ Equal
-  equal_is Less p r e f = absurd (true≢false (sym e))
   equal_is Equal p r e f = refl
-  equal_is Greater Less r e f = absurd (true≢false f)
-  equal_is Greater Equal r e f = cc
-  equal_is Greater Greater r e f = cc
+  equal_is Greater Less r e f = absurd cc
+  equal_is o p r e f = absurd cc
 
   neighbours : (xs : List A) (k : ℕ) (d : A) → k + 1 < length xs → cmp (get_or xs k d) (get_or xs (k + 1) d) ≡ Equal → HasTwins xs
-  neighbours [] k d h e = absurd (omega (arith, h))
-  neighbours (x ∷ []) k d h e = absurd (omega (arith, h))
   neighbours (x ∷ y ∷ ys) zero d h e = inl (inl (e, tt))
   neighbours (x ∷ y ∷ ys) (suc k) d h e = inr (neighbours (y ∷ ys) k d (omega (arith, h)) (subst (λ z. cmp (get_or (y ∷ ys) k d) z ≡ Equal) (next x (y ∷ ys) k d) e))
+  neighbours xs k d h e = absurd (omega (arith, h))
 
   -- ---- what a sort left
 

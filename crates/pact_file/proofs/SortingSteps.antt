@@ -1,10 +1,6 @@
 -- Where one is inserted in a list whose keys rise, as the loops go.
-use Rattle.std.proofs.Common.{◌≡◌, List, [], ◌∷◌, Bool, Ordering, Option, Some, None, length, arith, refl, sym, ◌∙◌}
+use Rattle.std.proofs.Common.{◌≡◌, List, [], ◌∷◌, Bool, Ordering, Option, Some, None, refl, sym, ◌∙◌}
 use Rattle.pact_file.specs.Sorting.{insert_sorted, insert_all_sorted}
-
-pub none_left : {A : Type 0} (xs : List A) → length xs ≡ 0 → xs ≡ []
-none_left [] h = refl
-none_left (x ∷ xs) h = absurd (omega arith)
 
 module _ {A : Type 0} (cmp : A → A → Ordering) (same : A → A → Bool) where
   pub order_goes : (list left : List A) (x : A) (more new : List A) (total : Option (List A))

@@ -4,22 +4,17 @@ use Rattle.serde_json.specs.Data.{Num, unsigned, negative, float, Data, null, bo
 use Rattle.serde_json.specs.Written.{has_float, items_have_float, members_have_float, comma_if, compact_text, items_text, members_text, number_text}
 use Rattle.pact_file.specs.Sound.{IsWhole, IsSound, AreSound, MembersAreSound}
 use Rattle.pact_rules.specs.Kept.{IsNumber, IsKept, AreKept, MembersAreKept}
-use Rattle.std.specs.{Fmt.{signed_decimal}, Str.{IsUtf8}}
-use Rattle.std.proofs.{Common.{◌≡◌, ℕ, zero, suc, ◌≤◌, ◌<◌, ◌^◌, pos, negsuc, [], ◌∷◌, Bool, true, false, ◌||◌, refl, ap, ◌∙◌, arith}, lemmas.Bool.{or_parts}}
-use Rattle.std.proofs.{lemmas.Fmt.{IsAscii-decimal}, lemmas.Str.{IsUtf8-append, IsUtf8-from_ascii}}
+use Rattle.std.{specs.Str.{IsUtf8}, proofs.Common.{◌≡◌, ℕ, zero, suc, ◌≤◌, ◌<◌, ◌^◌, negsuc, [], ◌∷◌, Bool, true, false, ◌||◌, refl, ap, ◌∙◌, arith}}
+use Rattle.std.proofs.{lemmas.Bool.{or_parts}, lemmas.Fmt.{IsAscii-decimal}, lemmas.Str.{IsUtf8-append, IsUtf8-from_ascii}}
 
 mutual
   pub sound : (n : ℕ) (d : Data) → IsKept d → has_float d ≡ false → depth d ≤ n → IsSound n d
-  sound n null k w h = tt
-  sound n (boolean b) k w h = tt
-  sound n (number (unsigned m)) k w h = k
-  sound n (number (negative z)) k w h = k
   sound n (number (float x)) k w h = absurd cc
-  sound n (string s) k w h = k
   sound zero (array ds) k w h = absurd (omega arith)
   sound (suc n) (array ds) k w h = sound_items n ds k w (omega arith)
   sound zero (object ms) k w h = absurd (omega arith)
   sound (suc n) (object ms) k w h = sound_members n ms k w (omega arith)
+  sound n d k w h = k
 
   sound_items : (n : ℕ) (ds : Items) → AreKept ds → items_have_float ds ≡ false → items_depth ds ≤ n → AreSound n ds
   sound_items n no_items k w h = tt
@@ -35,20 +30,17 @@ mutual
 
 -- sound data is kept data without fractions, and nests no deeper
 number_facts : (n : ℕ) (m : Num) → IsWhole m → IsNumber m × (has_float (number m) ≡ false) × (depth (number m) ≤ n)
-number_facts n (unsigned m) h = (h, refl, omega arith)
-number_facts n (negative z) h = (h, refl, omega arith)
 number_facts n (float x) h = absurd h
+number_facts n m h = (h, refl, omega arith)
 
 mutual
   facts : (n : ℕ) (d : Data) → IsSound n d → IsKept d × (has_float d ≡ false) × (depth d ≤ n)
-  facts n null h = (tt, refl, omega arith)
-  facts n (boolean b) h = (tt, refl, omega arith)
   facts n (number m) h = number_facts n m h
-  facts n (string s) h = (h, refl, omega arith)
   facts zero (array ds) h = absurd h
   facts (suc n) (array ds) h = let f = items_facts n ds h in (f.0, f.1, omega (arith, f.2))
   facts zero (object ms) h = absurd h
   facts (suc n) (object ms) h = let f = members_facts n ms h in (f.0, f.1, omega (arith, f.2))
+  facts n d h = (h, refl, omega arith)
 
   items_facts : (n : ℕ) (ds : Items) → AreSound n ds → AreKept ds × (items_have_float ds ≡ false) × (items_depth ds ≤ n)
   items_facts n no_items h = (tt, refl, omega arith)
@@ -78,11 +70,10 @@ shallow n d h = (facts n d h).2
 
 whole_text : (m : Num) → IsWhole m → IsUtf8 (number_text m)
 whole_text (unsigned m) h = IsUtf8-from_ascii _ (IsAscii-decimal m h)
-whole_text (negative (pos m)) h = absurd h
 whole_text (negative (negsuc m)) h =
     let low : m < 2 ^ 63 = h in
     IsUtf8-append (45 ∷ []) _ (IsUtf8-are_ascii (45 ∷ []) refl) (IsUtf8-from_ascii _ (IsAscii-decimal (suc m) (omega arith)))
-whole_text (float x) h = absurd h
+whole_text m h = absurd h
 
 comma_text : (b : Bool) → IsUtf8 (comma_if b)
 comma_text true = IsUtf8-are_ascii (44 ∷ []) refl
@@ -94,10 +85,9 @@ mutual
   text_utf8 n (boolean b) h = IsUtf8-boolean b
   text_utf8 n (number m) h = whole_text m h
   text_utf8 n (string s) h = IsUtf8-quoted s h
-  text_utf8 zero (array ds) h = absurd h
   text_utf8 (suc n) (array ds) h = IsUtf8-append (91 ∷ []) (items_text false ds) (IsUtf8-are_ascii (91 ∷ []) refl) (items_utf8 n false ds h)
-  text_utf8 zero (object ms) h = absurd h
   text_utf8 (suc n) (object ms) h = IsUtf8-append (123 ∷ []) (members_text false ms) (IsUtf8-are_ascii (123 ∷ []) refl) (members_utf8 n false ms h)
+  text_utf8 n d h = absurd h
 
   items_utf8 : (n : ℕ) (b : Bool) (ds : Items) → AreSound n ds → IsUtf8 (items_text b ds)
   items_utf8 n b no_items h = IsUtf8-are_ascii (93 ∷ []) refl

@@ -1,18 +1,17 @@
 -- The parts of sound data are sound, and so are the normal forms that are made of them.
 use Rattle.std.specs.{Ordering.{nat_cmp, match_ordering}, Cmp.Lexicographic.{slice_cmp}, Str.{IsUtf8}}
-use Rattle.std.proofs.Common.{◌≡◌, ℕ, suc, List, [], ◌∷◌, map, codes, Ordering, Less, Equal, Greater, Option, Some, None, option_map, refl, ap, ◌∙◌, subst}
+use Rattle.std.proofs.Common.{◌≡◌, ℕ, suc, List, [], ◌∷◌, map, codes, Ordering, Equal, Option, Some, None, option_map, refl, ap, ◌∙◌, subst}
 use Rattle.std.proofs.lemmas.Option.{same_Some}
 use Rattle.json.proofs.Printed.Utf8.{IsUtf8-are_ascii}
-use Rattle.serde_json.specs.Data.{Data, null, boolean, number, string, array, object, Items, no_items, item, Members, no_members, member}
+use Rattle.serde_json.specs.Data.{Data, null, string, array, object, Items, no_items, item, Members, no_members, member}
 use Rattle.serde_json.{specs.{Find.{get, get_member, as_str, as_array}, View.{items_of}}, proofs.OnLiterals.{serde_json_on_literals}}
 use Rattle.pact_file.specs.Pact.{State, Interaction, Pact, params_data, state_data, states_data, interaction_data, pact_data}
 use Rattle.pact_file.specs.Parts.{unless_null, optional_at, text_at, if_object, object_at, listed, all_of, state_in, one_state, states_from, states_in}
 use Rattle.pact_file.{specs.Sound.{IsSound, AreSound, MembersAreSound}, proofs.Steps.{map_some, then_some}}
 
 choice : (n : ℕ) (o : Ordering) (a : Option Data) (b d : Data) → IsSound n b → (a ≡ Some d → IsSound n d) → match_ordering o a (Some b) a ≡ Some d → IsSound n d
-choice n Less a b d h k e = k e
 choice n Equal a b d h k e = subst (IsSound n) (same_Some _ _ e) h
-choice n Greater a b d h k e = k e
+choice n o a b d h k e = k e
 
 of_member : (n : ℕ) (k : List ℕ) (ms : Members) (d : Data) → MembersAreSound n ms → get_member k ms ≡ Some d → IsSound n d
 of_member n k no_members d h e = absurd cc
@@ -20,20 +19,12 @@ of_member n k (member l x ms) d h e = choice n (slice_cmp nat_cmp k l) (get_memb
 
 -- the value found under a key of sound data is sound, nesting one level less
 pub of_get : (n : ℕ) (k : List ℕ) (whole d : Data) → IsSound (suc n) whole → get k whole ≡ Some d → IsSound n d
-of_get n k null d h e = absurd cc
-of_get n k (boolean b) d h e = absurd cc
-of_get n k (number m) d h e = absurd cc
-of_get n k (string s) d h e = absurd cc
-of_get n k (array ds) d h e = absurd cc
 of_get n k (object ms) d h e = of_member n k ms d h e
+of_get n k whole d h e = absurd cc
 
 unless : (d e : Data) → unless_null d ≡ Some e → d ≡ e
 unless null e h = absurd cc
-unless (boolean b) e h = same_Some _ _ h
-unless (number n) e h = same_Some _ _ h
-unless (string s) e h = same_Some _ _ h
-unless (array ds) e h = same_Some _ _ h
-unless (object ms) e h = same_Some _ _ h
+unless d e h = same_Some _ _ h
 
 pub optional_is : (k : List ℕ) (whole d : Data) → optional_at k whole ≡ Some d → get k whole ≡ Some d
 optional_is k whole d e = let p = then_some unless_null (get k whole) d e in p.1 ∙ ap Some (unless p.0 d p.2)
@@ -42,36 +33,24 @@ pub of_optional : (n : ℕ) (k : List ℕ) (whole d : Data) → IsSound (suc n) 
 of_optional n k whole d h e = of_get n k whole d h (optional_is k whole d e)
 
 object_is : (d e : Data) → if_object d ≡ Some e → d ≡ e
-object_is null e h = absurd cc
-object_is (boolean b) e h = absurd cc
-object_is (number n) e h = absurd cc
-object_is (string s) e h = absurd cc
-object_is (array ds) e h = absurd cc
 object_is (object ms) e h = same_Some _ _ h
+object_is d e h = absurd cc
 
 -- the object found under a key of sound data is sound, nesting one level less
 pub of_object_at : (n : ℕ) (k : List ℕ) (whole d : Data) → IsSound (suc n) whole → object_at k whole ≡ Some d → IsSound n d
 of_object_at n k whole d h e = let p = then_some if_object (get k whole) d e in of_get n k whole d h (p.1 ∙ ap Some (object_is p.0 d p.2))
 
 of_text : (n : ℕ) (d : Data) (s : List ℕ) → IsSound n d → as_str d ≡ Some s → IsUtf8 s
-of_text n null s h e = absurd cc
-of_text n (boolean b) s h e = absurd cc
-of_text n (number m) s h e = absurd cc
 of_text n (string t) s h e = subst IsUtf8 (same_Some _ _ e) h
-of_text n (array ds) s h e = absurd cc
-of_text n (object ms) s h e = absurd cc
+of_text n d s h e = absurd cc
 
 pub of_text_at : (n : ℕ) (k : List ℕ) (whole : Data) (s : List ℕ) → IsSound (suc n) whole → text_at k whole ≡ Some s → IsUtf8 s
 of_text_at n k whole s h e = let p = then_some as_str (get k whole) s e in of_text n p.0 s (of_get n k whole p.0 h p.1) p.2
 
 -- the items of a sound array are sound, nesting one level less
 pub of_array : (n : ℕ) (d : Data) (ds : Items) → IsSound (suc n) d → as_array d ≡ Some ds → AreSound n ds
-of_array n null ds h e = absurd cc
-of_array n (boolean b) ds h e = absurd cc
-of_array n (number m) ds h e = absurd cc
-of_array n (string s) ds h e = absurd cc
 of_array n (array es) ds h e = subst (AreSound n) (same_Some _ _ e) h
-of_array n (object ms) ds h e = absurd cc
+of_array n d ds h e = absurd cc
 
 -- ---- states
 

@@ -24,11 +24,8 @@ behind_ascii front x xs u h =
 
 -- ---- the tests
 
-digit_low : (a : ℕ) → is_digit a 16 ≡ true → a < 128
-digit_low a h = grind (arith, nat_tests)
-
-digit_small : (a : ℕ) → is_digit a 16 ≡ true → digit_value a < 16
-digit_small a h = grind (arith, nat_tests)
+digit_small : (a : ℕ) → is_digit a 16 ≡ true → (a < 128) × (digit_value a < 16)
+digit_small a h = (grind (arith, nat_tests), grind (arith, nat_tests))
 
 short_low : (x c : ℕ) → short_escape x ≡ Some c → (x < 128) × (c < 128)
 unfolding short_escape
@@ -49,11 +46,11 @@ is_unit a b c d u h =
     let ab = and_parts (is_digit a 16 && is_digit b 16) (is_digit c 16) abc.0 in
     let p = and_parts (is_digit a 16) (is_digit b 16) ab.0 in
     record {
-      low_a = digit_low a p.0;
-      low_b = digit_low b p.1;
-      low_c = digit_low c ab.1;
-      low_d = digit_low d abc.1;
-      small = omega (arith, digit_small a p.0, digit_small b p.1, digit_small c ab.1, digit_small d abc.1, t.1);
+      low_a = (digit_small a p.0).0;
+      low_b = (digit_small b p.1).0;
+      low_c = (digit_small c ab.1).0;
+      low_d = (digit_small d abc.1).0;
+      small = omega (arith, (digit_small a p.0).1, (digit_small b p.1).1, (digit_small c ab.1).1, (digit_small d abc.1).1, t.1);
     }
 
 unit_scalar : (u : ℕ) → u < 65536 → is_high_surrogate u ≡ false → is_low_surrogate u ≡ false → IsScalar u
@@ -144,22 +141,14 @@ mutual
   in_escape (x ∷ xs) s u e = escape_case (x == 117) x xs s refl u (λ t rest is. in_plain [] xs t rest is) (λ t rest is. in_unicode xs t rest is) e
 
   in_unicode : (xs s : List ℕ) → IsUtf8 xs → content after_u xs ≡ Some s → IsUtf8 s
-  in_unicode [] s u e = absurd cc
-  in_unicode (a ∷ []) s u e = absurd cc
-  in_unicode (a ∷ b ∷ []) s u e = absurd cc
-  in_unicode (a ∷ b ∷ c ∷ []) s u e = absurd cc
   in_unicode (a ∷ b ∷ c ∷ d ∷ xs) s u e =
       let n = then_some (λ n. cond (is_high_surrogate n) (content (after_high n) xs) (cond (is_low_surrogate n) None (prepend (encode_utf8 n) (content plain xs)))) (code_unit a b c d) s e in
       let k = is_unit a b c d n.0 n.1 in
       let rest : IsUtf8 xs = past_four a b c d xs u k.low_a k.low_b k.low_c k.low_d in
       unit_case (is_high_surrogate n.0) (is_low_surrogate n.0) n.0 xs s k.small refl refl rest (λ t is. in_plain [] xs t rest is) (λ t is high. in_pair n.0 xs t high rest is) n.2
+  in_unicode xs s u e = absurd cc
 
   in_pair : (h : ℕ) (xs s : List ℕ) → is_high_surrogate h ≡ true → IsUtf8 xs → content (after_high h) xs ≡ Some s → IsUtf8 s
-  in_pair h [] s high u e = absurd cc
-  in_pair h (s ∷ []) r high u e = absurd cc
-  in_pair h (s ∷ t ∷ []) r high u e = absurd cc
-  in_pair h (s ∷ t ∷ a ∷ []) r high u e = absurd cc
-  in_pair h (s ∷ t ∷ a ∷ b ∷ []) r high u e = absurd cc
-  in_pair h (s ∷ t ∷ a ∷ b ∷ c ∷ []) r high u e = absurd cc
   in_pair h (s ∷ t ∷ a ∷ b ∷ c ∷ d ∷ xs) r high u e =
       pair_case ((s == 92) && (t == 117)) h s t a b c d xs r refl high u (λ rest w is. in_plain [] xs w rest is) e
+  in_pair h xs s high u e = absurd cc

@@ -10,16 +10,9 @@ use Rattle.json.specs.Ascii as ascii
 use Rattle.json.specs.Json as json
 
 abbrev pub TokenIsText : Token → Type 0
-TokenIsText begin_object = ⊤
-TokenIsText end_object = ⊤
-TokenIsText begin_array = ⊤
-TokenIsText end_array = ⊤
 TokenIsText (key s) = IsUtf8 s
 TokenIsText (string s) = IsUtf8 s
-TokenIsText (number s) = ⊤
-TokenIsText (boolean b) = ⊤
-TokenIsText null = ⊤
-TokenIsText bad = ⊤
+TokenIsText t = ⊤
 
 abbrev pub AreTexts : List Token → Type 0
 AreTexts [] = ⊤
@@ -27,8 +20,7 @@ AreTexts (t ∷ ts) = TokenIsText t × AreTexts ts
 
 abbrev LexemeIsText : Lexeme → Type 0
 LexemeIsText (token t) = TokenIsText t
-LexemeIsText comma = ⊤
-LexemeIsText colon = ⊤
+LexemeIsText l = ⊤
 
 abbrev LexemesAreTexts : List Lexeme → Type 0
 LexemesAreTexts [] = ⊤
@@ -64,10 +56,8 @@ string_text (Some s) h = h s refl
 
 quote_is : (a b c d : Bool) → cond a quote (cond b backslash (cond c operator (cond d space other))) ≡ quote → a ≡ true
 quote_is true b c d e = refl
-quote_is false true c d e = absurd cc
-quote_is false false true d e = absurd cc
 quote_is false false false true e = absurd cc
-quote_is false false false false e = absurd cc
+quote_is a b c d e = absurd cc
 
 quote_byte : (x : ℕ) → (x == 34) ≡ true → x < 128
 quote_byte x h = grind (arith, nat_tests)
@@ -80,17 +70,12 @@ byte_text between backslash front x xs e u k h = (tt, h in_word)
 byte_text between operator front x xs e u k h = (operator_text x, h between)
 byte_text between space front x xs e u k h = h between
 byte_text between other front x xs e u k h = (word_text (x ∷ xs), h in_word)
-byte_text in_word quote front x xs e u k h = h in_word
-byte_text in_word backslash front x xs e u k h = h in_word
 byte_text in_word operator front x xs e u k h = (operator_text x, h between)
 byte_text in_word space front x xs e u k h = h between
-byte_text in_word other front x xs e u k h = h in_word
+byte_text in_word c front x xs e u k h = h in_word
 byte_text in_string quote front x xs e u k h = h between
 byte_text in_string backslash front x xs e u k h = h in_escape
-byte_text in_string operator front x xs e u k h = h in_string
-byte_text in_string space front x xs e u k h = h in_string
-byte_text in_string other front x xs e u k h = h in_string
-byte_text in_escape c front x xs e u k h = h in_string
+byte_text m c front x xs e u k h = h in_string
 
 lex_text : (m : Mode) (front xs : List ℕ) → IsUtf8 (front ++ xs) → LexemesAreTexts (lex m xs)
 unfolding lex
@@ -109,32 +94,19 @@ placed_text p begin_object b k h f = allowed_text (may_begin p) begin_object k f
 placed_text p end_object b k h f = allowed_text (may_close p) end_object k after_value h f
 placed_text p begin_array b k h f = allowed_text (may_begin p) begin_array k fresh h f
 placed_text p end_array b k h f = allowed_text (may_close p) end_array k after_value h f
-placed_text p (key s) b k h f = (tt, tt)
 placed_text p (string s) true k h f = allowed_text (may_begin p) (key s) k after_key h f
-placed_text p (string s) false k h f = allowed_text (may_begin p) (string s) k after_value h f
-placed_text p (number s) b k h f = allowed_text (may_begin p) (number s) k after_value h f
-placed_text p (boolean c) b k h f = allowed_text (may_begin p) (boolean c) k after_value h f
-placed_text p null b k h f = allowed_text (may_begin p) null k after_value h f
+placed_text p (key s) b k h f = (tt, tt)
 placed_text p bad b k h f = (tt, tt)
+placed_text p t b k h f = allowed_text (may_begin p) t k after_value h f
 
 punctuated : (p : Place) (ls : List Lexeme) → LexemesAreTexts ls → AreTexts (punctuate p ls)
 unfolding punctuate
 punctuated fresh [] h = tt
 punctuated after_value [] h = tt
-punctuated after_comma [] h = (tt, tt)
-punctuated after_key [] h = (tt, tt)
-punctuated fresh (token t ∷ ls) h = placed_text fresh t (begins_colon ls) (λ next. punctuate next ls) h.0 (λ q. punctuated q ls h.1)
-punctuated after_value (token t ∷ ls) h = placed_text after_value t (begins_colon ls) (λ next. punctuate next ls) h.0 (λ q. punctuated q ls h.1)
-punctuated after_comma (token t ∷ ls) h = placed_text after_comma t (begins_colon ls) (λ next. punctuate next ls) h.0 (λ q. punctuated q ls h.1)
-punctuated after_key (token t ∷ ls) h = placed_text after_key t (begins_colon ls) (λ next. punctuate next ls) h.0 (λ q. punctuated q ls h.1)
-punctuated fresh (comma ∷ ls) h = (tt, tt)
 punctuated after_value (comma ∷ ls) h = punctuated after_comma ls h.1
-punctuated after_comma (comma ∷ ls) h = (tt, tt)
-punctuated after_key (comma ∷ ls) h = (tt, tt)
-punctuated fresh (colon ∷ ls) h = (tt, tt)
-punctuated after_value (colon ∷ ls) h = (tt, tt)
-punctuated after_comma (colon ∷ ls) h = (tt, tt)
 punctuated after_key (colon ∷ ls) h = punctuated fresh ls h.1
+punctuated p (token t ∷ ls) h = placed_text p t (begins_colon ls) (λ next. punctuate next ls) h.0 (λ q. punctuated q ls h.1)
+punctuated p ls h = (tt, tt)
 
 tokens_text : (text : List ℕ) → IsUtf8 text → AreTexts (tokens text)
 tokens_text text u = punctuated fresh (lex between text) (lex_text between [] text u)
@@ -143,12 +115,10 @@ tokens_text text u = punctuated fresh (lex between text) (lex_text between [] te
 
 abbrev mutual
   pub HasTexts : json.Json → Type 0
-  HasTexts json.null = ⊤
-  HasTexts (json.boolean b) = ⊤
-  HasTexts (json.number s) = ⊤
   HasTexts (json.string s) = IsUtf8 s
   HasTexts (json.array js) = ItemsHaveTexts js
   HasTexts (json.object ms) = MembersHaveTexts ms
+  HasTexts j = ⊤
 
   pub ItemsHaveTexts : json.Items → Type 0
   ItemsHaveTexts json.no_items = ⊤
@@ -180,34 +150,17 @@ IfTexts None = ⊤
 IfTexts (Some ts) = AreTexts ts
 
 closed : (ts : List Token) → AreTexts ts → IfTexts (json.after_end_array ts)
-closed [] h = tt
-closed (begin_object ∷ ts) h = tt
-closed (end_object ∷ ts) h = tt
-closed (begin_array ∷ ts) h = tt
 closed (end_array ∷ ts) h = h.1
-closed (key s ∷ ts) h = tt
-closed (string s ∷ ts) h = tt
-closed (number s ∷ ts) h = tt
-closed (boolean b ∷ ts) h = tt
-closed (null ∷ ts) h = tt
-closed (bad ∷ ts) h = tt
+closed ts h = tt
 
 abbrev IfText : Option (List ℕ) → Type 0
 IfText None = ⊤
 IfText (Some s) = IsUtf8 s
 
 key_text : Reads IfText json.read_key
-key_text [] h = tt
-key_text (begin_object ∷ ts) h = tt
 key_text (end_object ∷ ts) h = (tt, h.1)
-key_text (begin_array ∷ ts) h = tt
-key_text (end_array ∷ ts) h = tt
 key_text (key s ∷ ts) h = (h.0, h.1)
-key_text (string s ∷ ts) h = tt
-key_text (number s ∷ ts) h = tt
-key_text (boolean b ∷ ts) h = tt
-key_text (null ∷ ts) h = tt
-key_text (bad ∷ ts) h = tt
+key_text ts h = tt
 
 module _ (value : json.Parse json.Json) (reads : Reads HasTexts value) where
   item_turn : (more : json.Parse json.Items) → Reads ItemsHaveTexts more → (ts : List Token) (o : Option (List Token)) → AreTexts ts → IfTexts o → Read ItemsHaveTexts (json.items_step value more ts o)
@@ -232,17 +185,13 @@ module _ (value : json.Parse json.Json) (reads : Reads HasTexts value) where
       reads_then IfText MembersHaveTexts _ (λ x k rest. member_turn (json.members value n) (members_read n) x.0 x.1 k rest) (json.read_key ts) (key_text ts t)
 
 value_reads : (a : json.Parse json.Items) (o : json.Parse json.Members) → Reads ItemsHaveTexts a → Reads MembersHaveTexts o → Reads HasTexts (json.value_with a o)
-value_reads a o g h [] t = tt
 value_reads a o g h (begin_object ∷ ts) t = reads_mapped MembersHaveTexts HasTexts json.object (λ ms k. k) (o ts) (h ts t.1)
-value_reads a o g h (end_object ∷ ts) t = tt
 value_reads a o g h (begin_array ∷ ts) t = reads_mapped ItemsHaveTexts HasTexts json.array (λ js k. k) (a ts) (g ts t.1)
-value_reads a o g h (end_array ∷ ts) t = tt
-value_reads a o g h (key s ∷ ts) t = tt
 value_reads a o g h (string s ∷ ts) t = (t.0, t.1)
 value_reads a o g h (number s ∷ ts) t = (tt, t.1)
 value_reads a o g h (boolean b ∷ ts) t = (tt, t.1)
 value_reads a o g h (null ∷ ts) t = (tt, t.1)
-value_reads a o g h (bad ∷ ts) t = tt
+value_reads a o g h ts t = tt
 
 reads_texts : (depth : ℕ) → Reads HasTexts (json.value depth)
 unfolding json.value
@@ -252,9 +201,8 @@ reads_texts (suc depth) =
     (λ ts t. items_read (json.value depth) (reads_texts depth) (length ts) ts t) (λ ts t. members_read (json.value depth) (reads_texts depth) (length ts) ts t)
 
 last_case : (o : Option (json.Json × List Token)) (j : json.Json) → Read HasTexts o → option_and_then (λ p. json.if_last p.0 p.1) o ≡ Some j → HasTexts j
-last_case None j h e = absurd cc
 last_case (Some (i, [])) j h e = let same : i ≡ j = cc in subst HasTexts same h.0
-last_case (Some (i, t ∷ ts)) j h e = absurd cc
+last_case o j h e = absurd cc
 
 -- the value that a text is
 pub value_texts : (depth : ℕ) (text : List ℕ) (j : json.Json) → IsUtf8 text → option_and_then (λ p. json.if_last p.0 p.1) (json.value depth (tokens text)) ≡ Some j → HasTexts j

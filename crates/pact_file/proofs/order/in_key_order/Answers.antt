@@ -1,7 +1,6 @@
-use Rattle.std.{specs.Option.{ok_or}, proofs.{Common.{Err, sym, ap, ◌∙◌}, lemmas.Result.{err_from_is_err_and}}}
+use Rattle.std.{specs.Option.{ok_or}, proofs.{Common.{Err, sym, ap, ◌∙◌}, lemmas.Result.{err_from_is_err_and}, lemmas.List.{nil_from_length}}}
 use Rattle.pact_file.specs.{Pact.{key_cmp}, declared.fault.PactFault.TheVariants.{SameInteraction}, Sorting.{insert_sorted, same_text}}
-use Rattle.pact_file.proofs.{Steps.{found_ok, lacks_err}, OrderedSets.{key_total}, Searching.{still_rising}}
-use Rattle.pact_file.proofs.SortingSteps.{order_goes, order_ends, order_done, none_left}
+use Rattle.pact_file.proofs.{Steps.{found_ok, lacks_err}, OrderedSets.{key_total}, SetLemmas.{stays}, SortingSteps.{order_goes, order_ends, order_done}}
 use Rattle.pact_file.proofs.order.in_key_order.Goals as goal
 
 pub insert_interaction-requires : goal.insert_interaction-requires
@@ -11,7 +10,7 @@ pub loop-new-preserved : goal.loop-new-preserved
 loop-new-preserved c =
     let l = c.loop-new in
     let new = found_ok _ SameInteraction _ c.in_ok-insert_interaction.ensures in (
-      still_rising key_cmp key_total same_text c.in-Some.new l.list.items c.insert_interaction.new.list.items l.invariant.0 new,
+      (stays key_cmp key_total same_text c.in-Some.new l.list.items c.insert_interaction.new.list.items new).0 l.invariant.0,
       order_goes key_cmp same_text l.list.items l.new-iterator.rest.items c.in-Some.new c.next.new.self.rest.items c.insert_interaction.new.list.items _ c.in-Some.ensures.steps.0 new l.invariant.1,
     )
 
@@ -27,4 +26,4 @@ returns-in_err-insert_interaction c =
 pub returns : goal.returns
 returns c =
     let l = c.loop-new in
-    ap (λ o. ok_or o SameInteraction) (order_done key_cmp same_text l.list.items l.new-iterator.rest.items _ (none_left l.new-iterator.rest.items (sym l.new-iterator.rest.ok.0 ∙ c.in-None.ensures.steps.0)) l.invariant.1)
+    ap (λ o. ok_or o SameInteraction) (order_done key_cmp same_text l.list.items l.new-iterator.rest.items _ (nil_from_length l.new-iterator.rest.items (sym l.new-iterator.rest.ok.0 ∙ c.in-None.ensures.steps.0)) l.invariant.1)

@@ -1,5 +1,6 @@
 use Rattle.serde_json.specs.View.{view}
-use Rattle.pact_file.{specs.{Normal.{if_short}, Pact.{pact_with}}, proofs.{ReadLemmas.{from_gives, seen_sides, seen_items, all_seen}, Steps.{err_same}}}
+use Rattle.pact_file.{specs.{File.{sides_of}, Normal.{if_short}, Pact.{pact_with}}, proofs.ReadLemmas.{from_gives, seen_items, all_seen}}
+use Rattle.pact_file.proofs.Steps.{bind_first, err_same}
 use Rattle.std.proofs.{Common.{ℕ, List, Ok, Err, refl, ap, ◌∙◌}, lemmas.Result.{err_from_is_err_and}}
 use Rattle.pact_file.proofs.read.pact_of.Goals as goal
 
@@ -11,7 +12,7 @@ returns-in_err-consumer-clause-reading c =
 pub returns-in_err-consumer-clause-seen : goal.returns-in_err-consumer-clause-seen
 returns-in_err-consumer-clause-seen c =
     let p = err_from_is_err_and c.from_residual.result c.from_residual.ensures.1 in
-    λ e h. p.1 ∙ ap Err (p.2 ∙ seen_sides (view c.args.file.now) c.in_err-consumer.field-0.0 e c.in_err-consumer.ensures h)
+    λ e h. p.1 ∙ ap Err (p.2 ∙ bind_first (sides_of (view c.args.file.now)) _ c.in_err-consumer.field-0.0 e c.in_err-consumer.ensures h)
 
 pub returns-in_err-interactions-clause-reading : goal.returns-in_err-interactions-clause-reading
 returns-in_err-interactions-clause-reading c =

@@ -1,29 +1,15 @@
 use Rattle.json.specs.Print.{quoted}
-use Rattle.serde_json.specs.{Data.{Data}, View.{view}, Written.{compact_text, has_float}}
+use Rattle.serde_json.specs.{View.{view}, Written.{compact_text}}
 use Rattle.pact_file.{specs.Pact.{State, state_data}, proofs.NormalTexts.{state_text, state_text_with, none_param}}
-use Rattle.std.proofs.{Common.{◌≡◌, ℕ, List, ◌++◌, codes, false, Some, None, string_bytes, ap, ◌∙◌}, lemmas.Result.{IfOk-weaker}}
+use Rattle.std.proofs.{Common.{◌≡◌, Some, string_bytes, ap, ◌∙◌}, lemmas.Result.{IfOk-weaker}}
 use Rattle.pact_file.proofs.texts.state_text.Goals as goal
-
-alone : (n q : List ℕ) (s : State) → q ≡ quoted n → ◌≡◌ {A = State} (record { name = n; params = None }) s
-    → codes "{\"name\":" ++ (q ++ codes "}") ≡ compact_text (state_data s)
-alone n q s h is = ap (λ t. codes "{\"name\":" ++ (t ++ codes "}")) h ∙ state_text n ∙ ap (λ x. compact_text (state_data x)) is
-
-whole : (n : List ℕ) (d : Data) (s : State) → ◌≡◌ {A = State} (record { name = n; params = Some d }) s → has_float (state_data s) ≡ false → has_float d ≡ false
-whole n d s is h = none_param n d (ap (λ x. has_float (state_data x)) is ∙ h)
-
-beside : (n q p : List ℕ) (d : Data) (s : State) → q ≡ quoted n → p ≡ compact_text d → ◌≡◌ {A = State} (record { name = n; params = Some d }) s
-    → codes "{\"name\":" ++ (q ++ (codes ",\"params\":" ++ (p ++ codes "}"))) ≡ compact_text (state_data s)
-beside n q p d s h k is =
-    ap (λ t. codes "{\"name\":" ++ (t ++ (codes ",\"params\":" ++ (p ++ codes "}")))) h
-    ∙ ap (λ t. codes "{\"name\":" ++ (quoted n ++ (codes ",\"params\":" ++ (t ++ codes "}")))) k
-    ∙ state_text_with n d ∙ ap (λ x. compact_text (state_data x)) is
 
 pub returns-in-None : goal.returns-in-None
 returns-in-None c =
     let name : c.as_str-in-None.result.now ≡ quoted (string_bytes c.state.inside.name) = c.as_str-in-None.ensures.value
     ∙ c.in_ok-name.ensures ∙ ap quoted c.as_str.ensures.value in
     IfOk-weaker c.concat.result _ (λ s. string_bytes s ≡ compact_text (state_data c.args.state.now))
-    (λ s h. h ∙ alone (string_bytes c.state.inside.name) c.as_str-in-None.result.now c.args.state.now name (rw c.in-None.is at c.state.view_is))
+    (λ s h. h ∙ state_text (string_bytes c.state.inside.name) c.as_str-in-None.result.now c.args.state.now name (rw c.in-None.is at c.state.view_is))
     c.concat.ensures.ok
 
 pub returns : goal.returns
@@ -34,6 +20,6 @@ returns c =
     let name : c.as_str-in-Some.result.now ≡ quoted n = c.as_str-in-Some.ensures.value
     ∙ c.in_ok-name.ensures ∙ ap quoted c.as_str.ensures.value in
     let params : c.as_str-in-Some-2.result.now ≡ compact_text d = c.as_str-in-Some-2.ensures.value
-    ∙ c.in_ok-params-in-Some.ensures.text (whole n d c.args.state.now is c.requires) in
+    ∙ c.in_ok-params-in-Some.ensures.text (none_param n d c.args.state.now is c.requires) in
     IfOk-weaker c.concat-in-Some.result _ (λ s. string_bytes s ≡ compact_text (state_data c.args.state.now))
-    (λ s h. h ∙ beside n c.as_str-in-Some.result.now c.as_str-in-Some-2.result.now d c.args.state.now name params is) c.concat-in-Some.ensures.ok
+    (λ s h. h ∙ state_text_with n c.as_str-in-Some.result.now c.as_str-in-Some-2.result.now d c.args.state.now name params is) c.concat-in-Some.ensures.ok
