@@ -1,7 +1,7 @@
 -- For private clauses: the matrix of a version, from the parts that are read: its own contracts with the versions that
 -- have results for them, and what it has results for itself with the consumers. What the matrix is, `IsMatrixRow` of
 -- broker_core says, which the clause of `matrix` cites.
-use Rattle.std.specs.Prelude.{Contains, ◌≡◌, ◌⊎◌, ℕ, List, [], ◌∷◌, map, Some, None}
+use Rattle.std.specs.Prelude.{Contains, ◌≡◌, ◌⊎◌, ℕ, List, [], ◌∷◌, map, Option, Some, None}
 use Rattle.broker_core.specs.declared.command.Version.{Version}
 use Rattle.broker_core.specs.declared.answer.MatrixRow.{MatrixRow}
 use Rattle.broker_core.specs.declared.answer.Verified.{Verified}
@@ -14,23 +14,22 @@ use Rattle.contract_tables.specs.VersionResults.{IsLatestOf}
 
 -- ---- what `rows_with` and its parts compute, step by step as the code does it
 
--- a contract of v, with this version of its provider
-abbrev pub row_with : Version → Contract → Verified → MatrixRow
-row_with v c r = record {
+-- the contract of v with this provider, and what is told of a version of the provider, if anything
+abbrev pub row_of : Version → Text → Option Verified → MatrixRow
+row_of v provider verified = record {
   consumer = v.pacticipant;
   consumer_version = v.name;
-  provider = c.provider;
-  verified = Some r;
+  provider = provider;
+  verified = verified;
 }
+
+-- a contract of v, with this version of its provider
+abbrev pub row_with : Version → Contract → Verified → MatrixRow
+row_with v c r = row_of v c.provider (Some r)
 
 -- with none
 abbrev pub row_without : Version → Contract → MatrixRow
-row_without v c = record {
-  consumer = v.pacticipant;
-  consumer_version = v.name;
-  provider = c.provider;
-  verified = None;
-}
+row_without v c = row_of v c.provider None
 
 abbrev pub or_one : {X : Type 0} → List X → X → List X
 or_one [] x = x ∷ []
@@ -42,12 +41,8 @@ rows_with v c verified = or_one (map (row_with v c) verified) (row_without v c)
 
 -- the contract of a consumer w with the pacticipant of v, and v with its result for the content
 abbrev pub row_used : Version → LatestResult → Version → MatrixRow
-row_used v c w = record {
-  consumer = w.pacticipant;
-  consumer_version = w.name;
-  provider = v.pacticipant;
-  verified = Some (record { provider_version = v.name; result = c.result; latest = c.latest });
-}
+row_used v c w =
+    row_of w v.pacticipant (Some (record { provider_version = v.name; result = c.result; latest = c.latest }))
 
 -- ---- which set each part is
 

@@ -7,13 +7,30 @@ ghost use Rattle.broker_core.specs.Listing.{Lists};
 ghost use Rattle.broker_core.specs.Machine.{IsMatrixRow, matrix_cmp, verified_version};
 ghost use Rattle.broker_core.specs.State.{State as Broker};
 ghost use Rattle.broker_core.specs.Text.{text_cmp};
-ghost use Rattle.deploy_tables.specs.Matrix.{row_with, row_without, rows_with, row_used};
+ghost use Rattle.deploy_tables.specs.Matrix.{row_of, row_with, rows_with, row_used};
 
 use broker_core::answer::{MatrixRow, Verified};
 use broker_core::command::Version;
+use broker_core::name::Name;
 use contract_tables::{Contract, LatestResult};
 use std::alloc::{AllocError, Global};
 use std::cmp::Ordering;
+
+/// The contract of this consumer with this provider, and what is told of a version of the provider, if anything.
+fn row_of(
+    consumer: &Version,
+    provider: &Name,
+    verified: Option<Verified>,
+) -> Result<MatrixRow, AllocError>
+    ensures { IfOk result (λ row. row ≡ row_of consumer.now provider.now verified) }
+{
+    Ok(MatrixRow {
+        consumer: consumer.pacticipant.clone()?,
+        consumer_version: consumer.name.clone()?,
+        provider: provider.clone()?,
+        verified,
+    })
+}
 
 /// The contract of the version, and this version of its provider.
 fn row_with(
@@ -23,28 +40,12 @@ fn row_with(
 ) -> Result<MatrixRow, AllocError>
     ensures { IfOk result (λ row. row ≡ row_with version.now contract.now verified.now) }
 {
-    Ok(MatrixRow {
-        consumer: version.pacticipant.clone()?,
-        consumer_version: version.name.clone()?,
-        provider: contract.provider.clone()?,
-        verified: Some(Verified {
-            provider_version: verified.provider_version.clone()?,
-            result: verified.result,
-            latest: verified.latest,
-        }),
-    })
-}
-
-/// The contract of the version, and no version of its provider.
-fn row_without(version: &Version, contract: &Contract) -> Result<MatrixRow, AllocError>
-    ensures { IfOk result (λ row. row ≡ row_without version.now contract.now) }
-{
-    Ok(MatrixRow {
-        consumer: version.pacticipant.clone()?,
-        consumer_version: version.name.clone()?,
-        provider: contract.provider.clone()?,
-        verified: None,
-    })
+    let verified = Verified {
+        provider_version: verified.provider_version.clone()?,
+        result: verified.result,
+        latest: verified.latest,
+    };
+    row_of(version, &contract.provider, Some(verified))
 }
 
 /// The contract of the version, and each of these versions of its provider.
@@ -74,7 +75,7 @@ pub fn rows_with(
 {
     let mut rows = each_with(alloc, version, contract, verified)?;
     if rows.is_empty() {
-        rows.push(row_without(version, contract)?)?;
+        rows.push(row_of(version, &contract.provider, None)?)?;
     }
     Ok(rows)
 }
@@ -87,16 +88,12 @@ fn row_used(
 ) -> Result<MatrixRow, AllocError>
     ensures { IfOk result (λ row. row ≡ row_used version.now latest.now consumer.now) }
 {
-    Ok(MatrixRow {
-        consumer: consumer.pacticipant.clone()?,
-        consumer_version: consumer.name.clone()?,
-        provider: version.pacticipant.clone()?,
-        verified: Some(Verified {
-            provider_version: version.name.clone()?,
-            result: u64::from(latest.result),
-            latest: latest.latest,
-        }),
-    })
+    let verified = Verified {
+        provider_version: version.name.clone()?,
+        result: u64::from(latest.result),
+        latest: latest.latest,
+    };
+    row_of(consumer, &version.pacticipant, Some(verified))
 }
 
 /// The contracts of these consumers, and the version as their provider, with its result for the content.
