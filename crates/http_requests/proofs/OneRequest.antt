@@ -14,7 +14,7 @@ use Rattle.http_routes.specs.declared.places.TheConstants.{OWN_NAME, VERSION, GR
 use Rattle.http_requests.specs.{Names.{IsNamed, IsPathName, name_or}, Queries.{IsOnce, IsQueryName, values_at}}
 use Rattle.http_requests.specs.Bodies.{IsData, only_object, or_empty, non_null, IsTextNamed, IsNameField, IsGivenName, IsOptionalName, some_or, IsTokenText, IsTokenField}
 use Rattle.http_requests.specs.Tokens.{IsTokenOf}
-use Rattle.http_requests.specs.Commands.{Continues, AndThen, WithFields, IsMade, IsTruthField, IsOptionalTruth, IsPactPath, IsVersionFields, IsVersionQuery, IsMove, IsSupport, IsGrant, IsParsed, IsCommand, or_malformed, pact_path, marks, report_on}
+use Rattle.http_requests.specs.Commands.{Continues, AndThen, WithFields, IsMade, IsTruthField, IsOptionalTruth, IsTwoNames, IsPactNames, IsPactPath, IsVersionFields, IsVersionQuery, IsMove, IsSupport, IsGrant, IsParsed, IsCommand, or_malformed, pact_path, marks, report_on}
 use Rattle.http_requests.specs.Requests.{IsRequest, ByHead, ByResource, ByAsked, ByOperation, path_of, query_of, operation_asked}
 use Rattle.http_requests.specs.declared.requests.Request.{Request}
 use Rattle.broker_core.specs.declared.command.Command.TheVariants as command
@@ -119,12 +119,16 @@ optional_truth_one key fields = record { same = λ a b p q. p ∙ sym q }
 
 -- ---- commands
 
+two_names_one : (first second : ℕ) (path : Text) → IsOne (IsTwoNames first second path)
+two_names_one first second path =
+    then_one _ _ (path_name_one first path) (λ a. then_one _ _ (path_name_one second path) (λ b. made_one (a, b)))
+
+pact_names_one : (third : ℕ) (path : Text) → IsOne (IsPactNames third path)
+pact_names_one third path =
+    then_one _ _ (two_names_one PROVIDER CONSUMER path) (λ of. then_one _ _ (path_name_one third path) (λ last. made_one (of.0, of.1, last)))
+
 pact_path_one : (path : Text) → IsOne (IsPactPath path)
-pact_path_one path =
-    then_one _ _ (path_name_one PROVIDER path) (λ provider.
-    then_one _ _ (path_name_one CONSUMER path) (λ consumer.
-    then_one _ _ (path_name_one PACT_VERSION path) (λ v.
-    made_one (pact_path provider consumer v))))
+pact_path_one path = then_one _ _ (pact_names_one PACT_VERSION path) (λ names. made_one (pact_path names.0 names.1 names.2))
 
 version_fields_one : (fields : Option Data) → IsOne (IsVersionFields fields)
 version_fields_one fields =
@@ -139,65 +143,58 @@ version_query_one query =
     made_one (version pacticipant v)))
 
 grant_one : (make : Text → Text → Command) (path : Text) → IsOne (IsGrant make path)
-grant_one make path =
-    then_one _ _ (path_name_one GRANTED_TEAM path) (λ team.
-    then_one _ _ (path_name_one GRANTED_ENVIRONMENT path) (λ environment.
-    made_one (make team environment)))
+grant_one make path = then_one _ _ (two_names_one GRANTED_TEAM GRANTED_ENVIRONMENT path) (λ names. made_one (make names.0 names.1))
 
 move_one : (make : Text → Version → Option Text → Command) (path body : Text) → IsOne (IsMove make path body)
 move_one make path body =
     then_one _ _ (path_name_one OWN_NAME path) (λ environment.
-    fields_one body _ (λ fields.
+    then_one _ _ (fields_one body _ (λ fields.
     then_one _ _ (version_fields_one fields) (λ v.
     then_one _ _ (optional_name_one (codes "instance") fields) (λ instance.
-    made_one (make environment v instance)))))
+    made_one (v, instance)))))
+    (λ moved. made_one (make environment moved.0 moved.1)))
 
 support_one : (make : Text → Version → Command) (path body : Text) → IsOne (IsSupport make path body)
 support_one make path body =
-    then_one _ _ (path_name_one OWN_NAME path) (λ environment.
-    fields_one body _ (λ fields.
-    then_one _ _ (version_fields_one fields) (λ v.
-    made_one (make environment v))))
+    then_one _ _ (path_name_one OWN_NAME path) (λ environment. then_one _ _ (fields_one body _ version_fields_one) (λ v. made_one (make environment v)))
 
 parsed_one : (asked : Operation) (path query body : Text) → IsOne (IsParsed asked path query body)
 parsed_one operation.PutTeam path query body =
-    then_one _ _ (path_name_one OWN_NAME path) (λ team. fields_one body _ (λ fields. then_one _ _ (token_field_one fields) (λ token. made_one (command.PutTeam team token))))
+    then_one _ _ (path_name_one OWN_NAME path) (λ team. then_one _ _ (fields_one body _ token_field_one) (λ token. made_one (command.PutTeam team token)))
 parsed_one operation.PutPacticipant path query body =
-    then_one _ _ (path_name_one OWN_NAME path) (λ pacticipant. fields_one body _ (λ fields. then_one _ _ (name_field_one (codes "team") fields) (λ team. made_one (command.PutPacticipant pacticipant team))))
+    then_one _ _ (path_name_one OWN_NAME path) (λ pacticipant. then_one _ _ (fields_one body _ (name_field_one (codes "team"))) (λ team. made_one (command.PutPacticipant pacticipant team)))
 parsed_one operation.PutEnvironment path query body =
     then_one _ _ (path_name_one OWN_NAME path) (λ environment.
-    fields_one body _ (λ fields.
+    then_one _ _ (fields_one body _ (λ fields.
     then_one _ _ (truth_one (codes "gated") fields) (λ gated.
     then_one _ _ (optional_truth_one (codes "strict") fields) (λ strict.
-    made_one (command.PutEnvironment environment (marks gated strict))))))
+    made_one (marks gated strict)))))
+    (λ marked. made_one (command.PutEnvironment environment marked)))
 parsed_one operation.PutGrant path query body = grant_one command.PutGrant path
 parsed_one operation.DeleteGrant path query body = grant_one command.DeleteGrant path
 parsed_one operation.PutVersion path query body =
-    then_one _ _ (path_name_one OWN_NAME path) (λ pacticipant.
-    then_one _ _ (path_name_one VERSION path) (λ v.
-    fields_one (or_empty body) _ (λ fields.
-    then_one _ _ (optional_name_one (codes "branch") fields) (λ branch.
-    made_one (command.PutVersion (version pacticipant v) branch)))))
+    then_one _ _ (two_names_one OWN_NAME VERSION path) (λ names.
+    then_one _ _ (fields_one (or_empty body) _ (optional_name_one (codes "branch"))) (λ branch.
+    made_one (command.PutVersion (version names.0 names.1) branch)))
 parsed_one operation.PutPact path query body = then_one _ _ (pact_path_one path) (λ of. made_one (command.PutPact of body))
 parsed_one operation.GetPact path query body = then_one _ _ (pact_path_one path) (λ of. made_one (command.GetPact of))
 parsed_one operation.GetBranchPact path query body =
-    then_one _ _ (path_name_one PROVIDER path) (λ provider.
-    then_one _ _ (path_name_one CONSUMER path) (λ consumer.
-    then_one _ _ (path_name_one PACT_BRANCH path) (λ branch.
-    made_one (command.GetBranchPact provider consumer branch))))
+    then_one _ _ (pact_names_one PACT_BRANCH path) (λ names. made_one (command.GetBranchPact names.0 names.1 names.2))
 parsed_one operation.PostResult path query body =
     then_one _ _ (pact_path_one path) (λ of.
-    fields_one body _ (λ fields.
+    then_one _ _ (fields_one body _ (λ fields.
     then_one _ _ (name_field_one (codes "providerApplicationVersion") fields) (λ v.
     then_one _ _ (truth_one (codes "success") fields) (λ success.
     then_one _ _ (optional_name_one (codes "run") fields) (λ run.
-    made_one (command.PostResult of (report_on v run) success))))))
+    made_one (report_on v run, success))))))
+    (λ told. made_one (command.PostResult of told.0 told.1)))
 parsed_one operation.PostReplies path query body =
     then_one _ _ (pact_path_one path) (λ of.
-    fields_one body _ (λ fields.
+    then_one _ _ (fields_one body _ (λ fields.
     then_one _ _ (name_field_one (codes "providerApplicationVersion") fields) (λ v.
     then_one _ _ (optional_name_one (codes "run") fields) (λ run.
-    made_one (command.PostReplies of (report_on v run) body)))))
+    made_one (report_on v run)))))
+    (λ report. made_one (command.PostReplies of report body)))
 parsed_one operation.Deploy path query body = move_one command.Deploy path body
 parsed_one operation.Undeploy path query body = move_one command.Undeploy path body
 parsed_one operation.Release path query body = support_one command.Release path body

@@ -6,8 +6,7 @@ use Rattle.httparse.specs.Grammar.{RequestHead, IsRequestHead, Field, IsField, I
 use Rattle.httparse.proofs.OnLiterals.{httparse_on_literals}
 use Rattle.percent_encoding.proofs.OnLiterals.{percent_encoding_on_literals}
 use Rattle.serde_json.{specs.Data.{Data, string, object, member, no_members}, proofs.OnLiterals.{serde_json_on_literals}}
-use Rattle.broker_core.specs.{Name.{IsName, is_name, IsToken as IsCallersToken, is_token_byte as is_callers_byte}, Text.{Text, version}}
-use Rattle.broker_core.specs.declared.command.Command.TheVariants.{Deploy}
+use Rattle.broker_core.specs.{Name.{IsName, is_name, is_token_byte as is_callers_byte}, Text.{Text, version}, declared.command.Command.TheVariants.{Deploy}}
 use Rattle.http_messages.specs.Fields.{same_name, values_named}
 use Rattle.http_messages.specs.Heads.{IsHeadText, IsJudged, IsBodyLength, judge_head, judge, body_length, served_method, fields_of}
 use Rattle.http_messages.specs.{Message.{Message, message}, Messages.{BeginsWithMessage}}
@@ -110,7 +109,7 @@ version_named =
 the_command : IsCommand operation.Deploy (path_of parsed.target) (query_of parsed.target) deployment_body (Deploy (codes "prod") (version (codes "shop") (codes "1")) None)
 the_command = (
   Ok (Deploy (codes "prod") (version (codes "shop") (codes "1")) None),
-  (Ok (codes "prod"), environment_named, (Some body_fields, body_read, (Ok (version (codes "shop") (codes "1")), version_named, (Ok None, refl, refl)))),
+  (Ok (codes "prod"), environment_named, (Ok (version (codes "shop") (codes "1"), None), (Some body_fields, body_read, (Ok (version (codes "shop") (codes "1")), version_named, (Ok None, refl, refl))), refl)),
   refl,
 )
 

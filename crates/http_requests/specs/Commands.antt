@@ -1,7 +1,7 @@
 -- The command that a message asks (the forms are this project's own choice).
 -- The first fault is told: those of the path's names come first, in the path's order, and then those of
 -- the fields or the query's keys in the order in which they stand here.
-use Rattle.std.specs.Prelude.{◌≡◌, Bool, codes, Option, Result, Ok, Err}
+use Rattle.std.specs.Prelude.{◌≡◌, ℕ, Bool, codes, Option, Result, Ok, Err}
 use Rattle.serde_json.specs.Data.{Data}
 use Rattle.broker_core.specs.Text.{Text, version}
 use Rattle.broker_core.specs.declared.command.Command.{Command}
@@ -53,13 +53,23 @@ marks gated strict = record { gated = gated; strict = strict }
 abbrev pub report_on : Text → Option Text → Report
 report_on version run = record { provider_version = version; run = run }
 
+-- two names of the path
+abbrev pub IsTwoNames : ℕ → ℕ → Text → Result (Text × Text) FormFault → Type 0
+IsTwoNames first second path =
+    AndThen (IsPathName first path) (λ a.
+    AndThen (IsPathName second path) (λ b.
+    IsMade (a, b)))
+
+-- the provider, the consumer and a third name
+abbrev pub IsPactNames : ℕ → Text → Result (Text × Text × Text) FormFault → Type 0
+IsPactNames third path =
+    AndThen (IsTwoNames PROVIDER CONSUMER path) (λ of.
+    AndThen (IsPathName third path) (λ last.
+    IsMade (of.0, of.1, last)))
+
 -- the contract that the path names: provider, consumer, version
 abbrev pub IsPactPath : Text → Result PactPath FormFault → Type 0
-IsPactPath path =
-    AndThen (IsPathName PROVIDER path) (λ provider.
-    AndThen (IsPathName CONSUMER path) (λ consumer.
-    AndThen (IsPathName PACT_VERSION path) (λ v.
-    IsMade (pact_path provider consumer v))))
+IsPactPath path = AndThen (IsPactNames PACT_VERSION path) (λ names. IsMade (pact_path names.0 names.1 names.2))
 
 -- the version that the body's fields name
 abbrev pub IsVersionFields : Option Data → Result Version FormFault → Type 0
@@ -78,39 +88,36 @@ IsVersionQuery query =
 abbrev pub IsPutTeam : Text → Text → Result Command FormFault → Type 0
 IsPutTeam path body =
     AndThen (IsPathName OWN_NAME path) (λ team.
-    WithFields body (λ fields.
-    AndThen (IsTokenField fields) (λ token.
-    IsMade (command.PutTeam team token))))
+    AndThen (WithFields body IsTokenField) (λ token.
+    IsMade (command.PutTeam team token)))
 
 abbrev pub IsPutPacticipant : Text → Text → Result Command FormFault → Type 0
 IsPutPacticipant path body =
     AndThen (IsPathName OWN_NAME path) (λ pacticipant.
-    WithFields body (λ fields.
-    AndThen (IsNameField (codes "team") fields) (λ team.
-    IsMade (command.PutPacticipant pacticipant team))))
+    AndThen (WithFields body (IsNameField (codes "team"))) (λ team.
+    IsMade (command.PutPacticipant pacticipant team)))
+
+abbrev pub IsMarksFields : Option Data → Result Marks FormFault → Type 0
+IsMarksFields fields =
+    AndThen (IsTruthField (codes "gated") fields) (λ gated.
+    AndThen (IsOptionalTruth (codes "strict") fields) (λ strict.
+    IsMade (marks gated strict)))
 
 abbrev pub IsPutEnvironment : Text → Text → Result Command FormFault → Type 0
 IsPutEnvironment path body =
     AndThen (IsPathName OWN_NAME path) (λ environment.
-    WithFields body (λ fields.
-    AndThen (IsTruthField (codes "gated") fields) (λ gated.
-    AndThen (IsOptionalTruth (codes "strict") fields) (λ strict.
-    IsMade (command.PutEnvironment environment (marks gated strict))))))
+    AndThen (WithFields body IsMarksFields) (λ marked.
+    IsMade (command.PutEnvironment environment marked)))
 
 -- a grant that is given or taken
 abbrev pub IsGrant : (Text → Text → Command) → Text → Result Command FormFault → Type 0
-IsGrant make path =
-    AndThen (IsPathName GRANTED_TEAM path) (λ team.
-    AndThen (IsPathName GRANTED_ENVIRONMENT path) (λ environment.
-    IsMade (make team environment)))
+IsGrant make path = AndThen (IsTwoNames GRANTED_TEAM GRANTED_ENVIRONMENT path) (λ names. IsMade (make names.0 names.1))
 
 abbrev pub IsPutVersion : Text → Text → Result Command FormFault → Type 0
 IsPutVersion path body =
-    AndThen (IsPathName OWN_NAME path) (λ pacticipant.
-    AndThen (IsPathName VERSION path) (λ v.
-    WithFields (or_empty body) (λ fields.
-    AndThen (IsOptionalName (codes "branch") fields) (λ branch.
-    IsMade (command.PutVersion (version pacticipant v) branch)))))
+    AndThen (IsTwoNames OWN_NAME VERSION path) (λ names.
+    AndThen (WithFields (or_empty body) (IsOptionalName (codes "branch"))) (λ branch.
+    IsMade (command.PutVersion (version names.0 names.1) branch)))
 
 abbrev pub IsPutPact : Text → Text → Result Command FormFault → Type 0
 IsPutPact path body = AndThen (IsPactPath path) (λ of. IsMade (command.PutPact of body))
@@ -120,44 +127,55 @@ IsGetPact path = AndThen (IsPactPath path) (λ of. IsMade (command.GetPact of))
 
 abbrev pub IsGetBranchPact : Text → Result Command FormFault → Type 0
 IsGetBranchPact path =
-    AndThen (IsPathName PROVIDER path) (λ provider.
-    AndThen (IsPathName CONSUMER path) (λ consumer.
-    AndThen (IsPathName PACT_BRANCH path) (λ branch.
-    IsMade (command.GetBranchPact provider consumer branch))))
+    AndThen (IsPactNames PACT_BRANCH path) (λ names. IsMade (command.GetBranchPact names.0 names.1 names.2))
+
+-- how a version of a provider did in a run
+abbrev pub IsResultFields : Option Data → Result (Report × Bool) FormFault → Type 0
+IsResultFields fields =
+    AndThen (IsNameField (codes "providerApplicationVersion") fields) (λ v.
+    AndThen (IsTruthField (codes "success") fields) (λ success.
+    AndThen (IsOptionalName (codes "run") fields) (λ run.
+    IsMade (report_on v run, success))))
+
+-- of which version of a provider and of which run something is told
+abbrev pub IsReportFields : Option Data → Result Report FormFault → Type 0
+IsReportFields fields =
+    AndThen (IsNameField (codes "providerApplicationVersion") fields) (λ v.
+    AndThen (IsOptionalName (codes "run") fields) (λ run.
+    IsMade (report_on v run)))
 
 abbrev pub IsPostResult : Text → Text → Result Command FormFault → Type 0
 IsPostResult path body =
     AndThen (IsPactPath path) (λ of.
-    WithFields body (λ fields.
-    AndThen (IsNameField (codes "providerApplicationVersion") fields) (λ v.
-    AndThen (IsTruthField (codes "success") fields) (λ success.
-    AndThen (IsOptionalName (codes "run") fields) (λ run.
-    IsMade (command.PostResult of (report_on v run) success))))))
+    AndThen (WithFields body IsResultFields) (λ told.
+    IsMade (command.PostResult of told.0 told.1)))
 
 abbrev pub IsPostReplies : Text → Text → Result Command FormFault → Type 0
 IsPostReplies path body =
     AndThen (IsPactPath path) (λ of.
-    WithFields body (λ fields.
-    AndThen (IsNameField (codes "providerApplicationVersion") fields) (λ v.
-    AndThen (IsOptionalName (codes "run") fields) (λ run.
-    IsMade (command.PostReplies of (report_on v run) body)))))
+    AndThen (WithFields body IsReportFields) (λ report.
+    IsMade (command.PostReplies of report body)))
+
+-- a version, and the instance of an environment
+abbrev pub IsMoveFields : Option Data → Result (Version × Option Text) FormFault → Type 0
+IsMoveFields fields =
+    AndThen (IsVersionFields fields) (λ v.
+    AndThen (IsOptionalName (codes "instance") fields) (λ instance.
+    IsMade (v, instance)))
 
 -- what a version does in an environment's instance
 abbrev pub IsMove : (Text → Version → Option Text → Command) → Text → Text → Result Command FormFault → Type 0
 IsMove make path body =
     AndThen (IsPathName OWN_NAME path) (λ environment.
-    WithFields body (λ fields.
-    AndThen (IsVersionFields fields) (λ v.
-    AndThen (IsOptionalName (codes "instance") fields) (λ instance.
-    IsMade (make environment v instance)))))
+    AndThen (WithFields body IsMoveFields) (λ moved.
+    IsMade (make environment moved.0 moved.1)))
 
 -- what is said of a version in an environment
 abbrev pub IsSupport : (Text → Version → Command) → Text → Text → Result Command FormFault → Type 0
 IsSupport make path body =
     AndThen (IsPathName OWN_NAME path) (λ environment.
-    WithFields body (λ fields.
-    AndThen (IsVersionFields fields) (λ v.
-    IsMade (make environment v))))
+    AndThen (WithFields body IsVersionFields) (λ v.
+    IsMade (make environment v)))
 
 abbrev pub IsGetEnvironment : Text → Result Command FormFault → Type 0
 IsGetEnvironment path = AndThen (IsPathName OWN_NAME path) (λ environment. IsMade (command.GetEnvironment environment))

@@ -1,8 +1,10 @@
 //! The command that a message asks.
 ghost use Rattle.std.specs.Prelude.{◌≡◌, IfOk, codes, if◌then◌else◌, Option};
 ghost use Rattle.serde_json.specs.Data.{Data};
-ghost use Rattle.http_requests.specs.Views.{object_in};
-ghost use Rattle.http_requests.specs.Commands.{IsPactPath, IsVersionFields, IsVersionQuery, IsParsed, IsCommand, or_malformed};
+ghost use Rattle.http_requests.specs.Views.{object_in, IsBeside};
+ghost use Rattle.http_requests.specs.Bodies.{IsNameField, IsOptionalName, IsTokenField, or_empty};
+ghost use Rattle.http_requests.specs.Commands.{WithFields, IsTwoNames, IsPactNames, IsPactPath, IsVersionFields, IsVersionQuery};
+ghost use Rattle.http_requests.specs.Commands.{IsMarksFields, IsResultFields, IsReportFields, IsMoveFields, IsParsed, IsCommand, or_malformed};
 ghost use Rattle.http_requests.specs.Commands.{IsPutTeam, IsPutPacticipant, IsPutEnvironment, IsGrant, IsPutVersion};
 ghost use Rattle.http_requests.specs.Commands.{IsPutPact, IsGetPact, IsGetBranchPact, IsPostResult, IsPostReplies};
 ghost use Rattle.http_requests.specs.Commands.{IsMove, IsSupport, IsGetEnvironment, IsCanIDeploy, IsGetMatrix};
@@ -11,7 +13,7 @@ use crate::bodies::{Fields, or_empty};
 use crate::names::{Parsed, path_name};
 use crate::queries::query_name;
 use broker_core::command::{Command, FormFault, Marks, PactPath, Report, Version};
-use broker_core::name::Body;
+use broker_core::name::{Body, Name, Token};
 use http_routes::{Operation, places};
 use std::alloc::{AllocError, Global};
 
@@ -25,12 +27,28 @@ macro_rules! part {
     };
 }
 
+/// Two names of the path.
+fn two_names(alloc: Global, path: &[u8], first: usize, second: usize) -> Parsed<(Name, Name)>
+    ensures { IfOk result (IsTwoNames first second path.now) }
+{
+    let first = part!(path_name(alloc, path, first));
+    let second = part!(path_name(alloc, path, second));
+    Ok(Ok((first, second)))
+}
+
+/// The provider, the consumer and a third name.
+fn pact_names(alloc: Global, path: &[u8], third: usize) -> Parsed<(Name, Name, Name)>
+    ensures { IfOk result (IsPactNames third path.now) }
+{
+    let (provider, consumer) = part!(two_names(alloc, path, places::PROVIDER, places::CONSUMER));
+    let third = part!(path_name(alloc, path, third));
+    Ok(Ok((provider, consumer, third)))
+}
+
 fn pact_path(alloc: Global, path: &[u8]) -> Parsed<PactPath>
     ensures { IfOk result (IsPactPath path.now) }
 {
-    let provider = part!(path_name(alloc, path, places::PROVIDER));
-    let consumer = part!(path_name(alloc, path, places::CONSUMER));
-    let version = part!(path_name(alloc, path, places::PACT_VERSION));
+    let (provider, consumer, version) = part!(pact_names(alloc, path, places::PACT_VERSION));
     Ok(Ok(PactPath {
         provider,
         consumer,
@@ -54,12 +72,54 @@ fn version_query(alloc: Global, query: &[u8]) -> Parsed<Version>
     Ok(Ok(Version { pacticipant, name }))
 }
 
+fn name_in(alloc: Global, body: &[u8], key: &str) -> Parsed<Name>
+    ensures { IfOk result (WithFields body.now (IsNameField key.now)) }
+{
+    let fields = Fields::read(alloc, body)?;
+    fields.name(alloc, key)
+}
+
+fn optional_name_in(alloc: Global, body: &[u8], key: &str) -> Parsed<Option<Name>>
+    ensures { IfOk result (WithFields body.now (IsOptionalName key.now)) }
+{
+    let fields = Fields::read(alloc, body)?;
+    fields.optional_name(alloc, key)
+}
+
+fn token_in(alloc: Global, body: &[u8]) -> Parsed<Token>
+    ensures { IfOk result (WithFields body.now IsTokenField) }
+{
+    let fields = Fields::read(alloc, body)?;
+    fields.token(alloc)
+}
+
+fn marks_fields(alloc: Global, fields: &Fields) -> Parsed<Marks>
+    ensures { IfOk result (IsMarksFields (object_in fields.now)) }
+{
+    let gated = part!(fields.truth(alloc, "gated"));
+    let strict = part!(fields.optional_truth(alloc, "strict"));
+    Ok(Ok(Marks { gated, strict }))
+}
+
+fn marks_in(alloc: Global, body: &[u8]) -> Parsed<Marks>
+    ensures { IfOk result (WithFields body.now IsMarksFields) }
+{
+    let fields = Fields::read(alloc, body)?;
+    marks_fields(alloc, &fields)
+}
+
+fn version_in(alloc: Global, body: &[u8]) -> Parsed<Version>
+    ensures { IfOk result (WithFields body.now IsVersionFields) }
+{
+    let fields = Fields::read(alloc, body)?;
+    version_fields(alloc, &fields)
+}
+
 fn put_team(alloc: Global, path: &[u8], body: &[u8]) -> Parsed<Command>
     ensures { IfOk result (IsPutTeam path.now body.now) }
 {
     let team = part!(path_name(alloc, path, places::OWN_NAME));
-    let fields = Fields::read(alloc, body)?;
-    let token = part!(fields.token(alloc));
+    let token = part!(token_in(alloc, body));
     Ok(Ok(Command::PutTeam { team, token }))
 }
 
@@ -67,8 +127,7 @@ fn put_pacticipant(alloc: Global, path: &[u8], body: &[u8]) -> Parsed<Command>
     ensures { IfOk result (IsPutPacticipant path.now body.now) }
 {
     let pacticipant = part!(path_name(alloc, path, places::OWN_NAME));
-    let fields = Fields::read(alloc, body)?;
-    let team = part!(fields.name(alloc, "team"));
+    let team = part!(name_in(alloc, body, "team"));
     Ok(Ok(Command::PutPacticipant { pacticipant, team }))
 }
 
@@ -76,21 +135,20 @@ fn put_environment(alloc: Global, path: &[u8], body: &[u8]) -> Parsed<Command>
     ensures { IfOk result (IsPutEnvironment path.now body.now) }
 {
     let environment = part!(path_name(alloc, path, places::OWN_NAME));
-    let fields = Fields::read(alloc, body)?;
-    let gated = part!(fields.truth(alloc, "gated"));
-    let strict = part!(fields.optional_truth(alloc, "strict"));
-    Ok(Ok(Command::PutEnvironment {
-        environment,
-        marks: Marks { gated, strict },
-    }))
+    let marks = part!(marks_in(alloc, body));
+    Ok(Ok(Command::PutEnvironment { environment, marks }))
 }
 
 /// A grant that is given, or taken.
 fn grant(alloc: Global, path: &[u8], gives: bool) -> Parsed<Command>
     ensures { IfOk result (IsGrant (if gives then Command.PutGrant else Command.DeleteGrant) path.now) }
 {
-    let team = part!(path_name(alloc, path, places::GRANTED_TEAM));
-    let environment = part!(path_name(alloc, path, places::GRANTED_ENVIRONMENT));
+    let (team, environment) = part!(two_names(
+        alloc,
+        path,
+        places::GRANTED_TEAM,
+        places::GRANTED_ENVIRONMENT,
+    ));
     if gives {
         Ok(Ok(Command::PutGrant { team, environment }))
     } else {
@@ -101,10 +159,8 @@ fn grant(alloc: Global, path: &[u8], gives: bool) -> Parsed<Command>
 fn put_version(alloc: Global, path: &[u8], body: &[u8]) -> Parsed<Command>
     ensures { IfOk result (IsPutVersion path.now body.now) }
 {
-    let pacticipant = part!(path_name(alloc, path, places::OWN_NAME));
-    let name = part!(path_name(alloc, path, places::VERSION));
-    let fields = Fields::read(alloc, or_empty(body))?;
-    let branch = part!(fields.optional_name(alloc, "branch"));
+    let (pacticipant, name) = part!(two_names(alloc, path, places::OWN_NAME, places::VERSION));
+    let branch = part!(optional_name_in(alloc, or_empty(body), "branch"));
     Ok(Ok(Command::PutVersion {
         version: Version { pacticipant, name },
         branch,
@@ -129,9 +185,7 @@ fn get_pact(alloc: Global, path: &[u8]) -> Parsed<Command>
 fn get_branch_pact(alloc: Global, path: &[u8]) -> Parsed<Command>
     ensures { IfOk result (IsGetBranchPact path.now) }
 {
-    let provider = part!(path_name(alloc, path, places::PROVIDER));
-    let consumer = part!(path_name(alloc, path, places::CONSUMER));
-    let branch = part!(path_name(alloc, path, places::PACT_BRANCH));
+    let (provider, consumer, branch) = part!(pact_names(alloc, path, places::PACT_BRANCH));
     Ok(Ok(Command::GetBranchPact {
         provider,
         consumer,
@@ -139,20 +193,63 @@ fn get_branch_pact(alloc: Global, path: &[u8]) -> Parsed<Command>
     }))
 }
 
+fn result_fields(alloc: Global, fields: &Fields) -> Parsed<(Report, bool)>
+    ensures { IfOk result (IsResultFields (object_in fields.now)) }
+{
+    let provider_version = part!(fields.name(alloc, "providerApplicationVersion"));
+    let success = part!(fields.truth(alloc, "success"));
+    let run = part!(fields.optional_name(alloc, "run"));
+    Ok(Ok((
+        Report {
+            provider_version,
+            run,
+        },
+        success,
+    )))
+}
+
+fn result_in(alloc: Global, body: &[u8]) -> Parsed<(Report, bool)>
+    ensures { IfOk result (WithFields body.now IsResultFields) }
+{
+    let fields = Fields::read(alloc, body)?;
+    result_fields(alloc, &fields)
+}
+
+fn report_fields(alloc: Global, fields: &Fields) -> Parsed<Report>
+    ensures { IfOk result (IsReportFields (object_in fields.now)) }
+{
+    let provider_version = part!(fields.name(alloc, "providerApplicationVersion"));
+    let run = part!(fields.optional_name(alloc, "run"));
+    Ok(Ok(Report {
+        provider_version,
+        run,
+    }))
+}
+
+fn report_in(alloc: Global, body: &[u8]) -> Parsed<Report>
+    ensures { IfOk result (WithFields body.now IsReportFields) }
+{
+    let fields = Fields::read(alloc, body)?;
+    report_fields(alloc, &fields)
+}
+
+/// What is told of replies, and a copy of the body.
+fn replies_in(alloc: Global, body: &[u8]) -> Parsed<(Report, Body)>
+    ensures { IfOk result (IsBeside body.now (WithFields body.now IsReportFields)) }
+{
+    let report = part!(report_in(alloc, body));
+    let replies = Body::new(Vec::from_slice(alloc, body)?);
+    Ok(Ok((report, replies)))
+}
+
 fn post_result(alloc: Global, path: &[u8], body: &[u8]) -> Parsed<Command>
     ensures { IfOk result (IsPostResult path.now body.now) }
 {
     let path = part!(pact_path(alloc, path));
-    let fields = Fields::read(alloc, body)?;
-    let provider_version = part!(fields.name(alloc, "providerApplicationVersion"));
-    let success = part!(fields.truth(alloc, "success"));
-    let run = part!(fields.optional_name(alloc, "run"));
+    let (report, success) = part!(result_in(alloc, body));
     Ok(Ok(Command::PostResult {
         path,
-        report: Report {
-            provider_version,
-            run,
-        },
+        report,
         success,
     }))
 }
@@ -161,18 +258,28 @@ fn post_replies(alloc: Global, path: &[u8], body: &[u8]) -> Parsed<Command>
     ensures { IfOk result (IsPostReplies path.now body.now) }
 {
     let path = part!(pact_path(alloc, path));
-    let fields = Fields::read(alloc, body)?;
-    let provider_version = part!(fields.name(alloc, "providerApplicationVersion"));
-    let run = part!(fields.optional_name(alloc, "run"));
-    let replies = Body::new(Vec::from_slice(alloc, body)?);
+    let (report, replies) = part!(replies_in(alloc, body));
     Ok(Ok(Command::PostReplies {
         path,
-        report: Report {
-            provider_version,
-            run,
-        },
+        report,
         replies,
     }))
+}
+
+/// A version, and the instance of an environment.
+fn move_fields(alloc: Global, fields: &Fields) -> Parsed<(Version, Option<Name>)>
+    ensures { IfOk result (IsMoveFields (object_in fields.now)) }
+{
+    let version = part!(version_fields(alloc, fields));
+    let instance = part!(fields.optional_name(alloc, "instance"));
+    Ok(Ok((version, instance)))
+}
+
+fn move_in(alloc: Global, body: &[u8]) -> Parsed<(Version, Option<Name>)>
+    ensures { IfOk result (WithFields body.now IsMoveFields) }
+{
+    let fields = Fields::read(alloc, body)?;
+    move_fields(alloc, &fields)
 }
 
 /// What is deployed, or undeployed.
@@ -180,9 +287,7 @@ fn deployment(alloc: Global, path: &[u8], body: &[u8], deploys: bool) -> Parsed<
     ensures { IfOk result (IsMove (if deploys then Command.Deploy else Command.Undeploy) path.now body.now) }
 {
     let environment = part!(path_name(alloc, path, places::OWN_NAME));
-    let fields = Fields::read(alloc, body)?;
-    let version = part!(version_fields(alloc, &fields));
-    let instance = part!(fields.optional_name(alloc, "instance"));
+    let (version, instance) = part!(move_in(alloc, body));
     if deploys {
         Ok(Ok(Command::Deploy {
             environment,
@@ -203,8 +308,7 @@ fn support(alloc: Global, path: &[u8], body: &[u8], releases: bool) -> Parsed<Co
     ensures { IfOk result (IsSupport (if releases then Command.Release else Command.EndSupport) path.now body.now) }
 {
     let environment = part!(path_name(alloc, path, places::OWN_NAME));
-    let fields = Fields::read(alloc, body)?;
-    let version = part!(version_fields(alloc, &fields));
+    let version = part!(version_in(alloc, body));
     if releases {
         Ok(Ok(Command::Release {
             environment,

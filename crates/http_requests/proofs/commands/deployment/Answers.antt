@@ -1,11 +1,11 @@
 use Rattle.std.proofs.Common.{refl}
-use Rattle.http_requests.specs.Views.{object_in}
 use Rattle.http_requests.proofs.commands.deployment.Goals as goal
 
 pub returns-in-Err-2 : goal.returns-in-Err-2
-returns-in-Err-2 c =
-    (c.in_ok-part.field-0, c.in_ok-part.ensures.named, rw c.in-Ok.is (object_in c.in_ok-fields.fields, c.in_ok-fields.ensures, (c.in_ok-part-2.field-0, c.in_ok-part-2.ensures, rw c.in-Err-2.is refl)))
+returns-in-Err-2 c = (c.in_ok-part.field-0, c.in_ok-part.ensures.named, rw c.in-Ok.is (c.in_ok-part-2.field-0, c.in_ok-part-2.ensures, rw c.in-Err-2.is refl))
 
-pub returns-in-Err-3 : goal.returns-in-Err-3
-returns-in-Err-3 c =
-    (c.in_ok-part.field-0, c.in_ok-part.ensures.named, rw c.in-Ok.is (object_in c.in_ok-fields.fields, c.in_ok-fields.ensures, (c.in_ok-part-2.field-0, c.in_ok-part-2.ensures, rw c.in-Ok-2.is (c.in_ok-part-3.field-0, c.in_ok-part-3.ensures.named, rw c.in-Err-3.is refl))))
+pub returns-then-deploys : goal.returns-then-deploys
+returns-then-deploys c = (c.in_ok-part.field-0, c.in_ok-part.ensures.named, rw c.in-Ok.is (c.in_ok-part-2.field-0, c.in_ok-part-2.ensures, rw (c.in-Ok-2.is, c.if-deploys.true) refl))
+
+pub returns-else-deploys : goal.returns-else-deploys
+returns-else-deploys c = (c.in_ok-part.field-0, c.in_ok-part.ensures.named, rw c.in-Ok.is (c.in_ok-part-2.field-0, c.in_ok-part-2.ensures, rw (c.in-Ok-2.is, c.if-deploys.false) refl))

@@ -1,7 +1,0 @@
-use Rattle.std.proofs.Common.{refl}
-use Rattle.http_requests.specs.Views.{object_in}
-use Rattle.http_requests.proofs.commands.put_version.Goals as goal
-
-pub returns-in-Err-3 : goal.returns-in-Err-3
-returns-in-Err-3 c =
-    (c.in_ok-part.field-0, c.in_ok-part.ensures.named, rw c.in-Ok.is (c.in_ok-part-2.field-0, c.in_ok-part-2.ensures.named, rw c.in-Ok-2.is (object_in c.in_ok-fields.fields, rw c.or_empty.ensures at c.in_ok-fields.ensures, (c.in_ok-part-3.field-0, c.in_ok-part-3.ensures.named, rw c.in-Err-3.is refl))))
