@@ -33,15 +33,15 @@ impl fmt::Display for Part {
     ghost output = { λ part. Some (part_text part) };
 
     fn fmt<W: fmt::Write>(&self, f: &mut fmt::Formatter<W>) -> fmt::Result {
-        match self {
-            Part::Whole => f.write_str(""),
-            Part::Description => f.write_str(".description"),
-            Part::States => f.write_str(".providerStates"),
-            Part::Request => f.write_str(".request"),
-            Part::Response => f.write_str(".response"),
-            Part::Status => f.write_str(".status"),
-            Part::Headers => f.write_str(".headers"),
-        }
+        f.write_str(match self {
+            Part::Whole => "",
+            Part::Description => ".description",
+            Part::States => ".providerStates",
+            Part::Request => ".request",
+            Part::Response => ".response",
+            Part::Status => ".status",
+            Part::Headers => ".headers",
+        })
     }
 }
 
@@ -71,15 +71,18 @@ impl fmt::Display for Place {
     ghost output = { λ place. Some (place_text place) };
 
     fn fmt<W: fmt::Write>(&self, f: &mut fmt::Formatter<W>) -> fmt::Result {
-        match self {
-            Place::File => f.write_str("file"),
-            Place::Consumer => f.write_str("consumer"),
-            Place::ConsumerName => f.write_str("consumer.name"),
-            Place::Provider => f.write_str("provider"),
-            Place::ProviderName => f.write_str("provider.name"),
-            Place::Interactions => f.write_str("interactions"),
-            Place::Interaction(index, part) => write!(f, "interactions[{}]{}", *index, *part),
-        }
+        let text = match self {
+            Place::File => "file",
+            Place::Consumer => "consumer",
+            Place::ConsumerName => "consumer.name",
+            Place::Provider => "provider",
+            Place::ProviderName => "provider.name",
+            Place::Interactions => "interactions",
+            Place::Interaction(index, part) => {
+                return write!(f, "interactions[{}]{}", *index, *part);
+            }
+        };
+        f.write_str(text)
     }
 }
 
@@ -142,26 +145,27 @@ impl fmt::Display for Number<'_> {
     ghost output = { λ number. Some (number_text number.fault.now) };
 
     fn fmt<W: fmt::Write>(&self, f: &mut fmt::Formatter<W>) -> fmt::Result {
-        match self.fault {
-            PactFault::TooLong => f.write_str("1"),
-            PactFault::NotJson => f.write_str("2"),
-            PactFault::Shape(place) => write!(f, "3 {}", *place),
-            PactFault::Version => f.write_str("4"),
-            PactFault::Messages => f.write_str("5"),
-            PactFault::Tree(TreeFault::NotWhole) => f.write_str("6.1"),
-            PactFault::Tree(TreeFault::TooDeep) => f.write_str("6.2"),
-            PactFault::Tree(TreeFault::Memory) => f.write_str("6.3"),
+        let number = match self.fault {
+            PactFault::TooLong => "1",
+            PactFault::NotJson => "2",
+            PactFault::Shape(place) => return write!(f, "3 {}", *place),
+            PactFault::Version => "4",
+            PactFault::Messages => "5",
+            PactFault::Tree(TreeFault::NotWhole) => "6.1",
+            PactFault::Tree(TreeFault::TooDeep) => "6.2",
+            PactFault::Tree(TreeFault::Memory) => "6.3",
             PactFault::Rules(index, RuleFault::Unsupported(name)) => {
-                write!(f, "7.5 interactions[{}] {}", *index, name.as_str())
+                return write!(f, "7.5 interactions[{}] {}", *index, name.as_str());
             }
             PactFault::Rules(index, fault) => {
-                write!(f, "7.{} interactions[{}]", rule_number(fault), *index)
+                return write!(f, "7.{} interactions[{}]", rule_number(fault), *index);
             }
-            PactFault::SameInteraction => f.write_str("8"),
-            PactFault::TooMany => f.write_str("9"),
-            PactFault::SelfContract => f.write_str("10"),
-            PactFault::Memory => f.write_str("11"),
-        }
+            PactFault::SameInteraction => "8",
+            PactFault::TooMany => "9",
+            PactFault::SelfContract => "10",
+            PactFault::Memory => "11",
+        };
+        f.write_str(number)
     }
 }
 

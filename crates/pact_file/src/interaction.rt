@@ -1,18 +1,17 @@
 //! An interaction, in the order of its tests.
 
 ghost use Rattle.std.specs.Prelude.{◌≡◌, Some, option_map, string_bytes, IfOk};
-ghost use Rattle.std.specs.Option.{ok_or};
 ghost use Rattle.serde_json.specs.View.{view};
 ghost use Rattle.serde_json.specs.Written.{compact_text};
 ghost use Rattle.pact_rules.specs.TreeReading.{whole_tree};
 ghost use Rattle.pact_rules.specs.TreeView.{tree_view};
-ghost use Rattle.pact_file.specs.declared.fault.PactFault.TheVariants.{Memory, Shape};
+ghost use Rattle.pact_file.specs.declared.fault.PactFault.TheVariants.{Memory};
 ghost use Rattle.pact_file.specs.Headers.{HasHeaders};
 ghost use Rattle.pact_file.specs.Interactions.{at, parts_at};
 ghost use Rattle.pact_file.specs.Normal.{InteractionRead};
-ghost use Rattle.pact_rules.specs.Outcome.{Gives, GivesAlways};
+ghost use Rattle.pact_rules.specs.Outcome.{Gives};
 ghost use Rattle.pact_file.specs.Pact.{states_data, interaction_data};
-ghost use Rattle.pact_file.specs.Parts.{text_at, object_at, states_in as states_at, status_in as status_found, body_in};
+ghost use Rattle.pact_file.specs.Parts.{status_in as status_found, body_in};
 ghost use Rattle.pact_rules.specs.Reading.{GivesOne};
 ghost use Rattle.pact_file.specs.Rules.{RulesRead, IsRulesOf};
 ghost use Rattle.pact_file.specs.Sound.{IsSound};
@@ -38,36 +37,11 @@ struct Parts<'a> {
     status: u16,
 }
 
-pub(crate) fn text_in<'a>(value: &'a Value, key: &str, place: Place) -> Result<&'a str, PactFault>
-    ensures { GivesAlways (λ s. s.now) result
-        (ok_or (text_at key.now (view value.now)) (Shape place)) }
+/// The fault of a part of the interaction at this index.
+fn fault_at(index: usize, part: Part) -> PactFault
+    ensures { result ≡ at index part }
 {
-    text_member(value, key).ok_or(PactFault::Shape(place))
-}
-
-pub(crate) fn object_in<'a>(
-    value: &'a Value,
-    key: &str,
-    place: Place,
-) -> Result<&'a Value, PactFault>
-    ensures { GivesAlways (λ v. view v.now) result
-        (ok_or (object_at key.now (view value.now)) (Shape place)) }
-{
-    object_member(value, key).ok_or(PactFault::Shape(place))
-}
-
-fn states_in(alloc: Global, value: &Value, place: Place) -> Result<Vec<State>, PactFault>
-    ensures { Gives Memory (λ v. v.items) result
-        (ok_or (states_at (view value.now)) (Shape place)) }
-{
-    read_states(alloc, value)?.ok_or(PactFault::Shape(place))
-}
-
-fn status_in(response: &Value, place: Place) -> Result<u16, PactFault>
-    ensures { GivesAlways (λ n. n) result
-        (ok_or (status_found (view response.now)) (Shape place)) }
-{
-    status_of(response).ok_or(PactFault::Shape(place))
+    PactFault::Shape(Place::Interaction(index, part))
 }
 
 #[tactic(auto, unfolding(crate::specs::Interactions::parts_at))]
@@ -76,17 +50,23 @@ fn read_parts<'a>(alloc: Global, index: usize, value: &'a Value) -> Result<Parts
     ensures status { IfOk result (λ p. status_found (view p.response.now) ≡ Some p.status) }
 {
     if !value.is_object() {
-        return Err(PactFault::Shape(Place::Interaction(index, Part::Whole)));
+        return Err(fault_at(index, Part::Whole));
     }
-    let description = text_in(
-        value,
-        "description",
-        Place::Interaction(index, Part::Description),
-    )?;
-    let states = states_in(alloc, value, Place::Interaction(index, Part::States))?;
-    let request = object_in(value, "request", Place::Interaction(index, Part::Request))?;
-    let response = object_in(value, "response", Place::Interaction(index, Part::Response))?;
-    let status = status_in(response, Place::Interaction(index, Part::Status))?;
+    let Some(description) = text_member(value, "description") else {
+        return Err(fault_at(index, Part::Description));
+    };
+    let Some(states) = read_states(alloc, value)? else {
+        return Err(fault_at(index, Part::States));
+    };
+    let Some(request) = object_member(value, "request") else {
+        return Err(fault_at(index, Part::Request));
+    };
+    let Some(response) = object_member(value, "response") else {
+        return Err(fault_at(index, Part::Response));
+    };
+    let Some(status) = status_of(response) else {
+        return Err(fault_at(index, Part::Status));
+    };
     Ok(Parts {
         description: String::from_str(alloc, description)?,
         states,
@@ -146,7 +126,9 @@ fn read_rules(
         None => Ok(RuleTable::none(alloc)),
         Some(rules) => {
             let tree = part_of(alloc, rules)?;
-            match RuleTable::read_with(alloc, patterns, &tree) {
+            let read = RuleTable::read_with(alloc, patterns, &tree);
+            drop(tree);
+            match read {
                 Ok(table) => Ok(table),
                 Err(fault) => Err(rule_fault(index, fault)),
             }
@@ -226,7 +208,7 @@ pub(crate) fn read_interaction(
 {
     let parts = read_parts(alloc, index, value)?;
     match read_headers(alloc, parts.response)? {
-        None => Err(PactFault::Shape(Place::Interaction(index, Part::Headers))),
+        None => Err(fault_at(index, Part::Headers)),
         Some(headers) => {
             let rules = read_rules(alloc, patterns, index, parts.response)?;
             let kept = kept_of(alloc, &parts)?;

@@ -53,8 +53,13 @@ fn insert_interaction(list: &mut Vec<Interaction>, new: Interaction) -> Result<(
     ensures { Gives Memory (λ _. list.new.items) result
         (ok_or (with_interaction new list.old.items) SameInteraction) }
 {
-    if let Some(at) = index_of(list, &new)? {
-        list.insert(at, new)?;
+    match index_of(list, &new) {
+        Ok(Some(at)) => list.insert(at, new)?,
+        Ok(None) => drop(new),
+        Err(fault) => {
+            drop(new);
+            return Err(fault);
+        }
     }
     Ok(())
 }

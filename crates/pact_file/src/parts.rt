@@ -44,14 +44,14 @@ fn read_state(alloc: Global, value: &Value) -> Result<Option<State>, AllocError>
     let Some(name) = text_member(value, "name") else {
         return Ok(None);
     };
-    let params = match optional_member(value, "params") {
-        Some(params) => Some(params.clone()?),
-        None => None,
-    };
-    Ok(Some(State {
-        name: String::from_str(alloc, name)?,
-        params,
-    }))
+    let name = String::from_str(alloc, name)?;
+    match optional_member(value, "params") {
+        Some(params) => Ok(Some(State {
+            params: Some(params.clone()?),
+            name,
+        })),
+        None => Ok(Some(State { name, params: None })),
+    }
 }
 
 fn read_state_list(alloc: Global, items: &[Value]) -> Result<Option<Vec<State>>, AllocError>

@@ -1,16 +1,14 @@
 //! Reading a pact file.
 
 ghost use Rattle.std.specs.Prelude.{◌≡◌, ◌<◌, ◌≤◌, Err, length, map, option_map, nat_le};
-ghost use Rattle.std.specs.Option.{ok_or};
 ghost use Rattle.serde_json.specs.Events.{items_len};
 ghost use Rattle.serde_json.specs.View.{view, items_view};
 ghost use Rattle.pact_file.specs.declared.fault.PactFault.{PactFault as PactFaultModel};
-ghost use Rattle.pact_file.specs.declared.fault.PactFault.TheVariants.{Memory, Shape, TooLong};
+ghost use Rattle.pact_file.specs.declared.fault.PactFault.TheVariants.{Memory, TooLong};
 ghost use Rattle.pact_file.specs.File.{most_bytes, most_interactions, as_file_fault, file_of, is_3};
 ghost use Rattle.pact_file.specs.File.{version_under, is_version_3};
 ghost use Rattle.pact_file.specs.File.{holds_nothing, has_no_messages, side_of};
 ghost use Rattle.pact_file.specs.File.{sides_of, items_of, seen_of};
-ghost use Rattle.pact_file.specs.Parts.{list_at};
 ghost use Rattle.pact_file.specs.Normal.{InteractionRead, InteractionsRead, Normal, PactRead};
 ghost use Rattle.pact_file.specs.Normal.{if_short as pact_if_short};
 ghost use Rattle.pact_file.specs.Objects.{IsSomeText};
@@ -20,11 +18,11 @@ ghost use Rattle.pact_rules.specs.Reading.{EachRead, GivesOne};
 ghost use Rattle.pact_file.specs.Sound.{IsSound, AreSound};
 
 use crate::fault::{PactFault, Place};
-use crate::interaction::{object_in, read_interaction, text_in};
+use crate::interaction::read_interaction;
 use crate::object::{FileFault, read_object};
 use crate::order::in_key_order;
 use crate::pact::{Interaction, Pact};
-use crate::parts::list_member;
+use crate::parts::{list_member, object_member, text_member};
 use crate::texts::is_short;
 use broker_core::name::Name;
 use pact_rules::Patterns;
@@ -118,8 +116,12 @@ fn read_side<'a>(
 ) -> Result<&'a str, PactFault>
     ensures { GivesAlways (λ s. s.now) result (side_of key.now side its_name (view file.now)) }
 {
-    let found = object_in(file, key, side)?;
-    let name = text_in(found, "name", its_name)?;
+    let Some(found) = object_member(file, key) else {
+        return Err(PactFault::Shape(side));
+    };
+    let Some(name) = text_member(found, "name") else {
+        return Err(PactFault::Shape(its_name));
+    };
     if !Name::is_valid(name) {
         return Err(PactFault::Shape(its_name));
     }
@@ -157,13 +159,6 @@ fn read_list(alloc: Global, items: &[Value]) -> Result<Vec<Interaction>, PactFau
     Ok(found)
 }
 
-fn array_of<'a>(value: &'a Value, key: &str, place: Place) -> Result<&'a Vec<Value>, PactFault>
-    ensures { GivesAlways (λ v. items_view v.now.items) result
-        (ok_or (list_at key.now (view value.now)) (Shape place)) }
-{
-    list_member(value, key).ok_or(PactFault::Shape(place))
-}
-
 fn is_few(items: &Vec<Value>) -> bool
     ensures { result ≡ nat_le (items_len (items_view items.now.items)) most_interactions }
 {
@@ -175,7 +170,9 @@ fn is_few(items: &Vec<Value>) -> bool
 fn items_in(file: &Value) -> Result<&Vec<Value>, PactFault>
     ensures { GivesAlways (λ v. map view v.now.items) result (items_of (view file.now)) }
 {
-    let items = array_of(file, "interactions", Place::Interactions)?;
+    let Some(items) = list_member(file, "interactions") else {
+        return Err(PactFault::Shape(Place::Interactions));
+    };
     if !is_few(items) {
         return Err(PactFault::TooMany);
     }

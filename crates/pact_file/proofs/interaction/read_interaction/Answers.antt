@@ -27,7 +27,7 @@ interaction_of-requires-clause-sound c = parts_sound c.args.index (view c.args.v
 
 pub returns-in-None : goal.returns-in-None
 unfolding InteractionRead
-returns-in-None c = λ memory. (Ok (parts_view c.in_ok-parts.parts), c.in_ok-parts.ensures.parts, (Err (at c.args.index Headers), (rw c.in-None.is at c.in_ok-read_headers.ensures, refl), refl))
+returns-in-None c = λ memory. (Ok (parts_view c.in_ok-parts.parts), c.in_ok-parts.ensures.parts, (Err (at c.args.index Headers), (rw c.in-None.is at c.in_ok-read_headers.ensures, refl), ap Err c.fault_at.ensures))
 
 pub kept_of-requires : goal.kept_of-requires
 kept_of-requires c = parts_sound c.args.index (view c.args.value.now) (parts_view c.in_ok-parts.parts) c.requires c.in_ok-parts.ensures.parts

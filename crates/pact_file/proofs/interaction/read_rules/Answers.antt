@@ -21,8 +21,8 @@ pub returns-in-Ok-clause-table : goal.returns-in-Ok-clause-table
 returns-in-Ok-clause-table c =
     rules_of (view c.args.response.now) (view c.in-Some.rules.now) (tree_view c.in_ok-tree-in-Some.tree) c.in-Ok.table c.in-Some.ensures c.in_ok-tree-in-Some.ensures c.in-Ok.ensures.reading
 
-pub returns-clause-read : goal.returns-clause-read
-returns-clause-read c = λ memory.
+pub returns-in-Err-clause-read : goal.returns-in-Err-clause-read
+returns-in-Err-clause-read c = λ memory.
     let is = c.rule_fault.ensures in
     let a = pact_fault_apart c.args.index c.in-Err.fault (λ e. memory (is ∙ e)) in
     subst (λ e. RulesRead c.args.index (view c.args.response.now) (Err e)) (sym (is ∙ a.1))
