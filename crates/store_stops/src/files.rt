@@ -35,7 +35,7 @@ pub(crate) struct Stop {
 }
 
 /// The files of a connection that is over.
-fn files_of(connection: Connection<FileStore<Fuse<Memory>>>) -> Storage {
+fn files_of<D: Disk + Drop>(connection: Connection<FileStore<D>>) -> Files<D> {
     match connection.close_files() {
         Ok(files) => files,
         Err((_, store)) => store.close(),
@@ -43,7 +43,10 @@ fn files_of(connection: Connection<FileStore<Fuse<Memory>>>) -> Storage {
 }
 
 /// A connection over the files, or the files again if there is none.
-fn connect(alloc: Global, files: Storage) -> Result<Connection<FileStore<Fuse<Memory>>>, Storage> {
+fn connect<D: Disk + Drop>(
+    alloc: Global,
+    files: Files<D>,
+) -> Result<Connection<FileStore<D>>, Files<D>> {
     if !files.may_be_used() {
         return Err(files);
     }
@@ -129,9 +132,13 @@ fn acted<S: Alter>(
     }
 }
 
-/// Acts on the files: whether it is done, what is put out, and the files that this leaves. It isn't done if no connection
-/// could be opened.
-pub(crate) fn act_on(alloc: Global, files: Storage, act: Act<'_>) -> (bool, Vec<u8>, Storage) {
+/// Acts on the files, of any disk: whether it is done, what is put out, and the files that this leaves. It isn't done if
+/// no connection could be opened.
+fn act_over<D: Disk + Drop>(
+    alloc: Global,
+    files: Files<D>,
+    act: Act<'_>,
+) -> (bool, Vec<u8>, Files<D>) {
     let mut out = Vec::new(alloc);
     match connect(alloc, files) {
         Ok(connection) => {
@@ -140,6 +147,11 @@ pub(crate) fn act_on(alloc: Global, files: Storage, act: Act<'_>) -> (bool, Vec<
         }
         Err(files) => (false, out, files),
     }
+}
+
+/// The same of files in memory.
+pub(crate) fn act_on(alloc: Global, files: Storage, act: Act<'_>) -> (bool, Vec<u8>, Storage) {
+    act_over(alloc, files, act)
 }
 
 /// What a broker over the files answers a stream, and the files that this leaves.
