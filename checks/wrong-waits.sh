@@ -3,7 +3,7 @@
 # the program with a library before the C library's calls, which has the effect of a wrong body on a socket:
 #   nobody-waits   no peer is found to wait while another is served (wrong-bodies/broker/nobody_ever_waits.edit)
 #   each-write     each write of an answer may wait for 10 seconds, whatever the answer has taken before
-#                  (wrong-bodies/broker_http/each_write_waits_anew.edit)
+#                  (wrong-bodies/http_messages/each_write_waits_anew.edit)
 #   no-reads       a time limit for reads isn't set, and a read waits for as long as the peer likes
 #   no-writes      the same of writes
 # Each has to be seen by a line of slow-peers.py that says WRONG. Ends with 0 if each is.

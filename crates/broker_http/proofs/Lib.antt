@@ -1,5 +1,4 @@
 mod JournalLemmas
-mod WaitLemmas
 mod ModeLemmas
 mod OneReading
 mod StreamHeadline

@@ -1,6 +1,5 @@
 pub mod Faults
 pub mod Stream
-pub mod Waits
 pub mod Exchange
 pub mod Serving
 pub mod Journal

@@ -2,8 +2,7 @@
 use Rattle.std.proofs.Common.{Option}
 use Rattle.broker_core.specs.{Contents.{HasSoundContents}, State.{State, opening}, Text.{Text}, Change.{Transition}, Machine.{Step}}
 use Rattle.broker_core.{specs.declared.command.Command.{Command}, proofs.SoundContents.{contents_stay, opening_is_sound}}
-use Rattle.pact_reading.proofs.Again.{reads_again}
-use Rattle.command_facts.specs.Primitives.{broker_primitives}
+use Rattle.command_facts.{specs.Primitives.{broker_primitives}, proofs.Again.{reads_again}}
 
 pub stays_sound : (s : State) (token : Option Text) (command : Command) (out : Transition) → HasSoundContents broker_primitives s → Step broker_primitives s token command out → HasSoundContents broker_primitives out.state
 stays_sound s token command out sound step = contents_stay broker_primitives reads_again s token command out sound step

@@ -1,8 +1,7 @@
 -- The laws of the machine, of the states that a database holds.
 use Rattle.broker_core.{specs.{Laws.{HasOneStep}, declared.command.Command.{Command}}, proofs.Exists.{step_exists}}
 use Rattle.broker_core.proofs.RunHeadline.{runs_deploy_exactly, runs_release_exactly}
-use Rattle.pact_reading.{specs.Readings.{is_refusal}, proofs.Again.{read_once}}
-use Rattle.command_facts.specs.Primitives.{broker_primitives}
+use Rattle.command_facts.{specs.{Readings.{is_refusal}, Primitives.{broker_primitives}}, proofs.Again.{read_once}}
 use Rattle.broker_service.{specs.Laws.{StoredRunsDeployExactly, StoredRunsReleaseExactly, StoredTeamsDiffer, StoredStepExists}, proofs.ListedLemmas.{listed}}
 use Rattle.broker_core.proofs.Once as core
 use Rattle.registry_tables.proofs.TeamRows as team_rows

@@ -2,7 +2,7 @@
 ghost use Rattle.broker_core.specs.Headline.{DeploysExactly, ReleasesExactly, PermitsVerified};
 ghost use Rattle.broker_core.specs.Laws.{OpeningIsSound, ContentsStay, GateLocality, GateAnswersOnce, HasOneStep, Retry};
 ghost use Rattle.broker_core.specs.declared.command.Command.{Command};
-ghost use Rattle.pact_reading.specs.Readings.{is_refusal};
+ghost use Rattle.command_facts.specs.Readings.{is_refusal};
 ghost use Rattle.sqlite.specs.Held.{state};
 ghost use Rattle.command_facts.specs.Primitives.{broker_primitives};
 ghost use Rattle.broker_service.specs.Laws.{FormerGateStays, StoredRunsDeployExactly, StoredRunsReleaseExactly, StoredTeamsDiffer, StoredStepExists};

@@ -1,3 +1,7 @@
+pub mod Refusals
+pub mod Again
+pub mod Digests
+mod DigestExamples
 pub mod CallerLemmas
 pub mod ReadableTexts
 pub mod ShortTexts

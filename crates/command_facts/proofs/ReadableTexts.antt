@@ -7,9 +7,8 @@ use Rattle.pact_file.specs.{File.{most_bytes, as_file_fault, file_of}, Normal.{N
 use Rattle.pact_file.specs.{declared.fault.PactFault.{PactFault}, declared.fault.PactFault.TheVariants.{TooLong}}
 use Rattle.pact_file.{specs.declared.object.FileFault.TheVariants.{NotJson}, proofs.{Objects.{object_ok}, Steps.{bind_ok}}}
 use Rattle.broker_core.specs.{Contents.{ReadsAgain}, Machine.Reading.{IsPact}, SoundNames.{GivesDigests}, Text.{Text}}
-use Rattle.pact_reading.specs.Readings.{reading_of}
+use Rattle.command_facts.specs.{Readings.{reading_of}, Primitives.{broker_primitives}}
 use Rattle.broker_tables.{specs.Laws.{KeepsUtf8}, proofs.ReadableSteps.{digest_utf8}}
-use Rattle.command_facts.specs.Primitives.{broker_primitives}
 
 json_utf8 : (text : Text) (d : Data) → json_of text ≡ Ok d → IsUtf8 text
 unfolding json_of

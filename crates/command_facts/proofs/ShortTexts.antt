@@ -7,9 +7,8 @@ use Rattle.serde_json.specs.Data.{Data}
 use Rattle.pact_rules.specs.{Outcome.{guard}, Reading.{Follows}}
 use Rattle.pact_file.specs.{File.{most_bytes, file_of}, Normal.{Normal}, Pact.{Pact}, declared.fault.PactFault.{PactFault}}
 use Rattle.pact_file.{specs.declared.fault.PactFault.TheVariants.{TooLong}, proofs.Steps.{bind_ok}}
-use Rattle.pact_reading.{specs.Readings.{reading_of}, proofs.Again.{reads_again}}
+use Rattle.command_facts.{specs.{Readings.{reading_of}, Primitives.{broker_primitives}}, proofs.Again.{reads_again}}
 use Rattle.broker_core.specs.{Machine.Reading.{IsPact}, Name.{IsName, is_name}, Change.{instance_of}, Text.{Text}}
-use Rattle.command_facts.specs.Primitives.{broker_primitives}
 
 pub name_short : (name : List ℕ) → IsName name → length name ≤ 10 ^ 7
 unfolding is_name

@@ -1,4 +1,4 @@
--- Laws of what can be read back, as they are of this broker (this project's own choice).
+-- Laws of what is read and of what can be read back, as they are of this broker (this project's own choice)
 use Rattle.std.specs.Prelude.{List}
 use Rattle.std.specs.List.{AllByRecursion}
 use Rattle.broker_core.specs.declared.answer.Answer.{Answer}
@@ -8,6 +8,13 @@ use Rattle.broker_core.specs.Machine.{Request, Run}
 use Rattle.broker_tables.specs.Laws.{HasReadableNames}
 use Rattle.broker_tables.specs.Readable.{IsReadable}
 use Rattle.command_facts.specs.Primitives.{broker_primitives}
+use Rattle.broker_core.specs.Laws.{IsReadOnce}
+use Rattle.broker_core.specs.declared.command.Command.{Command}
+use Rattle.command_facts.specs.Readings.{is_refusal}
+
+-- each command's file is read in one way, a pattern's refusal aside, and its replies in one way
+abbrev pub AreReadOnce : Type 0
+AreReadOnce = (command : Command) → IsReadOnce broker_primitives is_refusal command
 
 -- each state to which a run leads from the opening state of an office, whatever its token is, can be read back
 abbrev pub ReachedIsReadable : Type 0

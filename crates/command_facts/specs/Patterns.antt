@@ -9,7 +9,8 @@ use Rattle.broker_core.specs.declared.answer.Answer.TheVariants.{Pattern}
 use Rattle.broker_core.specs.declared.command.Command.{Command}
 use Rattle.broker_core.specs.declared.command.Command.TheVariants.{PostReplies}
 use Rattle.broker_core.specs.declared.policy.Caller.{Caller}
-use Rattle.command_facts.specs.Primitives.{broker_primitives, PactHasPattern}
+use Rattle.command_facts.specs.Primitives.{broker_primitives}
+use Rattle.command_facts.specs.Readings.{PactHasPattern}
 
 -- replies that nothing refuses are compared with a stored pact that has a pattern
 abbrev pub ComparesPattern : State → Caller → Command → Type 0

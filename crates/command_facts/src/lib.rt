@@ -1,4 +1,5 @@
-//! What the commands share: who calls, whom the policy allows, and how a command is stated.
+//! What the commands share: who calls, whom the policy allows, how a command is stated, and what the written machine
+//! takes from pact files and recorded replies.
 #![tactic(auto)]
 
 /// Gives what a call on the tables answers. Its failure is the failure of the function in which this is, and nothing
@@ -13,5 +14,11 @@ macro_rules! done {
 }
 
 pub mod callers;
+mod checking;
 pub mod laws;
+mod reading;
 pub mod rules;
+
+pub use checking::{Comparison, compare};
+pub use reading::{ReadFault, ReadPact, read_pact_file, read_replies_body};
+pub use reply_check::Replies;

@@ -9,10 +9,10 @@ use Rattle.broker_core.specs.{declared.command.PactPath.{PactPath}, declared.com
 use Rattle.broker_core.specs.{declared.answer.Answer.TheVariants.{BadForm, Done}, declared.answer.Detail.{Detail}}
 use Rattle.pact_file.specs.{Normal.{Normal}, Pact.{Pact}, declared.fault.PactFault.{PactFault}}
 use Rattle.reply_check.specs.{Recorded.{Reply}, Replies.{RepliesRead}}
-use Rattle.pact_reading.specs.{Readings.{PactHasPattern, HasPatternIfPact, Tells, reading_of}, declared.checking.Comparison.{Comparison}}
-use Rattle.pact_reading.specs.declared.checking.Comparison.TheVariants.{Failing, UnknownReply, Pattern, NoPact}
+use Rattle.command_facts.specs.{Readings.{PactHasPattern, HasPatternIfPact, Tells, reading_of}, declared.checking.Comparison.{Comparison}}
+use Rattle.command_facts.specs.{declared.checking.Comparison.TheVariants.{Failing, UnknownReply, Pattern, NoPact}, Performs.{CallersStep}}
+use Rattle.command_facts.{specs.Primitives.{broker_primitives}, proofs.CallerSteps.{acts, refuses}}
 use Rattle.contract_commands.specs.Checks.{Leads, Checks}
-use Rattle.command_facts.{specs.{Performs.{CallersStep}, Primitives.{broker_primitives}}, proofs.CallerSteps.{acts, refuses}}
 use Rattle.broker_core.specs.declared.answer.Answer.TheVariants as answer
 
 -- a stored text is read as a pact, so it has the pattern that it would have

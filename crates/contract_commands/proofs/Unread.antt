@@ -4,10 +4,10 @@ use Rattle.sqlite.specs.State.{State}
 use Rattle.table_access.{specs.declared.StoreFault.{StoreFault}, proofs.CallLemmas.{idle, then_stop}}
 use Rattle.broker_core.specs.{State.{State as Broker}, Change.{Transition, unchanged_with}, declared.answer.Answer.{Answer}}
 use Rattle.broker_core.specs.{declared.answer.Answer.TheVariants.{BadForm}, declared.command.FormFault.{FormFault}}
-use Rattle.command_facts.{specs.Performs.{PerformsBetween}, proofs.PerformLemmas.{refused}}
+use Rattle.command_facts.specs.{Performs.{PerformsBetween}, declared.reading.ReadFault.{ReadFault}, declared.reading.ReadFault.TheVariants.{Form, Memory}}
+use Rattle.command_facts.proofs.PerformLemmas.{refused}
 use Rattle.broker_tables.specs.Calm.{FailsFromBetween}
 use Rattle.contract_commands.specs.Pacts.{answer_to}
-use Rattle.pact_reading.specs.{declared.reading.ReadFault.{ReadFault}, declared.reading.ReadFault.TheVariants.{Form, Memory}}
 use Rattle.table_access.specs.declared.StoreFault.TheVariants as store
 
 pub unread : (c : State) (e : ReadFault) (r : Result Answer StoreFault) (Q : Broker → Transition → Type 0) → r ≡ answer_to e → ((found : FormFault) → e ≡ Form found → (s : Broker) → Q s (unchanged_with s (BadForm found))) → PerformsBetween c c Q r

@@ -9,9 +9,9 @@ use Rattle.broker_core.specs.declared.command.Report.{Report}
 use Rattle.reply_check.specs.Recorded.{Reply}
 use Rattle.pact_file.specs.Pact.{Pact}
 use Rattle.pact_file.specs.Normal.{Normal}
-use Rattle.pact_reading.specs.Readings.{Tells}
-use Rattle.pact_reading.specs.declared.checking.Comparison.{Comparison}
-use Rattle.pact_reading.specs.declared.checking.Comparison.TheVariants.{Failing, UnknownReply, Pattern, NoPact}
+use Rattle.command_facts.specs.Readings.{Tells}
+use Rattle.command_facts.specs.declared.checking.Comparison.{Comparison}
+use Rattle.command_facts.specs.declared.checking.Comparison.TheVariants.{Failing, UnknownReply, Pattern, NoPact}
 use Rattle.command_facts.specs.Patterns.{RefusesPattern}
 use Rattle.contract_commands.specs.Results.{HasPacticipant, CanReceive, reported_version}
 

@@ -12,8 +12,8 @@ use Rattle.broker_core.specs.declared.answer.Answer.TheVariants.{BadForm, Shown}
 use Rattle.broker_core.specs.declared.answer.Missing.{Missing}
 use Rattle.broker_core.specs.declared.answer.Missing.TheVariants as missing
 use Rattle.broker_core.specs.declared.answer.Shown.TheVariants as shown
-use Rattle.pact_reading.specs.declared.reading.ReadFault.{ReadFault}
-use Rattle.pact_reading.specs.declared.reading.ReadFault.TheVariants.{Form, Memory}
+use Rattle.command_facts.specs.declared.reading.ReadFault.{ReadFault}
+use Rattle.command_facts.specs.declared.reading.ReadFault.TheVariants.{Form, Memory}
 use Rattle.table_access.specs.declared.StoreFault.{StoreFault}
 use Rattle.table_access.specs.declared.StoreFault.TheVariants as store
 use Rattle.broker_core.specs.declared.command.Command.{Command}

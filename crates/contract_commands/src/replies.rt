@@ -2,7 +2,7 @@
 ghost use Rattle.std.specs.Prelude.{◌≡◌, ℕ, List, Ok};
 ghost use Rattle.broker_core.specs.declared.answer.Detail.TheVariants as detail;
 ghost use Rattle.broker_core.specs.declared.command.Command.TheVariants.{PostReplies};
-ghost use Rattle.pact_reading.specs.declared.checking.Comparison.TheVariants.{Failing};
+ghost use Rattle.command_facts.specs.declared.checking.Comparison.TheVariants.{Failing};
 ghost use Rattle.reply_check.specs.Replies.{RepliesRead};
 ghost use Rattle.broker_core.specs.Contents.{HasSoundContents};
 ghost use Rattle.command_facts.specs.Performs.{Performs, PerformsWhere, FailsToChangeFrom, FailsToDoFrom, CallersStep, IsStepOf};
@@ -17,7 +17,7 @@ use broker_core::answer::{Answer, Clash, Detail, Places};
 use broker_core::command::{FormFault, PactPath, Report};
 use broker_core::name::{Body, Name};
 use broker_core::policy::Caller;
-use pact_reading::{Comparison, Replies, compare, read_replies_body};
+use command_facts::{Comparison, Replies, compare, read_replies_body};
 use sqlite::{Alter, Connection};
 use std::alloc::Global;
 use table_access::StoreFault;

@@ -1,7 +1,8 @@
 //! Peers that make the broker wait.
 use crate::brokers::new_broker;
-use broker_http::patience::{Door, LIMITS, PeerReader, PeerWriter, serve_peer};
+use broker_http::patience::serve_peer;
 use broker_http::{RouteTable, ServeFault};
+use http_messages::patience::{Door, LIMITS, PeerReader, PeerWriter};
 use std::alloc::Global;
 use std::cell::Cell;
 use std::io::{self, ErrorKind};

@@ -8,3 +8,4 @@ pub mod Heads
 pub mod Messages
 pub mod Views
 pub mod Reading
+pub mod Waits

@@ -1,5 +1,5 @@
-//! The messages of a stream by HTTP/1.1: head texts, the checks on a head, the length of a body, and reading
-//! one message from a device.
+//! The messages of a stream by HTTP/1.1: head texts, the checks on a head, the length of a body, reading one
+//! message from a device, and how long its peer is waited for.
 #![tactic(auto)]
 
 pub mod buffer;
@@ -8,4 +8,5 @@ pub mod head;
 mod lines;
 pub mod messages;
 mod options;
+pub mod patience;
 pub mod reading;

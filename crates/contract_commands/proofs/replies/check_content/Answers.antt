@@ -1,7 +1,6 @@
 use Rattle.std.proofs.Common.{subst, inl}
 use Rattle.sqlite.specs.Held.{state}
-use Rattle.pact_reading.specs.Readings.{Tells}
-use Rattle.command_facts.{specs.Performs.{IsToChange}, proofs.PerformLemmas.{where_then}}
+use Rattle.command_facts.{specs.{Readings.{Tells}, Performs.{IsToChange}}, proofs.PerformLemmas.{where_then}}
 use Rattle.contract_commands.{specs.Checks.{Leads, Checks, CanLead, CanCheck}, proofs.CheckLemmas.{pact_told}}
 use Rattle.broker_tables.proofs.FailLemmas.{fails_after}
 use Rattle.contract_commands.proofs.replies.check_content.Goals as goal

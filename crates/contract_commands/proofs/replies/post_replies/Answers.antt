@@ -1,9 +1,8 @@
 use Rattle.std.proofs.Common.{Ok, Some, subst}
 use Rattle.sqlite.specs.Held.{state}
 use Rattle.broker_core.specs.declared.command.Command.TheVariants.{PostReplies}
-use Rattle.pact_reading.specs.Readings.{ReadsReplies}
+use Rattle.command_facts.specs.{Readings.{ReadsReplies}, Performs.{CallersStep}}
 use Rattle.reply_check.specs.Replies.{RepliesRead}
-use Rattle.command_facts.specs.Performs.{CallersStep}
 use Rattle.contract_commands.proofs.{CheckLemmas.{replies_fault}, Unread.{unread, unread_fails}}
 use Rattle.contract_commands.proofs.replies.post_replies.Goals as goal
 

@@ -2,11 +2,10 @@ use Rattle.std.proofs.Common.{true, ◌≡◌, ◌==◌, ℕ, List, Some, length
 use Rattle.sqlite.specs.Held.{state}
 use Rattle.broker_core.specs.{State.{checked_result}, Change.{Transition, report}, declared.answer.Answer.{Answer}, Machine.{is_empty, report_replies}}
 use Rattle.broker_core.specs.declared.answer.Detail.TheVariants.{Replies}
-use Rattle.pact_reading.specs.declared.checking.Comparison.TheVariants.{Failing}
+use Rattle.command_facts.{specs.{declared.checking.Comparison.TheVariants.{Failing}, Performs.{IsToChange}}, proofs.PerformLemmas.{where_told}}
 use Rattle.contract_commands.specs.{Checks.{Leads}, Results.{CanReceive, IsToReport, told_as, reported_version}, declared.results.Reported.{Reported}}
 use Rattle.contract_commands.proofs.CheckLemmas.{empty_is}
 use Rattle.broker_tables.proofs.FailLemmas.{fails_as}
-use Rattle.command_facts.{specs.Performs.{IsToChange}, proofs.PerformLemmas.{where_told}}
 use Rattle.contract_commands.proofs.replies.report_failing.Goals as goal
 
 pub returns-clause-answers : goal.returns-clause-answers

@@ -1,9 +1,8 @@
 use Rattle.std.proofs.Common.{Ok, refl, sym, subst}
 use Rattle.sqlite.specs.Held.{state}
 use Rattle.table_access.proofs.CallLemmas.{idle}
-use Rattle.pact_reading.specs.declared.checking.Comparison.{Comparison}
+use Rattle.command_facts.specs.{declared.checking.Comparison.{Comparison}, Performs.{PerformsWhereBetween, IsToChange}}
 use Rattle.broker_core.specs.{declared.answer.Answer.TheVariants.{BadForm, Pattern}, declared.command.FormFault.TheVariants.{UnknownReply}}
-use Rattle.command_facts.specs.Performs.{PerformsWhereBetween, IsToChange}
 use Rattle.contract_commands.specs.{Results.{HasPacticipant, CanReceive, AreLong}, Checks.{Leads}}
 use Rattle.broker_tables.{specs.{Calm.{FailsFromBetween}, Room.{enough}}, proofs.RoomLemmas.{takes_none}}
 use Rattle.contract_commands.proofs.replies.tell_compared.Goals as goal

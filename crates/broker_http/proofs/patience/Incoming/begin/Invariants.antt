@@ -1,7 +1,0 @@
-use Rattle.std.{specs.Io.KnownBytes.{Keeps}, proofs.Common.{◌≡◌, length}}
-use Rattle.broker_http.proofs.patience.Incoming.begin.Given as goal
-
--- Nothing that the peer sent is lost so far.
-abbrev pub invariant-loop : goal.invariant-loop
-invariant-loop g l =
-    (length l.buf ≡ length l.fn.buf) × Keeps (g.R.PeerReader.remaining l.fn.self.peer) (g.R.PeerReader.remaining l.self.peer)

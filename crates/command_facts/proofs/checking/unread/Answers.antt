@@ -1,0 +1,5 @@
+use Rattle.command_facts.proofs.Refusals.{told_pattern}
+use Rattle.command_facts.proofs.checking.unread.Goals as goal
+
+pub returns-then-is_refusal-clause-told : goal.returns-then-is_refusal-clause-told
+returns-then-is_refusal-clause-told c = λ text replies reads. told_pattern text replies c.args.fault.now (c.is_refusal.ensures.refusal c.if-is_refusal.true) reads

@@ -1,4 +1,0 @@
-pub mod Refusals
-pub mod Again
-pub mod Digests
-mod DigestExamples
