@@ -56,7 +56,15 @@ is_open() { grep -q ":$(stat -c %i -- "$file") 10737418" /proc/locks; }
 
 paused= room= copying=
 trap 'exit 1' HUP INT TERM
-trap 'go_on || true; kill ${copying:-} 2> /dev/null || true; rm -rf "$copy.part" "$copy.part-wal" ${room:+"$room"}' EXIT
+# It ends with 1 also if a command failed with another status, or a signal in the middle of $(..) ended bash with 2.
+clean_up() {
+  ended=$?
+  go_on || true
+  kill ${copying:-} 2> /dev/null || true
+  rm -rf "$copy.part" "$copy.part-wal" ${room:+"$room"}
+  [ "$ended" = 0 ] || exit 1
+}
+trap clean_up EXIT
 
 # copy_pair FROM TO: both files, as they are. The copying is waited for, so that a signal ends this script also if it
 # hangs.
