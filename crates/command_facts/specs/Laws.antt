@@ -2,14 +2,14 @@
 use Rattle.std.specs.Prelude.{List}
 use Rattle.std.specs.List.{AllByRecursion}
 use Rattle.broker_core.specs.declared.answer.Answer.{Answer}
+use Rattle.broker_core.specs.declared.command.Command.{Command}
 use Rattle.broker_core.specs.Text.{Text}
 use Rattle.broker_core.specs.State.{State as Broker, opening}
 use Rattle.broker_core.specs.Machine.{Request, Run}
+use Rattle.broker_core.specs.Laws.{IsReadOnce}
 use Rattle.broker_tables.specs.Laws.{HasReadableNames}
 use Rattle.broker_tables.specs.Readable.{IsReadable}
 use Rattle.command_facts.specs.Primitives.{broker_primitives}
-use Rattle.broker_core.specs.Laws.{IsReadOnce}
-use Rattle.broker_core.specs.declared.command.Command.{Command}
 use Rattle.command_facts.specs.Readings.{is_refusal}
 
 -- each command's file is read in one way, a pattern's refusal aside, and its replies in one way
