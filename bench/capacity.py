@@ -17,15 +17,15 @@ A file that `init` makes with the page sums of SQLite's cksumvfs is measured wit
 
 Last come requests in memory, by `replay`. The files are in the folder that TMPDIR names: take one on a disk. How long
 that takes to sync 4 KiB is printed, and how busy the machine is."""
-import hashlib, http.client, json, os, shutil, socket, sqlite3, statistics, subprocess, sys, tempfile, time
+import hashlib, http.client, json, os, shutil, sqlite3, statistics, subprocess, sys, tempfile, time
 
 sys.dont_write_bytecode = True
 sys.path.insert(0, f"{os.path.dirname(os.path.dirname(os.path.abspath(__file__)))}/checks")
+from hub import OFFICE, PROGRAM, free_port
 from sums import has_sums, seal
 
-PROGRAM = os.path.abspath(sys.argv[1])
 SIZES = [int(it) for it in sys.argv[2:]] or [1000, 10000]
-OFFICE, TEAM = "office-token-0001", "shop-team-token-1"
+TEAM = "shop-team-token-1"
 ROUNDS, GROUP = 200, 100
 MARK = "@@@@@@@@@@"
 
@@ -116,9 +116,7 @@ def opening(file):
 
 def serve(file):
     """The program while it serves the file, a connection to it, and how long that took."""
-    with socket.socket() as free:
-        free.bind(("127.0.0.1", 0))
-        port = free.getsockname()[1]
+    port = free_port()
     began = time.monotonic()
     words = ["serve", "--file", file, "--listen", f"127.0.0.1:{port}", "--connections", "1"]
     it = subprocess.Popen([PROGRAM, *words])

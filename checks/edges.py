@@ -13,22 +13,14 @@ sys.dont_write_bytecode = True
 import json, os, resource, shutil, signal, socket, sqlite3, stat, struct, subprocess, tempfile, time
 from concurrent.futures import ProcessPoolExecutor
 from multiprocessing import get_context
+from hub import DONE, OFFICE, TOP, NotRun, Wrong, free_port, request, same
 from sums import seal
 
-TOP = os.path.dirname(os.path.dirname(os.path.abspath(__file__)))
 PATIENCE = 60
 NOBODY = 65534
-OFFICE, OTHER = "office-token-0001", "office-token-0002"
-DONE, ALREADY, STORE = '{"answer":"done"}', '{"answer":"already"}', '{"answer":"store"}'
+OTHER = "office-token-0002"
+ALREADY, STORE = '{"answer":"already"}', '{"answer":"store"}'
 CASES = []
-
-
-class Wrong(Exception):
-    """What is otherwise than it has to be."""
-
-
-class NotRun(Exception):
-    """Why something can't be tried here."""
 
 
 def case(text):
@@ -39,11 +31,6 @@ def case(text):
         return function
 
     return add
-
-
-def same(what, got, wanted):
-    if got != wanted:
-        raise Wrong(f"{what}: {got!r} and not {wanted!r}")
 
 
 # The program
@@ -463,10 +450,6 @@ def other_token(room):
 # Sockets
 
 
-def request(ask, token=OFFICE, body=""):
-    return f"{ask} HTTP/1.1\r\nhost: b\r\nauthorization: Bearer {token}\r\ncontent-length: {len(body)}\r\n\r\n{body}".encode()
-
-
 def put_team(name, token=OFFICE):
     return request(f"PUT /teams/{name}", token, '{"token":"token-of-the-team-%s"}' % name)
 
@@ -493,12 +476,6 @@ def all_of(peer):
     except ConnectionResetError:
         pass
     return text.decode()
-
-
-def free_port():
-    with socket.socket() as it:
-        it.bind(("127.0.0.1", 0))
-        return it.getsockname()[1]
 
 
 def is_listened_on(port):

@@ -13,13 +13,14 @@ there. What is right, by docs/API.md and docs/OPERATING.md: a command that was a
 answered `stopped` or `memory` isn't; one that was answered `store`, or had no answer, is there as a whole or not at all.
 And SQLite's own integrity_check and foreign_key_check find a copy of the files sound. Prints a line for each part, and
 ends with 1 if one is wrong."""
-import contextlib, os, resource, shutil, signal, socket, sqlite3, subprocess, sys, tempfile, time
+import sys
 
-PROGRAM = os.path.abspath(sys.argv[1])
+sys.dont_write_bytecode = True
+import contextlib, os, resource, shutil, signal, socket, sqlite3, subprocess, tempfile, time
+from hub import BLUE, OFFICE, PATIENCE, PROGRAM, RED, NotRun, Wrong, free_port, request, same
+
 IS_SHORT = "short" in sys.argv[2:]
 PARTS = [it for it in sys.argv[2:] if it != "short"] or ["full", "random"]
-PATIENCE = 600
-OFFICE, RED, BLUE = "office-token-0001", "red-team-token-01", "blue-team-token-1"
 PLACE = "/pacts/provider/stock/consumer/shop/version"
 DONE = '"answer":"done"'
 # What an answer says of its command: it is there, it isn't, or either.
@@ -27,24 +28,7 @@ THERE, ABSENT, EITHER = "there", "absent", "either"
 ANSWERS = {DONE: THERE, '{"answer":"stopped"}': ABSENT, '{"answer":"memory"}': ABSENT, '{"answer":"store"}': EITHER}
 
 
-class Wrong(Exception):
-    """What is otherwise than it has to be."""
-
-
-class NotRun(Exception):
-    """Why something can't be tried here."""
-
-
-def same(what, got, wanted):
-    if got != wanted:
-        raise Wrong(f"{what}: {got!r} and not {wanted!r}")
-
-
 # Commands
-
-
-def request(ask, token, body=""):
-    return f"{ask} HTTP/1.1\r\nhost: b\r\nauthorization: Bearer {token}\r\ncontent-length: {len(body)}\r\n\r\n{body}".encode()
 
 
 def pact(text):
@@ -79,12 +63,6 @@ def command(number):
 
 
 # The program
-
-
-def free_port():
-    with socket.socket() as it:
-        it.bind(("127.0.0.1", 0))
-        return it.getsockname()[1]
 
 
 def limited(most):

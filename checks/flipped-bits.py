@@ -12,28 +12,21 @@ line. The file has to have the page sums of SQLite's cksumvfs, as `init` makes i
 without them this is said, the bits are counted in the same way, and the check fails.
 
 The SEED chooses the bits: with the same one they are the same."""
-import collections, os, queue, random, shutil, socket, subprocess, sys, tempfile, time
-from concurrent.futures import ThreadPoolExecutor
+import sys
 
-PROGRAM = os.path.abspath(sys.argv[1])
+sys.dont_write_bytecode = True
+import collections, os, queue, random, shutil, socket, subprocess, tempfile, time
+from concurrent.futures import ThreadPoolExecutor
+from hub import BLUE, OFFICE, PROGRAM, RED, Wrong, free_port, request
+
 FLIPS = int(sys.argv[2]) if sys.argv[2:] else 200
 SEED = int(sys.argv[3]) if sys.argv[3:] else 41
 PATIENCE = 120
-OFFICE, RED, BLUE = "office-token-0001", "red-team-token-01", "blue-team-token-1"
 PAGE, HEADER, RESERVED, SUM = 4096, 100, 20, 8
 ENVIRONMENTS = ("open", "live", "vault")
 CONTRACTS, PAIRS = 40, 4
 # What the first byte of a page says that it is (SQLite's file format, 1.6); the first page has its own after the header.
 KINDS = {2: "indexes", 10: "indexes", 5: "tables", 13: "tables"}
-
-
-class Wrong(Exception):
-    """What is otherwise than it has to be."""
-
-
-def request(ask, token, body=""):
-    text = body.encode()
-    return f"{ask} HTTP/1.1\r\nhost: b\r\nauthorization: Bearer {token}\r\ncontent-length: {len(text)}\r\n\r\n".encode() + text
 
 
 # The file
@@ -107,17 +100,6 @@ def questions():
 
 
 # The program
-
-
-def free_ports(count):
-    """So many ports, each another one."""
-    taken = [socket.socket() for _ in range(count)]
-    for it in taken:
-        it.bind(("127.0.0.1", 0))
-    ports = [it.getsockname()[1] for it in taken]
-    for it in taken:
-        it.close()
-    return ports
 
 
 def connected(process, port):
@@ -254,7 +236,7 @@ def tell(name, bits, outcomes):
 
 
 def main():
-    ports = free_ports(os.cpu_count() or 1)
+    ports = [free_port() for _ in range(os.cpu_count() or 1)]
     with tempfile.TemporaryDirectory() as room:
         file, before = made(room, ports[0])
         with open(file, "rb") as it:

@@ -1,5 +1,5 @@
-"""What the checks of the program share: the program that is tried, what is wrong with it, a free port, a broker that
-serves, its tokens, and a fleet of two services.
+"""What the checks of the program share: the program that is tried, what is wrong with it, a free port, a request, a
+broker that serves, its tokens, and a fleet of two services.
 
 A check takes the path of `broker` as its first word, crates/broker/out/broker if there is none, and imports this."""
 import http.client, os, re, signal, socket, subprocess, sys, time
@@ -9,6 +9,7 @@ PROGRAM = os.path.abspath(sys.argv[1] if sys.argv[1:] else f"{TOP}/crates/broker
 PATIENCE = 600
 OFFICE, RED, BLUE = "office-token-0001", "red-team-token-01", "blue-team-token-1"
 DONE = '{"answer":"done"}'
+GIVEN = set()
 
 
 class Wrong(Exception):
@@ -40,9 +41,20 @@ def run(words, status=0, env=None, text=None):
 
 
 def free_port():
-    with socket.socket() as it:
-        it.bind(("127.0.0.1", 0))
-        return it.getsockname()[1]
+    """A port that nobody listens on, and that this process hasn't been given before."""
+    while True:
+        with socket.socket() as it:
+            it.bind(("127.0.0.1", 0))
+            port = it.getsockname()[1]
+        if port not in GIVEN:
+            GIVEN.add(port)
+            return port
+
+
+def request(ask, token=OFFICE, body=""):
+    """The bytes of a request: of its method and path, with this token and body."""
+    text = body.encode()
+    return f"{ask} HTTP/1.1\r\nhost: b\r\nauthorization: Bearer {token}\r\ncontent-length: {len(text)}\r\n\r\n".encode() + text
 
 
 def await_port(port, process):

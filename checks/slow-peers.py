@@ -8,19 +8,15 @@
 
 PROGRAM is the path of `broker`. Prints a line for each, and ends with 1 if one is otherwise than it has to be, or with
 77 if nginx isn't installed."""
-import http.client, os, shutil, socket, subprocess, sys, tempfile, threading, time
+import sys
 
-PROGRAM = os.path.abspath(sys.argv[1])
-TOKEN = "office-token-0001"
+sys.dont_write_bytecode = True
+import http.client, shutil, socket, subprocess, tempfile, threading, time
+from hub import OFFICE, PROGRAM, free_port
+
 ASK = b"GET /environments/none HTTP/1.1\r\nhost: b\r\nauthorization: Bearer office-token-0001\r\n\r\n"
 UNKNOWN = b'{"answer":"unknown","what":"environment"}'
 faults = 0
-
-
-def free_port():
-    with socket.socket() as it:
-        it.bind(("127.0.0.1", 0))
-        return it.getsockname()[1]
 
 
 def tell(name, is_well, text):
@@ -35,7 +31,7 @@ class Broker:
     def __enter__(self):
         self.room = tempfile.TemporaryDirectory()
         file = f"{self.room.name}/broker.db"
-        subprocess.run([PROGRAM, "init", "--file", file, "--office-token", TOKEN], check=True)
+        subprocess.run([PROGRAM, "init", "--file", file, "--office-token", OFFICE], check=True)
         self.port = free_port()
         words = ["serve", "--file", file, "--listen", f"127.0.0.1:{self.port}", "--connections", "1000000"]
         self.process = subprocess.Popen([PROGRAM, *words])
@@ -201,7 +197,7 @@ def through(front, count, told):
     client = http.client.HTTPConnection("127.0.0.1", front, timeout=60)
     for _ in range(count):
         began = time.time()
-        client.request("GET", "/environments/none", headers={"authorization": f"Bearer {TOKEN}"})
+        client.request("GET", "/environments/none", headers={"authorization": f"Bearer {OFFICE}"})
         answer = client.getresponse()
         told.append((answer.status, answer.read(), time.time() - began))
 

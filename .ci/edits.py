@@ -1,0 +1,125 @@
+"""The wrong bodies: where they are, what each changes, and which of them one check can try."""
+import os, re, sys
+
+sys.dont_write_bytecode = True
+from definitions import TOP, files_of, text_of
+from sources import Function, functions_in
+
+BODIES, DEFINITIONS = f"{TOP}/wrong-bodies", f"{TOP}/wrong-definitions"
+
+
+def in_folder(folder):
+    return [f"{folder}/{it}" for it in sorted(os.listdir(folder)) if it.endswith(".edit")] if os.path.isdir(folder) else []
+
+
+def in_gate(crate):
+    """Those that `rt ci` tries."""
+    return in_folder(f"{TOP}/crates/{crate}/must-fail")
+
+
+def is_seen(edit):
+    """Whether the edit names the check of the program that sees it: no contract can refuse it."""
+    return any(line.startswith("seen: ") for line in text_of(edit).split("\n"))
+
+
+def edits_of(crate, home=BODIES):
+    """Those that a contract has to refuse, and that `rt ci` doesn't try."""
+    return [it for it in in_folder(f"{home}/{crate}") if not is_seen(it)]
+
+
+def kept(home=BODIES):
+    """The crates that have edits there."""
+    return sorted(it for it in os.listdir(home) if os.path.isdir(f"{home}/{it}"))
+
+
+def pairs_of(edit):
+    """The old and new texts of an edit, each with the path of its file in the crate."""
+    path, old, pairs = None, None, []
+    for line in text_of(edit).split("\n"):
+        word, _, text = line.partition(": ") if not line.startswith("new:") else ("new", "", line[4:].removeprefix(" "))
+        if word == "file":
+            path = text.strip()
+        elif word == "old":
+            old = text
+        elif word == "new":
+            pairs.append((path, old, text))
+            old = None
+    return pairs
+
+
+def texts_with(crate, edits):
+    """The texts of the crate's files, by path, with these edits made, or why one of them can't be made."""
+    texts = {}
+    for path, old, new in (pair for edit in edits for pair in pairs_of(edit)):
+        file = f"{TOP}/crates/{crate}/{path}"
+        if path and path not in texts:
+            if not os.path.isfile(file):
+                return {}, f"there is no {path}"
+            texts[path] = text_of(file)
+        if not path or not old or texts[path].count(old) != 1:
+            return {}, f"an old text isn't there exactly once: {old}"
+        texts[path] = texts[path].replace(old, new)
+    return (texts, None) if texts else ({}, "it names no file")
+
+
+def why_not(crate, edit, home):
+    """Why the edit can't be made, if it can't."""
+    if home == BODIES and f"{TOP}/crates/{crate}/must-fail/{os.path.basename(edit)}" in in_gate(crate):
+        return "the crate's must-fail/ has one of this name"
+    return texts_with(crate, [edit])[1]
+
+
+def faults_in(home, crates):
+    """The edits there that can't be made, each with the reason."""
+    tried = ((crate, it) for crate in crates for it in in_folder(f"{home}/{crate}"))
+    return [f"{os.path.relpath(it, TOP)}: {why}" for crate, it in tried if (why := why_not(crate, it, home))]
+
+
+def functions_of(crate, edit):
+    """The functions that the edit changes, and those that name a constant that it changes; beside them a text for each
+    `use` line that it changes, and None if it changes anything else that is in no function."""
+    found = set()
+    for path, old, _ in pairs_of(edit):
+        file = f"{TOP}/crates/{crate}/{path}"
+        place = text_of(file).find(old)
+        own = next((it for it in functions_in(file) if it.at <= place < it.end), None)
+        if not own and old.startswith("use "):
+            found.add(f"{path}: {old}")
+        elif not own:
+            found |= {None, *users_of(crate, text_of(file)[: place + len(old)])}
+        else:
+            found.add(own)
+    return found
+
+
+def users_of(crate, text):
+    """The functions of the crate that name the last constant that this text declares."""
+    constant = re.findall(r"(?m)^\s*(?:pub(?:\([a-z]+\))? )?(?:const|static) (\w+)", text)[-1:]
+    files = files_of(crate, "src", ".rt") if constant else []
+    return {it for file in files for it in functions_in(file) if constant[0] in it.words}
+
+
+def only_functions(changed):
+    return {it for it in changed if isinstance(it, Function)}
+
+
+def named_by(function):
+    """How a check calls the function, without the modules of its type: `rows::number_at`, `Path::len`."""
+    if function.type:
+        return f"{function.type}{function.trait or ''}::{function.name}"
+    inside = re.sub(r"^.*/src/|\.rt$", "", function.path)
+    return "::".join([*(it for it in inside.split("/") if it not in ("lib", "main", "mod")), function.name])
+
+
+def rounds_of(crate, edits):
+    """The edits in rounds: in one round no two change one function. One that changes what is in none is alone."""
+    rounds = []
+    for edit in edits:
+        changed = functions_of(crate, edit)
+        free = [it for it in rounds if None not in changed | it[1] and not changed & it[1]]
+        if free:
+            free[0][0].append(edit)
+            free[0][1].update(changed)
+        else:
+            rounds.append(([edit], set(changed)))
+    return [edits for edits, _ in rounds]
