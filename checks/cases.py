@@ -191,6 +191,26 @@ def body(case):
     return compares(case.get("rules"), case.get("expected"), case.get("actual"))
 
 
+def interaction(members, response="{}"):
+    """A pact file of one interaction, which has these further members, each after a comma, and expects the response."""
+    return '{%s,"interactions":[{"description":"a book","request":{},"response":%s%s}]}' % (NAMES, response, members)
+
+
+@question("table", "rules")
+def table(case):
+    """Whether a response may have the `rules`: `a table`, or the fault of the file."""
+    normalise(interaction("", '{"matchingRules":%s}' % case["rules"]))
+    return "a table"
+
+
+@question("states", "value")
+def states(case):
+    """The provider states, in the normal text, of an interaction that has the members of the object `value`."""
+    members = case["value"].removeprefix("{").removesuffix("}")
+    text = normalise(interaction(f",{members}" if members else ""))
+    return text.partition('"providerStates":')[2].partition(',"request":')[0]
+
+
 def member(text):
     """An object that has the JSON of the text as its member `a`."""
     return '{"a":%s}' % text

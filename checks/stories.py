@@ -3,8 +3,7 @@
 
     checks/stories.py PROGRAM [STORY..]     PROGRAM is the path of `broker`; with STORYs only these
 
-A story is a file NAME.story of checks/stories, or of crates/store_stops/data, where those are that files of stops begin
-with. A line that begins with two spaces goes on where the line before it ended; the others are:
+A story is a file NAME.story of checks/stories, or of checks/stops, where those are that files of stops begin with. A line that begins with two spaces goes on where the line before it ended; the others are:
 
     # TEXT, or nothing                  no part of the story
     & NAME                              the lines of the story NAME come first; it has no such line itself
@@ -44,7 +43,7 @@ from plays import Wrong, connected, finish, free_address, is_closed, kept_bytes,
 from plays import release, send_by_pipe, send_by_socket, shown, statements, watched, written_counts
 
 TOP = os.path.dirname(os.path.dirname(os.path.abspath(__file__)))
-FOLDERS = [f"{TOP}/checks/stories", f"{TOP}/crates/store_stops/data"]
+FOLDERS = [f"{TOP}/checks/stories", f"{TOP}/checks/stops"]
 PROGRAM = os.path.abspath(sys.argv[1])
 # About how many answers are asked for at most, and how many bytes are sent, when a story is cut again and again: to
 # `replay`, and over a file, where a play takes longer.

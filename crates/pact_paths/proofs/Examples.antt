@@ -1,6 +1,6 @@
 -- Paths and weights worked out: each line is the definitions, computed.
 use Rattle.std.{specs.{List.{concat}, Fmt.{digits}}, proofs.Common.{◌≡◌, [], ◌∷◌, ◌++◌, Ok, Err, codes, replicate, refl, inl, inr}}
-use Rattle.pact_paths.specs.{Paths.{named, indexed, any, key, item, Location}, Weights.{weight}, Spelling.{IsSpelled, path_text}}
+use Rattle.pact_paths.specs.{Paths.{named, indexed, any, key, item, Location}, Weights.{weight, token_weight}, Spelling.{IsSpelled, path_text}}
 use Rattle.pact_paths.specs.{PathReading.{path_in, tokens_in}, declared.path_reader.PathFault.TheVariants.{NoRoot, BadToken, TooManyTokens}}
 
 -- ---- weights at `$.item1.level[1].id`
@@ -45,6 +45,17 @@ longer = refl
 most : weight (replicate 60 (named (codes "a"))) (replicate 60 (key (codes "a"))) ≡ 2305843009213693952
 most = refl
 
+-- ---- the tokens of `$.item1[*][1]` at the step item1
+
+same_name : token_weight (named (codes "item1")) (key (codes "item1")) ≡ 2
+same_name = refl
+
+any_step : token_weight any (key (codes "item1")) ≡ 1
+any_step = refl
+
+index_at_name : token_weight (indexed 1) (key (codes "item1")) ≡ 0
+index_at_name = refl
+
 -- ---- spellings
 
 name_behind_dot : IsSpelled (codes ".it em") (named (codes "it em"))
@@ -70,6 +81,26 @@ dot_in_quotes : path_in (codes "$['a.b'].*") ≡ Ok (named (codes "a.b") ∷ any
 unfolding tokens_in
 dot_in_quotes = refl
 
+three_tokens : path_in (codes "$.item1[*][1]") ≡ Ok (named (codes "item1") ∷ any ∷ indexed 1 ∷ [])
+unfolding tokens_in
+three_tokens = refl
+
+-- in quotes a star is a name, in brackets it is Any
+stars : path_in (codes "$['*'][*]") ≡ Ok (named (codes "*") ∷ any ∷ [])
+unfolding tokens_in
+stars = refl
+
+quoted_nothing : path_in (codes "$['']") ≡ Ok (named [] ∷ [])
+unfolding tokens_in
+quoted_nothing = refl
+
+nine_digits : path_in (codes "$[123456789]") ≡ Ok (indexed 123456789 ∷ [])
+unfolding tokens_in
+nine_digits = refl
+
+nothing : path_in [] ≡ Err NoRoot
+nothing = refl
+
 no_root : path_in (codes "item") ≡ Err NoRoot
 no_root = refl
 
@@ -84,6 +115,14 @@ dot_alone = refl
 ten_digits : path_in (codes "$[1234567890]") ≡ Err (BadToken 1)
 unfolding tokens_in
 ten_digits = refl
+
+no_digit : path_in (codes "$[]") ≡ Err (BadToken 1)
+unfolding tokens_in
+no_digit = refl
+
+open_quote : path_in (codes "$['a]") ≡ Err (BadToken 1)
+unfolding tokens_in
+open_quote = refl
 
 -- the name takes all that it can, and the star begins no token
 star_behind_name : path_in (codes "$.a*") ≡ Err (BadToken 3)
@@ -115,3 +154,19 @@ quotes_dropped = refl
 
 quotes_kept : path_text (named (codes "a.b") ∷ any ∷ named [] ∷ []) ≡ codes "$['a.b'][*]['']"
 quotes_kept = refl
+
+root_text : path_text [] ≡ codes "$"
+root_text = refl
+
+dot_in_text : path_text (named (codes "a.b") ∷ any ∷ []) ≡ codes "$['a.b'][*]"
+dot_in_text = refl
+
+empty_name_text : path_text (named [] ∷ []) ≡ codes "$['']"
+empty_name_text = refl
+
+index_text : path_text (indexed 123456789 ∷ []) ≡ codes "$[123456789]"
+unfolding digits
+index_text = refl
+
+star_text : path_text (named (codes "*") ∷ any ∷ []) ≡ codes "$['*'][*]"
+star_text = refl

@@ -1,9 +1,10 @@
 -- Worked examples, computed from the definitions.
-use Rattle.std.proofs.Common.{◌≡◌, ℕ, pos, negsuc, true, false, List, [], ◌∷◌, Some, None, Ok, Err, codes, refl}
-use Rattle.pact_rules.specs.Trees.{Node, null, truth, whole, text, list, object, Nodes, no_nodes, node, Fields, no_fields, field}
+use Rattle.std.proofs.Common.{◌≡◌, ◌×◌, ℕ, pos, negsuc, Bool, true, false, List, Option, Result, [], ◌∷◌, Some, None, Ok, Err, codes, refl}
+use Rattle.pact_rules.specs.{Trees.{Node, null, truth, whole, text, list, object, Nodes, no_nodes, node, Fields, no_fields, field}, Outcome.{◌>>=◌}}
+use Rattle.pact_rules.specs.declared.rule_fault.RuleFault.{RuleFault}
 use Rattle.pact_rules.specs.declared.rule_fault.RuleFault.TheVariants.{OldRules, BadPath, SamePathTwice, Unsupported, BadBound, Pattern, BadCombine}
 use Rattle.pact_rules.specs.{Rules.{equality, same_type, regex, include, integer, is_null, Entry, BodyRule, HeaderRule, has_regex}, Choice.{chosen}}
-use Rattle.pact_rules.specs.{Matching.{holds, entry_holds}, Tables.{header_entry}, RuleReading.{found_in, table_in, no_pattern}, Walks.{own_place}}
+use Rattle.pact_rules.specs.{Matching.{holds, entry_holds, has_keys_of}, Tables.{header_entry}, RuleReading.{found_in, table_in, no_pattern}, Walks.{own_place}}
 use Rattle.pact_paths.specs.{Paths.{Token, named, indexed, any, key, item, Location}, PathReading.{tokens_in}}
 
 -- ---- the choice
@@ -49,6 +50,50 @@ own = refl
 nothing_chosen : chosen (rule (named (codes "a") ∷ []) ∷ []) (key (codes "z") ∷ []) ≡ None
 nothing_chosen = refl
 
+no_entries : chosen [] [] ≡ None
+no_entries = refl
+
+-- which of some rules is chosen, and whether at its own place
+abbrev choice : List BodyRule → Location → Option ℕ × Bool
+choice rules at = (chosen rules at, own_place rules at)
+
+longest_place : choice (rule (item1_level []) ∷ rule (item1_level (any ∷ [])) ∷ rule any_level_id ∷ []) deep ≡ (Some 2, true)
+longest_place = refl
+
+heaviest_place : choice (rule (item1_level []) ∷ rule (item1_level (any ∷ [])) ∷ rule (item1_level (indexed 1 ∷ [])) ∷ rule any_level_id ∷ []) deep ≡ (Some 2, false)
+heaviest_place = refl
+
+-- down one table: what a step rules out, and what is still too long
+abbrev three : List BodyRule
+three = rule (named (codes "a") ∷ named (codes "b") ∷ named (codes "c") ∷ []) ∷ rule (named (codes "a") ∷ any ∷ []) ∷ rule (any ∷ named (codes "b") ∷ []) ∷ []
+
+at_none : choice three [] ≡ (None, false)
+at_none = refl
+
+at_a : choice three (key (codes "a") ∷ []) ≡ (None, false)
+at_a = refl
+
+at_a_b : choice three (key (codes "a") ∷ key (codes "b") ∷ []) ≡ (Some 1, true)
+at_a_b = refl
+
+at_a_b_c : choice three (key (codes "a") ∷ key (codes "b") ∷ key (codes "c") ∷ []) ≡ (Some 0, true)
+at_a_b_c = refl
+
+at_a_x : choice three (key (codes "a") ∷ key (codes "x") ∷ []) ≡ (Some 1, true)
+at_a_x = refl
+
+at_a_x_y : choice three (key (codes "a") ∷ key (codes "x") ∷ key (codes "y") ∷ []) ≡ (Some 1, false)
+at_a_x_y = refl
+
+at_z : choice three (key (codes "z") ∷ []) ≡ (None, false)
+at_z = refl
+
+at_z_b : choice three (key (codes "z") ∷ key (codes "b") ∷ []) ≡ (Some 2, true)
+at_z_b = refl
+
+least_place : own_place (rule (named (codes "a") ∷ any ∷ []) ∷ rule (any ∷ named (codes "b") ∷ []) ∷ []) (key (codes "a") ∷ key (codes "b") ∷ []) ≡ true
+least_place = refl
+
 -- ---- matchers
 
 abbrev one : Node → Node
@@ -70,6 +115,28 @@ equal_numbers = refl
 -- the values behind the keys are no matter of this place
 equal_keys : holds equality (object (field (codes "a") null no_fields)) (object (field (codes "a") (truth true) no_fields)) true ≡ true
 equal_keys = refl
+
+-- ---- the keys of objects, whatever stands under them
+
+abbrev a_one : Fields → Fields
+a_one more = field (codes "a") (whole (pos 1)) more
+
+keys_of_none : has_keys_of no_fields no_fields ≡ true
+keys_of_none = refl
+
+further_key : has_keys_of no_fields (a_one no_fields) ≡ true
+further_key = refl
+
+lacking_key : has_keys_of (a_one no_fields) no_fields ≡ false
+lacking_key = refl
+
+other_value : has_keys_of (a_one no_fields) (field (codes "a") null (field (codes "b") (whole (pos 2)) no_fields)) ≡ true
+other_value = refl
+
+other_key : has_keys_of (a_one (field (codes "c") (whole (pos 2)) no_fields)) (a_one (field (codes "b") (whole (pos 2)) no_fields)) ≡ false
+other_key = refl
+
+-- ---- parts of texts
 
 part_of_text : holds (include (codes "b")) null (text (codes "abc")) true ≡ true
 part_of_text = refl
@@ -177,3 +244,40 @@ a_pattern = refl
 
 no_patterns : has_regex (record { body = rule [] ∷ []; headers = [] }) ≡ false
 no_patterns = refl
+
+abbrev every_pattern : List ℕ → Bool
+every_pattern source = true
+
+abbrev by_pattern : Node
+by_pattern = object (field (codes "match") (text (codes "regex")) (field (codes "regex") (text (codes "json")) no_fields))
+
+-- the entry of a header in a table that is read, and whether one has a pattern
+abbrev header_in : Node → List ℕ → Result (Option Entry) RuleFault
+header_in tree name = table_in every_pattern tree >>= (λ rules. Ok (header_entry rules.headers name))
+
+abbrev has_regex_in : Node → Result Bool RuleFault
+has_regex_in tree = table_in every_pattern tree >>= (λ rules. Ok (has_regex rules))
+
+abbrev one_of_one : Node
+one_of_one = category (codes "header") (field (codes "Content-Type") (object (field (codes "combine") (text (codes "OR")) (field (codes "matchers") (list (node by_pattern no_nodes)) no_fields))) no_fields)
+
+either_of_one : header_in one_of_one (codes "content-TYPE") ≡ Ok (Some (record { any = true; matchers = regex (codes "json") ∷ [] }))
+either_of_one = refl
+
+part_of_name : header_in one_of_one (codes "content") ≡ Ok None
+part_of_name = refl
+
+all_of_two : header_in (category (codes "header") (field (codes "X") (entry (node (match (codes "equality") no_fields) by_type)) no_fields)) (codes "x")
+    ≡ Ok (Some (record { any = false; matchers = equality ∷ same_type None None ∷ [] }))
+all_of_two = refl
+
+pattern_of_header : has_regex_in one_of_one ≡ Ok true
+pattern_of_header = refl
+
+pattern_of_body : has_regex_in (at_root (node (match (codes "type") no_fields) (node by_pattern no_nodes))) ≡ Ok true
+unfolding tokens_in
+pattern_of_body = refl
+
+pattern_of_none : has_regex_in (object (field (codes "body") (object (field (codes "$") (entry no_nodes) no_fields)) (field (codes "path") (whole (pos 5)) no_fields))) ≡ Ok false
+unfolding tokens_in
+pattern_of_none = refl
