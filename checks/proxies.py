@@ -145,12 +145,13 @@ class Front:
 
 
 class Nginx(Front):
-    title, tool, too_large, chunked = "nginx", "nginx", (413,), (200, '{"answer":"already","content":4}')
+    title, tool, too_large, in_chunks = "nginx", "nginx", [413], [200]
 
     def installed(self, broker):
         changes = {"listen 443 ssl": f"listen 127.0.0.1:{self.port} ssl", "127.0.0.1:9292": broker}
-        paths = {"ssl/certs/broker.pem": "cert.pem", "ssl/private/broker.key": "key.pem", "nginx/broker-tokens": "tokens"}
-        self.place("nginx.conf", changes | {f"/etc/{old}": f"{self.room}/{new}" for old, new in paths.items()})
+        changes["/etc/ssl/certs/broker.pem"] = f"{self.room}/cert.pem"
+        changes["/etc/ssl/private/broker.key"] = f"{self.room}/key.pem"
+        self.place("nginx.conf", {**changes, "/etc/nginx/broker-tokens": f"{self.room}/tokens"})
         whose = "user root; " if os.geteuid() == 0 else ""
         kinds = "client_body", "proxy", "fastcgi", "uwsgi", "scgi"
         temporary = " ".join(f"{it}_temp_path {self.room}/{it};" for it in kinds)
@@ -167,7 +168,7 @@ class Nginx(Front):
 
 
 class Caddy(Front):
-    title, tool, too_large, chunked = "Caddy", "caddy", (413, 502), (501, '{"answer":"refused","status":501}')
+    title, tool, too_large, in_chunks = "Caddy", "caddy", [413, 502], [501, 502]
 
     def installed(self, broker):
         site = f"https://{NAME}:{self.port} {{\n\tbind 127.0.0.1\n\ttls {self.room}/cert.pem {self.room}/key.pem"
@@ -236,12 +237,15 @@ def sized(size):
 def bodies(front, _):
     path = "PUT /pacts/provider/stock/consumer/shop/version/size"
     same("a body of the limit", front.ask(RED, path, sized(LIMIT)), (200, '{"answer":"done","content":4}'))
-    status = front.ask(RED, path, sized(LIMIT + 1))[0]
-    if status not in front.too_large:
-        raise Wrong(f"a body over the limit: {status}")
+    among("a body over the limit", front.ask(RED, path, sized(LIMIT + 1)), front.too_large)
     head, text = request(f"authorization: Bearer {RED}".encode(), path), pact("a size").encode()
     head = head.replace(b"content-length: 0", b"transfer-encoding: chunked")
-    same("a body in chunks", front.exchange(head + b"%x\r\n%s\r\n0\r\n\r\n" % (len(text), text)), front.chunked)
+    among("a body in chunks", front.exchange(head + b"%x\r\n%s\r\n0\r\n\r\n" % (len(text), text)), front.in_chunks)
+
+
+def among(what, answer, statuses):
+    if answer[0] not in statuses:
+        raise Wrong(f"{what}: {answer} and none of {statuses}")
 
 
 def slow(front, _):
@@ -289,15 +293,14 @@ def leaked(front, broker):
     front.answers("the leaked token", LEAKED, DENIED)
     for spelling in UNREAD:
         answer = front.exchange(request(written(spelling, LEAKED), "GET /environments/live"))
-        if answer != DENIED and answer[0] != 400:
-            raise Wrong(f"the leaked token as {spelling}: {answer}")
+        among(f"the leaked token as {spelling}", answer, [400, 401])
     front.answers("the new token", NEW, shown)
     for token in ALIKE:
         front.answers(f"the token {token}", token, shown)
 
 
 def limited(front, _):
-    """At once more requests from one address than may wait: the rest is 429, and another address is answered at once."""
+    """At once more requests from one address than may wait: the rest is 429. Another address is answered at once."""
     time.sleep(0.1)
     message = request(f"authorization: Bearer {RED}".encode(), "GET /environments/live")
     peers = [front.open() for _ in range(WAITING + 50)]
