@@ -9,7 +9,8 @@ Through each proxy: ordinary requests are answered as by the broker itself, name
 limit passes and a larger one doesn't, slow clients hold up nobody, and a broker that isn't there is 502 until it is
 there again. Then a token leaks: with the lines of docs/OPERATING.md, and this token and a new one in the place of
 theirs, no spelling lets it in, the new one is answered, and so is each token that is like the leaked one. Last, through
-nginx, more requests at once than the limit allows. No line of any log has a token.
+nginx, more requests at once than the limit allows; and who changed what, by the log and examples/who.py. No line of any
+log has a token.
 
 Prints a line for each, and ends with 1 if one is otherwise than it has to be, or with 77 if a proxy or openssl isn't
 installed."""
@@ -17,14 +18,16 @@ import sys
 
 sys.dont_write_bytecode = True
 import http.client, os, re, shutil, signal, socket, ssl, subprocess, tempfile, time
+from concurrent.futures import ThreadPoolExecutor
 from hub import BLUE, DONE, OFFICE, RED, TOP, Server, Wrong
 from hub import free_port, new_file, pact, register, run, same, verify
 
 NAME = "broker.example.org"
-LEAKED, NEW = "red.team+token/1=", "new~token.of+red="
+LEAKED, NEW, LATEST = "red.team+token/1=", "new~token.of+red=", "token-of-the-last-1"
 # Each is like the leaked token, and is another team's: it begins with it, ends with it, has other letters, or another
 # byte in the place of the point.
 ALIKE = [LEAKED + "0", "x" + LEAKED, LEAKED.upper(), LEAKED.replace(".", "x")]
+TEAMS = {OFFICE: "office", RED: "red", BLUE: "blue", LEAKED: "leaky"}
 # How the broker reads a token (docs/API.md, Callers): `%s` is the token.
 READ = [
     b"authorization: Bearer %s",
@@ -96,6 +99,9 @@ class Front:
 
     def __enter__(self):
         self.leak([])
+        with open(f"{self.room}/teams", "w", encoding="utf-8") as it:
+            for token, team in TEAMS.items():
+                it.write(f'"~^\\Q{token}\\E$" "{team}"{self.end}\n')
         with open(f"{self.room}/errors", "wb") as errors:
             self.process = subprocess.Popen(self.words, stderr=errors, env={**os.environ, **self.home})
         self.await_start()
@@ -128,6 +134,11 @@ class Front:
         peer = socket.create_connection(("127.0.0.1", self.port), WAIT, (source, 0))
         return self.trust.wrap_socket(peer, server_hostname=NAME)
 
+    def message(self, field, ask, body=b""):
+        """A request with this field, or these, for its caller."""
+        head = f"{ask} HTTP/1.1\r\nhost: {NAME}:{self.port}\r\nconnection: close\r\ncontent-length: {len(body)}\r\n"
+        return head.encode() + field + b"\r\n\r\n" + body
+
     def exchange(self, message, source="127.0.0.1"):
         with self.open(source) as peer:
             peer.sendall(message)
@@ -135,29 +146,31 @@ class Front:
 
     def ask(self, token, ask, body=""):
         """The answer to a request on a connection of its own, as hub.Server gives it."""
-        return self.exchange(request(f"authorization: Bearer {token}".encode(), ask, body.encode()))
+        return self.exchange(self.message(f"authorization: Bearer {token}".encode(), ask, body.encode()))
 
     def answers(self, what, token, wanted):
         """Asks with the token in each spelling that the broker reads: the answer has to be this one."""
         for spelling in READ:
-            message = request(written(spelling, token), "GET /environments/live")
+            message = self.message(written(spelling, token), "GET /environments/live")
             same(f"{what} as {spelling}", self.exchange(message), wanted)
 
 
 class Nginx(Front):
-    title, tool, too_large, in_chunks = "nginx", "nginx", [413], [200]
+    title, tool, end, too_large, in_chunks = "nginx", "nginx", ";", [413], [200]
 
     def installed(self, broker):
         changes = {"listen 443 ssl": f"listen 127.0.0.1:{self.port} ssl", "127.0.0.1:9292": broker}
         changes["/etc/ssl/certs/broker.pem"] = f"{self.room}/cert.pem"
         changes["/etc/ssl/private/broker.key"] = f"{self.room}/key.pem"
+        changes["/etc/nginx/broker-teams"] = f"{self.room}/teams"
+        changes["/var/log/nginx/broker.log"] = f"{self.room}/log"
         self.place("nginx.conf", {**changes, "/etc/nginx/broker-tokens": f"{self.room}/tokens"})
         whose = "user root; " if os.geteuid() == 0 else ""
         kinds = "client_body", "proxy", "fastcgi", "uwsgi", "scgi"
         temporary = " ".join(f"{it}_temp_path {self.room}/{it};" for it in kinds)
         with open(f"{self.room}/main.conf", "w", encoding="utf-8") as it:
             it.write(f"{whose}daemon off; pid {self.room}/pid; events {{ worker_connections 1024; }}\n")
-            it.write(f"http {{ {temporary} access_log {self.room}/log; include {self.room}/nginx.conf; }}\n")
+            it.write(f"http {{ {temporary} access_log {self.room}/access; include {self.room}/nginx.conf; }}\n")
         return ["nginx", "-p", self.room, "-e", f"{self.room}/errors", "-c", f"{self.room}/main.conf"]
 
     def reload(self):
@@ -168,11 +181,13 @@ class Nginx(Front):
 
 
 class Caddy(Front):
-    title, tool, too_large, in_chunks = "Caddy", "caddy", [413, 502], [501, 502]
+    title, tool, end, too_large, in_chunks = "Caddy", "caddy", "", [413, 502], [501, 502]
 
     def installed(self, broker):
         site = f"https://{NAME}:{self.port} {{\n\tbind 127.0.0.1\n\ttls {self.room}/cert.pem {self.room}/key.pem"
         changes = {f"{NAME} {{": site, "127.0.0.1:9292": broker, "/etc/caddy/broker-tokens": f"{self.room}/tokens"}
+        changes["/etc/caddy/broker-teams"] = f"{self.room}/teams"
+        changes["/var/log/caddy/broker.log"] = f"{self.room}/log"
         admin = f"unix/{self.room}/admin.sock\n\tauto_https disable_redirects"
         self.place("Caddyfile", {**changes, "unix//var/lib/caddy/admin.sock": admin})
         return ["caddy", "run", "--config", f"{self.room}/Caddyfile", "--adapter", "caddyfile"]
@@ -196,11 +211,6 @@ def await_that(holds, what):
     raise Wrong(f"it doesn't come to this: {what}")
 
 
-def request(field, ask, body=b""):
-    head = f"{ask} HTTP/1.1\r\nhost: {NAME}\r\nconnection: close\r\ncontent-length: {len(body)}\r\n".encode()
-    return head + field + b"\r\n\r\n" + body
-
-
 def answered(peer):
     """The status and the body of an answer."""
     answer = http.client.HTTPResponse(peer)
@@ -218,7 +228,7 @@ def ordinary(front, broker):
     for ask in "GET /environments/live", "GET /matrix?pacticipant=shop&version=1", "GET /no/route", "DELETE /teams/red":
         same(ask, front.ask(RED, ask), broker.ask(RED, ask))
     front.do(RED, "POST /environments/live/deployments", '{"pacticipant":"shop","version":"1"}')
-    same("without a token", front.exchange(request(b"accept: */*", "GET /environments/live")), DENIED)
+    same("without a token", front.exchange(front.message(b"accept: */*", "GET /environments/live")), DENIED)
 
 
 def names(front, broker):
@@ -238,7 +248,7 @@ def bodies(front, _):
     path = "PUT /pacts/provider/stock/consumer/shop/version/size"
     same("a body of the limit", front.ask(RED, path, sized(LIMIT)), (200, '{"answer":"done","content":4}'))
     among("a body over the limit", front.ask(RED, path, sized(LIMIT + 1)), front.too_large)
-    head, text = request(f"authorization: Bearer {RED}".encode(), path), pact("a size").encode()
+    head, text = front.message(f"authorization: Bearer {RED}".encode(), path), pact("a size").encode()
     head = head.replace(b"content-length: 0", b"transfer-encoding: chunked")
     among("a body in chunks", front.exchange(head + b"%x\r\n%s\r\n0\r\n\r\n" % (len(text), text)), front.in_chunks)
 
@@ -250,7 +260,7 @@ def among(what, answer, statuses):
 
 def slow(front, _):
     """Clients that stop in the middle of a head or of a body hold up nobody."""
-    message = request(b"authorization: Bearer x", "PUT /pacticipants/shop/versions/slow", b'{"branch":"main"}')
+    message = front.message(b"authorization: Bearer x", "PUT /pacticipants/shop/versions/slow", b'{"branch":"main"}')
     peers = [front.open() for _ in range(10)]
     for number, peer in enumerate(peers):
         peer.sendall(message[: 30 if number % 2 else -5])
@@ -275,9 +285,9 @@ def restart(front, broker):
 def lines_for(front):
     """The lines of docs/OPERATING.md for a token that leaks, with the tokens of this check."""
     with open(f"{TOP}/docs/OPERATING.md", encoding="utf-8") as it:
-        found = re.findall(r'(?m)^ +("~.*")(;?)$', it.read())
-    ends = ";" if front.title == "nginx" else ""
-    lines = [line + end for line, end in found if end == ends]
+        section = re.search(r"(?ms)^## A token leaks\n(.*?)^## ", it.read())
+    found = re.findall(r'(?m)^ +("~.*")(;?)$', section[1] if section else "")
+    lines = [line + end for line, end in found if end == front.end]
     same("lines of docs/OPERATING.md", len(lines), 2)
     return [it.replace("NEW-TOKEN-OF-THE-TEAM", NEW).replace("shop-team-token-1", LEAKED) for it in lines]
 
@@ -292,7 +302,7 @@ def leaked(front, broker):
     front.reload()
     front.answers("the leaked token", LEAKED, DENIED)
     for spelling in UNREAD:
-        answer = front.exchange(request(written(spelling, LEAKED), "GET /environments/live"))
+        answer = front.exchange(front.message(written(spelling, LEAKED), "GET /environments/live"))
         among(f"the leaked token as {spelling}", answer, [400, 401])
     front.answers("the new token", NEW, shown)
     for token in ALIKE:
@@ -302,7 +312,7 @@ def leaked(front, broker):
 def limited(front, _):
     """At once more requests from one address than may wait: the rest is 429. Another address is answered at once."""
     time.sleep(0.1)
-    message = request(f"authorization: Bearer {RED}".encode(), "GET /environments/live")
+    message = front.message(f"authorization: Bearer {RED}".encode(), "GET /environments/live")
     peers = [front.open() for _ in range(WAITING + 50)]
     for peer in peers:
         peer.sendall(message)
@@ -318,10 +328,53 @@ def limited(front, _):
 
 
 def unlogged(front, _):
-    for name in "errors", "log":
-        for token in OFFICE, RED, BLUE, LEAKED, NEW, *ALIKE:
+    for name in "errors", "access", "log":
+        for token in OFFICE, RED, BLUE, LEAKED, NEW, LATEST, *ALIKE:
             if token in front.log(name):
-                raise Wrong(f"the proxy's {name} have the token {token}")
+                raise Wrong(f"a token, {token}, is in {name}")
+
+
+# What each caller sends for the log, with the status of the answer.
+CHANGES = [
+    (OFFICE, "PUT /teams/last", '{"token":"%s"}' % LATEST, 200),
+    (OFFICE, "PUT /environments/a%2Fb", '{"gated":false}', 200),
+    (OFFICE, "PUT /grants/team/red/environment/a%2Fb", "", 200),
+    (RED, "POST /environments/a%2Fb/deployments", '{"pacticipant":"shop","version":"1","instance":"\u202e"}', 200),
+    (RED, "POST /environments/a%2fb/deployments", '{"pacticipant":"shop","version":"2"}', 200),
+    (BLUE, "POST /environments/a%2Fb/deployments", '{"pacticipant":"stock","version":"1"}', 403),
+    (RED, "GET /environments/a%2Fb", "", 200),
+    (OFFICE, "PUT /pacticipants/cart", '{"team":"team-0"}', 200),
+    (NEW, "PUT /pacticipants/cart/versions/1", "", 200),
+    (RED, "POST /environments/a%2Fb/undeployments", '{"pacticipant":"shop","version":"2"}', 200),
+]
+IN_ENVIRONMENT = ["red deployments shop 1 \\u202e", "red deployments shop 2", "red undeployments shop 2"]
+SINCE = [
+    "office PUT /teams/last",
+    'office PUT /environments/a%2Fb {"gated":false}',
+    "office PUT /grants/team/red/environment/a%2Fb",
+    'red POST /environments/a%2Fb/deployments {"pacticipant":"shop","version":"1","instance":"\\u202e"}',
+    'red POST /environments/a%2fb/deployments {"pacticipant":"shop","version":"2"}',
+    "office PUT /pacticipants/cart",
+    "leaky PUT /pacticipants/cart/versions/1",
+    'red POST /environments/a%2Fb/undeployments {"pacticipant":"shop","version":"2"}',
+]
+
+
+def who(front, *words):
+    """What examples/who.py says, without the times."""
+    lines = run([sys.executable, "examples/who.py", *words, f"{front.room}/log"]).splitlines()
+    return [it.split(" ", 1)[1] for it in lines]
+
+
+def recorded(front, _):
+    """Who changed what, by the log: the new token is that of the leaked one's team."""
+    time.sleep(1)
+    since = time.strftime("%Y-%m-%dT%H:%M:%S")
+    for token, ask, body, status in CHANGES:
+        same(ask, front.ask(token, ask, body)[0], status)
+    await_that(lambda: len(who(front, "--since", since)) >= len(SINCE), "the log has each request")
+    same("who.py --since", who(front, "--since", since), SINCE)
+    same("who.py of the environment", who(front, "a/b"), IN_ENVIRONMENT)
 
 
 TRIALS = {
@@ -332,6 +385,7 @@ TRIALS = {
     "a broker that is started again": restart,
     "a token that leaked": leaked,
     "more requests than the limit": limited,
+    "who changed what": recorded,
     "tokens in the logs": unlogged,
 }
 
@@ -368,7 +422,8 @@ def main():
         if not shutil.which(tool):
             print(f"not run: {tool} isn't installed")
             return 77
-    return 1 if sum(tried(kind) for kind in kinds) else 0
+    with ThreadPoolExecutor(len(kinds)) as workers:
+        return 1 if sum(workers.map(tried, kinds)) else 0
 
 
 try:
