@@ -5,8 +5,8 @@
 
 Needs sqlite3 (the Debian package), which copies the rows into pages that keep eight bytes free. This script then writes
 into each page its sum, as SQLite's extension cksumvfs computes it. Stop the service first, make a backup, and serve NEW
-in the place of FILE only when `broker can-i-deploy` over it answers as over FILE. Ends with 1 and without NEW if something
-is wrong."""
+in the place of FILE only when `broker can-i-deploy` over it answers as over FILE. Ends with 1 and without NEW if
+something is wrong."""
 import os, struct, subprocess, sys
 
 PAGE, RESERVED, SUM = 4096, 20, 8

@@ -1,5 +1,6 @@
 #!/usr/bin/env bash
-# One deployment by curl: shop 1 has a contract with stock, and goes live once stock 1 is there with a result that passes.
+# One deployment by curl: shop 1 has a contract with stock, and goes live once stock 1 is there with a result that
+# passes.
 # Usage: examples/one-deployment.sh [URL]     over a new broker whose office has the token office-token-0001, as
 #   file=$(mktemp -d)/broker.db
 #   crates/broker/out/broker init --file "$file" --office-token office-token-0001
@@ -12,10 +13,12 @@ team=shop-team-token-1
 pact=pacts/provider/stock/consumer/shop/version/1
 wait=(--retry 50 --retry-connrefused --retry-delay 1)
 
-# ask TOKEN METHOD PATH [BODY]: one request and its answer
+# ask TOKEN METHOD PATH [BODY]: one request and its answer. The token, and a body, which may have one too, go to curl by
+# files, since the words of a command line are seen by others on the machine.
 ask() {
   echo "$2 /$3 ${4-}"
-  curl -sS ${wait+"${wait[@]}"} -X "$2" -H "authorization: Bearer $1" --data-binary "${4-}" "$url/$3"
+  curl -sS ${wait+"${wait[@]}"} -X "$2" -H @<(echo "authorization: Bearer $1") --data-binary @<(printf %s "${4-}") \
+    "$url/$3"
   echo
   unset wait
 }

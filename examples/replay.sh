@@ -1,5 +1,6 @@
 #!/usr/bin/env bash
-# Shows one deployment: makes a team, an environment, a pacticipant, a grant and a version, deploys it, and lists the environment.
+# Shows one deployment: makes a team, an environment, a pacticipant, a grant and a version, deploys it, and lists the
+# environment.
 # Usage: examples/replay.sh PATH_OF_THE_PROGRAM
 set -eu
 program=${1:?the path of the program broker}
@@ -9,7 +10,8 @@ team=shop-team-token-1
 # ask TOKEN METHOD PATH [BODY]: one request
 ask() {
   local body=${4-}
-  printf '%s %s HTTP/1.1\r\nhost: localhost\r\nauthorization: Bearer %s\r\ncontent-length: %s\r\n\r\n%s' "$2" "$3" "$1" "${#body}" "$body"
+  printf '%s %s HTTP/1.1\r\nhost: localhost\r\n' "$2" "$3"
+  printf 'authorization: Bearer %s\r\ncontent-length: %s\r\n\r\n%s' "$1" "${#body}" "$body"
 }
 
 {

@@ -1,0 +1,433 @@
+#!/usr/bin/env python3
+"""The proxies of examples/ before a broker: real nginx and real Caddy, which serve examples/nginx.conf and
+examples/Caddyfile over TLS, with nothing in them replaced but addresses, certificate and paths. Takes some fifteen
+seconds.
+
+    checks/proxies.py PROGRAM [nginx|caddy]     PROGRAM is the path of `broker`; both proxies, or one of them
+
+Through each proxy: ordinary requests are answered as by the broker itself, names keep their escapes, a body of the
+limit passes and a larger one doesn't, slow clients hold up nobody, and a broker that isn't there is 502 until it is
+there again. Then a token leaks: with the lines of docs/OPERATING.md, and this token and a new one in the place of
+theirs, no spelling lets it in, the new one is answered, and so is each token that is like the leaked one. Last, through
+nginx, more requests at once than the limit allows; and who changed what, by the log and examples/who.py. No line of any
+log has a token.
+
+Prints a line for each, and ends with 1 if one is otherwise than it has to be, or with 77 if a proxy or openssl isn't
+installed."""
+import sys
+
+sys.dont_write_bytecode = True
+import http.client, os, re, shutil, signal, socket, ssl, subprocess, tempfile, time
+from concurrent.futures import ThreadPoolExecutor
+from hub import BLUE, DONE, OFFICE, RED, TOP, Server, Wrong
+from hub import free_port, new_file, pact, register, run, same, verify
+
+NAME = "broker.example.org"
+LEAKED, NEW, LATEST = "red.team+token/1=", "new~token.of+red=", "token-of-the-last-1"
+# Each is like the leaked token, and is another team's: it begins with it, ends with it, has other letters, or another
+# byte in the place of the point.
+ALIKE = [LEAKED + "0", "x" + LEAKED, LEAKED.upper(), LEAKED.replace(".", "x")]
+TEAMS = {OFFICE: "office", RED: "red", BLUE: "blue", LEAKED: "leaky"}
+# How the broker reads a token (docs/API.md, Callers): `%s` is the token.
+READ = [
+    b"authorization: Bearer %s",
+    b"Authorization:Bearer %s",
+    b"AUTHORIZATION: bearer   %s",
+    b"authorization: BEARER %s ",
+    b"authorization: Bearer %s\t",
+    b"authorization:\tBearer %s",
+    b"authorization:  \t bEaReR  %s \t ",
+]
+# How it doesn't, or how a proxy might.
+UNREAD = [
+    b"authorization: Bearer\t%s",
+    b"authorization: Bearer \t%s",
+    b"authorization: Bearer%s",
+    b"authorization: Bearer %s,",
+    b"authorization: Bearer %s x",
+    b'authorization: Bearer "%s"',
+    b"authorization: Bearer %s, Bearer %s",
+    b"authorization: %s",
+    b"authorization: Basic %s",
+    b"authorization: Bearer \x0b%s",
+    b"authorization: Bearer %s\xa0",
+    b"authorization: Bearer %s\x00",
+    b"authorization : Bearer %s",
+    b"authorization: Bearer\r\n %s",
+    b"authorization: Bearer %s\r\nauthorization: Bearer %s",
+    b"authorization: Bearer other-token-0001\r\nauthorization: Bearer %s",
+    b"proxy-authorization: Bearer %s",
+]
+# Names of versions, as a path has them.
+NAMES = ["feat%2F1", "100%25", "%252F", "a%20b", "a+b", "caf%C3%A9", "a%3Fb%23c", "%2E%2E", "a%2F%2F%2E%2Fb", "%5C"]
+DENIED = (401, '{"answer":"denied","rule":"A1"}')
+LIMIT, RATE, WAITING = 1_048_576, 50, 100
+# How many seconds an answer or an end may take.
+WAIT = 60
+
+
+def written(spelling, token):
+    return spelling.replace(b"%s", token.encode())
+
+
+class Front:
+    """A proxy before a broker."""
+
+    do = Server.do
+
+    def __init__(self, room, broker):
+        self.room, self.port = room, free_port()
+        self.home = {"HOME": room, "XDG_DATA_HOME": room}
+        self.words = self.installed(f"127.0.0.1:{broker}")
+        self.trust = ssl.create_default_context(cafile=f"{room}/cert.pem")
+
+    def place(self, example, changes):
+        """The example in the room, with these texts replaced, each of which it has to have."""
+        with open(f"{TOP}/examples/{example}", encoding="utf-8") as it:
+            text = "".join(line for line in it if not line.startswith("#"))
+        for old, new in changes.items():
+            if old not in text:
+                raise Wrong(f"examples/{example} has no {old}")
+            text = text.replace(old, new)
+        with open(f"{self.room}/{example}", "w", encoding="utf-8") as it:
+            it.write(text)
+
+    def leak(self, lines):
+        """What the file of the tokens that leaked says."""
+        with open(f"{self.room}/tokens", "w", encoding="utf-8") as it:
+            it.write("# tokens that leaked\n" + "".join(f"{line}\n" for line in lines))
+
+    def __enter__(self):
+        self.leak([])
+        with open(f"{self.room}/teams", "w", encoding="utf-8") as it:
+            for token, team in TEAMS.items():
+                it.write(f'"~^\\Q{token}\\E$" "{team}"{self.end}\n')
+        with open(f"{self.room}/errors", "wb") as errors:
+            self.process = subprocess.Popen(self.words, stderr=errors, env={**os.environ, **self.home})
+        self.await_start()
+        return self
+
+    def await_start(self):
+        for _ in range(300):
+            if self.process.poll() is not None:
+                raise Wrong(f"it ends with {self.process.returncode}: {self.log('errors')}")
+            try:
+                self.open().close()
+                return
+            except OSError:
+                time.sleep(0.05)
+        raise Wrong(f"it doesn't serve: {self.log('errors')}")
+
+    def __exit__(self, *_):
+        self.process.terminate()
+        self.process.wait(WAIT)
+
+    def log(self, name):
+        path = f"{self.room}/{name}"
+        if not os.path.exists(path):
+            return ""
+        with open(path, encoding="utf-8", errors="replace") as it:
+            return it.read()
+
+    def open(self, source="127.0.0.1"):
+        """A connection from this address, by the proxy's own name."""
+        peer = socket.create_connection(("127.0.0.1", self.port), WAIT, (source, 0))
+        return self.trust.wrap_socket(peer, server_hostname=NAME)
+
+    def message(self, field, ask, body=b""):
+        """A request with this field, or these, for its caller."""
+        head = f"{ask} HTTP/1.1\r\nhost: {NAME}:{self.port}\r\nconnection: close\r\ncontent-length: {len(body)}\r\n"
+        return head.encode() + field + b"\r\n\r\n" + body
+
+    def exchange(self, message, source="127.0.0.1"):
+        with self.open(source) as peer:
+            peer.sendall(message)
+            return answered(peer)
+
+    def ask(self, token, ask, body=""):
+        """The answer to a request on a connection of its own, as hub.Server gives it."""
+        return self.exchange(self.message(f"authorization: Bearer {token}".encode(), ask, body.encode()))
+
+    def answers(self, what, token, wanted):
+        """Asks with the token in each spelling that the broker reads: the answer has to be this one."""
+        for spelling in READ:
+            message = self.message(written(spelling, token), "GET /environments/live")
+            same(f"{what} as {spelling}", self.exchange(message), wanted)
+
+
+class Nginx(Front):
+    title, tool, end, too_large, in_chunks = "nginx", "nginx", ";", [413], [200]
+
+    def installed(self, broker):
+        changes = {"listen 443 ssl": f"listen 127.0.0.1:{self.port} ssl", "127.0.0.1:9292": broker}
+        changes["/etc/ssl/certs/broker.pem"] = f"{self.room}/cert.pem"
+        changes["/etc/ssl/private/broker.key"] = f"{self.room}/key.pem"
+        changes["/etc/nginx/broker-teams"] = f"{self.room}/teams"
+        changes["/var/log/nginx/broker.log"] = f"{self.room}/log"
+        self.place("nginx.conf", {**changes, "/etc/nginx/broker-tokens": f"{self.room}/tokens"})
+        whose = "user root; " if os.geteuid() == 0 else ""
+        kinds = "client_body", "proxy", "fastcgi", "uwsgi", "scgi"
+        temporary = " ".join(f"{it}_temp_path {self.room}/{it};" for it in kinds)
+        with open(f"{self.room}/main.conf", "w", encoding="utf-8") as it:
+            it.write(f"{whose}daemon off; pid {self.room}/pid; events {{ worker_connections 1024; }}\n")
+            it.write(f"http {{ {temporary} access_log {self.room}/access; include {self.room}/nginx.conf; }}\n")
+        return ["nginx", "-p", self.room, "-e", f"{self.room}/errors", "-c", f"{self.room}/main.conf"]
+
+    def reload(self):
+        """Also waits for the end of the workers that have the former lines."""
+        before = workers(self.process.pid)
+        self.process.send_signal(signal.SIGHUP)
+        await_that(lambda: not before & workers(self.process.pid), "the former workers have ended")
+
+
+class Caddy(Front):
+    title, tool, end, too_large, in_chunks = "Caddy", "caddy", "", [413, 502], [501, 502]
+
+    def installed(self, broker):
+        site = f"https://{NAME}:{self.port} {{\n\tbind 127.0.0.1\n\ttls {self.room}/cert.pem {self.room}/key.pem"
+        changes = {f"{NAME} {{": site, "127.0.0.1:9292": broker, "/etc/caddy/broker-tokens": f"{self.room}/tokens"}
+        changes["/etc/caddy/broker-teams"] = f"{self.room}/teams"
+        changes["/var/log/caddy/broker.log"] = f"{self.room}/log"
+        admin = f"unix/{self.room}/admin.sock\n\tauto_https disable_redirects"
+        self.place("Caddyfile", {**changes, "unix//var/lib/caddy/admin.sock": admin})
+        return ["caddy", "run", "--config", f"{self.room}/Caddyfile", "--adapter", "caddyfile"]
+
+    def reload(self):
+        words = ["caddy", "reload", "--config", f"{self.room}/Caddyfile", "--adapter", "caddyfile", "--force"]
+        run(words, env=self.home)
+
+
+def workers(process):
+    """The processes that nginx has started."""
+    with open(f"/proc/{process}/task/{process}/children", encoding="ascii") as it:
+        return set(it.read().split())
+
+
+def await_that(holds, what):
+    for _ in range(400):
+        if holds():
+            return
+        time.sleep(0.05)
+    raise Wrong(f"it doesn't come to this: {what}")
+
+
+def answered(peer):
+    """The status and the body of an answer."""
+    answer = http.client.HTTPResponse(peer)
+    answer.begin()
+    return answer.status, answer.read().decode()
+
+
+# What is tried through each proxy
+
+
+def ordinary(front, broker):
+    """The fleet is made through the proxy, and what is asked then is answered as by the broker itself."""
+    register(front)
+    verify(front)
+    for ask in "GET /environments/live", "GET /matrix?pacticipant=shop&version=1", "GET /no/route", "DELETE /teams/red":
+        same(ask, front.ask(RED, ask), broker.ask(RED, ask))
+    front.do(RED, "POST /environments/live/deployments", '{"pacticipant":"shop","version":"1"}')
+    same("without a token", front.exchange(front.message(b"accept: */*", "GET /environments/live")), DENIED)
+
+
+def names(front, broker):
+    for name in NAMES:
+        ask = f"PUT /pacticipants/shop/versions/{name}"
+        same(f"{ask} through it", front.ask(RED, ask), (200, DONE))
+        same(f"{ask} to the broker", broker.ask(RED, ask), (200, '{"answer":"already"}'))
+
+
+def sized(size):
+    """A pact file of so many bytes."""
+    text = pact("a size")
+    return text + " " * (size - len(text))
+
+
+def bodies(front, _):
+    path = "PUT /pacts/provider/stock/consumer/shop/version/size"
+    same("a body of the limit", front.ask(RED, path, sized(LIMIT)), (200, '{"answer":"done","content":4}'))
+    among("a body over the limit", front.ask(RED, path, sized(LIMIT + 1)), front.too_large)
+    head, text = front.message(f"authorization: Bearer {RED}".encode(), path), pact("a size").encode()
+    head = head.replace(b"content-length: 0", b"transfer-encoding: chunked")
+    among("a body in chunks", front.exchange(head + b"%x\r\n%s\r\n0\r\n\r\n" % (len(text), text)), front.in_chunks)
+
+
+def among(what, answer, statuses):
+    if answer[0] not in statuses:
+        raise Wrong(f"{what}: {answer} and none of {statuses}")
+
+
+def slow(front, _):
+    """Clients that stop in the middle of a head or of a body hold up nobody."""
+    message = front.message(b"authorization: Bearer x", "PUT /pacticipants/shop/versions/slow", b'{"branch":"main"}')
+    peers = [front.open() for _ in range(10)]
+    for number, peer in enumerate(peers):
+        peer.sendall(message[: 30 if number % 2 else -5])
+    time.sleep(0.3)
+    began = time.monotonic()
+    same("another client", front.ask(RED, "GET /environments/live")[0], 200)
+    took = time.monotonic() - began
+    for peer in peers:
+        peer.close()
+    if took > 2:
+        raise Wrong(f"another client waits {took:.1f} s")
+
+
+def restart(front, broker):
+    before = front.ask(RED, "GET /environments/live")
+    broker.__exit__()
+    same("without a broker", front.ask(RED, "GET /environments/live")[0], 502)
+    broker.__enter__()
+    same("with it again", front.ask(RED, "GET /environments/live"), before)
+
+
+def lines_for(front):
+    """The lines of docs/OPERATING.md for a token that leaks, with the tokens of this check."""
+    with open(f"{TOP}/docs/OPERATING.md", encoding="utf-8") as it:
+        section = re.search(r"(?ms)^## A token leaks\n(.*?)^## ", it.read())
+    found = re.findall(r'(?m)^ +("~.*")(;?)$', section[1] if section else "")
+    lines = [line + end for line, end in found if end == front.end]
+    same("lines of docs/OPERATING.md", len(lines), 2)
+    return [it.replace("NEW-TOKEN-OF-THE-TEAM", NEW).replace("shop-team-token-1", LEAKED) for it in lines]
+
+
+def leaked(front, broker):
+    for number, token in enumerate([LEAKED, *ALIKE]):
+        front.do(OFFICE, f"PUT /teams/team-{number}", '{"token":"%s"}' % token)
+    shown = broker.ask(RED, "GET /environments/live")
+    front.answers("before it leaks", LEAKED, shown)
+    front.answers("the new token before", NEW, DENIED)
+    front.leak(lines_for(front))
+    front.reload()
+    front.answers("the leaked token", LEAKED, DENIED)
+    for spelling in UNREAD:
+        answer = front.exchange(front.message(written(spelling, LEAKED), "GET /environments/live"))
+        among(f"the leaked token as {spelling}", answer, [400, 401])
+    front.answers("the new token", NEW, shown)
+    for token in ALIKE:
+        front.answers(f"the token {token}", token, shown)
+
+
+def limited(front, _):
+    """At once more requests from one address than may wait: the rest is 429. Another address is answered at once."""
+    time.sleep(0.1)
+    message = front.message(f"authorization: Bearer {RED}".encode(), "GET /environments/live")
+    peers = [front.open() for _ in range(WAITING + 50)]
+    for peer in peers:
+        peer.sendall(message)
+    began = time.monotonic()
+    same("another address", front.exchange(message, "127.0.0.2")[0], 200)
+    took = time.monotonic() - began
+    statuses = [answered(peer)[0] for peer in peers]
+    lasted = time.monotonic() - began
+    for peer in peers:
+        peer.close()
+    if took > 1 or set(statuses) != {200, 429} or statuses.count(200) < WAITING or lasted < 0.75 * WAITING / RATE:
+        raise Wrong(f"{statuses.count(200)} are answered 200 in {lasted:.1f} s, and another address after {took:.1f} s")
+
+
+def unlogged(front, _):
+    for name in "errors", "access", "log":
+        for token in OFFICE, RED, BLUE, LEAKED, NEW, LATEST, *ALIKE:
+            if token in front.log(name):
+                raise Wrong(f"a token, {token}, is in {name}")
+
+
+# What each caller sends for the log, with the status of the answer.
+CHANGES = [
+    (OFFICE, "PUT /teams/last", '{"token":"%s"}' % LATEST, 200),
+    (OFFICE, "PUT /environments/a%2Fb", '{"gated":false}', 200),
+    (OFFICE, "PUT /grants/team/red/environment/a%2Fb", "", 200),
+    (RED, "POST /environments/a%2Fb/deployments", '{"pacticipant":"shop","version":"1","instance":"\u202e"}', 200),
+    (RED, "POST /environments/a%2fb/deployments", '{"pacticipant":"shop","version":"2"}', 200),
+    (BLUE, "POST /environments/a%2Fb/deployments", '{"pacticipant":"stock","version":"1"}', 403),
+    (RED, "GET /environments/a%2Fb", "", 200),
+    (OFFICE, "PUT /pacticipants/cart", '{"team":"team-0"}', 200),
+    (NEW, "PUT /pacticipants/cart/versions/1", "", 200),
+    (RED, "POST /environments/a%2Fb/undeployments", '{"pacticipant":"shop","version":"2"}', 200),
+]
+IN_ENVIRONMENT = ["red deployments shop 1 \\u202e", "red deployments shop 2", "red undeployments shop 2"]
+SINCE = [
+    "office PUT /teams/last",
+    'office PUT /environments/a%2Fb {"gated":false}',
+    "office PUT /grants/team/red/environment/a%2Fb",
+    'red POST /environments/a%2Fb/deployments {"pacticipant":"shop","version":"1","instance":"\\u202e"}',
+    'red POST /environments/a%2fb/deployments {"pacticipant":"shop","version":"2"}',
+    "office PUT /pacticipants/cart",
+    "leaky PUT /pacticipants/cart/versions/1",
+    'red POST /environments/a%2Fb/undeployments {"pacticipant":"shop","version":"2"}',
+]
+
+
+def who(front, *words):
+    """What examples/who.py says, without the times."""
+    lines = run([sys.executable, "examples/who.py", *words, f"{front.room}/log"]).splitlines()
+    return [it.split(" ", 1)[1] for it in lines]
+
+
+def recorded(front, _):
+    """Who changed what, by the log: the new token is that of the leaked one's team."""
+    time.sleep(1)
+    since = time.strftime("%Y-%m-%dT%H:%M:%S")
+    for token, ask, body, status in CHANGES:
+        same(ask, front.ask(token, ask, body)[0], status)
+    await_that(lambda: len(who(front, "--since", since)) >= len(SINCE), "the log has each request")
+    same("who.py --since", who(front, "--since", since), SINCE)
+    same("who.py of the environment", who(front, "a/b"), IN_ENVIRONMENT)
+
+
+TRIALS = {
+    "ordinary requests": ordinary,
+    "names with escapes": names,
+    "bodies": bodies,
+    "slow clients": slow,
+    "a broker that is started again": restart,
+    "a token that leaked": leaked,
+    "more requests than the limit": limited,
+    "who changed what": recorded,
+    "tokens in the logs": unlogged,
+}
+
+
+def certificate(room):
+    """One for the name, signed by itself."""
+    subject = ["-subj", f"/CN={NAME}", "-addext", f"subjectAltName=DNS:{NAME}", "-days", "2"]
+    key = ["-newkey", "ec", "-pkeyopt", "ec_paramgen_curve:prime256v1", "-nodes", "-keyout", f"{room}/key.pem"]
+    run(["openssl", "req", "-x509", *key, "-out", f"{room}/cert.pem", *subject])
+
+
+def tried(kind):
+    """How many of the trials through this proxy go wrong."""
+    faults = 0
+    with tempfile.TemporaryDirectory() as room:
+        certificate(room)
+        with Server(new_file(room)) as broker, kind(room, broker.port) as front:
+            for name, trial in TRIALS.items():
+                if trial is limited and kind is Caddy:
+                    continue
+                began = time.monotonic()
+                try:
+                    trial(front, broker)
+                    print(f"ok     {kind.title}, {name}: {time.monotonic() - began:.1f} s", flush=True)
+                except (Wrong, OSError, http.client.HTTPException) as why:
+                    faults += 1
+                    print(f"WRONG  {kind.title}, {name}: {str(why) or repr(why)}", flush=True)
+    return faults
+
+
+def main():
+    kinds = [it for it in (Nginx, Caddy) if sys.argv[2:] in ([], [it.tool])]
+    for tool in ["openssl", *(it.tool for it in kinds)]:
+        if not shutil.which(tool):
+            print(f"not run: {tool} isn't installed")
+            return 77
+    with ThreadPoolExecutor(len(kinds)) as workers:
+        return 1 if sum(workers.map(tried, kinds)) else 0
+
+
+try:
+    sys.exit(main())
+except (Wrong, OSError, subprocess.SubprocessError) as why:
+    print(f"WRONG  {str(why) or repr(why)}")
+    sys.exit(1)
