@@ -127,7 +127,8 @@ function matrixOf(pacticipant, version) {
   return ask('/matrix?' + query({ pacticipant, version }), { pacticipant, version }, { rows: [row] });
 }
 
-function listing(environment) {
+async function listing(environment) {
+  if (/^\.\.?$/.test(environment)) throw new Failure(say`No browser can ask for an environment that is called ${environment}.`);
   const fields = { environment: TEXT, gated: 'boolean', deployed: [{ ...ITEM, instance: TEXT }], released: [ITEM] };
   return ask('/environments/' + encodeURIComponent(environment), { environment }, fields);
 }
