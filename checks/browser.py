@@ -6,7 +6,7 @@
 
 What it reports meanwhile (console, faults, requests, addresses) is in page.events. It has a profile of its own, in the
 room."""
-import base64, fcntl, json, os, select, shutil, signal, subprocess, time
+import base64, fcntl, json, os, select, signal, subprocess, time
 from typing import Any
 
 PATIENCE = 30
@@ -131,13 +131,9 @@ class Browser:
         self.call("Emulation.setEmulatedMedia", features=[{"name": "prefers-color-scheme", "value": scheme}])
 
     def picture(self, path: str) -> None:
-        """A picture of the whole page."""
-        size = self.call("Page.getLayoutMetrics")["cssContentSize"]
-        clip = {"x": 0, "y": 0, "width": size["width"], "height": size["height"], "scale": 1}
+        """A picture of the page, as wide and as high as what it shows."""
+        width, height = self.js("(() => { const it = document.documentElement; return [it.clientWidth, document.body.offsetHeight]; })()")
+        clip = {"x": 0, "y": 0, "width": width, "height": height, "scale": 1}
         it = self.call("Page.captureScreenshot", format="png", clip=clip, captureBeyondViewport=True)
         with open(path, "wb") as file:
             file.write(base64.b64decode(it["data"]))
-
-
-def is_installed() -> bool:
-    return shutil.which("chromium") is not None

@@ -686,9 +686,34 @@ def lines_over_a_copy(world: World) -> None:
     same("consumers with an older contract", run(["bash", "-c", query[1].replace("COPY", copy)]), OLDER)
 
 
+# What is in live once the lines of docs/DESK.md are run
+AFTER = {
+    "deployed": [("mail", "1", ""), ("shop", "1.3", ""), ("stock", "1.0", ""), ("stock", "1.1", "canary"), ("web", "5", "")],
+    "released": [("web", "4", "")],
+}
+
+
+def lines_of_curl(world: World) -> None:
+    """The lines of curl of docs/DESK.md, in their order: each is answered 200."""
+    blocks = re.findall(r"(?m)^```\n(b=.*?)^```$", text_of("docs/DESK.md"), re.S)
+    folder = tempfile.mkdtemp(dir=world.room)
+    for caller, token in ("office", OFFICE), ("red", RED):
+        write(f"{folder}/{caller}.token", f"authorization: Bearer {token}\n")
+    wrapped = f"cd {folder}\ncurl() {{ command curl -sS -o answer -w '%{{http_code}}\\n' \"$@\"; }}\n"
+    lines = "".join(blocks).replace("http://127.0.0.1:9292", world.server.url)
+    same("lines", (len(blocks), len(re.findall(r"(?m)^(?:.* \| )?curl ", lines))), (3, 11))
+    same("statuses", run(["bash", "-euo", "pipefail", "-c", wrapped + lines]).split(), ["200"] * 11)
+    listing = json.loads(world.server.ask(OFFICE, "GET /environments/live")[1])
+    told = {key: [(it["pacticipant"], it["version"], it.get("instance", "")) for it in listing[key]] for key in AFTER}
+    same("what is in live afterwards", told, AFTER)
+    with open(f"{folder}/green.token", encoding="utf-8") as it:
+        same("the form of a new token", bool(re.fullmatch("authorization: Bearer [0-9a-f]{48}", it.read())), True)
+    same("its rights", os.stat(f"{folder}/green.token").st_mode & 0o777, 0o600)
+
+
 def readme(world: World) -> None:
     """The block of README that ends with the board in a browser, pasted."""
-    block = re.search(r"(?m)^# look at it.*?\n(room=.*?)(?=^\n|^```)", text_of("README.md"), re.S)
+    block = re.search(r"(?m)^# look at it.*?\n(room=.*?)(?=^\n|^```$)", text_of("README.md"), re.S)
     if not block:
         raise Wrong("README has no block to look at it")
     ports = {"127.0.0.1:9292": f"127.0.0.1:{free_port()}", "127.0.0.1:9393": f"127.0.0.1:{free_port()}"}
@@ -711,7 +736,7 @@ def readme(world: World) -> None:
 
 def main() -> int:
     takes_pictures = sys.argv[2:] == ["pictures"]
-    tries: list[Callable[[World], None]] = [nginx_recipe, caddy_recipe, wrong_pages, lines_over_a_copy, readme]
+    tries: list[Callable[[World], None]] = [nginx_recipe, caddy_recipe, wrong_pages, lines_over_a_copy, lines_of_curl, readme]
     wrong = 0
     with tempfile.TemporaryDirectory() as room, World(room) as world:
         for it in [lambda world: the_page(world, takes_pictures), *([] if takes_pictures else tries)]:
