@@ -37,11 +37,18 @@ class Browser:
     def __enter__(self) -> "Browser":
         reads, self.to = map(high, os.pipe())
         self.back, writes = map(high, os.pipe())
-        words = ["chromium", "--headless=new", "--no-sandbox", "--disable-gpu", "--disable-dev-shm-usage", "--hide-scrollbars"]
+        words = [
+            "chromium",
+            "--headless=new",
+            "--no-sandbox",
+            "--disable-gpu",
+            "--disable-dev-shm-usage",
+            "--hide-scrollbars",
+        ]
         words += ["--remote-debugging-pipe", f"--user-data-dir={self.profile}", "about:blank"]
         # The pipes are to be 3 and 4.
         shell = ["bash", "-c", f'exec "$@" 3<&{reads} 4>&{writes}', "bash", *words]
-        quiet = {"stdout": subprocess.DEVNULL, "stderr": subprocess.DEVNULL}
+        quiet: dict[str, Any] = {"stdout": subprocess.DEVNULL, "stderr": subprocess.DEVNULL}
         self.process = subprocess.Popen(shell, pass_fds=(reads, writes), start_new_session=True, **quiet)
         os.close(reads)
         os.close(writes)
@@ -132,7 +139,9 @@ class Browser:
 
     def picture(self, path: str) -> None:
         """A picture of the page, as wide and as high as what it shows."""
-        width, height = self.js("(() => { const it = document.documentElement; return [it.clientWidth, document.body.offsetHeight]; })()")
+        width, height = self.js(
+            "(() => { const it = document.documentElement; return [it.clientWidth, document.body.offsetHeight]; })()"
+        )
         clip = {"x": 0, "y": 0, "width": width, "height": height, "scale": 1}
         it = self.call("Page.captureScreenshot", format="png", clip=clip, captureBeyondViewport=True)
         with open(path, "wb") as file:

@@ -128,7 +128,7 @@ function matrixOf(pacticipant, version) {
 }
 
 async function listing(environment) {
-  if (/^\.\.?$/.test(environment)) throw new Failure(say`No browser can ask for an environment that is called ${environment}.`);
+  if (/^\.\.?$/.test(environment)) throw new Failure(say`No browser can ask for an environment called ${environment}.`);
   const fields = { environment: TEXT, gated: 'boolean', deployed: [{ ...ITEM, instance: TEXT }], released: [ITEM] };
   return ask('/environments/' + encodeURIComponent(environment), { environment }, fields);
 }
@@ -171,7 +171,7 @@ const REASONS = {
   },
   claimed: {
     so: (it, there) =>
-      say`${providerOf(it)} only claims to keep the contract of ${consumerOf(it)}; ${there} takes checked results only.`,
+      say`${providerOf(it)} only claims to keep the contract of ${consumerOf(it)}, and ${there} wants it checked.`,
     who: it => [it.provider], act: 'send the replies that were recorded.', sign: '! only claimed',
   },
 };
@@ -287,7 +287,7 @@ function form(view, button, ...fields) {
 }
 
 function input(id, value = '', attributes = {}) {
-  const usual = { id, required: '', autocomplete: 'off', spellcheck: 'false', autocapitalize: 'none', maxlength: '128' };
+  const usual = { id, required: '', autocomplete: 'off', spellcheck: 'false', autocapitalize: 'none', maxlength: 128 };
   const it = el('input', { ...usual, ...attributes });
   it.value = value;
   return it;

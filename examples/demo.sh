@@ -39,7 +39,8 @@ deploy() { ask 200 "$1" POST "environments/$2/deployments" '{"pacticipant":"'"$3
 
 # publish CONSUMER VERSION PROVIDER WHAT: red publishes the contract that this is answered with a title
 publish() {
-  ask 200 red PUT "pacts/provider/$3/consumer/$1/version/$2" '{"consumer":{"name":"'"$1"'"},"provider":{"name":"'"$3"'"},
+  ask 200 red PUT "pacts/provider/$3/consumer/$1/version/$2" '{"consumer":{"name":"'"$1"'"},
+    "provider":{"name":"'"$3"'"},
     "interactions":[{"description":"'"$4"'","request":{"method":"GET","path":"/'"${4// /-}"'"},
     "response":{"status":200,"headers":{"Content-Type":"application/json"},"body":{"title":"Emma"},
     "matchingRules":{"body":{"$.title":{"matchers":[{"match":"type"}]}}}}}]}'
