@@ -1,10 +1,12 @@
 -- The last row that passes a test stands at the place of its number; and the last one after one more row.
 use Rattle.std.specs.{Prelude.{option_map, if◌then◌else◌}, List.{last_or, enumerate_from}}
 use Rattle.std.proofs.Common.{◌≡◌, ◌⊎◌, ◌==◌, ◌+◌, ◌-◌, inl, inr, ℕ, suc, List, [], ◌∷◌, ◌++◌, length, filter, Bool, true, false, ◌&&◌, cond, refl, sym, ap, ◌∙◌, slice_get, Some, None, Option, arith}
-use Rattle.std.proofs.{lemmas.Bool.{ne_eqb, cond-false}, lemmas.List.Elements.{filter-append}}
+use Rattle.std.proofs.{lemmas.Bool.{eqb-true, ne_eqb, cond-false}, lemmas.List.Elements.{filter-append}}
 use Rattle.sqlite_rules.specs.Lists.{Has}
+use Rattle.sqlite_keyed.proofs.RuleLemmas.{first_of_both, second_of_both}
 use Rattle.table_access.proofs.Members.{filter_has}
 use Rattle.broker_core.specs.{State.{State as Broker, Verification, last_row, latest_result}, Text.{same_version}, declared.command.Version.{Version}}
+use Rattle.broker_core.proofs.Judgement.{version_is}
 use Rattle.contract_tables.specs.Verified.{result_with}
 
 last_has : {X : Type 0} (o : Option X) (xs : List X) (x : X) → last_or o xs ≡ Some x → (o ≡ Some x) ⊎ Has xs x
@@ -25,6 +27,13 @@ last_stands test rows e is = elim (last_has None (filter (λ e. test e.1) (enume
       let at = placed 1 rows e (filter_has (λ e. test e.1) (enumerate_from 1 rows) e there).0 in
       let place : e.0 - 1 ≡ at.0 = omega (arith, at.1) in
       cond-false (e.0 == 0) None (slice_get rows (e.0 - 1)) (ne_eqb e.0 0 (λ none. omega (arith, none, at.1))) ∙ ap (slice_get rows) place ∙ at.2
+]
+
+-- and passes it
+pub last_passes : {X : Type 0} (test : X → Bool) (rows : List X) (e : ℕ × X) → last_row test rows ≡ Some e → test e.1 ≡ true
+last_passes test rows e is = elim (last_has None (filter (λ e. test e.1) (enumerate_from 1 rows)) e is) [
+  | inl wrong ↦ absurd cc
+  | inr there ↦ (filter_has (λ e. test e.1) (enumerate_from 1 rows) e there).1
 ]
 
 -- ---- one more row
@@ -54,6 +63,12 @@ last_pushed test rows x =
 -- the latest result is the one with its number
 pub latest_with : (s : Broker) (content : ℕ) (v : Version) (e : ℕ × Verification) → latest_result s content v ≡ Some e → result_with s e.0 ≡ Some e.1
 latest_with s content v e is = last_stands (λ r. r.content == content && same_version r.version v) s.results e is
+
+-- and one for the content, of the version
+pub latest_pair : (s : Broker) (content : ℕ) (v : Version) (e : ℕ × Verification) → latest_result s content v ≡ Some e → (e.1.content ≡ content) × (e.1.version ≡ v)
+latest_pair s content v e is =
+    let both = last_passes (λ r. r.content == content && same_version r.version v) s.results e is in
+    (eqb-true e.1.content content (first_of_both _ _ both), version_is e.1.version v (second_of_both _ _ both))
 
 -- what is told of a result, with the mark whether the broker checked it, which is looked up by its number
 pub with_mark : {A B : Type 0} (s : Broker) (o : Option (ℕ × Verification)) (f : ℕ × Verification → A) (tell : A → Bool → B) (number : A → ℕ)

@@ -1,7 +1,7 @@
 -- The rows of each query of these tables can be read, if the state that the database holds can; and there is none for a
 -- number that no version has.
 use Rattle.std.specs.Prelude.{option_map, IsSomeAnd}
-use Rattle.std.proofs.Common.{◌≡◌, ◌∙◌, ◌<◌, ◌≤◌, inl, inr, ℕ, pos, List, [], ◌∷◌, Option, Some, None, true, refl, sym, ap, slice_get, arith}
+use Rattle.std.proofs.Common.{◌≡◌, ◌∙◌, ◌<◌, ◌≤◌, inl, inr, ℕ, pos, List, [], ◌∷◌, Option, Some, None, true, refl, sym, ap, subst, slice_get, arith}
 use Rattle.sqlite.specs.{declared.types.Value.TheVariants.{Int}, Order.{Row, column}, Edit.{id_in}, Term.{col, eval_all}, Effect.{Database}}
 use Rattle.sqlite.specs.Collation.TheVariants.{Binary}
 use Rattle.sqlite_rules.{specs.Lists.{Has}, proofs.TableLemmas.{int_is}}
@@ -13,13 +13,13 @@ use Rattle.broker_core.specs.{State.{State as Broker}, declared.command.Version.
 use Rattle.broker_tables.specs.{Schema.{in_versions, in_contracts, in_results, in_latest}, Holds.{Holds}, Readable.{IsReadable}, Numbers.{number_of}}
 use Rattle.broker_tables.proofs.ReadableRows.{IsLow, number_cell, name_cell, truth_cell, result_low, to_version_low, to_content_low, to_result_low, version_named, to_pacticipant_named, pass_low}
 use Rattle.broker_tables.proofs.{Placed.{contracts, contracts_there, results, results_there, latest, latest_there}, NoVersion.{no_row}}
-use Rattle.broker_tables.proofs.{VersionRows.{owners, names}, Asked.{IsShown, EachReads, NoneFor, of_table, of_both, of_first, number_reads}}
-use Rattle.contract_tables.specs.{Listings.{ReadsAsMarked, ReadsAsNames}, VersionResults.{ReadsAsPass, ReadsAsLatest}, Verified.{ReadsAsResult}}
+use Rattle.broker_tables.proofs.{VersionRows.{owners, names, whole_test}, Asked.{IsShown, EachReads, NoneFor, of_table, of_both, of_first, number_reads}}
+use Rattle.contract_tables.specs.{Listings.{ReadsAsMarked, ReadsAsNames}, VersionResults.{ReadsAsLatest}, Verified.{ReadsAsResult}}
 use Rattle.contract_tables.proofs.ContractRows.{numbers, contents, providers, content, project, own, users_project, users}
 use Rattle.contract_tables.proofs.ResultRows.{contents as latest_contents, versions, numbers as latest_numbers}
 use Rattle.contract_tables.proofs.VerifiedList.{project as verified_project, verifiers, newest, told_as}
-use Rattle.contract_tables.proofs.ToldResults.{told_passes, told_project, told_marks, told_marks_project}
-use Rattle.contract_tables.proofs.VersionResults.{passes_project, passes, marks_project, marks, one_project, join}
+use Rattle.contract_tables.proofs.ToldResults.{told_passes, told_marks, told_marks_project}
+use Rattle.contract_tables.proofs.VersionResults.{passes_project, passes, marks_project, marks, join, of_its_pair}
 use Rattle.contract_tables.proofs.ResultLookups.{numbered_rows, count, pass, run_project, run}
 
 -- ---- the columns of the tables
@@ -88,11 +88,33 @@ users_reads n p db s held readable = of_both (users n p) db _ (λ c v hc hv kept
 pub newest_reads : (c n : ℕ) (db : Database) → EachReads (newest c n) db IsNumberRow
 newest_reads c n db s held readable = number_reads (newest c n) db (latest_result db s held readable)
 
-pub join_reads : (c n : ℕ) (db : Database) → EachReads (join c n) db ReadsAsPass
-join_reads c n db s held readable = of_both (join c n) db _ (λ l r hl hr kept.
-    let number = result_number db s held readable r hr in
-    let truth = result_pass db s held readable r hr in
-    let shown : Row = eval_all one_project ([] ∷ l ∷ r ∷ []) in (number_cell shown 0 (whole_at 0 r) (omega arith) number.0 number.1, truth_cell shown 1 (whole_at in_results.pass r) (omega arith) truth.0 truth.1))
+-- a latest result with what it is said to be of, each joined row reads
+module _ (db : Database) (s : Broker) (held : Holds db s) (readable : IsReadable s) where
+  pair_reads : (l r : Row) → Has (db.trees in_latest.tree) l → Has (db.trees in_results.tree) r
+      → is_true (binary (Compare Eq Binary) (column r 0) (column l in_latest.result)) ≡ true → ReadsAsLatest (eval_all passes_project ([] ∷ l ∷ r ∷ []))
+  pair_reads l r hl hr test =
+      let number = result_number db s held readable r hr in
+      let truth = result_pass db s held readable r hr in
+      let of_latest = latest_content db s held readable l hl in
+      let of_content = result_content db s held readable r hr in
+      let of_version = result_version db s held readable r hr in
+      let joined = (whole_test (column r 0) (column l in_latest.result) (whole_at 0 r) (whole_at in_latest.result l) number.0 (latest_numbers db held.broker l hl)).0 test in
+      let pair = of_its_pair db s held l r hl hr of_latest.1.0 of_latest.1.1 joined in
+      let content = of_latest.0 ∙ ap Int (sym pair.0) ∙ sym of_content.0 in
+      let named = versions db held.broker l hl in
+      let version = named ∙ ap Int (sym pair.1) ∙ sym of_version.0 in
+      let shown : Row = eval_all passes_project ([] ∷ l ∷ r ∷ []) in (
+        (number_cell shown 0 (whole_at 0 r) (omega arith) number.0 number.1, truth_cell shown 1 (whole_at in_results.pass r) (omega arith) truth.0 truth.1),
+        (number_cell shown 2 (whole_at in_latest.content l) (omega arith) of_latest.0 of_latest.1, number_cell shown 3 (whole_at in_results.content r) (omega arith) of_content.0 of_content.1, content),
+        (
+          number_cell shown 4 (whole_at in_latest.provider_version l) (omega arith) named (subst IsLow pair.1 of_version.1),
+          number_cell shown 5 (whole_at in_results.provider_version r) (omega arith) of_version.0 of_version.1,
+          version,
+        ),
+      )
+
+pub join_reads : (c n : ℕ) (db : Database) → EachReads (join c n) db ReadsAsLatest
+join_reads c n db s held readable = of_both (join c n) db _ (λ l r hl hr kept. pair_reads db s held readable l r hl hr (first_of_both _ _ kept))
 
 pub verifiers_reads : (c : ℕ) (p : List ℕ) (db : Database) → EachReads (verifiers c p) db ReadsAsMarked
 verifiers_reads c p db s held readable = of_both (verifiers c p) db _ (λ l v hl hv kept.
@@ -101,26 +123,15 @@ verifiers_reads c p db s held readable = of_both (verifiers c p) db _ (λ l v hl
     (number_cell shown 0 (whole_at in_latest.result l) (omega arith) number.0 number.1, name_cell shown 1 (text in_versions.version v) (omega arith) (names db held.broker v hv) (version_named db s held readable v hv).1))
 
 pub passes_reads : (n : ℕ) (db : Database) → EachReads (passes n) db ReadsAsLatest
-passes_reads n db s held readable = of_both (passes n) db _ (λ l r hl hr kept.
-    let content = latest_content db s held readable l hl in
-    let number = result_number db s held readable r hr in
-    let truth = result_pass db s held readable r hr in
-    let shown : Row = eval_all passes_project ([] ∷ l ∷ r ∷ []) in (
-      number_cell shown 0 (whole_at in_latest.content l) (omega arith) content.0 content.1,
-      number_cell shown 1 (whole_at 0 r) (omega arith) number.0 number.1,
-      truth_cell shown 2 (whole_at in_results.pass r) (omega arith) truth.0 truth.1,
-    ))
+passes_reads n db s held readable = of_both (passes n) db _ (λ l r hl hr kept. pair_reads db s held readable l r hl hr (first_of_both _ _ kept))
 
 pub marks_reads : (n : ℕ) (db : Database) → EachReads (marks n) db IsNumberRow
 marks_reads n db s held readable = of_both (marks n) db _ (λ l r hl hr kept.
     let content = latest_content db s held readable l hl in
     number_cell (eval_all marks_project ([] ∷ l ∷ r ∷ [])) 0 (whole_at in_latest.content l) (omega arith) content.0 content.1)
 
-pub told_reads : (c : ℕ) (db : Database) → EachReads (told_passes c) db ReadsAsPass
-told_reads c db s held readable = of_both (told_passes c) db _ (λ l r hl hr kept.
-    let number = latest_result db s held readable l hl in
-    let truth = result_pass db s held readable r hr in
-    let shown : Row = eval_all told_project ([] ∷ l ∷ r ∷ []) in (number_cell shown 0 (whole_at in_latest.result l) (omega arith) number.0 number.1, truth_cell shown 1 (whole_at in_results.pass r) (omega arith) truth.0 truth.1))
+pub told_reads : (c : ℕ) (db : Database) → EachReads (told_passes c) db ReadsAsLatest
+told_reads c db s held readable = of_both (told_passes c) db _ (λ l r hl hr kept. pair_reads db s held readable l r hl hr (first_of_both _ _ kept))
 
 pub told_marks_reads : (c : ℕ) (db : Database) → EachReads (told_marks c) db IsNumberRow
 told_marks_reads c db s held readable = of_both (told_marks c) db _ (λ l r hl hr kept.

@@ -9,12 +9,12 @@ use Rattle.table_access.specs.{Columns.{whole_at}, Sound.{IsNumbered, whole}, St
 use Rattle.table_access.proofs.{SoundLemmas.{any_of, at_has}, Members.{has_pair, pair_has, any_has, contains_has, has_contains}}
 use Rattle.broker_tables.specs.{Schema.{in_results, in_latest, in_checked_results}, Numbers.{number_of}, Holds.{Holds, ResultRow}}
 use Rattle.broker_tables.proofs.{VersionRows.{whole_test, by_number}, Asked.{Asked, IsShown}, Listed.{lists_read}}
-use Rattle.contract_tables.specs.{declared.lookups.NumberedPass.{NumberedPass}, declared.told_versions.NamedResult.{NamedResult}}
+use Rattle.contract_tables.specs.{declared.told_versions.NumberedPass.{NumberedPass}, declared.told_versions.NamedResult.{NamedResult}}
 use Rattle.contract_tables.specs.{Verified.{PassCells, result_with, latest_at}, VersionResults.{is_among}}
 use Rattle.contract_tables.specs.ToldVersions.{verified_cmp, named_cmp, IsNumberedPassRow, Tell, TellPasses, TellChecked, IsUntold, IsToldBy, IsTold}
 use Rattle.contract_tables.proofs.{ItemLists.{and_tests, last_test}, JoinRows.{pair_of, item_of_pair}, LastRow.{latest_with}}
 use Rattle.contract_tables.proofs.{ResultLookups.{numbered_rows, marked_rows}, ResultRows.{contents, numbers}, VerifiedList.{told_as, tells_row}}
-use Rattle.contract_tables.proofs.VersionResults.{result_row, row_result, mark_says, says_mark}
+use Rattle.contract_tables.proofs.VersionResults.{passes_project, result_row, row_result, mark_says, says_mark}
 use Rattle.broker_core.specs.{declared.command.Version.{Version}, declared.answer.Verified.{Verified}, Listing.{Lists}, Machine.{IsLatest}}
 use Rattle.broker_core.specs.{State.{State as Broker, Verification, latest_result, said_by}, Text.{Text, text_cmp, version}}
 use Rattle.sqlite.specs.{Tree.{rowid}, Edit.{id_in}, declared.types.Value.TheVariants.{Int}, Order.{Row, column}, Term.{Term, col, op2, eval_all}}
@@ -27,15 +27,12 @@ use Rattle.sqlite_sql.specs.{declared.ops.BinaryOp.TheVariants.{Compare}, declar
 abbrev pub terms : List Term
 terms = op2 (Compare Eq Binary) (col 2 0) (col 1 in_latest.result) ∷ op2 (Compare Eq Binary) (col 1 in_latest.content) (col 0 0) ∷ []
 
-abbrev pub told_project : List Term
-told_project = col 1 in_latest.result ∷ col 2 in_results.pass ∷ []
-
 abbrev pub told_marks_project : List Term
 told_marks_project = col 1 in_latest.result ∷ []
 
 pub told_passes : (n : ℕ)
-    → Asked (codes "SELECT l.result, r.pass FROM latest l JOIN results r ON r.number = l.result WHERE l.content = ?1")
-    (Int (pos n) ∷ []) (from_both in_latest.tree in_results.tree terms told_project [])
+    → Asked (codes "SELECT r.number, r.pass, l.content, r.content, l.provider_version, r.provider_version FROM latest l JOIN results r ON r.number = l.result WHERE l.content = ?1")
+    (Int (pos n) ∷ []) (from_both in_latest.tree in_results.tree terms passes_project [])
 unfolding understood everything
 told_passes n = record { names = _; means = record { is = refl; plain = (refl, refl); unlisted = refl }; runs = record { whole = refl; typed = refl; sumless = refl } }
 
@@ -88,15 +85,15 @@ module _ (db : Database) (s : Broker) (held : Holds db s) (k : ℕ) where
 
   pub passes_told : (rows : List Row) (items : List NumberedPass) → IsShown (told_passes k) db rows → AreRead IsNumberedPassRow rows items → TellPasses s k items
   passes_told =
-      told in_results.tree (numbered_rows db held.broker) told_project IsNumberedPassRow (λ x. x.number) (λ x r. x.pass ≡ r.pass)
+      told in_results.tree (numbered_rows db held.broker) passes_project IsNumberedPassRow (λ x. x.number) (λ x r. x.pass ≡ r.pass)
       (λ e. record { number = e.0; pass = e.1.pass }) (λ r. ⊤)
       (λ l r x v has same shown is.
-      let number : pos x.number ≡ whole_at in_latest.result l = ap (λ (c : PassCells). id_in c.0) shown.0 in
-      ap (λ (c : PassCells). c.1) shown.0 ∙ ap (λ (y : ResultRow). y.pass) (row_result db s held x.number v is r has (same ∙ sym number)))
+      let number : pos x.number ≡ whole_at 0 r = ap (λ (c : PassCells). id_in c.0) shown.0 in
+      ap (λ (c : PassCells). c.1) shown.0 ∙ ap (λ (y : ResultRow). y.pass) (row_result db s held x.number v is r has (sym number)))
       (λ e is _.
       let r = result_row db s held e.0 e.1 is in
       let pass = ap (λ (z : ResultRow). z.pass) r.3 in
-      (r.0, r.1, r.2, λ l y number shown i. record { number = whole ((ap (λ (c : PassCells). id_in c.0) shown.0 ∙ number) i); pass = (ap (λ (c : PassCells). c.1) shown.0 ∙ pass) i }))
+      (r.0, r.1, r.2, λ l y number shown i. record { number = whole ((ap (λ (c : PassCells). id_in c.0) shown.0 ∙ r.2) i); pass = (ap (λ (c : PassCells). c.1) shown.0 ∙ pass) i }))
 
   pub checked_told : (rows : List Row) (items : List ℕ) → IsShown (told_marks k) db rows → AreRead IsNumber rows items → TellChecked s k items
   checked_told =

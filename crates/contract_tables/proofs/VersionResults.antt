@@ -1,7 +1,7 @@
 -- The latest results, joined with those of their results and with the marks: all of one version, and that for one content.
 use Rattle.std.specs.{Prelude.{Contains, option_map, IsSorted, ◌↔◌}, Ordering.{eq_by_cmp, int_cmp, nat_cmp}}
 use Rattle.std.specs.{Cmp.{int_cmp_total, Equal-is, eq_by_cmp_equiv, both_ways}, FinMap.{int_cmp-IsAntisymmetric}}
-use Rattle.std.proofs.Common.{◌≡◌, ◌==◌, inl, ℕ, pos, codes, List, [], ◌∷◌, map, Bool, true, refl, sym, ap, subst, ◌∙◌, slice_get, Some, None, Option}
+use Rattle.std.proofs.Common.{◌≡◌, ◌==◌, inl, inr, ℕ, pos, codes, List, [], ◌∷◌, map, Bool, true, refl, sym, ap, subst, ◌∙◌, slice_get, Some, None, Option}
 use Rattle.std.proofs.lemmas.Bool.{eq-eqb, eqb-true}
 use Rattle.sqlite.specs.{Tree.{rowid}, Edit.{id_in}, declared.types.Value.TheVariants.{Int}, Order.{Row, column}, Term.{Term, col, op2, eval_all}}
 use Rattle.sqlite.specs.{Collation.TheVariants.{Binary}, Effect.{Database}, Listing.{understood}}
@@ -9,19 +9,20 @@ use Rattle.sqlite_sql.specs.{declared.ops.BinaryOp.TheVariants.{Compare}, declar
 use Rattle.sqlite_value.specs.{declared.keys.Key.{Key}, Keys.{ascending}}
 use Rattle.sqlite_rules.{specs.Lists.{Has}, proofs.TableLemmas.{int_is}}
 use Rattle.sqlite_tied.specs.Compute.{everything}
-use Rattle.table_access.{specs.{Columns.{whole_at}, Sound.{IsNumbered, whole}, Statements.{from_both, keeps_both}, Reading.{AreRead}}, proofs.Maps.{find_has}}
-use Rattle.table_access.proofs.{Members.{has_pair, any_has, contains_has, has_contains}, Parts.{numbers_once}, SoundLemmas.{any_of, at_has}}
-use Rattle.table_access.proofs.ReadLemmas.{option_map_twice}
-use Rattle.broker_core.specs.{declared.command.Version.{Version}, Listing.{Lists}, State.{State as Broker, Verification, latest_result, latest, said_by}}
-use Rattle.broker_core.specs.declared.need.Latest.{Latest}
-use Rattle.broker_tables.specs.{Schema.{in_results, in_latest, in_checked_results}, Rows.{truth}, Numbers.{number_of}}
+use Rattle.table_access.specs.{Columns.{text, whole_at}, Sound.{IsNumbered, whole}, Statements.{from_both, keeps_both}, Reading.{AreRead}}
+use Rattle.table_access.proofs.{Maps.{find_has}, Members.{has_pair, any_has, contains_has, has_contains}, Parts.{numbers_once}}
+use Rattle.table_access.proofs.{SoundLemmas.{any_of, at_has, has_place}, ReadLemmas.{option_map_twice}}
+use Rattle.broker_core.specs.{declared.command.Version.{Version}, Text.{version}, Listing.{Lists}}
+use Rattle.broker_core.{specs.{State.{State as Broker, Verification, latest_result, latest, said_by}, declared.need.Latest.{Latest}}, proofs.Lists.{some_is}}
+use Rattle.broker_tables.specs.{Schema.{in_results, in_latest, in_checked_results, in_versions}, Rows.{truth}, Numbers.{number_of}}
 use Rattle.broker_tables.{specs.Holds.{Holds, ResultRow, result_in, result_of}, proofs.{Asked.{Asked, IsShown, EachShown, of_both}, Listed.{lists_read}}}
-use Rattle.broker_tables.proofs.{Orders.{numbers_total}, VersionRows.{whole_test, one_row}}
+use Rattle.broker_tables.proofs.{Orders.{numbers_total}, Placed.{latest as latest_table, latest_there}, References.{refers_version}}
+use Rattle.broker_tables.proofs.VersionRows.{whole_test, one_row, row_number}
 use Rattle.contract_tables.specs.VersionResults.{pass_cmp, latest_cmp, IsPassOf, IsLatestOf, said_of, IsPassRow, is_among, marked}
 use Rattle.contract_tables.specs.Verified.{result_with, PassCells, pass_cells, pass_of, Passed, passed_of, passed_as}
 use Rattle.contract_tables.specs.{declared.version_results.ContentPass.{ContentPass}, declared.version_results.LatestResult.{LatestResult}}
-use Rattle.contract_tables.proofs.{ItemLists.{and_tests, last_test, last_number, less_nat, list_pairs}, JoinRows.{pair_shown}, LastRow.{latest_with}}
-use Rattle.contract_tables.proofs.{Rising.{sorted as in_order}, VerifiedList.{told_as, row_tells, tells_row}}
+use Rattle.contract_tables.proofs.{ItemLists.{and_tests, last_test, last_number, less_nat, list_pairs}, JoinRows.{pair_shown}}
+use Rattle.contract_tables.proofs.{LastRow.{latest_pair, latest_with}, Rising.{sorted as in_order}, VerifiedList.{told_as, row_tells, tells_row}}
 use Rattle.contract_tables.proofs.{ResultLookups.{numbered_rows, marked_rows, result_at}, ResultRows.{key, keys, contents, versions, numbers, latest_numbered}}
 
 -- ---- the two statements
@@ -33,11 +34,13 @@ terms = op2 (Compare Eq Binary) (col 2 0) (col 1 in_latest.result) ∷ op2 (Comp
 abbrev pub order : List (Term × Key)
 order = (col 1 in_latest.content, ascending Binary) ∷ []
 
+-- the result, whether it is a pass, and of what it is said to be the latest, each beside what it is of
 abbrev pub passes_project : List Term
-passes_project = col 1 in_latest.content ∷ col 2 0 ∷ col 2 in_results.pass ∷ []
+passes_project = col 2 0 ∷ col 2 in_results.pass ∷ col 1 in_latest.content ∷ col 2 in_results.content
+    ∷ col 1 in_latest.provider_version ∷ col 2 in_results.provider_version ∷ []
 
 pub passes : (n : ℕ)
-    → Asked (codes "SELECT l.content, r.number, r.pass FROM latest l JOIN results r ON r.number = l.result WHERE l.provider_version = ?1 ORDER BY l.content")
+    → Asked (codes "SELECT r.number, r.pass, l.content, r.content, l.provider_version, r.provider_version FROM latest l JOIN results r ON r.number = l.result WHERE l.provider_version = ?1 ORDER BY l.content")
     (Int (pos n) ∷ []) (from_both in_latest.tree in_results.tree terms passes_project order)
 unfolding understood everything
 passes n = record { names = _; means = record { is = refl; plain = (refl, refl); unlisted = refl }; runs = record { whole = refl; typed = refl; sumless = refl } }
@@ -86,6 +89,23 @@ module _ (db : Database) (s : Broker) (held : Holds db s) (n : ℕ) (r : Verific
       let mark = any_has (λ q. eq_by_cmp int_cmp (whole_at 0 row.0) (whole_at 0 q)) (db.trees in_checked_results.tree) (ap (λ (y : ResultRow). y.checked) row.3 ∙ so) in
       let same : whole_at 0 row.0 ≡ whole_at 0 mark.0 = int_cmp-IsAntisymmetric _ _ ((Equal-is (int_cmp (whole_at 0 row.0) (whole_at 0 mark.0))).0 mark.2) in
       (mark.0, mark.1, sym same ∙ row.2)
+
+-- a result that is said to be the latest is for the content, and of the version, that the row says
+module _ (db : Database) (s : Broker) (held : Holds db s) where
+  pub of_its_pair : (l r : Row) → Has (db.trees in_latest.tree) l → Has (db.trees in_results.tree) r → (c : ℕ) → whole_at in_latest.content l ≡ pos c
+      → whole_at 0 r ≡ whole_at in_latest.result l
+      → (whole_at in_results.content r ≡ whole_at in_latest.content l) × (whole_at in_results.provider_version r ≡ whole_at in_latest.provider_version l)
+  of_its_pair l r hl hr c content joined =
+      let v = refers_version db held.broker latest_table (has_place _ 10 latest_table (latest_there db held.broker)) in_latest.provider_version (inr (inl refl)) l hl (versions db held.broker l hl) in
+      let known = row_number db held.broker s.versions held.versions v.0 v.1 in
+      let w = version (text in_versions.pacticipant v.0) (text in_versions.version v.0) in
+      let number : whole_at in_latest.provider_version l ≡ pos known.0 = sym v.2 ∙ known.2 in
+      let e = row_tells db s held w known.0 known.1 l c hl content number in
+      let stored = row_result db s held e.0.0 e.0.1 (latest_with s c w e.0 e.1) r hr (joined ∙ e.2) in
+      let pair = latest_pair s c w e.0 e.1 in
+      let told : Some (whole_at in_results.provider_version r) ≡ Some (pos known.0) =
+      ap (λ (y : ResultRow). y.version) stored ∙ ap (λ u. option_map pos (number_of s.versions u)) pair.1 ∙ ap (option_map pos) known.1 in
+      (ap (λ (y : ResultRow). y.content) stored ∙ ap pos pair.0 ∙ sym content, some_is _ _ told ∙ sym number)
 
 module _ (db : Database) (s : Broker) (held : Holds db s) (v : Version) (n : ℕ) (is : number_of s.versions v ≡ Some n) where
   abbrev params : Row
@@ -231,12 +251,9 @@ abbrev pub one_terms : List Term
 one_terms = op2 (Compare Eq Binary) (col 2 0) (col 1 in_latest.result) ∷ op2 (Compare Eq Binary) (col 1 in_latest.content) (col 0 0)
     ∷ op2 (Compare Eq Binary) (col 1 in_latest.provider_version) (col 0 1) ∷ []
 
-abbrev pub one_project : List Term
-one_project = col 2 0 ∷ col 2 in_results.pass ∷ []
-
 pub join : (c n : ℕ)
-    → Asked (codes "SELECT r.number, r.pass FROM latest l JOIN results r ON r.number = l.result WHERE l.content = ?1 AND l.provider_version = ?2")
-    (Int (pos c) ∷ Int (pos n) ∷ []) (from_both in_latest.tree in_results.tree one_terms one_project [])
+    → Asked (codes "SELECT r.number, r.pass, l.content, r.content, l.provider_version, r.provider_version FROM latest l JOIN results r ON r.number = l.result WHERE l.content = ?1 AND l.provider_version = ?2")
+    (Int (pos c) ∷ Int (pos n) ∷ []) (from_both in_latest.tree in_results.tree one_terms passes_project [])
 unfolding understood everything
 join c n = record { names = _; means = record { is = refl; plain = (refl, refl); unlisted = refl }; runs = record { whole = refl; typed = refl; sumless = refl } }
 
@@ -270,7 +287,7 @@ module _ (db : Database) (s : Broker) (held : Holds db s) (v : Version) (content
       let l = tells_row db s held v n is content e found in
       let r = result_row db s held e.0 e.1 (latest_with s content v e found) in
       let kept = has_pair (keeps_both one_terms one_params) (db.trees in_results.tree) (db.trees in_latest.tree) l.0 r.0 l.1 r.1 ((one_joined l.0 r.0 l.1 r.1).1 (r.2 ∙ sym l.4, (l.2, l.3))) in
-      (eval_all one_project (one_params ∷ l.0 ∷ r.0 ∷ []), pair_shown db one_params in_latest.tree in_results.tree one_terms one_project [] rows h (l.0, r.0) kept)
+      (eval_all passes_project (one_params ∷ l.0 ∷ r.0 ∷ []), pair_shown db one_params in_latest.tree in_results.tree one_terms passes_project [] rows h (l.0, r.0) kept)
 
 -- the first row tells the latest result, and there is none where there is no row
 pub join_found : {X : Type 0} (number : X → ℕ) (pass : X → Bool) (content n : ℕ) (db : Database) (rows : List Row) (found : Option X) (s : Broker) (v : Version) → Holds db s → number_of s.versions v ≡ Some n

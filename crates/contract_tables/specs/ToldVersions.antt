@@ -12,10 +12,10 @@ use Rattle.broker_core.specs.declared.answer.Verified.{Verified}
 use Rattle.broker_core.specs.State.{State, Verification, latest_result}
 use Rattle.broker_core.specs.Text.{text_cmp}
 use Rattle.broker_tables.specs.Rows.{IsTruthAt}
-use Rattle.contract_tables.specs.declared.lookups.NumberedPass.{NumberedPass}
+use Rattle.contract_tables.specs.declared.told_versions.NumberedPass.{NumberedPass}
 use Rattle.contract_tables.specs.declared.told_versions.NamedResult.{NamedResult}
 use Rattle.contract_tables.specs.Verified.{result_with, pass_cells, pass_of}
-use Rattle.contract_tables.specs.VersionResults.{is_among}
+use Rattle.contract_tables.specs.VersionResults.{IsOfItsPair, is_among}
 
 -- in the order of their names, each of which is there once
 abbrev pub verified_cmp : Verified → Verified → Ordering
@@ -30,9 +30,9 @@ named_cmp x y = text_cmp x.name y.name
 abbrev pub IsNamedRow : Row → NamedResult → Type 0
 IsNamedRow row x = (column row 0 ≡ Int (pos x.result)) × (column row 1 ≡ Text x.name)
 
--- the columns are the result, and whether it is a pass, which is 0 or 1
+-- the columns are the result, and whether it is a pass, which is 0 or 1, and of what it is said to be the latest
 abbrev pub IsNumberedPassRow : Row → NumberedPass → Type 0
-IsNumberedPassRow row x = (pass_of x.number x.pass ≡ pass_cells row) × IsTruthAt 1 row
+IsNumberedPassRow row x = (pass_of x.number x.pass ≡ pass_cells row) × IsTruthAt 1 row × IsOfItsPair row
 
 -- ---- what the results say
 

@@ -34,25 +34,31 @@ IsLatestOf s v x = option_map said_of (latest_result s x.content v) ≡ Some (x.
 abbrev pub IsPassOf : State → Version → ContentPass → Type 0
 IsPassOf s v x = option_map passed_of (latest_result s x.content v) ≡ Some (passed_as x.result x.pass)
 
--- the columns are the content, the result, and whether that is a pass, which is 0 or 1
+-- the result is for the content, and of the version, for which it is said to be the latest
+abbrev pub IsOfItsPair : Row → Type 0
+IsOfItsPair row = (column row 2 ≡ column row 3) × (column row 4 ≡ column row 5)
+
+-- the columns are the result, whether that is a pass, which is 0 or 1, the content, and the result's content; and the
+-- version, and the result's version
 abbrev pub IsPassRow : Row → ContentPass → Type 0
-IsPassRow row x =
-    (column row 0 ≡ Int (pos x.content)) × (column row 1 ≡ Int (pos x.result)) × (truth 2 row ≡ x.pass) × IsTruthAt 2 row
+IsPassRow row x = (column row 2 ≡ Int (pos x.content)) × (column row 0 ≡ Int (pos x.result)) × (truth 1 row ≡ x.pass)
+    × IsTruthAt 1 row × IsOfItsPair row
 
 -- the row reads as a number and a truth value
 abbrev pub ReadsAsPass : Row → Type 0
 ReadsAsPass row = IsNumberRow row × IsTruthAt 1 row
 
--- the row reads as two numbers and a truth value
+-- both columns have one number
+abbrev pub AreSame : ℕ → ℕ → Row → Type 0
+AreSame one other row = IsNumberAt one row × IsNumberAt other row × (column row one ≡ column row other)
+
+-- the row reads so, and the result is for its content and of its version
 abbrev pub ReadsAsLatest : Row → Type 0
-ReadsAsLatest row = IsNumberRow row × IsNumberAt 1 row × IsTruthAt 2 row
+ReadsAsLatest row = ReadsAsPass row × AreSame 2 3 row × AreSame 4 5 row
 
 -- Store comes exactly, since reading takes no memory
 abbrev pub FailsAsLatest : Row → StoreFault → Type 0
 FailsAsLatest row fault = (fault ≡ Store) × (¬ ReadsAsLatest row)
-
-abbrev pub FailsAsPass : Row → StoreFault → Type 0
-FailsAsPass row fault = (fault ≡ Store) × (¬ ReadsAsPass row)
 
 -- for private clauses: the number is one of these
 abbrev pub is_among : List ℕ → ℕ → Bool

@@ -10,8 +10,9 @@ ghost use Rattle.sqlite.specs.Held.{state};
 ghost use Rattle.sqlite.specs.State.{HasCleanDisk};
 ghost use Rattle.sqlite.specs.Order.{Row as SqlRow};
 ghost use Rattle.contract_tables.specs.Verified.{result_with, IsPassShown, cells, cells_of, ReadsAsResult, pass_cells, pass_of, passed_of, passed_as, by_numbers, numbers_are, told_of, told};
-ghost use Rattle.contract_tables.specs.VersionResults.{ReadsAsPass};
+ghost use Rattle.contract_tables.specs.VersionResults.{IsOfItsPair, ReadsAsLatest};
 
+use crate::version_results::{ContentPass, read_latest};
 use broker_core::need::Latest;
 use broker_tables::{truth_at, truth_of};
 use sqlite::{Alter, Connection, Row, params};
@@ -103,52 +104,37 @@ pub fn result_said<S: Alter>(
     }
 }
 
-/// A result by its number, and whether it is a pass.
-#[derive(Clone, Copy)]
-pub(crate) struct NumberedPass {
-    pub number: u32,
-    pub pass: bool,
-}
-
-/// The number and the truth value in a row. `StoreFault::Store` if one of them isn't there.
-pub(crate) fn read_pass(row: &Row) -> Result<NumberedPass, StoreFault>
-    ensures ok { IfOk result (λ r. pass_of r.number r.pass ≡ pass_cells row.now) }
-    ensures reads { IfOk result (λ _. IsTruthAt 1 row.now) }
-    ensures cause { IfErr result (λ f. (f ≡ StoreFault.Store) × (¬ ReadsAsPass row.now)) }
-{
-    let number = number_at(row, 0)?;
-    let pass = truth_at(row, 1)?;
-    Ok(NumberedPass { number, pass })
-}
-
-/// The number and the truth value in the first row, if there is a row. `StoreFault::Store` if that doesn't read.
-fn first_pass(rows: &[Row]) -> Result<Option<NumberedPass>, StoreFault>
+/// The latest result in the first row, if there is a row. `StoreFault::Store` if that doesn't read, or has a result of
+/// another content or version.
+fn first_pass(rows: &[Row]) -> Result<Option<ContentPass>, StoreFault>
     ensures ok { IfOk result
-        (λ found. option_map (λ r. pass_of r.number r.pass) found ≡ option_map pass_cells (slice_get rows.now 0)) }
-    ensures reads { IfOk result (λ _. (row : SqlRow) → slice_get rows.now 0 ≡ Some row → IsTruthAt 1 row) }
+        (λ found. option_map (λ r. pass_of r.result r.pass) found ≡ option_map pass_cells (slice_get rows.now 0)) }
+    ensures reads { IfOk result (λ _. (row : SqlRow) → slice_get rows.now 0 ≡ Some row →
+        IsTruthAt 1 row × IsOfItsPair row) }
     ensures cause { IfErr result (λ f. (f ≡ StoreFault.Store)
-        × (row : SqlRow) × (slice_get rows.now 0 ≡ Some row) × (¬ ReadsAsPass row)) }
+        × (row : SqlRow) × (slice_get rows.now 0 ≡ Some row) × (¬ ReadsAsLatest row)) }
 {
     match rows.first() {
         None => Ok(None),
-        Some(row) => Ok(Some(done!(read_pass(row)))),
+        Some(row) => Ok(Some(done!(read_latest(row)))),
     }
 }
 
 /// The latest result for a content and the version of this number: its own number, and whether it is a pass.
+/// `StoreFault::Store` also if a result of another content or version is said to be it.
 fn latest_pass<S: Alter>(
     conn: &mut Connection<S>,
     content: u32,
     provider_version: u32,
-) -> Result<Option<NumberedPass>, StoreFault>
+) -> Result<Option<ContentPass>, StoreFault>
     ensures answers { CalmQueriesInPlace S.Store conn.old conn.new result
         (λ found s. (v : VersionModel) → number_in s.versions v ≡ Some provider_version →
-        option_map (λ r. passed_as r.number r.pass) found ≡ option_map passed_of (latest_result s content v)) }
+        option_map (λ r. passed_as r.result r.pass) found ≡ option_map passed_of (latest_result s content v)) }
     ensures unknown { IfNoVersion S.Store conn.old conn.new result provider_version (λ found. found ≡ None) }
 {
     let rows = done!(select(
         conn,
-        "SELECT r.number, r.pass FROM latest l JOIN results r ON r.number = l.result WHERE l.content = ?1 AND l.provider_version = ?2",
+        "SELECT r.number, r.pass, l.content, r.content, l.provider_version, r.provider_version FROM latest l JOIN results r ON r.number = l.result WHERE l.content = ?1 AND l.provider_version = ?2",
         params![content, provider_version],
     ));
     first_pass(&rows)
@@ -158,7 +144,7 @@ fn latest_pass<S: Alter>(
 ///
 /// # Errors
 /// `StoreFault::Memory` if the database is out of memory; `StoreFault::Store` if it refused a query, or holds no number
-/// or truth value there.
+/// or truth value there, or a result of another content or version.
 pub fn latest_of<S: Alter>(
     conn: &mut Connection<S>,
     content: u32,
@@ -171,7 +157,7 @@ pub fn latest_of<S: Alter>(
 {
     match done!(latest_pass(conn, content, version_number)) {
         Some(found) => {
-            let checked = done!(is_checked(conn, found.number));
+            let checked = done!(is_checked(conn, found.result));
             Ok(Some(Latest {
                 pass: found.pass,
                 checked,

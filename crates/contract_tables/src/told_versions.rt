@@ -9,11 +9,10 @@ ghost use Rattle.broker_core.specs.Text.{version as version_named};
 ghost use Rattle.broker_tables.specs.Calm.{CalmQueries};
 ghost use Rattle.contract_tables.specs.declared.told_versions.NamedResult.{NamedResult as NamedModel};
 ghost use Rattle.contract_tables.specs.Listings.{FailsAsMarked};
-ghost use Rattle.contract_tables.specs.VersionResults.{FailsAsPass};
+ghost use Rattle.contract_tables.specs.VersionResults.{FailsAsLatest};
 ghost use Rattle.contract_tables.specs.ToldVersions.{verified_cmp, named_cmp, IsNamedRow, IsNumberedPassRow, TellPasses, TellChecked, ArePassesByNumber, IsUntold, FailsAsTold, IsToldBy, IsTold};
 
-use crate::lookups::{NumberedPass, read_pass};
-use crate::version_results::{NumberRow, is_among};
+use crate::version_results::{NumberRow, is_among, read_latest};
 use broker_core::answer::Verified;
 use broker_core::name::Name;
 use broker_core::need::Latest;
@@ -27,6 +26,13 @@ use table_access::{ReadRow, StoreFault, list_of, number_in};
 struct NamedResult {
     name: Name,
     result: u32,
+}
+
+/// A result by its number, and whether it is a pass.
+#[derive(Clone, Copy)]
+struct NumberedPass {
+    number: u32,
+    pass: bool,
 }
 
 /// A result and a version.
@@ -46,7 +52,7 @@ impl ReadRow for NamedRow {
     }
 }
 
-/// The number of a result and a truth value.
+/// A latest result, with what it is said to be of.
 struct NumberedRow;
 
 impl ReadRow for NumberedRow {
@@ -54,11 +60,14 @@ impl ReadRow for NumberedRow {
 
     ghost reads_as = { IsNumberedPassRow };
 
-    ghost fails_as = { FailsAsPass };
+    ghost fails_as = { FailsAsLatest };
 
     fn read(_alloc: Global, row: &Row) -> Result<NumberedPass, StoreFault> {
-        let found = read_pass(row)?;
-        Ok(found)
+        let latest = read_latest(row)?;
+        Ok(NumberedPass {
+            number: latest.result,
+            pass: latest.pass,
+        })
     }
 }
 
@@ -83,7 +92,8 @@ fn named_results<S: Alter>(
     )
 }
 
-/// Whether each latest result for the content is a pass, in the order of the results' numbers.
+/// Whether each latest result for the content is a pass, in the order of the results' numbers. `StoreFault::Store` also
+/// if a result of another content or version is said to be one of them.
 fn passes_for<S: Alter>(
     alloc: Global,
     conn: &mut Connection<S>,
@@ -95,7 +105,7 @@ fn passes_for<S: Alter>(
     let mut found = done!(list_of::<NumberedRow, S>(
         alloc,
         conn,
-        "SELECT l.result, r.pass FROM latest l JOIN results r ON r.number = l.result WHERE l.content = ?1",
+        "SELECT r.number, r.pass, l.content, r.content, l.provider_version, r.provider_version FROM latest l JOIN results r ON r.number = l.result WHERE l.content = ?1",
         params![content],
     ));
     found.sort_unstable_by_key(|one| one.number);

@@ -1,5 +1,5 @@
 //! The latest results of one version of a provider, for every content at once.
-ghost use Rattle.std.specs.Prelude.{◌≡◌, Some, IfOk, IsSorted, map, option_map, pos, true, []};
+ghost use Rattle.std.specs.Prelude.{◌≡◌, Some, IfOk, IfErr, IsSorted, map, option_map, pos, true, []};
 ghost use Rattle.std.specs.Ordering.{nat_cmp};
 ghost use Rattle.sqlite.specs.Order.{column};
 ghost use Rattle.sqlite.specs.declared.types.Value.TheVariants.{Int};
@@ -9,7 +9,7 @@ ghost use Rattle.broker_core.specs.Listing.{Lists};
 ghost use Rattle.broker_core.specs.State.{State as Broker, latest_result, latest};
 ghost use Rattle.broker_tables.specs.Numbers.{number_of as number_known};
 ghost use Rattle.broker_tables.specs.Calm.{CalmQueries, IfNoVersion};
-ghost use Rattle.contract_tables.specs.VersionResults.{pass_cmp, latest_cmp, IsPassOf, IsLatestOf, IsPassRow, FailsAsLatest, is_among, marked};
+ghost use Rattle.contract_tables.specs.VersionResults.{pass_cmp, latest_cmp, IsPassOf, IsLatestOf, IsPassRow, AreSame, FailsAsLatest, is_among, marked};
 
 use broker_core::need::Latest;
 use broker_tables::truth_at;
@@ -27,13 +27,43 @@ pub struct LatestResult {
 
 /// A content for which a version has a result, the latest of them, and whether that is a pass.
 #[derive(Clone, Copy)]
-struct ContentPass {
-    content: u32,
-    result: u32,
-    pass: bool,
+pub(crate) struct ContentPass {
+    pub content: u32,
+    pub result: u32,
+    pub pass: bool,
 }
 
-/// A content, a result and a truth value.
+/// The number in both columns. `StoreFault::Store` if one of them has none, or they have two.
+fn same_at(row: &Row, one: usize, other: usize) -> Result<u32, StoreFault>
+    ensures ok { IfOk result (λ n. (column row.now one ≡ Int (pos n)) × (column row.now one ≡ column row.now other)) }
+    ensures cause { IfErr result (λ f. (f ≡ StoreFault.Store) × (¬ AreSame one other row.now)) }
+{
+    let number = number_at(row, one)?;
+    if number_at(row, other)? == number {
+        Ok(number)
+    } else {
+        Err(StoreFault::Store)
+    }
+}
+
+/// The content, the latest result for it and whether that is a pass, as a row has them. `StoreFault::Store` if one of
+/// them isn't there, or the result is for another content, or of another version, than the row says.
+pub(crate) fn read_latest(row: &Row) -> Result<ContentPass, StoreFault>
+    ensures ok { IfOk result (IsPassRow row.now) }
+    ensures cause { IfErr result (FailsAsLatest row.now) }
+{
+    let content = same_at(row, 2, 3)?;
+    same_at(row, 4, 5)?;
+    let result = number_in(row)?;
+    let pass = truth_at(row, 1)?;
+    Ok(ContentPass {
+        content,
+        result,
+        pass,
+    })
+}
+
+/// A latest result, with what it is said to be of.
 struct PassRow;
 
 impl ReadRow for PassRow {
@@ -44,14 +74,7 @@ impl ReadRow for PassRow {
     ghost fails_as = { FailsAsLatest };
 
     fn read(_alloc: Global, row: &Row) -> Result<ContentPass, StoreFault> {
-        let content = number_in(row)?;
-        let result = number_at(row, 1)?;
-        let pass = truth_at(row, 2)?;
-        Ok(ContentPass {
-            content,
-            result,
-            pass,
-        })
+        read_latest(row)
     }
 }
 
@@ -85,7 +108,7 @@ fn passes_of<S: Alter>(
     list_of::<PassRow, S>(
         alloc,
         conn,
-        "SELECT l.content, r.number, r.pass FROM latest l JOIN results r ON r.number = l.result WHERE l.provider_version = ?1 ORDER BY l.content",
+        "SELECT r.number, r.pass, l.content, r.content, l.provider_version, r.provider_version FROM latest l JOIN results r ON r.number = l.result WHERE l.provider_version = ?1 ORDER BY l.content",
         params![version_number],
     )
 }

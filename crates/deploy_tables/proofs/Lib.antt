@@ -6,6 +6,7 @@ pub mod Removals
 pub mod ContractsThere
 pub mod VersionNames
 pub mod PartnerRows
+pub mod AllowedQueries
 pub mod NeedLemmas
 pub mod MatrixLemmas
 pub mod MatrixLoop

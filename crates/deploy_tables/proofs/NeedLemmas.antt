@@ -4,10 +4,9 @@ use Rattle.std.proofs.Common.{◌≡◌, ◌≢◌, ◌⊎◌, ℕ, List, [], �
 use Rattle.std.proofs.lemmas.Bool.{eqb-true}
 use Rattle.broker_tables.{specs.Numbers.{number_of}, proofs.NumberLemmas.{one_version}}
 use Rattle.contract_tables.specs.declared.listings.Contract.{Contract}
-use Rattle.deploy_tables.specs.Needs.{AreFaults, is_good, need_with, need_used, IsOpen, IsWithPartner, IsNeedOfContract, IsOwnNeed, IsUsed, IsNeedOfOthers}
+use Rattle.deploy_tables.specs.Needs.{AreFaults, AreOfVersions, is_good, need_with, need_used, IsOpen, IsWithPartner, IsNeedOfContract, IsOwnNeed, IsUsed, IsNeedOfOthers}
 use Rattle.deploy_tables.specs.{declared.contracts_there.NumberedContract.{NumberedContract}, Matrix.{IsOfSome}, ContractsThere.{TellsContracts}}
-use Rattle.deploy_tables.specs.{Partners.{ArePartners, AreNumbered, AreNumbersOfVersions}, Releases.{IsVersion}}
-use Rattle.deploy_tables.proofs.MatrixLoop.{both_ways, both_of, one_is, one_of}
+use Rattle.deploy_tables.{specs.Partners.{ArePartners, AreNumbered, AreNumbersOfVersions}, proofs.MatrixLoop.{both_ways, both_of, one_is, one_of}}
 use Rattle.broker_core.specs.{declared.command.Version.{Version}, declared.need.Need.{Need}, declared.need.Latest.{Latest}, declared.need.Kind.{Kind}}
 use Rattle.broker_core.specs.{declared.need.PairFault.{PairFault}, Text.{Text, same_text, version}, State.{State, latest}, Gate.{Stands, consumer_of, IsNeed}}
 use Rattle.broker_core.{specs.{Faults.{fault_of, fault_cmp, kind_of, IsFaultAmong}, Listing.{Lists}}, proofs.Lists.{contains_none, contains_here}}
@@ -49,23 +48,12 @@ module _ (s : State) (v : Version) (strict : Bool) (said : Option Latest) (good 
         ∙ ap not so)),
   )
 
-  pub good_used : (c : NumberedContract) → good ≡ true → said ≡ latest s c.content v → (found : List Need) → found ≡ [] → (x : Need)
-      → Contains found x ↔ IsUsed s v strict c x
-  good_used c so says found none x = (
-    λ there. absurd (contains_none x (subst (λ xs. Contains xs x) none there)),
-    λ is. let w = is.0 in absurd (true≢false (sym is.3 ∙ lacks x w v.pacticipant v.name (is.4 ∙ ap (need_with w v.pacticipant (Some v.name)) (sym says))
-        ∙ ap not so)),
-  )
-
   -- another one is, with the version of this number
   pub open_with : (c : Contract) (n : ℕ) → good ≡ false → ((w : Version) → number_of s.versions w ≡ Some n → said ≡ latest s c.content w)
-      → (named : Option Version) → ((w : Version) → (named ≡ Some w) ↔ (number_of s.versions w ≡ Some n))
-      → IsVersion n s → (found : List Need) → found ≡ need_with v c.provider (option_map (λ w. w.name) named) said ∷ [] → (x : Need)
+      → (w : Version) → number_of s.versions w ≡ Some n → (found : List Need) → found ≡ need_with v c.provider (Some w.name) said ∷ [] → (x : Need)
       → Contains found x ↔ IsWithPartner s v c strict n x
-  open_with c n otherwise says named names (w, known) found is x =
-      let told : found ≡ need_with v c.provider (Some w.name) said ∷ [] = is
-      ∙ (λ i. need_with v c.provider (option_map (λ w. w.name) ((names w).1 known i)) said ∷ []) in
-      both_ways (one_of found (need_with v c.provider (Some w.name) said) told x) (
+  open_with c n otherwise says w known found is x =
+      both_ways (one_of found (need_with v c.provider (Some w.name) said) is x) (
         λ same. (w, known, lacks x v c.provider w.name same ∙ ap not otherwise, same ∙ ap (need_with v c.provider (Some w.name)) (says w known)),
         λ is.
             let alike : is.0 ≡ w = one_version s.versions is.0 w n is.1 known in
@@ -76,12 +64,9 @@ module _ (s : State) (v : Version) (strict : Bool) (said : Option Latest) (good 
   unless_same p q true is y x = (λ none. absurd (contains_none x none), λ both. absurd (both.0 (text_is p q is)))
   unless_same p q false is y x = (λ c. (λ same. true≢false (sym (ap (same_text p) (sym same) ∙ text_refl p) ∙ is), (one_is y x).0 c), λ h. (one_is y x).1 h.1)
 
-  pub open_used : (c : NumberedContract) → good ≡ false → said ≡ latest s c.content v → (named : Option Version)
-      → ((w : Version) → (named ≡ Some w) ↔ (number_of s.versions w ≡ Some c.number))
-      → (x : Need) → Contains (option_to_list (option_and_then (need_used v said) named)) x ↔ IsUsed s v strict c x
-  open_used c otherwise says None names x = (λ none. absurd (contains_none x none), λ is. absurd (let none : None ≡ Some is.0 = (names is.0).1 is.1 in cc))
-  open_used c otherwise says (Some w) names x =
-      let known = (names w).0 refl in
+  pub open_used : (c : NumberedContract) → good ≡ false → said ≡ latest s c.content v → (w : Version) → number_of s.versions w ≡ Some c.number
+      → (x : Need) → Contains (option_to_list (need_used v said w)) x ↔ IsUsed s v strict c x
+  open_used c otherwise says w known x =
       both_ways (unless_same w.pacticipant v.pacticipant (same_text w.pacticipant v.pacticipant) refl (need_with w v.pacticipant (Some v.name) said) x) (
         λ it. (w, known, it.0, lacks x w v.pacticipant v.name it.1 ∙ ap not otherwise, it.1 ∙ ap (need_with w v.pacticipant (Some v.name)) says),
         λ is.
@@ -189,6 +174,9 @@ module _ (s : State) (v : Version) (e : Text) (strict : Bool) where
   ]
 
   -- what is found of the contracts that are there
+  pub are_of_versions : (p : Text) (there : List NumberedContract) → TellsContracts s p (Stands s e) there → AreOfVersions s there
+  are_of_versions p there told c has = let it = (told c).0 has in (it.0, it.2)
+
   pub provided_are : (there : List NumberedContract) (found : List Need) → TellsContracts s v.pacticipant (Stands s e) there → ((x : Need) → Contains found x ↔ IsOfSome (λ c. IsUsed s v strict c x) there) → (x : Need) → Contains found x ↔ IsNeedOfOthers s v e strict x
   provided_are there found told here x = (
     λ c. let it = (here x).0 c in (it.0, (told it.0).0 it.1, it.2),

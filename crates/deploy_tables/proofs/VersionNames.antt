@@ -49,11 +49,3 @@ module _ (db : Database) (s : Broker) (held : Holds db s) (n : ℕ) where
         let same : y.0 ≡ w = (λ i. version ((sym (ap text_in y.2.0) ∙ r.2) i) ((sym (ap text_in y.2.1) ∙ r.3) i)) in
         subst (Contains items) same y.1,
   )
-
--- the last of a list in which at most one version stands
-pub last_is : (s : Broker) (n : ℕ) (items rest : List Version) (last : Option Version) → items ≡ rest ++ option_to_list last → (last ≡ None → items ≡ []) → ((w : Version) → Contains items w ↔ (number_of s.versions w ≡ Some n))
-    → (w : Version) → (last ≡ Some w) ↔ (number_of s.versions w ≡ Some n)
-last_is s n items rest None is none told w = (λ same. absurd cc, λ known. absurd (contains_none w (subst (λ xs. Contains xs w) (none refl) ((told w).1 known))))
-last_is s n items rest (Some v) is none told w =
-    let known : number_of s.versions v ≡ Some n = (told v).0 (subst (λ xs. Contains xs v) (sym is) (Contains-append_right rest (v ∷ []) v (contains_here v []))) in
-    (λ same. subst (λ x. number_of s.versions x ≡ Some n) (some_is v w same) known, λ other. ap Some (one_version s.versions v w n known other))

@@ -1,6 +1,6 @@
 -- What a version needs in an environment and isn't good, from the parts that are read. The clause of `faults` cites
 -- `ListsFaults`, which says it in the machine's words; all else is for private clauses.
-use Rattle.std.specs.Prelude.{◌≡◌, ◌≢◌, ◌⊎◌, ◌&&◌, ◌||◌, not, List, [], ℕ, Bool, false, Option, Some, None, is_some, if◌then◌else◌, IsTrue, MatchOption}
+use Rattle.std.specs.Prelude.{Contains, ◌≡◌, ◌≢◌, ◌⊎◌, ◌&&◌, ◌||◌, not, List, [], ℕ, Bool, false, Option, Some, None, is_some, if◌then◌else◌, IsTrue, MatchOption}
 use Rattle.std.specs.Option.{option_map_or}
 use Rattle.broker_core.specs.declared.command.Version.{Version}
 use Rattle.broker_core.specs.declared.need.Need.{Need}
@@ -15,6 +15,7 @@ use Rattle.broker_tables.specs.Numbers.{number_of}
 use Rattle.contract_tables.specs.declared.listings.Contract.{Contract}
 use Rattle.contract_tables.specs.declared.version_results.LatestResult.{LatestResult}
 use Rattle.contract_tables.specs.VersionResults.{latest_cmp, IsLatestOf}
+use Rattle.deploy_tables.specs.Releases.{IsVersion}
 use Rattle.deploy_tables.specs.declared.contracts_there.NumberedContract.{NumberedContract}
 
 -- ---- the faults
@@ -37,6 +38,10 @@ IsOwnContract s v c = s.contracts (v, c.provider) ≡ Some c.content
 -- these are the latest results of v, for each content that has one
 abbrev pub AreLatestOf : State → Version → List LatestResult → Type 0
 AreLatestOf s v results = Lists latest_cmp (IsLatestOf s v) results
+
+-- each of these contracts is of a version
+abbrev pub AreOfVersions : State → List NumberedContract → Type 0
+AreOfVersions s contracts = (c : NumberedContract) → Contains contracts c → IsVersion c.number s
 
 -- ---- the needs that aren't good
 

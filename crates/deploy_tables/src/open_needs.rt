@@ -1,15 +1,16 @@
 //! The needs of a version in an environment that aren't good. Each is decided on numbers; names are looked up only for
 //! those that are told.
-ghost use Rattle.std.specs.Prelude.{◌≡◌, ◌∷◌, [], ◌↔◌, IfOk, IfErr, Some, None, Contains, option_map, option_and_then, option_to_list};
+ghost use Rattle.std.specs.Prelude.{◌≡◌, ◌∷◌, [], ◌↔◌, IfOk, IfErr, Some, None, Contains, option_to_list};
 ghost use Rattle.broker_core.specs.declared.need.Need.{Need as NeedModel};
 ghost use Rattle.broker_core.specs.Gate.{IsNeed};
 ghost use Rattle.broker_core.specs.Text.{Text};
 ghost use Rattle.broker_tables.specs.Numbers.{number_of as number_known};
-ghost use Rattle.broker_tables.specs.Calm.{CalmQueries};
+ghost use Rattle.broker_tables.specs.Calm.{CalmQueries, IsCalmFrom};
+ghost use Rattle.broker_tables.specs.Holds.{Queries};
 ghost use Rattle.deploy_tables.specs.Matrix.{IsOfSome};
 ghost use Rattle.deploy_tables.specs.Releases.{IsVersion};
 ghost use Rattle.deploy_tables.specs.Partners.{AreNumbersOfVersions, AreAllPartners, AreReleasedThere, AreNumbered};
-ghost use Rattle.deploy_tables.specs.Needs.{AreLatestOf, is_good, need_with, need_used, IsOpen, IsWithPartner, IsNeedOfContract, IsOwnNeed, IsUsed, IsNeedOfOthers};
+ghost use Rattle.deploy_tables.specs.Needs.{AreLatestOf, AreOfVersions, is_good, need_with, need_used, IsOpen, IsWithPartner, IsNeedOfContract, IsOwnNeed, IsUsed, IsNeedOfOthers};
 
 use crate::contracts_there::{NumberedContract, contracts_there};
 use crate::lists::add;
@@ -64,27 +65,28 @@ fn one(alloc: Global, need: Need) -> Result<Vec<Need>, AllocError>
 
 // ---- the version's own contracts
 
-/// The need of the version's contract with its provider, and with this version of it, or with none.
+/// The need of the version's contract with its provider, and with the version of it that has this name, or with none.
 fn named_with(
     alloc: Global,
     version: &Version,
     provider: &Name,
-    named: Option<Version>,
+    partner: Option<Name>,
     latest: Option<Latest>,
 ) -> Result<Vec<Need>, AllocError>
-    ensures { IfOk result (λ found. found.items
-        ≡ need_with version.now provider.now (option_map (λ w. w.name) named) latest ∷ []) }
+    ensures { IfOk result (λ found. found.items ≡ need_with version.now provider.now partner latest ∷ []) }
 {
-    let partner = match named {
-        Some(
-            Version {
-                pacticipant: _pacticipant,
-                name,
-            },
-        ) => Some(name),
-        None => None,
-    };
     one(alloc, need_with(version, provider, partner, latest)?)
+}
+
+/// The version's name.
+fn name_of(version: Version) -> Name
+    ensures { result ≡ version.name }
+{
+    let Version {
+        pacticipant: _pacticipant,
+        name,
+    } = version;
+    name
 }
 
 /// The need of the version's contract with its provider, of which no version is there. An `Err` is out of memory.
@@ -98,7 +100,8 @@ fn absent(alloc: Global, version: &Version, provider: &Name) -> Result<Vec<Need>
     }
 }
 
-/// The need of the contract with the version of this number, if it isn't good.
+/// The need of the contract with the version of this number, if it isn't good. `StoreFault::Store` if there is no such
+/// version, as in a database that breaks the tables' rules.
 fn with_partner<S: Alter>(
     alloc: Global,
     conn: &mut Connection<S>,
@@ -107,16 +110,17 @@ fn with_partner<S: Alter>(
     partner: u32,
     strict: bool,
 ) -> Result<Vec<Need>, StoreFault>
-    ensures { CalmQueries S.Store conn.old conn.new result
-        (λ found s. IsVersion partner s → (x : NeedModel) → Contains found.items x
+    ensures answers { Queries S.Store conn.old conn.new result
+        (λ found s. (x : NeedModel) → Contains found.items x
         ↔ IsWithPartner s version.now contract.now strict partner x) }
+    ensures calm { IsCalmFrom S.Store conn.old conn.new result (IsVersion partner) }
 {
     let latest = done!(latest_of(conn, contract.content, partner));
     if is_good(latest, strict) {
         return Ok(Vec::new(alloc));
     }
-    let named = done!(version_numbered(alloc, conn, partner));
-    match named_with(alloc, version, &contract.provider, named, latest) {
+    let partner = name_of(done!(version_numbered(alloc, conn, partner)));
+    match named_with(alloc, version, &contract.provider, Some(partner), latest) {
         Ok(found) => Ok(found),
         Err(_) => Err(StoreFault::Memory),
     }
@@ -131,9 +135,10 @@ fn with_partners<S: Alter>(
     there: &[u32],
     strict: bool,
 ) -> Result<Vec<Need>, StoreFault>
-    ensures { CalmQueries S.Store conn.old conn.new result
-        (λ found s. AreNumbersOfVersions s there.now → (x : NeedModel) → Contains found.items x
+    ensures answers { Queries S.Store conn.old conn.new result
+        (λ found s. (x : NeedModel) → Contains found.items x
         ↔ IsOfSome (λ n. IsWithPartner s version.now contract.now strict n x) there.now) }
+    ensures calm { IsCalmFrom S.Store conn.old conn.new result (λ s. AreNumbersOfVersions s there.now) }
 {
     let mut found = Vec::new(alloc);
     for partner in there {
@@ -152,8 +157,10 @@ fn with_all<S: Alter>(
     there: &[u32],
     strict: bool,
 ) -> Result<Vec<Need>, StoreFault>
-    ensures { CalmQueries S.Store conn.old conn.new result
-        (λ found s. (e : Text) → AreAllPartners s e contract.now.provider there.now → (x : NeedModel) → Contains found.items x ↔ IsNeedOfContract s version.now e strict contract.now x) }
+    ensures answers { Queries S.Store conn.old conn.new result
+        (λ found s. (e : Text) → AreAllPartners s e contract.now.provider there.now → (x : NeedModel) →
+        Contains found.items x ↔ IsNeedOfContract s version.now e strict contract.now x) }
+    ensures calm { IsCalmFrom S.Store conn.old conn.new result (λ s. AreNumbersOfVersions s there.now) }
 {
     if there.is_empty() {
         return absent(alloc, version, &contract.provider);
@@ -171,9 +178,11 @@ fn needs_of_contract<S: Alter>(
     contract: &Contract,
     strict: bool,
 ) -> Result<Vec<Need>, StoreFault>
-    ensures { CalmQueries S.Store conn.old conn.new result
+    ensures answers { Queries S.Store conn.old conn.new result
         (λ found s. AreReleasedThere s environment.now released.now → (x : NeedModel) →
         Contains found.items x ↔ IsNeedOfContract s version.now environment.now strict contract.now x) }
+    ensures calm { IsCalmFrom S.Store conn.old conn.new result
+        (λ s. AreReleasedThere s environment.now released.now) }
 {
     let there = done!(partners(alloc, conn, environment, released, &contract.provider));
     with_all(alloc, conn, version, contract, &there, strict)
@@ -189,9 +198,11 @@ fn needs_of_contracts<S: Alter>(
     contracts: &[Contract],
     strict: bool,
 ) -> Result<Vec<Need>, StoreFault>
-    ensures { CalmQueries S.Store conn.old conn.new result
+    ensures answers { Queries S.Store conn.old conn.new result
         (λ found s. AreReleasedThere s environment.now released.now → (x : NeedModel) →
         Contains found.items x ↔ IsOfSome (λ c. IsNeedOfContract s version.now environment.now strict c x) contracts.now) }
+    ensures calm { IsCalmFrom S.Store conn.old conn.new result
+        (λ s. AreReleasedThere s environment.now released.now) }
 {
     let mut found = Vec::new(alloc);
     for contract in contracts {
@@ -241,27 +252,23 @@ fn own_needs<S: Alter>(
 fn named_used(
     alloc: Global,
     version: &Version,
-    named: Option<Version>,
+    consumer: &Version,
     latest: Option<Latest>,
 ) -> Result<Vec<Need>, AllocError>
-    ensures { IfOk result (λ found. found.items ≡ option_to_list
-        (option_and_then (need_used version.now latest) named)) }
+    ensures { IfOk result (λ found. found.items ≡ option_to_list (need_used version.now latest consumer.now)) }
 {
-    let Some(consumer) = named else {
-        return Ok(Vec::new(alloc));
-    };
     if consumer.pacticipant == version.pacticipant {
         return Ok(Vec::new(alloc));
     }
     let partner = Some(version.name.clone()?);
     one(
         alloc,
-        need_with(&consumer, &version.pacticipant, partner, latest)?,
+        need_with(consumer, &version.pacticipant, partner, latest)?,
     )
 }
 
 /// The need of this contract with the version's pacticipant, if it isn't good. These are the latest results of the
-/// version.
+/// version. `StoreFault::Store` if the contract is of no version, as in a database that breaks the tables' rules.
 fn used_by<S: Alter>(
     alloc: Global,
     conn: &mut Connection<S>,
@@ -270,16 +277,17 @@ fn used_by<S: Alter>(
     contract: NumberedContract,
     strict: bool,
 ) -> Result<Vec<Need>, StoreFault>
-    ensures { CalmQueries S.Store conn.old conn.new result
+    ensures answers { Queries S.Store conn.old conn.new result
         (λ found s. AreLatestOf s version.now results.now → (x : NeedModel) →
         Contains found.items x ↔ IsUsed s version.now strict contract x) }
+    ensures calm { IsCalmFrom S.Store conn.old conn.new result (IsVersion contract.number) }
 {
     let latest = latest_among(results, contract.content);
     if is_good(latest, strict) {
         return Ok(Vec::new(alloc));
     }
-    let named = done!(version_numbered(alloc, conn, contract.number));
-    match named_used(alloc, version, named, latest) {
+    let consumer = done!(version_numbered(alloc, conn, contract.number));
+    match named_used(alloc, version, &consumer, latest) {
         Ok(found) => Ok(found),
         Err(_) => Err(StoreFault::Memory),
     }
@@ -295,9 +303,10 @@ fn used_by_each<S: Alter>(
     contracts: &[NumberedContract],
     strict: bool,
 ) -> Result<Vec<Need>, StoreFault>
-    ensures { CalmQueries S.Store conn.old conn.new result
+    ensures answers { Queries S.Store conn.old conn.new result
         (λ found s. AreLatestOf s version.now results.now → (x : NeedModel) →
         Contains found.items x ↔ IsOfSome (λ c. IsUsed s version.now strict c x) contracts.now) }
+    ensures calm { IsCalmFrom S.Store conn.old conn.new result (λ s. AreOfVersions s contracts.now) }
 {
     let mut found = Vec::new(alloc);
     for contract in contracts {

@@ -2,7 +2,9 @@
 ghost use Rattle.std.specs.Prelude.{◌≡◌, ◌↔◌, Some, Contains};
 ghost use Rattle.broker_core.specs.declared.command.Version.{Version as VersionModel};
 ghost use Rattle.broker_tables.specs.Numbers.{number_of as number_known};
-ghost use Rattle.broker_tables.specs.Calm.{CalmQueries};
+ghost use Rattle.broker_tables.specs.Calm.{CalmQueries, IsCalmFrom};
+ghost use Rattle.broker_tables.specs.Holds.{Queries};
+ghost use Rattle.deploy_tables.specs.Releases.{IsVersion};
 
 use crate::listings::VersionRow;
 use broker_core::command::Version;
@@ -27,15 +29,21 @@ fn versions_numbered<S: Alter>(
     )
 }
 
-/// The version of this number, or `None` if there is none.
+/// The version of this number, which a row names.
+///
+/// # Errors
+/// `StoreFault::Store` if there is none: the row names a version that isn't there.
 pub(crate) fn version_numbered<S: Alter>(
     alloc: Global,
     conn: &mut Connection<S>,
     number: u32,
-) -> Result<Option<Version>, StoreFault>
-    ensures { CalmQueries S.Store conn.old conn.new result
-        (λ found s. (w : VersionModel) → (found ≡ Some w) ↔ (number_known s.versions w ≡ Some number)) }
+) -> Result<Version, StoreFault>
+    ensures answers { Queries S.Store conn.old conn.new result (λ found s. number_known s.versions found ≡ Some number) }
+    ensures calm { IsCalmFrom S.Store conn.old conn.new result (IsVersion number) }
 {
     let mut found = done!(versions_numbered(alloc, conn, number));
-    Ok(found.pop())
+    match found.pop() {
+        Some(version) => Ok(version),
+        None => Err(StoreFault::Store),
+    }
 }

@@ -9,5 +9,5 @@ returns-in-Ok-is_checked-clause-answers g c =
     let found = c.in-Some.found in
     calm_both _ _ _ (Some found) c.in-Ok-is_checked.value (Some _) _ _ _
     (λ s one two v is. with_mark {B = Latest} s (latest_result s c.args.content v) passed_of (λ a checked. record { pass = a.1; checked = checked }) (λ a. a.0)
-    (passed_as found.number found.pass) c.in-Ok-is_checked.value (λ e known. (latest_with s c.args.content v e known, refl)) (one v is) two)
+    (passed_as found.result found.pass) c.in-Ok-is_checked.value (λ e known. (latest_with s c.args.content v e known, refl)) (one v is) two)
     (rw c.in-Some.is at c.in-Ok.ensures.answers) c.in-Ok-is_checked.ensures

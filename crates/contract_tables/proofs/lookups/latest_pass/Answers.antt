@@ -9,7 +9,7 @@ returns-clause-answers g c =
     let asked = join c.args.content c.args.provider_version in
     read_result _ _ c.in-Ok.value c.first_pass.result _ _
     (IfOk-weaker c.first_pass.result _ _ (λ found read shown s held. (
-      λ v is. join_found (λ r. r.number) (λ r. r.pass) c.args.content c.args.provider_version _ c.in-Ok.value.items found s v held is (reads asked _ _ s held _ shown).0 read,
+      λ v is. join_found (λ r. r.result) (λ r. r.pass) c.args.content c.args.provider_version _ c.in-Ok.value.items found s v held is (reads asked _ _ s held _ shown).0 read,
       still asked _ _ held.broker _ shown,
     )) (rw c.deref.ensures.value at c.first_pass.ensures.ok))
     (λ none. IfErr-weaker c.first_pass.result _ _ (λ fault why. why.0) c.first_pass.ensures.cause)
@@ -27,5 +27,5 @@ pub returns-clause-unknown : goal.returns-clause-unknown
 returns-clause-unknown g c clean s held none =
     let shown = (rw (c.params-to_sql.ensures, c.params-to_sql-2.ensures) at c.in-Ok.ensures.leaves).ok clean in
     let nothing = join_none c.args.content c.args.provider_version _ s held none _ (reads (join c.args.content c.args.provider_version) _ _ s held _ shown).0 in
-    IfOk-weaker c.first_pass.result _ _ (λ found read. no_answer (λ r. pass_of r.number r.pass) pass_cells c.in-Ok.value.items found nothing read)
+    IfOk-weaker c.first_pass.result _ _ (λ found read. no_answer (λ r. pass_of r.result r.pass) pass_cells c.in-Ok.value.items found nothing read)
     (rw c.deref.ensures.value at c.first_pass.ensures.ok)

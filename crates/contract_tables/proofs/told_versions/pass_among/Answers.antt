@@ -1,6 +1,6 @@
 use Rattle.std.{specs.{Prelude.{Contains}, List.Sorted.{IsBinarySearchResult}, Ordering.{nat_cmp}}, proofs.Common.{rules, subst, get_or, Ok, Err, false}}
 use Rattle.std.proofs.lemmas.List.Sorted.{answers_always}
-use Rattle.contract_tables.{specs.declared.lookups.NumberedPass.{NumberedPass}, proofs.Rising.{found_at, missing}}
+use Rattle.contract_tables.{specs.declared.told_versions.NumberedPass.{NumberedPass}, proofs.Rising.{found_at, missing}}
 use Rattle.table_access.proofs.{Members.{has_contains}, ReadLemmas.{has_get}}
 use Rattle.contract_tables.proofs.told_versions.pass_among.Goals as goal
 

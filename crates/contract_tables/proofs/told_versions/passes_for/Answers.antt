@@ -1,10 +1,10 @@
 use Rattle.std.proofs.{Common.{rules}, lemmas.List.Sorted.{answers_always}}
 use Rattle.broker_tables.proofs.{Asked.{FailsOnly, lists, why_list}, QueryLemmas.{read_err, calm_answers}}
-use Rattle.contract_tables.{specs.VersionResults.{FailsAsPass, ReadsAsPass}, proofs.ToldResults.{told_passes, passes_told, told_moved}}
+use Rattle.contract_tables.{specs.VersionResults.{FailsAsLatest, ReadsAsLatest}, proofs.ToldResults.{told_passes, passes_told, told_moved}}
 use Rattle.contract_tables.proofs.ReadableRows.{told_reads}
 use Rattle.contract_tables.proofs.told_versions.passes_for.Goals as goal
 
-refuses : FailsOnly FailsAsPass ReadsAsPass
+refuses : FailsOnly FailsAsLatest ReadsAsLatest
 refuses row fault why is = why.1
 
 -- the closure gives a result's number

@@ -6,7 +6,7 @@ use Rattle.contract_tables.{specs.{VersionResults.{IsLatestOf, said_of}, declare
 use Rattle.deploy_tables.proofs.MatrixLemmas.{either_side}
 use Rattle.sqlite.specs.{Effect.{Database}, Held.{state}}
 use Rattle.std.specs.{List.Sorted.{IsStrictlySortedBy}, Ordering.{int_cmp}, Prelude.{option_map}}
-use Rattle.std.proofs.Common.{None, Ok, Some, [], ap, codes, inl, inr, pos, subst, sym, ℕ, ◌∙◌, ◌≡◌}
+use Rattle.std.proofs.Common.{None, Some, [], ap, codes, inl, inr, pos, subst, sym, ℕ, ◌∙◌, ◌≡◌}
 use Rattle.table_access.specs.Columns.{by_both, text, text_cmp, whole_at}
 use Rattle.deploy_tables.proofs.matrix_rows.matrix.Goals as goal
 

@@ -1,19 +1,25 @@
-use Rattle.deploy_tables.proofs.{NeedLemmas.{good_with, open_with}, MatrixLoop.{query_failed, calm_answers, calm_both}}
+use Rattle.std.proofs.Common.{Err}
+use Rattle.broker_tables.proofs.FailLemmas.{calm_after}
+use Rattle.deploy_tables.{specs.Releases.{IsVersion}, proofs.{NeedLemmas.{good_with, open_with}, AllowedQueries.{answers_more, answers_both}}}
 use Rattle.deploy_tables.proofs.open_needs.with_partner.Goals as goal
 
-pub returns-then-is_good : goal.returns-then-is_good
-returns-then-is_good g c =
-    calm_answers _ _ c.in-Ok.value c.new.result _ _
-    (λ s says there. good_with s _ _ _ _ c.is_good.ensures c.args.contract.now c.args.partner c.if-is_good.true says _ c.new.ensures.items)
-    c.in-Ok.ensures.answers
+pub returns-then-is_good-clause-answers : goal.returns-then-is_good-clause-answers
+returns-then-is_good-clause-answers g c =
+    answers_more _ _ c.in-Ok.value c.new.result _ _
+    (λ s says. good_with s _ _ _ _ c.is_good.ensures c.args.contract.now c.args.partner c.if-is_good.true says _ c.new.ensures.items)
+    c.in-Ok.ensures.answers.call
 
-pub returns-in-Ok-named_with : goal.returns-in-Ok-named_with
-returns-in-Ok-named_with g c =
+pub returns-in-Ok-named_with-clause-answers : goal.returns-in-Ok-named_with-clause-answers
+returns-in-Ok-named_with-clause-answers g c =
     let found = c.in-Ok-named_with.found in
-    calm_both _ _ _ c.in-Ok.value c.in-Ok-version_numbered.value found _ _ _
-    (λ s says names there. open_with s _ _ _ _ c.is_good.ensures c.args.contract.now c.args.partner c.if-is_good.false says _ names there _
-    c.in-Ok-named_with.ensures)
-    c.in-Ok.ensures.answers c.in-Ok-version_numbered.ensures
+    answers_both _ _ _ c.in-Ok.value c.in-Ok-version_numbered.value found _ _ _
+    (λ s says known. open_with s _ _ _ _ c.is_good.ensures c.args.contract.now c.args.partner c.if-is_good.false says _ known _
+    (rw c.name_of-partner.ensures at c.in-Ok-named_with.ensures))
+    c.in-Ok.ensures.answers.call c.in-Ok-version_numbered.ensures.answers
 
-pub returns-in-Err-version_numbered : goal.returns-in-Err-version_numbered
-returns-in-Err-version_numbered g c = query_failed _ _ _ _ _ _ _ _ c.in-Ok.ensures.answers c.in-Err-version_numbered.ensures
+pub returns-in-Err-version_numbered-clause-calm : goal.returns-in-Err-version_numbered-clause-calm
+returns-in-Err-version_numbered-clause-calm g c =
+    let failed = c.in-Err-version_numbered.ensures in
+    let there = IsVersion c.args.partner in
+    λ clean s here may. calm_after _ _ _ c.in-Ok.value (Err c.in-Err-version_numbered.fault) _ _ there there (λ s held may says. may)
+    c.in-Ok.ensures.answers.call failed.answers failed.calm clean s here may
