@@ -57,8 +57,7 @@ def names_in(path, text):
 
 
 def definitions_in(text):
-    """The names that a file of specs/ defines, operators aside, with their lines: those of the file itself, and of its
-    modules."""
+    """The names that a file of specs/ defines, with their lines: those of the file itself, and of its modules."""
     is_inside = False
     for number, row in enumerate(text.split("\n"), 1):
         if re.match(r"\S", row) and not row.startswith("--"):
@@ -66,7 +65,7 @@ def definitions_in(text):
         indent = len(row) - len(row.lstrip(" "))
         found = DEFINED.match(row, indent) if indent == 0 or indent == 2 and is_inside else None
         name = found and (found[1] or found[2])
-        if name and "◌" not in name:
+        if name:
             yield name, number
 
 
@@ -79,12 +78,57 @@ def named_in(text):
     return found
 
 
+def operators_in(text, named):
+    """What of these operators the text uses: between their operands, or in a `do`."""
+    for name in named:
+        if "◌" in name and all(it in text for it in name.split("◌") if it) or name == "◌>>=◌" and re.search(r"\bdo\b", text):
+            yield named[name]
+
+
 def named_through(text, words):
     """What a text names through a module that the file takes whole, as in `schema.tables`."""
     modules = {alias: (crate, module) for crate, module, alias in WHOLE.findall(text)}
     for alias, name in re.findall(r"(?<![\w.])(\w+)\.([^\s(){},;:λ.→]+)", words):
         if alias in modules:
             yield (*modules[alias], name)
+
+
+def cited_in(text, own, named):
+    """What a part of a file names of specs/, where the file names these."""
+    words = {named[it] for it in WORD.findall(own) if it in named}
+    return words | set(operators_in(own, named)) | set(named_through(text, own))
+
+
+def types_in(path):
+    """The types that a file of src/ declares, each with the words of its declaration."""
+    for it in re.finditer(r"(?m)^(?:pub(?:\([a-z]+\))? )?(?:struct|enum) (\w+)[^{;]*(?:\{((?:[^}\n].*\n|\n)*)\}|[^;]*;)", text_of(path)):
+        yield it[1], set(re.findall(r"[A-Z]\w+", re.sub(r"//.*|ghost .*", "", it[0])))
+
+
+def used_types(crate):
+    """The types of crates that the files of this one name, by their names there: each as crate and name."""
+    for path in files_of(crate, "src", ".rt"):
+        for of, names in re.findall(r"(?m)^\s*(?:pub )?use (\w+)::([^;]*);", text_of(path)):
+            for it in re.findall(r"[A-Z]\w+", names):
+                yield it, (crate if of in ("crate", "super") else of, it)
+
+
+def views_of(crate):
+    """What contracts see of the types of src/: of each a key, a place and its lines, if it has an `impl Model`, and what
+    that names; and the types of which it consists."""
+    others = dict(used_types(crate))
+    for path in files_of(crate, "src", ".rt"):
+        text, module = text_of(path), os.path.relpath(path, f"{TOP}/crates/{crate}/src")[:-3].replace("/", ".")
+        named = named_in(text)
+        for it in re.finditer(r"(?m)^impl(?:<[^>]*>)? Model for (\w+).*\n((?:[^}\n].*\n|\n)*)\}", text):
+            own = "\n".join(re.findall(r"(?m)^    ghost .*$", it[2]))
+            line = text.count("\n", 0, it.start()) + 1
+            place = f"{os.path.relpath(path, TOP)}:{line}", len(own.split("\n"))
+            yield (crate, f"declared.{module}.{it[1]}", it[1]), place, cited_in(text, own, named)
+        for name, words in types_in(path):
+            parts = {("types", *others.get(it, (crate, it))) for it in words - {name}}
+            yield (crate, f"declared.{module}.{name}", name), None, parts
+            yield ("types", crate, name), None, {(crate, f"declared.{module}.{name}", name)}
 
 
 def definitions_of(crate):
@@ -102,15 +146,15 @@ def definitions_of(crate):
                 above -= 1
             marked = whole or sections and PRIVATE.search(sections[-1]) or PRIVATE.search("\n".join(rows[above : line - 1]))
             own = "\n".join(it for it in rows[line - 1 : end] if not it.lstrip().startswith("--"))
-            cited = {named[it] for it in WORD.findall(own) if it in named} | set(named_through(text, own))
+            cited = cited_in(text, own, named)
             lines = line - 1 - above + len([it for it in own.split("\n") if it.strip() and not it.startswith("use ")])
             yield (crate, module, name), (f"{os.path.relpath(path, TOP)}:{line}", lines), cited, marked
         yield from (((crate, module, name), None, {of}, None) for name, of in named_in(PASSED_ON.sub("", text)).items())
 
 
-def graph(crates):
+def graph(crates, with_views=False):
     """Where each definition of these crates is and how many lines it has, what each names, and which are marked as for
-    private clauses."""
+    private clauses; also what contracts see of types, if that is asked for."""
     places, names, marked = {}, defaultdict(set), set()
     for crate in crates:
         for key, place, cited, is_marked in definitions_of(crate):
@@ -119,6 +163,10 @@ def graph(crates):
                 places.setdefault(key, place)
             if is_marked:
                 marked.add(key)
+        for key, place, cited in views_of(crate) if with_views else ():
+            names[key] |= cited
+            if place:
+                places.setdefault(key, place)
     return places, names, marked
 
 

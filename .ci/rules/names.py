@@ -44,11 +44,12 @@ def too_large(crates):
 
 
 def defined(crate):
-    """The names that the crate's specs/ define, each with its places."""
+    """The names that the crate's specs/ define, each with its places; operators aside, which libraries share."""
     places = defaultdict(list)
     for path in files_of(crate.name, "specs", ".antt"):
         for name, number in definitions_in(text_of(path)):
-            places[name].append(f"{os.path.relpath(path, TOP)}:{number}")
+            if "◌" not in name:
+                places[name].append(f"{os.path.relpath(path, TOP)}:{number}")
     return places
 
 
