@@ -5,6 +5,8 @@ from collections import namedtuple
 sys.dont_write_bytecode = True
 from definitions import TOP
 
+# What `rt ci` says of a crate that is proved.
+BUILT = re.compile(r"^rt: (\w+) (?:proved|is kept: .*)$")
 # What a check said, the status that it ended with, the seconds of the processors, and the most memory in KB.
 Said = namedtuple("Said", "text status seconds memory")
 
@@ -23,12 +25,8 @@ class Copy:
 
     def __init__(self, anew):
         self.rt = rt_module()
-        git = self.rt.git_of(TOP)
-        for it in os.listdir(git) if git else []:
-            of = re.match(r"wrong-bodies-(\d+)-", it)
-            if of and not os.path.exists(f"/proc/{of[1]}"):
-                shutil.rmtree(f"{git}/{it}", ignore_errors=True)
-        self.room = tempfile.mkdtemp(prefix=f"wrong-bodies-{os.getpid()}-", dir=git)
+        self.sweep()
+        self.room = tempfile.mkdtemp(prefix=f"wrong-bodies-{os.getpid()}-")
         self.at = f"{self.room}/copy"
         self.rt.copy_crates(TOP, self.at)
         os.mkdir(f"{self.at}/.git")
@@ -37,6 +35,13 @@ class Copy:
         self.crates = {it.name: it for it in self.rt.crates_of(self.at)}
         self.kept = self.rt.Kept([*self.crates.values()], anew)
         self.placed = set()
+
+    def sweep(self):
+        """Removes what runs that were killed left."""
+        for it in os.listdir(tempfile.gettempdir()):
+            of = re.match(r"wrong-bodies-(\d+)-", it)
+            if of and not os.path.exists(f"/proc/{of[1]}"):
+                shutil.rmtree(f"{tempfile.gettempdir()}/{it}", ignore_errors=True)
 
     def remove(self):
         shutil.rmtree(self.room, ignore_errors=True)
