@@ -38,7 +38,9 @@ READ = [
     b"authorization:\tBearer %s",
     b"authorization:  \t bEaReR  %s \t ",
 ]
-# How it doesn't, or how a proxy might.
+# A field on two lines, which a proxy may join (RFC 9112, 5.2).
+FOLDED = b"authorization: Bearer\r\n %s"
+# How it isn't read.
 UNREAD = [
     b"authorization: Bearer\t%s",
     b"authorization: Bearer \t%s",
@@ -53,7 +55,6 @@ UNREAD = [
     b"authorization: Bearer %s\xa0",
     b"authorization: Bearer %s\x00",
     b"authorization : Bearer %s",
-    b"authorization: Bearer\r\n %s",
     b"authorization: Bearer %s\r\nauthorization: Bearer %s",
     b"authorization: Bearer other-token-0001\r\nauthorization: Bearer %s",
     b"proxy-authorization: Bearer %s",
@@ -68,6 +69,11 @@ WAIT = 60
 
 def written(spelling, token):
     return spelling.replace(b"%s", token.encode())
+
+
+def among(what, answer, statuses):
+    if answer[0] not in statuses:
+        raise Wrong(f"{what}: {answer} and none of {statuses}")
 
 
 class Front:
@@ -153,6 +159,13 @@ class Front:
         for spelling in READ:
             message = self.message(written(spelling, token), "GET /environments/live")
             same(f"{what} as {spelling}", self.exchange(message), wanted)
+
+
+    def refuses(self, token, spellings):
+        """Asks with the token in each of these spellings: no answer is one to a team."""
+        for spelling in spellings:
+            answer = self.exchange(self.message(written(spelling, token), "GET /environments/live"))
+            among(f"the token {token} as {spelling}", answer, [400, 401])
 
 
 class Nginx(Front):
@@ -253,11 +266,6 @@ def bodies(front, _):
     among("a body in chunks", front.exchange(head + b"%x\r\n%s\r\n0\r\n\r\n" % (len(text), text)), front.in_chunks)
 
 
-def among(what, answer, statuses):
-    if answer[0] not in statuses:
-        raise Wrong(f"{what}: {answer} and none of {statuses}")
-
-
 def slow(front, _):
     """Clients that stop in the middle of a head or of a body hold up nobody."""
     message = front.message(b"authorization: Bearer x", "PUT /pacticipants/shop/versions/slow", b'{"branch":"main"}')
@@ -297,13 +305,12 @@ def leaked(front, broker):
         front.do(OFFICE, f"PUT /teams/team-{number}", '{"token":"%s"}' % token)
     shown = broker.ask(RED, "GET /environments/live")
     front.answers("before it leaks", LEAKED, shown)
+    front.refuses(LEAKED, UNREAD)
     front.answers("the new token before", NEW, DENIED)
     front.leak(lines_for(front))
     front.reload()
     front.answers("the leaked token", LEAKED, DENIED)
-    for spelling in UNREAD:
-        answer = front.exchange(front.message(written(spelling, LEAKED), "GET /environments/live"))
-        among(f"the leaked token as {spelling}", answer, [400, 401])
+    front.refuses(LEAKED, [*UNREAD, FOLDED])
     front.answers("the new token", NEW, shown)
     for token in ALIKE:
         front.answers(f"the token {token}", token, shown)
