@@ -28,7 +28,9 @@ def the_page(world: World, takes_pictures: bool) -> None:
     with Browser(world.room) as page:
         page.look(1000, "light")
         tried(page, world, SCENES + FAILURES)
-        same("a policy of contents that is kept", page.js(INLINE), True)
+        same("a script that is put into the page isn't run", page.js(INLINE), True)
+        reports = [it for it in page.events if "ContentSecurityPolicyIssue" in str(it)]
+        same("reports of the policy, once there is something to report", len(reports), 1)
         if takes_pictures:
             pictures(page, world)
     for token in READER, OFFICE, RED:
