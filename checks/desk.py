@@ -58,7 +58,7 @@ def pictures(page: Browser, world: World) -> None:
         ("matrix", "matrix/shop/1.4"),
         ("environment", "environment/live"),
     ):
-        page.look(900, "light")
+        page.look(1000, "light")
         shows(page, view)
         page.picture(f"{TOP}/docs/desk/{name}.png")
 
