@@ -37,14 +37,8 @@ class Browser:
     def __enter__(self) -> "Browser":
         reads, self.to = map(high, os.pipe())
         self.back, writes = map(high, os.pipe())
-        words = [
-            "chromium",
-            "--headless=new",
-            "--no-sandbox",
-            "--disable-gpu",
-            "--disable-dev-shm-usage",
-            "--hide-scrollbars",
-        ]
+        words = ["chromium", "--headless=new", "--no-sandbox", "--disable-gpu", "--disable-dev-shm-usage"]
+        words += ["--hide-scrollbars", "--disable-background-networking", "--disable-component-update"]
         words += ["--remote-debugging-pipe", f"--user-data-dir={self.profile}", "about:blank"]
         # The pipes are to be 3 and 4.
         shell = ["bash", "-c", f'exec "$@" 3<&{reads} 4>&{writes}', "bash", *words]

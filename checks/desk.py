@@ -1,5 +1,5 @@
 #!/usr/bin/env python3
-"""The page of desk/ in a real browser: Chromium, before nginx, before the program with the demo. Takes a minute.
+"""The page of desk/ in a real browser: Chromium, before nginx and the program with the demo. Takes a minute.
 
     checks/desk.py PROGRAM             tries the page, both proxies, wrong pages, and the documents' lines
     checks/desk.py PROGRAM pictures    tries the page, and takes the pictures of docs/desk/ too
@@ -14,7 +14,7 @@ sys.dont_write_bytecode = True
 from browser import Browser, Unseen
 from desk_scenes import FAILURES, GOOD, SCENES, cells, holders, hostile, shows, signs_in, tried, unknown
 from desk_shown import AFTER, BOARD, OLDER
-from desk_world import DENIED, READER, RED, Caddy, Proxy, World, listens, text_of, write
+from desk_world import DENIED, READER, RED, Caddy, Proxy, World, listens, text_of, without, write
 from hub import OFFICE, PROGRAM, TOP, Wrong, free_port, run, same
 
 PAGE = "index.html", "desk.js", "desk.css", "desk.json"
@@ -28,7 +28,9 @@ def the_page(world: World, takes_pictures: bool) -> None:
     with Browser(world.room) as page:
         page.look(1000, "light")
         tried(page, world, SCENES + FAILURES)
-        same("a policy of contents that is kept", page.js(INLINE), True)
+        same("a script that is put into the page isn't run", page.js(INLINE), True)
+        reports = [it for it in page.events if "ContentSecurityPolicyIssue" in str(it)]
+        same("reports of the policy, once there is something to report", len(reports), 1)
         if takes_pictures:
             pictures(page, world)
     for token in READER, OFFICE, RED:
@@ -56,7 +58,7 @@ def pictures(page: Browser, world: World) -> None:
         ("matrix", "matrix/shop/1.4"),
         ("environment", "environment/live"),
     ):
-        page.look(900, "light")
+        page.look(1000, "light")
         shows(page, view)
         page.picture(f"{TOP}/docs/desk/{name}.png")
 
@@ -148,11 +150,8 @@ def recipe(world: World, proxy: Proxy) -> None:
     port, reader = proxy.port, f"Bearer {READER}"
     for name in "", *PAGE:
         status, body, headers = asked(port, reader, f"GET /desk/{name}")
-        same(
-            f"/desk/{name}",
-            (status, body, headers["content-security-policy"]),
-            (200, text_of(f"desk/{name or 'index.html'}"), POLICY),
-        )
+        policy, wanted = headers["content-security-policy"], text_of(f"desk/{name or 'index.html'}")
+        same(f"/desk/{name}", (status, body, policy), (200, wanted, POLICY))
     same("what else is in the folder's place", asked(port, "", "GET /desk/..%2fnginx.conf")[0] in (400, 404), True)
     listing = world.server.ask(OFFICE, "GET /environments/live")
     same("GET by the token that reads", asked(port, reader, "GET /environments/live")[:2], listing)
@@ -160,20 +159,13 @@ def recipe(world: World, proxy: Proxy) -> None:
         same(f"{ask} by it", asked(port, reader, ask, "{}")[:2], (401, DENIED))
     for method in "HEAD", "OPTIONS", "PATCH":
         same(f"{method} by it", asked(port, reader, f"{method} /environments/live")[0], 501)
-    for token in (
-        "",
-        "Bearer",
-        f"Bearer {READER}x",
-        f"Bearer x{READER}",
-        f"Basic {READER}",
-        f"Bearer {READER}, Bearer {OFFICE}",
-    ):
+    others = f"Bearer {READER}x", f"Bearer x{READER}", f"Bearer {READER.upper()}", f"Bearer {READER}, Bearer {OFFICE}"
+    for token in "", "Bearer", f"Basic {READER}", *others:
         same(f"GET by {token}", asked(port, token, "GET /environments/live")[:2], (401, DENIED))
     team = asked(port, f"Bearer {RED}", "PUT /pacticipants/shop/versions/1.4", '{"branch":"main"}')
     same("a team's token", team[:2], (200, '{"answer":"already"}'))
-    world.server.__exit__()
-    same("without a broker", asked(port, reader, "GET /environments/live")[0], 502)
-    world.server.__enter__()
+    with without(world.server):
+        same("without a broker", asked(port, reader, "GET /environments/live")[0], 502)
     same("with a broker again", asked(port, reader, "GET /environments/live")[:2], listing)
 
 

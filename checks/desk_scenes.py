@@ -1,12 +1,12 @@
 """The scenes of the page of desk/: what is done in the browser, and what is to be seen. Each takes the browser and the
 world in which the page is served."""
-import contextlib, json, os, re, shutil
-from collections.abc import Callable, Iterator
+import json, os, re, shutil, time
+from collections.abc import Callable
 
 from browser import Browser, Unseen
 from desk_shown import ASKED, BOARD, FOREIGN, INSTEAD, LIVE, LONG, MARKUP, MATRIX, SLASH, STRICT, TODAY, TURNED
 from desk_shown import UNRESULTED, WITHOUT
-from desk_world import DENIED, READER, RED, World, stub, write
+from desk_world import DENIED, READER, RED, World, stub, without, write
 from hub import OFFICE, TOP, Wrong, same
 
 ROUTES = (
@@ -161,39 +161,26 @@ def stopped(page: Browser, world: World) -> None:
     """The broker is stopped, something else is in its place, it is started again, and the proxy is stopped."""
     signs_in(page, world, READER)
     shows(page, "ask/web/5/live")
-    world.server.__exit__()
-    shows(page, "ask/shop/1.4/live")
-    alone(
-        page,
-        "502",
-        "The proxy answers 502: the broker isn’t running, is being started, or is busy. Ask again in some seconds.",
-    )
-    for what, status, body, sentence in INSTEAD:
-        with stub(world.server.port, status, body):
-            again(page)
-            alone(page, what, sentence)
-    world.server.__enter__()
+    busy = "The proxy answers 502: the broker isn’t running, is being started, or is busy. Ask again in some seconds."
+    with without(world.server):
+        shows(page, "ask/shop/1.4/live")
+        alone(page, "502", busy)
+        for what, status, body, sentence in INSTEAD:
+            with stub(world.server.port, status, body):
+                again(page)
+                alone(page, what, sentence)
     again(page)
     same("started again", texts(page, ".verdict"), ["✕ shop 1.4 may not go to live."])
-    world.nginx.__exit__()
-    shows(page, "ask/web/6/live")
-    alone(page, "no network", WITHOUT)
-    world.nginx.__enter__()
+    with without(world.nginx):
+        shows(page, "ask/web/6/live")
+        alone(page, "no network", WITHOUT)
     again(page)
     same("with a network again", texts(page, ".verdict"), ["✓ web 6 may go to live."])
-    with stub_after(world):
+    with without(world.server), stub(world.server.port, 401, DENIED):
         shows(page, "ask/shop/1.4/live")
         same("401 after a verdict", text(page, "main [role=alert]"), "The broker doesn’t know this token.")
         same("no verdict beside it", "may" in text(page, "main"), False)
-
-
-@contextlib.contextmanager
-def stub_after(world: World) -> Iterator[None]:
-    """In the broker's place one that knows no token."""
-    world.server.__exit__()
-    with stub(world.server.port, 401, DENIED):
-        yield
-    world.server.__enter__()
+        same("the token is forgotten", page.js("document.getElementById('forget').hidden"), True)
 
 
 def put_hostile(world: World) -> None:
@@ -252,6 +239,26 @@ def apart(page: Browser) -> None:
       while (walk.nextNode()) if (isStray(walk.currentNode)) found.push(walk.currentNode.data);
       return found; })()"""
     same("what turns a line", page.js(stray), [])
+
+
+def overtaken(page: Browser, world: World) -> None:
+    """An answer that comes late doesn't take the place of the one that was asked for after it."""
+    signs_in(page, world, READER)
+    page.call("Fetch.enable", patterns=[{"urlPattern": "*/can-i-deploy?pacticipant=shop*"}])
+    page.js("location.hash = '#/ask/shop/1.4/live'")
+    page.wait("document.querySelector('.waits')", "a question under way")
+    held = [it["params"]["requestId"] for it in page.events if it["method"] == "Fetch.requestPaused"]
+    while not held:
+        page.js("0")
+        held = [it["params"]["requestId"] for it in page.events if it["method"] == "Fetch.requestPaused"]
+    same("while it is asked", text(page, "main"), "Asking the broker …")
+    shows(page, "ask/web/6/live")
+    for it in held:
+        page.call("Fetch.continueRequest", requestId=it)
+    page.call("Fetch.disable")
+    page.js("fetch('desk.json').then(it => it.text())")
+    time.sleep(0.3)
+    same("the later question's verdict", texts(page, ".verdict"), ["✓ web 6 may go to live."])
 
 
 def keyboard(page: Browser, world: World) -> None:
@@ -341,7 +348,7 @@ def forgotten(page: Browser, world: World) -> None:
 
 Scene = Callable[[Browser, World], None]
 GOOD: list[Scene] = [board, questions, matrix, environment]
-SCENES: list[Scene] = [*GOOD, keyboard, looks, forgotten, hostile]
+SCENES: list[Scene] = [*GOOD, overtaken, keyboard, looks, forgotten, hostile]
 FAILURES: list[Scene] = [unknown, others, stopped]
 
 

@@ -86,9 +86,21 @@ def stub(port: int, status: int, body: str) -> Iterator[None]:
 
     server = http.server.HTTPServer(("127.0.0.1", port), Answers)
     threading.Thread(target=server.serve_forever, daemon=True).start()
-    yield
-    server.shutdown()
-    server.server_close()
+    try:
+        yield
+    finally:
+        server.shutdown()
+        server.server_close()
+
+
+@contextlib.contextmanager
+def without(part: "Server | Nginx") -> Iterator[None]:
+    """The broker or the proxy is stopped meanwhile, and started again."""
+    part.__exit__()
+    try:
+        yield
+    finally:
+        part.__enter__()
 
 
 class World:
