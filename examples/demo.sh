@@ -18,14 +18,14 @@ trap 'rm -rf "$room"' EXIT
 for caller in office-token-0001 red-team-token-0001 blue-team-token-0001; do
   printf 'authorization: Bearer %s\n' "$caller" > "$room/${caller%%-*}"
 done
-wait=(--retry 50 --retry-connrefused --retry-delay 1)
+how=(-s --retry 50 --retry-connrefused --retry-delay 1)
 
 # ask STATUS CALLER METHOD PATH [BODY]: one request, which has to be answered with the status; the answer is in $answer
 ask() {
   local status=$1 caller=$2 method=$3 path=$4
-  answer=$(printf %s "${5-}" | curl -sS ${wait+"${wait[@]}"} -w '\n%{http_code}' -X "$method" -H @"$room/$caller" \
-    --data-binary @- "$url/$path") || exit 1
-  unset wait
+  answer=$(printf %s "${5-}" | curl "${how[@]}" -w '\n%{http_code}' -X "$method" -H @"$room/$caller" \
+    --data-binary @- "$url/$path") || { echo "there is no answer from $url" >&2; exit 1; }
+  how=(-sS)
   if [ "${answer##*$'\n'}" != "$status" ]; then
     echo "$method /$path: $answer" >&2
     echo "the demo needs a new broker, whose office has the token office-token-0001" >&2
