@@ -119,7 +119,8 @@ ask 409 red POST environments/live/deployments '{"pacticipant":"shop","version":
 echo "$answer"
 cat << END
 
-Look at it with the page (docs/DESK.md says how it is served), or with curl: \`authorization: Bearer office-token-0001\`
+Look at it with the page: by README's lines at http://127.0.0.1:9393/desk/, with the token desk-token-000001
+(docs/DESK.md says how else it is served). Or with curl, and \`authorization: Bearer office-token-0001\`.
   #/board                    what is where; "today" beside it asks the gate again: the canary and shop 1.3 are refused
   #/ask/shop/1.4/live        refused: absent, failed, missing and claimed, once each, and who has to act
   #/ask/web/6/live           may go: its contract is that of web 5, so nothing had to be verified again
