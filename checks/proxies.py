@@ -323,13 +323,17 @@ def limited(front, _):
     began = time.monotonic()
     for peer in peers:
         peer.sendall(message)
+    asked = time.monotonic()
     same("another address", front.exchange(message, "127.0.0.2")[0], 200)
+    other = time.monotonic() - asked
     statuses = [answered(peer)[0] for peer in peers]
     took = time.monotonic() - began
     for peer in peers:
         peer.close()
-    if set(statuses) != {200, 429} or statuses.count(200) < WAITING or took < 0.9 * WAITING / RATE:
-        raise Wrong(f"{statuses.count(200)} of {len(statuses)} are answered 200 in {took:.1f} s")
+    longest = WAITING / RATE
+    if set(statuses) != {200, 429} or statuses.count(200) < WAITING or took < 0.9 * longest or other > 0.75 * longest:
+        said = f"{statuses.count(200)} of {len(statuses)} are answered 200 in {took:.1f} s"
+        raise Wrong(f"{said}, and another address after {other:.1f} s")
 
 
 def unlogged(front, _):
