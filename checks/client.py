@@ -899,11 +899,12 @@ def attempt(name: str, function: Callable[[str], None]) -> bool:
 
 
 def main() -> int:
-    """Tries what forks workers by itself, and then the others, some beside one another."""
+    """Tries what forks workers by itself, and then the others, some beside one another, the longest first."""
     chosen = [it for it in TESTS if not sys.argv[2:] or sys.argv[2] in it[0]]
     well = [attempt(*it) for it in chosen if it[1] is explain]
-    with concurrent.futures.ThreadPoolExecutor(3) as workers:
-        well += workers.map(lambda it: attempt(*it), [it for it in chosen if it[1] is not explain])
+    with concurrent.futures.ThreadPoolExecutor(4) as workers:
+        others = sorted((it for it in chosen if it[1] is not explain), key=lambda it: it[1] is not desk)
+        well += workers.map(lambda it: attempt(*it), others)
     return 0 if all(well) else 1
 
 
