@@ -286,7 +286,8 @@ PATTERNS = ["a", "(?=a)", "(?!a)", "(?<=a)", "(?<!a)", r"(a)\1", r"a\\1", r"[(?=
 
 @test("patterns")
 def patterns(room: str) -> None:
-    """A pattern that is called refused without the program is refused by it; and by the tool with the program both ways."""
+    """A pattern that is called refused without the program is refused by it. With it each is judged, and the program's
+    first fault is there also if it refuses for the file what it takes by itself."""
     holzhebo = client_module()
     program = holzhebo.Program(PROGRAM)
     refused = [it for it in PATTERNS if holzhebo.is_surely_refused(it) is False]
@@ -303,6 +304,11 @@ def patterns(room: str) -> None:
         same(pattern, (done.status, lines), (status, ["pact 7.7 interactions[0]"] * status))
         without = json.loads(client.done("none", "explain", "file.json", "--json"))["file.json"]
         same(f"{pattern} without the program", [it["pattern"] for it in without["notJudged"]], [pattern])
+    with open(f"{room}/stub", "w", encoding="utf-8") as it:
+        it.write("#!/bin/sh\ngrep -q 'a book' || exit 0\necho 'pact 7.7 interactions[0]' >&2\nexit 3\n")
+    os.chmod(f"{room}/stub", 0o755)
+    done = client.run("none", "explain", "file.json", "--program", f"{room}/stub")
+    same("patterns that are too large together", (done.status, done.output.split("\n")[:2]), (1, ["file.json: 1 fault", "  pact 7.7 interactions[0]  $"]))
 
 
 # verify
@@ -400,6 +406,21 @@ ANSWERS = {
 }
 
 
+# Why it fails or can't be sent, as it is said.
+WHYS = {
+    "without a type": "there is no header Content-Type",
+    "another status": "the status is 500 and not 200",
+    "a redirect": "the status is 302 and not 200",
+    "a title that is a number": "a header or the body differs",
+    "no body": "there is no body, or a header differs",
+    "nothing, and hangs": "the provider doesn't answer within 1 seconds",
+    "nothing, and closes": "the provider closes without an answer",
+    "and closes in the middle": "the provider closes in the middle of an answer",
+    "a fraction": "the provider's body has 9.5 at $.pages, and replies are recorded without fractions",
+    "bytes that are no text": "the provider's body is no text",
+}
+
+
 class Handler(http.server.BaseHTTPRequestHandler):
     """A provider: it answers by its table, and keeps what it was asked."""
 
@@ -475,6 +496,8 @@ def play_each(room: str, server: Server, client: Client, number: int, name: str)
         told = play(room, client, stock, f"b{number}", {PASSES: 0, FAILS: 1, UNPLAYED: 3}[wanted], "--states-url", f"{stock.url}/states")
     others = {PASSES: PASSES, FAILS: PASSES, UNPLAYED: "played"}[wanted]
     same(name, [it["outcome"] for it in told["played"]], [wanted] + [others] * 4)
+    if name in WHYS or wanted == PASSES:
+        same(f"{name}: why", told["played"][0]["why"], WHYS.get(name, ""))
     same(f"{name}: sent", told["outcome"], "not sent" if wanted == UNPLAYED else wanted)
     rows = json.loads(server.ask(BLUE, f"GET /matrix?pacticipant=stock&version=b{number}")[1]).get("rows")
     if wanted == UNPLAYED:
@@ -538,10 +561,12 @@ def verify_unplayable(room: str) -> None:
     answers = {**KEPT, "GET /books/1": Reply(), "POST /states": Reply(status=500)}
     with fleet(room) as (server, client), Stock(answers) as stock:
         publish_book(server, "10", book_pact(*(interaction(f"z{why}", {"path": "/", **it}, {}) for why, it in UNPLAYABLE.items())))
-        told = play(room, client, stock, "d1", 3)
+        told = play(room, client, stock, "d1", 3, "--junit", f"{room}/junit.xml")
         whys = {it["description"][1:]: it["why"] for it in told["played"] if it["outcome"] == UNPLAYED}
         same("whys", whys, {it: it for it in UNPLAYABLE})
         same("of all", (told["outcome"], told["why"]), ("not sent", f"{len(UNPLAYABLE)} interactions can't be played"))
+        suite = xml.etree.ElementTree.parse(f"{room}/junit.xml").getroot()[0]
+        same("JUnit", [suite.get(it) for it in ("tests", "failures", "errors")], ["12", "0", "12"])
         publish_book(server, "11", book_pact())
         words = ["verify", "--provider", "stock", "--version", "d1", "--url", stock.url, "--contract", "shop", "11"]
         done = client.run("blue", *words, "--states-url", f"{stock.url}/states")
