@@ -240,6 +240,8 @@ def ordinary(front, broker):
     verify(front)
     for ask in "GET /environments/live", "GET /matrix?pacticipant=shop&version=1", "GET /no/route", "DELETE /teams/red":
         same(ask, front.ask(RED, ask), broker.ask(RED, ask))
+    same("whether it is alive", front.ask("", "GET /"), (404, '{"answer":"no route"}'))
+    same("a method that isn't served", front.ask("", "OPTIONS /")[0], 501)
     front.do(RED, "POST /environments/live/deployments", '{"pacticipant":"shop","version":"1"}')
     same("without a token", front.exchange(front.message(b"accept: */*", "GET /environments/live")), DENIED)
 
