@@ -279,6 +279,54 @@ def explain(room: str) -> None:
     same(f"of {len(asked)} files otherwise, the first", wrong[:1], [])
 
 
+# Faults that a file can have together, in the order in which docs/DEFINITIONS.md and docs/LIMITS.md look for them: the
+# broker's line, the place, and the value that makes it.
+TOGETHER: List[Tuple[str, List[Any], Any]] = [
+    ("pact 6.2", ["metadata", "deep"], json.loads("[" * 100 + "]" * 100)),
+    ("pact 6.1", ["metadata", "price"], 19.99),
+    ("pact 4", ["metadata", "pactSpecification"], {"version": "2.0.0"}),
+    ("pact 5", ["messages"], [{}]),
+    ("pact 3 consumer.name", ["consumer", "name"], ""),
+    ("pact 3 provider.name", ["provider", "name"], 7),
+    ("pact 3 interactions[0].description", ["interactions", 0, "description"], None),
+    ("pact 3 interactions[0].providerStates", ["interactions", 0, "providerStates"], "s"),
+    ("pact 3 interactions[0].request", ["interactions", 0, "request"], []),
+    ("pact 3 interactions[0].status", ["interactions", 0, "response", "status"], 99),
+    ("pact 3 interactions[0].headers", ["interactions", 0, "response", "headers"], {"a": "1", "A": "1"}),
+    ("pact 7.2 interactions[0]", ["interactions", 0, "response", "matchingRules", "$.body"], {}),
+    ("pact 7.3 interactions[0]", ["interactions", 0, "response", "matchingRules", "body", "$!"], {"matchers": []}),
+    ("pact 7.1 interactions[0]", ["interactions", 0, "response", "matchingRules", "body", "$.a"], {"matchers": 1}),
+    ("pact 7.8 interactions[0]", ["interactions", 0, "response", "matchingRules", "body", "$.b"], {"matchers": [], "combine": "OF"}),
+    ("pact 7.5 interactions[0] date", ["interactions", 0, "response", "matchingRules", "body", "$.c"], {"matchers": [{"match": "date"}]}),
+    ("pact 7.6 interactions[0]", ["interactions", 0, "response", "matchingRules", "body", "$.d"], {"matchers": [{"min": 2, "max": 1}]}),
+    ("pact 7.7 interactions[0]", ["interactions", 0, "response", "matchingRules", "body", "$.e"], {"matchers": [{"regex": "(?=a)"}]}),
+    ("pact 7.4 interactions[0]", ["interactions", 0, "response", "matchingRules", "body", "$.z"], {"matchers": []}),
+    ("pact 7.5 interactions[0] integer", ["interactions", 0, "response", "matchingRules", "header", "x"], {"matchers": [{"match": "integer"}]}),
+    ("pact 7.5 interactions[0] status", ["interactions", 0, "response", "matchingRules", "status"], {}),
+    ("pact 3 interactions[1]", ["interactions", 1], 1),
+]  # fmt: skip
+
+
+@test("faults together")
+def together(room: str) -> None:
+    """All of them are found, in their order; and the first is the program's, also as one after another is taken out."""
+    holzhebo = client_module()
+    program = holzhebo.Program(PROGRAM)
+    for begin in range(len(TOGETHER) + 1):
+        file = json.loads(pact("a book"))
+        file.update(metadata={}, interactions=[*file["interactions"], *json.loads(pact("a book"))["interactions"]])
+        file["interactions"][0]["response"]["matchingRules"] = {"body": {"$['z']": {"matchers": []}}, "header": {}}
+        for _, place, value in TOGETHER[begin:]:
+            inner = file
+            for key in place[:-1]:
+                inner = inner[key]
+            inner[place[-1]] = value
+        lines = [line for line, _, _ in TOGETHER[begin:]]
+        content = json.dumps(file).encode()
+        same(f"from {begin} on", [it.line for it in holzhebo.findings_of(content, program.judge).faults], lines or ["pact 8"])
+        same(f"the program from {begin} on", program.fault(content), (lines or ["pact 8"])[0])
+
+
 PATTERNS = ["a", "(?=a)", "(?!a)", "(?<=a)", "(?<!a)", r"(a)\1", r"a\\1", r"[(?=]", r"[a[(?=]]", r"(?x)a # (?=", "(", "a{2,1}",
             r"\d{4}-\d{2}-\d{2}", r"^[\w \-]{1,100}$", "a++", "(?P<n>a)", "(?<n>a)", "(?P=n)", r"\Z", r"\p{L}", "[]a]", "[^]a]",
             r"[\]](?=a)", "(?i)a", "(?-u)a", r"\Qa\E", "(?>a)", "a{1000}{1000}", "(a{1000}){1000}"]  # fmt: skip
@@ -547,10 +595,10 @@ def verify_asked(room: str) -> None:
 UNPLAYABLE = {
     "its request has generators": {"generators": {"path": {"type": "RandomInt"}}},
     "its request has generators and values injected from states": {"generators": {"path": {"type": "ProviderState", "expression": "/${id}"}}},
-    "its path is none": {"path": {"a": 1}},
+    "its path isn't one": {"path": {"a": 1}},
     "its query has a value that isn't a text": {"query": {"a": [1]}},
     "it has a header that is no text": {"headers": {"a": 1}},
-    "its method is none": {"method": 1},
+    "its method isn't one": {"method": 1},
     "its request can't be sent: Invalid header value b'a\\nb'": {"headers": {"a": "a\nb"}},
 }
 
