@@ -327,6 +327,29 @@ def together(room: str) -> None:
         same(f"the program from {begin} on", program.fault(content), (lines or ["pact 8"])[0])
 
 
+# Paths of rules, and whether they can be read: by docs/LIMITS.md and docs/DECISIONS.md.
+PATHS = {
+    **dict.fromkeys(["$", "$" + ".a" * 60, "$[123456789]", "$['a.b']", "$['']", "$.é", "$[*]", "$.*", "$[0].a['b c'][*].*"], True),
+    **dict.fromkeys(["", "a", "$a", "$.", "$" + ".a" * 61, "$[1234567890]", "$.a*", "$[]", "$['a]", "$['a'", "$..a", "$[-1]", "$ .a"], False),
+}
+ONE_PATH = [("$.a", "$['a']"), ("$[1]", "$[01]"), ("$.*", "$[*]"), ("$.a[0].b", "$['a'][000]['b']")]
+
+
+@test("paths of rules")
+def paths(room: str) -> None:
+    """Each can be read or not, and two spellings of one path are one, as written and by the program."""
+    holzhebo = client_module()
+    program = holzhebo.Program(PROGRAM)
+    asks = [([path], None if can_be_read else "pact 7.3 interactions[0]") for path, can_be_read in PATHS.items()]
+    asks += [(list(both), "pact 7.4 interactions[0]") for both in ONE_PATH] + [(["$.a", "$.A"], None)]
+    for keys, line in asks:
+        file = json.loads(pact("a book"))
+        file["interactions"][0]["response"]["matchingRules"] = {"body": {key: {"matchers": []} for key in keys}}
+        content = json.dumps(file).encode()
+        found = [it.line for it in holzhebo.findings_of(content, program.judge).faults]
+        same(f"{keys}", (found, program.fault(content)), ([line] if line else [], line))
+
+
 PATTERNS = ["a", "(?=a)", "(?!a)", "(?<=a)", "(?<!a)", r"(a)\1", r"a\\1", r"[(?=]", r"[a[(?=]]", r"(?x)a # (?=", "(", "a{2,1}",
             r"\d{4}-\d{2}-\d{2}", r"^[\w \-]{1,100}$", "a++", "(?P<n>a)", "(?<n>a)", "(?P=n)", r"\Z", r"\p{L}", "[]a]", "[^]a]",
             r"[\]](?=a)", "(?i)a", "(?-u)a", r"\Qa\E", "(?>a)", "a{1000}{1000}", "(a{1000}){1000}"]  # fmt: skip
@@ -423,6 +446,7 @@ def without(key: str) -> Reply:
 
 
 PASSES, FAILS, UNPLAYED = "passed", "failed", "not played"
+HANGS = 6  # how many seconds the provider has for an answer
 TEXT = (("Content-Type", "text/plain"),)
 # The answer to the request of the book, and what becomes of that interaction: by the Pact Specification, version 3.
 ANSWERS = {
@@ -446,7 +470,7 @@ ANSWERS = {
     "no body": (Reply(body=b""), FAILS),
     "no JSON": (Reply(body=b"<html>oops</html>"), FAILS),
     "half of the JSON": (Reply(body=b'{"id": 1'), FAILS),
-    "nothing, and hangs": (Reply(wait=3), FAILS),
+    "nothing, and hangs": (Reply(wait=HANGS + 2), FAILS),
     "nothing, and closes": (Reply(status=0), FAILS),
     "and closes in the middle": (Reply(length=9), FAILS),
     "a fraction": (book(pages=9.5), UNPLAYED),
@@ -461,7 +485,7 @@ WHYS = {
     "a redirect": "the status is 302 and not 200",
     "a title that is a number": "a header or the body differs",
     "no body": "there is no body, or a header differs",
-    "nothing, and hangs": "the provider doesn't answer within 1 seconds",
+    "nothing, and hangs": f"the provider doesn't answer within {HANGS} seconds",
     "nothing, and closes": "the provider closes without an answer",
     "and closes in the middle": "the provider closes in the middle of an answer",
     "a fraction": "the provider's body has 9.5 at $.pages, and replies are recorded without fractions",
@@ -483,7 +507,7 @@ class Handler(http.server.BaseHTTPRequestHandler):
     def send(self, reply: Reply) -> None:
         time.sleep(reply.wait)
         self.close_connection = True
-        if reply.status and reply.wait < 2:
+        if reply.status and reply.wait < HANGS:
             self.send_response(reply.status)
             for key, it in [*reply.headers, *([("Content-Length", str(len(reply.body) + reply.length))] if reply.status != 204 else [])]:
                 self.send_header(key, it)
@@ -532,7 +556,7 @@ def verdict(room: str, name: str) -> List[int]:
 def play(room: str, client: Client, stock: Stock, version: str, status: int, *more: str) -> Any:
     """Verifies stock with the contract of a version of shop; the one contract, as JSON has it."""
     words = ["--provider", "stock", "--version", version, "--url", stock.url, "--contract", "shop", "10", "--json"]
-    done = client.run("blue", "verify", *words, "--timeout", "1", "--record", f"{room}/{version}", *more)
+    done = client.run("blue", "verify", *words, "--timeout", str(HANGS), "--record", f"{room}/{version}", *more)
     same(f"{version}: status", (done.status, done.errors), (status, ""))
     return json.loads(done.output)[0]
 
