@@ -16,7 +16,23 @@ import shlex, shutil, socket, ssl, subprocess, tempfile, threading, time, xml.et
 from multiprocessing import get_context
 from types import ModuleType
 from typing import Any, Callable, Dict, Iterator, List, NamedTuple, Optional, Tuple
-from hub import BLUE, OFFICE, PROGRAM, RED, TOP, Server, Wrong, await_port, free_port, new_file, pact, register, run, same, verify
+from hub import (
+    BLUE,
+    OFFICE,
+    PROGRAM,
+    RED,
+    TOP,
+    Server,
+    Wrong,
+    await_port,
+    free_port,
+    new_file,
+    pact,
+    register,
+    run,
+    same,
+    verify,
+)
 
 CLIENT = f"{TOP}/client/holzhebo"
 PYTHON = [sys.executable, "-S", "-W", "error"]  # without the machine's own packages
@@ -65,7 +81,9 @@ class Client:
     def run(self, caller: str, *words: str, **env: str) -> Done:
         """Runs the client; what it prints has no token."""
         command = [*PYTHON, CLIENT, *words]
-        done = subprocess.run(command, cwd=self.room, env={**self.env(caller), **env}, capture_output=True, text=True, timeout=120)
+        done = subprocess.run(
+            command, cwd=self.room, env={**self.env(caller), **env}, capture_output=True, text=True, timeout=120
+        )
         secret(done.stdout + done.stderr)
         return Done(done.returncode, done.stdout, done.stderr)
 
@@ -105,7 +123,11 @@ def types(room: str) -> None:
 
 def digest_of(description: str) -> str:
     """The name by which a contract of hub.py is fetched: of its normal text, by docs/API.md."""
-    text = pact(description).replace('"request"', '"providerStates":[],"request"').replace('"method":"GET",', '"method":"GET",')
+    text = (
+        pact(description)
+        .replace('"request"', '"providerStates":[],"request"')
+        .replace('"method":"GET",', '"method":"GET",')
+    )
     normal = json.dumps(json.loads(text), sort_keys=True, separators=(",", ":"))
     return hashlib.sha256(normal.encode()).hexdigest()[:16]
 
@@ -143,7 +165,9 @@ FAULTY = {
     "matchingRules": {
         "status": {},
         "body": {
-            "$.a": {"matchers": [{"match": "date"}, {"match": "regex", "regex": "(?=a)"}, {"match": "regex", "regex": "a+"}]},
+            "$.a": {
+                "matchers": [{"match": "date"}, {"match": "regex", "regex": "(?=a)"}, {"match": "regex", "regex": "a+"}]
+            },
             "$.b": {"matchers": []},
         },
     },
@@ -164,7 +188,9 @@ def desk(room: str) -> None:
         server.do(OFFICE, "PUT /pacticipants/shop%20%26%20caf%C3%A9", '{"team":"red"}')
         for it in commands(f"{TOP}/checks/client/desk.lines"):
             done = client.run(it.caller, *it.words)
-            wanted = Done(it.status, "".join(f"{line}\n" for line in it.output), "".join(f"{line}\n" for line in it.errors))
+            wanted = Done(
+                it.status, "".join(f"{line}\n" for line in it.output), "".join(f"{line}\n" for line in it.errors)
+            )
             same(f"desk.lines:{it.line}: {' '.join(it.words)}", done, wanted)
         branch = "/pacts/provider/stock/consumer/shop%20%26%20caf%C3%A9/branch/feat%2F%221%22%5C"
         same("the contract of a branch", server.ask(RED, f"GET {branch}")[0], 200)
@@ -179,8 +205,20 @@ def usage(room: str) -> None:
         if f"\nExample: holzhebo {it.name} " not in text or "\nStatus 0: " not in text:
             raise Wrong(f"the help of {it.name} has no example or no status: {text}")
     for words in ["deploy", "--help"], ["help", "deploy"]:
-        same(f"{words}", client.done("none", *words), holzhebo.help_of(next(it for it in holzhebo.COMMANDS if it.name == "deploy")) + "\n")
-    for words in ["nothing"], ["deploy"], ["deploy", "--bad"], ["deploy", "a", "b", "c", "--token", RED[:3]], ["publish", "1"], ["result", "1", "maybe", "x"], ["can-i-deploy", "a", "b", "c", "--wait", "-1"]:
+        same(
+            f"{words}",
+            client.done("none", *words),
+            holzhebo.help_of(next(it for it in holzhebo.COMMANDS if it.name == "deploy")) + "\n",
+        )
+    for words in (
+        ["nothing"],
+        ["deploy"],
+        ["deploy", "--bad"],
+        ["deploy", "a", "b", "c", "--token", RED[:3]],
+        ["publish", "1"],
+        ["result", "1", "maybe", "x"],
+        ["can-i-deploy", "a", "b", "c", "--wait", "-1"],
+    ):
         done = client.run("red", *words)
         same(f"{words}", (done.status, done.output), (2, ""))
 
@@ -188,7 +226,25 @@ def usage(room: str) -> None:
 # explain beside the program
 
 
-VALUES: List[Any] = [None, 1, -1, 1.5, "x", "", [], {}, True, [1], {"name": "x"}, "$", "3.0", "2.0.0", 10**30, "(a", [[]]]
+VALUES: List[Any] = [
+    None,
+    1,
+    -1,
+    1.5,
+    "x",
+    "",
+    [],
+    {},
+    True,
+    [1],
+    {"name": "x"},
+    "$",
+    "3.0",
+    "2.0.0",
+    10**30,
+    "(a",
+    [[]],
+]
 
 
 def vectors() -> List[bytes]:
@@ -232,7 +288,7 @@ def changed(file: bytes, path: Tuple[Any, ...], way: int) -> bytes:
     return json.dumps(whole).encode()
 
 
-BYTES = b'"{}[]:,0x$.\\\xff\x00 *-e\n\'?'
+BYTES = b"\"{}[]:,0x$.\\\xff\x00 *-e\n'?"
 
 
 def mutants(file: bytes, place: int) -> Iterator[bytes]:
@@ -281,6 +337,8 @@ def explain(room: str) -> None:
 
 # Faults that a file can have together, in the order in which docs/DEFINITIONS.md and docs/LIMITS.md look for them: the
 # broker's line, the place, and the value that makes it.
+FIRST = ["interactions", 0]
+RULES_OF_0 = [*FIRST, "response", "matchingRules"]
 TOGETHER: List[Tuple[str, List[Any], Any]] = [
     ("pact 6.2", ["metadata", "deep"], json.loads("[" * 100 + "]" * 100)),
     ("pact 6.1", ["metadata", "price"], 19.99),
@@ -288,21 +346,21 @@ TOGETHER: List[Tuple[str, List[Any], Any]] = [
     ("pact 5", ["messages"], [{}]),
     ("pact 3 consumer.name", ["consumer", "name"], ""),
     ("pact 3 provider.name", ["provider", "name"], 7),
-    ("pact 3 interactions[0].description", ["interactions", 0, "description"], None),
-    ("pact 3 interactions[0].providerStates", ["interactions", 0, "providerStates"], "s"),
-    ("pact 3 interactions[0].request", ["interactions", 0, "request"], []),
-    ("pact 3 interactions[0].status", ["interactions", 0, "response", "status"], 99),
-    ("pact 3 interactions[0].headers", ["interactions", 0, "response", "headers"], {"a": "1", "A": "1"}),
-    ("pact 7.2 interactions[0]", ["interactions", 0, "response", "matchingRules", "$.body"], {}),
-    ("pact 7.3 interactions[0]", ["interactions", 0, "response", "matchingRules", "body", "$!"], {"matchers": []}),
-    ("pact 7.1 interactions[0]", ["interactions", 0, "response", "matchingRules", "body", "$.a"], {"matchers": 1}),
-    ("pact 7.8 interactions[0]", ["interactions", 0, "response", "matchingRules", "body", "$.b"], {"matchers": [], "combine": "OF"}),
-    ("pact 7.5 interactions[0] date", ["interactions", 0, "response", "matchingRules", "body", "$.c"], {"matchers": [{"match": "date"}]}),
-    ("pact 7.6 interactions[0]", ["interactions", 0, "response", "matchingRules", "body", "$.d"], {"matchers": [{"min": 2, "max": 1}]}),
-    ("pact 7.7 interactions[0]", ["interactions", 0, "response", "matchingRules", "body", "$.e"], {"matchers": [{"regex": "(?=a)"}]}),
-    ("pact 7.4 interactions[0]", ["interactions", 0, "response", "matchingRules", "body", "$.z"], {"matchers": []}),
-    ("pact 7.5 interactions[0] integer", ["interactions", 0, "response", "matchingRules", "header", "x"], {"matchers": [{"match": "integer"}]}),
-    ("pact 7.5 interactions[0] status", ["interactions", 0, "response", "matchingRules", "status"], {}),
+    ("pact 3 interactions[0].description", [*FIRST, "description"], None),
+    ("pact 3 interactions[0].providerStates", [*FIRST, "providerStates"], "s"),
+    ("pact 3 interactions[0].request", [*FIRST, "request"], []),
+    ("pact 3 interactions[0].status", [*FIRST, "response", "status"], 99),
+    ("pact 3 interactions[0].headers", [*FIRST, "response", "headers"], {"a": "1", "A": "1"}),
+    ("pact 7.2 interactions[0]", [*RULES_OF_0, "$.body"], {}),
+    ("pact 7.3 interactions[0]", [*RULES_OF_0, "body", "$!"], {"matchers": []}),
+    ("pact 7.1 interactions[0]", [*RULES_OF_0, "body", "$.a"], {"matchers": 1}),
+    ("pact 7.8 interactions[0]", [*RULES_OF_0, "body", "$.b"], {"matchers": [], "combine": "OF"}),
+    ("pact 7.5 interactions[0] date", [*RULES_OF_0, "body", "$.c"], {"matchers": [{"match": "date"}]}),
+    ("pact 7.6 interactions[0]", [*RULES_OF_0, "body", "$.d"], {"matchers": [{"min": 2, "max": 1}]}),
+    ("pact 7.7 interactions[0]", [*RULES_OF_0, "body", "$.e"], {"matchers": [{"regex": "(?=a)"}]}),
+    ("pact 7.4 interactions[0]", [*RULES_OF_0, "body", "$.z"], {"matchers": []}),
+    ("pact 7.5 interactions[0] integer", [*RULES_OF_0, "header", "x"], {"matchers": [{"match": "integer"}]}),
+    ("pact 7.5 interactions[0] status", [*RULES_OF_0, "status"], {}),
     ("pact 3 interactions[1]", ["interactions", 1], 1),
 ]  # fmt: skip
 
@@ -323,14 +381,37 @@ def together(room: str) -> None:
             inner[place[-1]] = value
         lines = [line for line, _, _ in TOGETHER[begin:]]
         content = json.dumps(file).encode()
-        same(f"from {begin} on", [it.line for it in holzhebo.findings_of(content, program.judge).faults], lines or ["pact 8"])
+        same(
+            f"from {begin} on",
+            [it.line for it in holzhebo.findings_of(content, program.judge).faults],
+            lines or ["pact 8"],
+        )
         same(f"the program from {begin} on", program.fault(content), (lines or ["pact 8"])[0])
 
 
 # Paths of rules, and whether they can be read: by docs/LIMITS.md and docs/DECISIONS.md.
 PATHS = {
-    **dict.fromkeys(["$", "$" + ".a" * 60, "$[123456789]", "$['a.b']", "$['']", "$.é", "$[*]", "$.*", "$[0].a['b c'][*].*"], True),
-    **dict.fromkeys(["", "a", "$a", "$.", "$" + ".a" * 61, "$[1234567890]", "$.a*", "$[]", "$['a]", "$['a'", "$..a", "$[-1]", "$ .a"], False),
+    **dict.fromkeys(
+        ["$", "$" + ".a" * 60, "$[123456789]", "$['a.b']", "$['']", "$.é", "$[*]", "$.*", "$[0].a['b c'][*].*"], True
+    ),
+    **dict.fromkeys(
+        [
+            "",
+            "a",
+            "$a",
+            "$.",
+            "$" + ".a" * 61,
+            "$[1234567890]",
+            "$.a*",
+            "$[]",
+            "$['a]",
+            "$['a'",
+            "$..a",
+            "$[-1]",
+            "$ .a",
+        ],
+        False,
+    ),
 }
 ONE_PATH = [("$.a", "$['a']"), ("$[1]", "$[01]"), ("$.*", "$[*]"), ("$.a[0].b", "$['a'][000]['b']")]
 
@@ -350,9 +431,8 @@ def paths(room: str) -> None:
         same(f"{keys}", (found, program.fault(content)), ([line] if line else [], line))
 
 
-PATTERNS = ["a", "(?=a)", "(?!a)", "(?<=a)", "(?<!a)", r"(a)\1", r"a\\1", r"[(?=]", r"[a[(?=]]", r"(?x)a # (?=", "(", "a{2,1}",
-            r"\d{4}-\d{2}-\d{2}", r"^[\w \-]{1,100}$", "a++", "(?P<n>a)", "(?<n>a)", "(?P=n)", r"\Z", r"\p{L}", "[]a]", "[^]a]",
-            r"[\]](?=a)", "(?i)a", "(?-u)a", r"\Qa\E", "(?>a)", "a{1000}{1000}", "(a{1000}){1000}"]  # fmt: skip
+PATTERNS = r"""a (?=a) (?!a) (?<=a) (?<!a) (a)\1 a\\1 [(?=] [a[(?=]] (?x)a#(?= ( a{2,1} \d{4}-\d{2}-\d{2} ^[\w\-]{1,100}$ a++
+(?P<n>a) (?<n>a) (?P=n) \Z \p{L} []a] [^]a] [\]](?=a) (?i)a (?-u)a \Qa\E (?>a) a{1000}{1000} (a{1000}){1000}""".split()
 
 
 @test("patterns")
@@ -367,7 +447,9 @@ def patterns(room: str) -> None:
     client = Client(room, "http://127.0.0.1:1")
     for pattern, status in ("a+", 0), ("(", 1):
         file = json.loads(pact("a book"))
-        file["interactions"][0]["response"]["matchingRules"] = {"body": {"$": {"matchers": [{"match": "regex", "regex": pattern}]}}}
+        file["interactions"][0]["response"]["matchingRules"] = {
+            "body": {"$": {"matchers": [{"match": "regex", "regex": pattern}]}}
+        }
         with open(f"{room}/file.json", "w", encoding="utf-8") as it:
             it.write(json.dumps(file))
         done = client.run("none", "explain", "file.json", "--json", "--program", PROGRAM)
@@ -379,7 +461,11 @@ def patterns(room: str) -> None:
         it.write("#!/bin/sh\ngrep -q 'a book' || exit 0\necho 'pact 7.7 interactions[0]' >&2\nexit 3\n")
     os.chmod(f"{room}/stub", 0o755)
     done = client.run("none", "explain", "file.json", "--program", f"{room}/stub")
-    same("patterns that are too large together", (done.status, done.output.split("\n")[:2]), (1, ["file.json: 1 fault", "  pact 7.7 interactions[0]  $"]))
+    same(
+        "patterns that are too large together",
+        (done.status, done.output.split("\n")[:2]),
+        (1, ["file.json: 1 fault", "  pact 7.7 interactions[0]  $"]),
+    )
 
 
 # verify
@@ -397,15 +483,18 @@ def interaction(description: str, request: Any, response: Any, states: Any = ())
 def book_pact(*more: Any) -> Any:
     """A contract of shop with stock, with requests of each form."""
     json_type = {"Content-Type": "application/json"}
+    text_type, new_book = {"Content-Type": "text/plain"}, {"body": {"title": "Ada & Co"}}
+    response = {"body": BOOK, "headers": json_type, "matchingRules": RULES}
+    new_book.update(method="POST", path="/books", headers={**json_type, "X-Shop": ["a", "b"]})
+    note = {"method": "put", "path": "/a b/%2F/é", "query": {"q": ["1 & 2", "ü"], "r": ["x"]}, "headers": text_type}
+    moved = {"status": 301, "headers": {"Location": "/new"}}
     interactions = [
-        interaction("a book", {"path": "/books/1"}, {"body": BOOK, "headers": json_type, "matchingRules": RULES}, STATE),
-        interaction("a new book", {"method": "POST", "path": "/books", "headers": {"Content-Type": "application/json", "X-Shop": ["a", "b"]},
-                                   "body": {"title": "Ada & Co"}}, {"status": 201}),
-        interaction("a note", {"method": "put", "path": "/a b/%2F/é", "query": {"q": ["1 & 2", "ü"], "r": ["x"]},
-                               "headers": {"Content-Type": "text/plain"}, "body": "hello"}, {"status": 204}),
-        interaction("an old path", {"path": "/old", "query": "a=1&b=%20"}, {"status": 301, "headers": {"Location": "/new"}}),
+        interaction("a book", {"path": "/books/1"}, response, STATE),
+        interaction("a new book", new_book, {"status": 201}),
+        interaction("a note", {**note, "body": "hello"}, {"status": 204}),
+        interaction("an old path", {"path": "/old", "query": "a=1&b=%20"}, moved),
         interaction("no book", {"method": "DELETE", "path": "/books/9"}, {"status": 404, "body": None}),
-    ]  # fmt: skip
+    ]
     return {"consumer": {"name": "shop"}, "provider": {"name": "stock"}, "interactions": [*interactions, *more]}
 
 
@@ -455,7 +544,10 @@ ANSWERS = {
     "more keys": (book(pages=90), PASSES),
     "another order of keys": (Reply(body=json.dumps(dict(reversed(list(BOOK.items())))).encode()), PASSES),
     "slowly": (Reply(wait=0.3), PASSES),
-    "in two headers of one name": (Reply(headers=(("Content-Type", "application/json"), ("X-A", "1"), ("X-A", "2"))), PASSES),
+    "in two headers of one name": (
+        Reply(headers=(("Content-Type", "application/json"), ("X-A", "1"), ("X-A", "2"))),
+        PASSES,
+    ),
     "without a type": (Reply(headers=()), FAILS),
     "another status": (Reply(status=500), FAILS),
     "a redirect": (Reply(302, (("Location", "/books/1"),)), FAILS),
@@ -509,7 +601,10 @@ class Handler(http.server.BaseHTTPRequestHandler):
         self.close_connection = True
         if reply.status and reply.wait < HANGS:
             self.send_response(reply.status)
-            for key, it in [*reply.headers, *([("Content-Length", str(len(reply.body) + reply.length))] if reply.status != 204 else [])]:
+            for key, it in [
+                *reply.headers,
+                *([("Content-Length", str(len(reply.body) + reply.length))] if reply.status != 204 else []),
+            ]:
                 self.send_header(key, it)
             self.end_headers()
             self.wfile.write(reply.body)
@@ -549,7 +644,9 @@ def publish_book(server: Server, version: str, file: Any) -> None:
 def verdict(room: str, name: str) -> List[int]:
     """Which interactions fail, as `broker check` says of the recorded files."""
     pacts, replies = (glob.glob(f"{room}/{name}/*.{it}.json") for it in ("pact", "replies"))
-    done = subprocess.run([PROGRAM, "check", "--pact", pacts[0], "--replies", replies[0]], capture_output=True, text=True)
+    done = subprocess.run(
+        [PROGRAM, "check", "--pact", pacts[0], "--replies", replies[0]], capture_output=True, text=True
+    )
     return [int(it) for it in done.stdout.split()[1:]]
 
 
@@ -565,7 +662,15 @@ def play_each(room: str, server: Server, client: Client, number: int, name: str)
     """A provider that answers the request of the book so."""
     reply, wanted = ANSWERS[name]
     with Stock({**KEPT, "GET /books/1": reply, "POST /states": Reply(body=b"")}) as stock:
-        told = play(room, client, stock, f"b{number}", {PASSES: 0, FAILS: 1, UNPLAYED: 3}[wanted], "--states-url", f"{stock.url}/states")
+        told = play(
+            room,
+            client,
+            stock,
+            f"b{number}",
+            {PASSES: 0, FAILS: 1, UNPLAYED: 3}[wanted],
+            "--states-url",
+            f"{stock.url}/states",
+        )
     others = {PASSES: PASSES, FAILS: PASSES, UNPLAYED: "played"}[wanted]
     same(name, [it["outcome"] for it in told["played"]], [wanted] + [others] * 4)
     if name in WHYS or wanted == PASSES:
@@ -577,7 +682,11 @@ def play_each(room: str, server: Server, client: Client, number: int, name: str)
     else:
         failing = [at for at, it in enumerate(told["played"]) if it["outcome"] == FAILS]
         same(f"{name}: broker check", verdict(room, f"b{number}"), failing)
-        same(f"{name}: stored", [(it["success"], it["evidence"], it["result"]) for it in rows], [(wanted == PASSES, "checked", told["result"])])
+        same(
+            f"{name}: stored",
+            [(it["success"], it["evidence"], it["result"]) for it in rows],
+            [(wanted == PASSES, "checked", told["result"])],
+        )
 
 
 @test("verify, a provider that keeps its contract and one that breaks it")
@@ -598,27 +707,65 @@ def verify_asked(room: str) -> None:
         more = ["--states-url", f"{stock.url}/states", "--junit", f"{room}/junit.xml", "--run", "build 1"]
         told = play(room, client, stock, "c1", 0, *more)
         state = json.loads(stock.asked[0][3])
-        same("the state", (stock.asked[0][:3], state), (STATES_SET[:3], {"consumer": "shop", "action": "setup", "state": "a shelf", "params": {"books": 2}}))
+        same(
+            "the state",
+            (stock.asked[0][:3], state),
+            (STATES_SET[:3], {"consumer": "shop", "action": "setup", "state": "a shelf", "params": {"books": 2}}),
+        )
         same("what was asked", stock.asked[1:], ASKED)
         again = play(room, client, stock, "c1", 0, *more)
         same("the run again", (again["result"], again["outcome"]), (told["result"], PASSES))
         suites = xml.etree.ElementTree.parse(f"{room}/junit.xml").getroot()
-        same("JUnit", [(it.get("name"), it.get("classname"), len(it)) for it in suites.iter("testcase")][0], ("a book (a shelf)", "shop 10", 0))
+        same(
+            "JUnit",
+            [(it.get("name"), it.get("classname"), len(it)) for it in suites.iter("testcase")][0],
+            ("a book (a shelf)", "shop 10", 0),
+        )
         stock.answers["GET /books/1"] = Reply(status=500)
         told = play(room, client, stock, "c1", 3, *more)
-        same("another result of the run", told["why"], "this run sent another result for it before: give a rerun another --run")
+        same(
+            "another result of the run",
+            told["why"],
+            "this run sent another result for it before: give a rerun another --run",
+        )
         play(room, client, stock, "c2", 1, *more[:4])
         suites = xml.etree.ElementTree.parse(f"{room}/junit.xml").getroot()
-        same("JUnit of a failure", [it.get("message") for it in suites.iter("failure")], ["the status is 500 and not 200"])
-        words = ["--provider", "stock", "--version", "c2", "--url", stock.url, "--contract", "shop", "10", "--for", "live"]
+        same(
+            "JUnit of a failure",
+            [it.get("message") for it in suites.iter("failure")],
+            ["the status is 500 and not 200"],
+        )
+        words = [
+            "--provider",
+            "stock",
+            "--version",
+            "c2",
+            "--url",
+            stock.url,
+            "--contract",
+            "shop",
+            "10",
+            "--for",
+            "live",
+        ]
         lines = client.run("blue", "verify", *words).output.split("\n")
         number = json.loads(server.ask(BLUE, "GET /matrix?pacticipant=stock&version=c2")[1])["rows"][0]["result"]
-        same("in sentences", lines[:3], [f"shop 10 (named): failed, result {number}", "  failed  a book (a shelf)  the status is 500 and not 200", "  passed  a new book"])
+        same(
+            "in sentences",
+            lines[:3],
+            [
+                f"shop 10 (named): failed, result {number}",
+                "  failed  a book (a shelf)  the status is 500 and not 200",
+                "  passed  a new book",
+            ],
+        )
 
 
 UNPLAYABLE = {
     "its request has generators": {"generators": {"path": {"type": "RandomInt"}}},
-    "its request has generators and values injected from states": {"generators": {"path": {"type": "ProviderState", "expression": "/${id}"}}},
+    "its request has generators and values injected from states": {
+        "generators": {"path": {"type": "ProviderState", "expression": "/${id}"}}
+    },
     "its path isn't one": {"path": {"a": 1}},
     "its query has a value that isn't a text": {"query": {"a": [1]}},
     "it has a header that is no text": {"headers": {"a": 1}},
@@ -632,7 +779,11 @@ def verify_unplayable(room: str) -> None:
     """It is named, nothing is sent, and no result is stored."""
     answers = {**KEPT, "GET /books/1": Reply(), "POST /states": Reply(status=500)}
     with fleet(room) as (server, client), Stock(answers) as stock:
-        publish_book(server, "10", book_pact(*(interaction(f"z{why}", {"path": "/", **it}, {}) for why, it in UNPLAYABLE.items())))
+        publish_book(
+            server,
+            "10",
+            book_pact(*(interaction(f"z{why}", {"path": "/", **it}, {}) for why, it in UNPLAYABLE.items())),
+        )
         told = play(room, client, stock, "d1", 3, "--junit", f"{room}/junit.xml")
         whys = {it["description"][1:]: it["why"] for it in told["played"] if it["outcome"] == UNPLAYED}
         same("whys", whys, {it: it for it in UNPLAYABLE})
@@ -642,7 +793,14 @@ def verify_unplayable(room: str) -> None:
         publish_book(server, "11", book_pact())
         words = ["verify", "--provider", "stock", "--version", "d1", "--url", stock.url, "--contract", "shop", "11"]
         done = client.run("blue", *words, "--states-url", f"{stock.url}/states")
-        same("a state", done.output.split("\n")[:2], ["shop 11 (named): not sent: 1 interaction can't be played", "  not played  a book (a shelf)  the state a shelf can't be set: 500"])
+        same(
+            "a state",
+            done.output.split("\n")[:2],
+            [
+                "shop 11 (named): not sent: 1 interaction can't be played",
+                "  not played  a book (a shelf)  the state a shelf can't be set: 500",
+            ],
+        )
         same("nothing stored", server.ask(BLUE, "GET /matrix?pacticipant=stock&version=d1")[0], 404)
 
 
@@ -650,14 +808,34 @@ def verify_unplayable(room: str) -> None:
 def verify_branch(room: str) -> None:
     """The newest contract of a branch has no version by the API: the program judges it, and no result is stored."""
     with fleet(room) as (server, client), Stock({"GET /": Reply(status=200)}) as stock:
-        server.do(RED, 'PUT /pacticipants/shop/versions/20', '{"branch":"main"}')
+        server.do(RED, "PUT /pacticipants/shop/versions/20", '{"branch":"main"}')
         server.do(RED, "PUT /pacts/provider/stock/consumer/shop/version/20", pact("a fork"))
-        words = ["verify", "--provider", "stock", "--version", "e1", "--url", stock.url, "--branch", "main", "--consumer", "shop"]
+        words = [
+            "verify",
+            "--provider",
+            "stock",
+            "--version",
+            "e1",
+            "--url",
+            stock.url,
+            "--branch",
+            "main",
+            "--consumer",
+            "shop",
+        ]
         why = "the broker doesn't say which version has it: name it by --contract shop VERSION"
         done = client.run("blue", *words)
-        same("without the program", (done.status, done.output.split("\n")[0]), (3, f"shop branch main (branch main): not sent: {why}"))
+        same(
+            "without the program",
+            (done.status, done.output.split("\n")[0]),
+            (3, f"shop branch main (branch main): not sent: {why}"),
+        )
         done = client.run("blue", *words, "--program", PROGRAM)
-        same("with the program", (done.status, done.output.split("\n")[0]), (0, f"shop branch main (branch main): passed: {why}"))
+        same(
+            "with the program",
+            (done.status, done.output.split("\n")[0]),
+            (0, f"shop branch main (branch main): passed: {why}"),
+        )
         stock.answers["GET /"] = Reply(status=404)
         same("a failure", client.run("blue", *words, "--program", PROGRAM).status, 1)
         same("nothing stored", server.ask(BLUE, "GET /matrix?pacticipant=stock&version=e1")[0], 404)
@@ -753,7 +931,7 @@ class Flaky(http.server.BaseHTTPRequestHandler):
 
 @test("what is sent again")
 def repeats(room: str) -> None:
-    """What is idempotent, after 502, 503 and a connection that closes; a result without a run never, nor after others."""
+    """What is idempotent, after 502, 503 and a connection that closes, and nothing else; a result without a run never."""
     with open(f"{room}/file.json", "w", encoding="utf-8") as it:
         it.write(json.dumps({**json.loads(pact("a book")), "metadata": {"holzhebo": {"consumerVersion": "1"}}}))
     broker: Any = http.server.ThreadingHTTPServer(("127.0.0.1", 0), Flaky)
@@ -778,9 +956,17 @@ def repeats(room: str) -> None:
     broker.server_close()
     began = time.monotonic()
     done = client.run("red", *result, *run, "--patience", "1")
-    same("a refused connection", (done.status, done.errors.count("asked again"), time.monotonic() - began > 0.5), (3, 1, True))
+    same(
+        "a refused connection",
+        (done.status, done.errors.count("asked again"), time.monotonic() - began > 0.5),
+        (3, 1, True),
+    )
     done = client.run("red", *result, "--patience", "60")
-    same("a refused connection, without a run", (done.status, done.errors), (3, "holzhebo: the broker refuses the connection\n"))
+    same(
+        "a refused connection, without a run",
+        (done.status, done.errors),
+        (3, "holzhebo: the broker refuses the connection\n"),
+    )
 
 
 # Tokens
@@ -788,17 +974,32 @@ def repeats(room: str) -> None:
 
 @test("no token is seen")
 def tokens(room: str) -> None:
-    """Neither by `ps` while the client runs, nor in what it writes. Clients print none: each run of this check tries it."""
+    """Neither by `ps` while the client runs, nor in what it writes. That it prints none is tried by each run of it."""
     token = f"token-of-{os.getpid()}-{time.time_ns()}"
     file = {**book_pact(), "provider": {"name": "depot"}}
     with fleet(room) as (server, client), Stock({**KEPT, "GET /books/1": Reply(wait=0.5)}) as stock:
         server.do(OFFICE, "PUT /teams/green", '{"token":"%s"}' % token)
         server.do(OFFICE, "PUT /pacticipants/depot", '{"team":"green"}')
         server.do(RED, "PUT /pacts/provider/depot/consumer/shop/version/10", json.dumps(file))
-        words = [*PYTHON, CLIENT, "verify", "--provider", "depot", "--version", "1", "--url", stock.url, "--contract", "shop", "10"]
+        words = [
+            *PYTHON,
+            CLIENT,
+            "verify",
+            "--provider",
+            "depot",
+            "--version",
+            "1",
+            "--url",
+            stock.url,
+            "--contract",
+            "shop",
+            "10",
+        ]
         more = ["--record", f"{room}/kept", "--junit", f"{room}/kept/junit.xml"]
         env = {**client.env("blue"), "HOLZHEBO_TOKEN_FILE": "", "HOLZHEBO_TOKEN": token}
-        process = subprocess.Popen([*words, *more], env=env, stdout=subprocess.PIPE, stderr=subprocess.STDOUT, text=True)
+        process = subprocess.Popen(
+            [*words, *more], env=env, stdout=subprocess.PIPE, stderr=subprocess.STDOUT, text=True
+        )
         seen = ""
         while process.poll() is None:
             seen += subprocess.run(["ps", "-eo", "args"], capture_output=True, text=True).stdout
@@ -826,7 +1027,9 @@ def https(room: str) -> None:
     threading.Thread(target=broker.serve_forever, args=(0.02,), daemon=True).start()
     client, words = Client(room, f"https://localhost:{broker.server_address[1]}"), ["deploy", "shop", "1", "live"]
     done = client.run("red", *words)
-    same("an unknown certificate", (done.status, broker.count, "CERTIFICATE_VERIFY_FAILED" in done.errors), (3, 0, True))
+    same(
+        "an unknown certificate", (done.status, broker.count, "CERTIFICATE_VERIFY_FAILED" in done.errors), (3, 0, True)
+    )
     same("a known one", client.run("red", *words, SSL_CERT_FILE=f"{room}/cert.pem").status, 0)
     broker.shutdown()
     broker.server_close()
@@ -869,26 +1072,43 @@ class Build:
         """Runs these lines; what they print has no token."""
         env = {key: self.placed(it) for key, it in env.items()}
         path = {"PATH": f"{self.room}/bin:{os.environ['PATH']}"}
-        done = subprocess.run([*shell, "-c", self.placed(text)], cwd=self.room, env={**os.environ, **env, **path}, capture_output=True, text=True, timeout=120)
+        done = subprocess.run(
+            [*shell, "-c", self.placed(text)],
+            cwd=self.room,
+            env={**os.environ, **env, **path},
+            capture_output=True,
+            text=True,
+            timeout=120,
+        )
         secret(done.stdout + done.stderr)
         if done.returncode not in (0, 1):
             raise Wrong(f"{text} ends with {done.returncode}: {done.stdout}{done.stderr}")
         return done.returncode
 
-    def github(self, name: str, token: str, given: Dict[str, str], after: Callable[[str], None] = lambda line: None) -> int:
-        """Runs a workflow as GitHub does: each step by bash, with what an earlier one wrote for the next. The first step
-        that fails ends it."""
+    def github(
+        self, name: str, token: str, given: Dict[str, str], after: Callable[[str], None] = lambda line: None
+    ) -> int:
+        """Runs a workflow as GitHub does: each step by bash, with what an earlier one wrote for the next, until one
+        fails."""
         import yaml  # type: ignore[import]
 
         with open(f"{BUILDS}/github/{name}", encoding="utf-8") as file:
             workflow = yaml.safe_load(file)
-        given, kept = {"secrets.HOLZHEBO_TOKEN": token, "secrets.PROVIDER_BUILDS": "-", **given}, f"{self.room}/{name}.env"
+        given, kept = {
+            "secrets.HOLZHEBO_TOKEN": token,
+            "secrets.PROVIDER_BUILDS": "-",
+            **given,
+        }, f"{self.room}/{name}.env"
         for step in [it for job in workflow["jobs"].values() for it in job["steps"] if "run" in it]:
             env = {**workflow["env"], **step.get("env", {}), "GITHUB_ENV": kept, **given}
             if os.path.exists(kept):
                 with open(kept, encoding="utf-8") as file:
                     env.update(line.rstrip("\n").split("=", 1) for line in file)
-            env = {key: re.sub(r"\$\{\{ (\S+) \}\}", lambda it: given[it[1]], str(it)) for key, it in env.items() if "." not in key}
+            env = {
+                key: re.sub(r"\$\{\{ (\S+) \}\}", lambda it: given[it[1]], str(it))
+                for key, it in env.items()
+                if "." not in key
+            }
             status = self.lines(["bash", "-e", "-o", "pipefail"], step["run"], env)
             if status:
                 return status
@@ -935,7 +1155,11 @@ def github(room: str) -> None:
             same("the consumer's build", build.github("consumer.yml", RED, commit, after), 0)
             same("the contract's build", [it.result() for it in threads], [0])
         rows = json.loads(server.ask(RED, "GET /matrix?pacticipant=shop&version=c0ffee")[1])["rows"]
-        same("the result", [(it["providerVersion"], it["evidence"], it["success"]) for it in rows], [("1", "checked", True)])
+        same(
+            "the result",
+            [(it["providerVersion"], it["evidence"], it["success"]) for it in rows],
+            [("1", "checked", True)],
+        )
         same("the release", build.github("release.yml", RED, {"inputs.version": "c0ffee"}), 0)
         same("what is live", in_live(server), ["shop c0ffee", "stock 1"])
         same("a rollout that fails", build.github("release.yml", RED, {"inputs.version": "1", "ROLLOUT": "1"}), 1)
@@ -944,7 +1168,11 @@ def github(room: str) -> None:
         own = {"GITHUB_SHA": "f00d", "GITHUB_RUN_ID": "8", "GITHUB_RUN_ATTEMPT": "1"}
         same("the provider's build", build.github("provider.yml", BLUE, own), 0)
         stock.answers["GET /"] = Reply(500)
-        same("one that breaks the contract", build.github("provider.yml", BLUE, {**own, "GITHUB_SHA": "bad", "GITHUB_RUN_ID": "9"}), 1)
+        same(
+            "one that breaks the contract",
+            build.github("provider.yml", BLUE, {**own, "GITHUB_SHA": "bad", "GITHUB_RUN_ID": "9"}),
+            1,
+        )
 
 
 @test("builds of GitLab and Jenkins")
@@ -955,11 +1183,19 @@ def gitlab(room: str) -> None:
             it.write(pact("a spoon"))
         commit = {"CI_COMMIT_SHA": "c0ffee", "CI_COMMIT_BRANCH": "main"}
         same("the consumer's", build.gitlab("consumer", RED, **commit), 0)
-        same("the contract's", build.gitlab("contract", BLUE, CONSUMER="shop", CONSUMER_VERSION="c0ffee", CI_JOB_ID="1"), 0)
+        same(
+            "the contract's",
+            build.gitlab("contract", BLUE, CONSUMER="shop", CONSUMER_VERSION="c0ffee", CI_JOB_ID="1"),
+            0,
+        )
         same("the wait", build.gitlab("wait for the result", RED, **commit), 0)
         same("the release", build.gitlab("release", RED, VERSION="c0ffee"), 0)
         same("what is live", in_live(server), ["shop c0ffee", "stock 1"])
-        same("a rollout that fails", (build.gitlab("release", RED, VERSION="1", ROLLOUT="1"), in_live(server)), (1, ["shop c0ffee", "stock 1"]))
+        same(
+            "a rollout that fails",
+            (build.gitlab("release", RED, VERSION="1", ROLLOUT="1"), in_live(server)),
+            (1, ["shop c0ffee", "stock 1"]),
+        )
         same("the provider's", build.gitlab("provider", BLUE, CI_COMMIT_SHA="f00d", CI_JOB_ID="2"), 0)
         same("Jenkins", build.jenkins(BLUE, GIT_COMMIT="j1", BUILD_TAG="jenkins-1"), [0, 0, 0])
         same("Jenkins, a failure", build.jenkins(BLUE, GIT_COMMIT="j2", BUILD_TAG="jenkins-2", VERIFIER="1"), [0, 1, 1])
@@ -978,8 +1214,14 @@ def pages(room: str) -> None:
     for name in "holzhebo", "broker":
         run(["mandoc", "-T", "lint", "-W", "error", f"client/pages/{name}.1"])
         run(["zsh", "-n", f"client/pages/_{name}"])
-    for words, wanted in (["holzhebo", "can"], ["can-i-deploy"]), (["holzhebo", "can-i-deploy", "--w"], ["--wait"]), (["broker", "serve", "--l"], ["--listen"]), (["holzhebo", "help", "und"], ["undeploy"]):
-        text = f'source client/pages/{words[0]}.bash; COMP_WORDS=({" ".join(words)}); COMP_CWORD={len(words) - 1}; _{words[0]}; echo "${{COMPREPLY[@]}}"'
+    for words, wanted in (
+        (["holzhebo", "can"], ["can-i-deploy"]),
+        (["holzhebo", "can-i-deploy", "--w"], ["--wait"]),
+        (["broker", "serve", "--l"], ["--listen"]),
+        (["holzhebo", "help", "und"], ["undeploy"]),
+    ):
+        place = f'COMP_WORDS=({" ".join(words)}); COMP_CWORD={len(words) - 1}'
+        text = f'source client/pages/{words[0]}.bash; {place}; _{words[0]}; echo "${{COMPREPLY[@]}}"'
         same(f"completion of {words}", run(["bash", "-c", text]).split(), wanted)
 
 
