@@ -268,7 +268,7 @@ def tokens(room: str) -> None:
     """Neither by `ps` while the client runs, nor in what it writes. That it prints none is tried by each run of it."""
     token = f"token-of-{os.getpid()}-{time.time_ns()}"
     file = {**book_pact(), "provider": {"name": "depot"}}
-    with fleet(room) as (server, client), Stock({**KEPT, "GET /books/1": Reply(wait=0.5)}) as stock:
+    with fleet(room) as (server, client), Stock({**KEPT, "GET /books/1": Reply(wait=2)}) as stock:
         server.do(OFFICE, "PUT /teams/green", '{"token":"%s"}' % token)
         server.do(OFFICE, "PUT /pacticipants/depot", '{"team":"green"}')
         server.do(RED, "PUT /pacts/provider/depot/consumer/shop/version/10", json.dumps(file))
