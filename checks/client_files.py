@@ -239,9 +239,11 @@ def patterns(room: str) -> None:
     with open(f"{room}/stub", "w", encoding="utf-8") as it:
         it.write("#!/bin/sh\ngrep -q 'a book' || exit 0\necho 'pact 7.7 interactions[0]' >&2\nexit 3\n")
     os.chmod(f"{room}/stub", 0o755)
-    done = client.run("none", "explain", "file.json", "--program", f"{room}/stub")
-    same(
-        "patterns that are too large together",
-        (done.status, done.output.split("\n")[:2]),
-        (1, ["file.json: 1 fault", "  pact 7.7 interactions[0]  $"]),
-    )
+    file["interactions"][0]["response"]["matchingRules"]["status"] = {}
+    with open(f"{room}/both.json", "w", encoding="utf-8") as it:
+        it.write(json.dumps(file))
+    together, status = "pact 7.7 interactions[0]", "pact 7.5 interactions[0] status"
+    for name, wanted in ("file.json", [together]), ("both.json", [together, status]):
+        done = client.run("none", "explain", name, "--json", "--program", f"{room}/stub")
+        lines = [it["line"] for it in json.loads(done.output)[name]["faults"]]
+        same("patterns that are too large together", (done.status, lines), (1, wanted))
