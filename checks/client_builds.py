@@ -1,8 +1,8 @@
 """Runs the lines of the builds of examples/builds, with bash, over the program and a provider that listens."""
-import concurrent.futures, json, os, re, shlex, subprocess
-from typing import Callable, Dict, List
+import concurrent.futures, functools, json, os, re, shlex, subprocess
+from typing import Any, Callable, Dict, List
 from client_tools import CLIENT, PYTHON, Client, Reply, Stock, fleet, secret, test
-from hub import BLUE, RED, TOP, Server, Wrong, pact, same
+from hub import BLUE, RED, TOP, Server, Wrong, pact, run, same
 
 BUILDS = f"{TOP}/examples/builds"
 STUBS = {
@@ -13,6 +13,14 @@ STUBS = {
     "start-service": "exit 0",
     "roll-out": 'exit "${ROLLOUT:-0}"',
 }
+
+
+@functools.lru_cache(None)
+def yaml_of(path: str) -> Any:
+    """What a file of YAML says, as Debian's Python with python3-yaml reads it."""
+    with open(path, encoding="utf-8") as file:
+        words = ["/usr/bin/python3", "-c", "import json, sys, yaml; print(json.dumps(yaml.safe_load(sys.stdin)))"]
+        return json.loads(run(words, text=file.read()))
 
 
 class Build:
@@ -56,10 +64,7 @@ class Build:
     ) -> int:
         """Runs a workflow as GitHub does: each step by bash, with what an earlier one wrote for the next, until one
         fails."""
-        import yaml  # type: ignore[import]
-
-        with open(f"{BUILDS}/github/{name}", encoding="utf-8") as file:
-            workflow = yaml.safe_load(file)
+        workflow = yaml_of(f"{BUILDS}/github/{name}")
         given, kept = {
             "secrets.HOLZHEBO_TOKEN": token,
             "secrets.PROVIDER_BUILDS": "-",
@@ -82,10 +87,7 @@ class Build:
         return 0
 
     def gitlab(self, job: str, token: str, **given: str) -> int:
-        import yaml
-
-        with open(f"{BUILDS}/gitlab-ci.yml", encoding="utf-8") as file:
-            jobs = yaml.safe_load(file)
+        jobs = yaml_of(f"{BUILDS}/gitlab-ci.yml")
         env = {**jobs["variables"], "HOLZHEBO_TOKEN": token, **given}
         return self.lines(["bash", "-e", "-o", "pipefail"], "\n".join(jobs[job]["script"]), env)
 
