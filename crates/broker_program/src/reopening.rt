@@ -77,8 +77,10 @@ fn reopen<S: Start>(
     ensures again { IfOk result (OpensBrokerAgain broker) }
     ensures cause { IfErr result IsReopeningFault }
 {
+    // First, so that no broker is dropped where what follows fails.
+    let store = release(broker);
     let options = store_options(rt)?;
-    match connect_again(rt.alloc(), release(broker), options)? {
+    match connect_again(rt.alloc(), store, options)? {
         Some(connection) => match broker_of(connection) {
             Ok(broker) => Ok(Some(broker)),
             Err(failed) => Err(fault_of(failed)),

@@ -7,9 +7,9 @@ pub returns-in-Ok-clause-again : goal.returns-in-Ok-clause-again
 returns-in-Ok-clause-again g c clean =
     let conn = c.in-Some.connection in
     let early : HasCleanDisk (file_state conn) = omega (arith, clean, c.in-Ok.ensures.opened.survives.clean) in
-    let again = subst (λ found. OpensFilesAgain c.release.result found) c.in-Some.is c.in_ok-connection.ensures.ok early in
-    (conn, opens_after c.args.broker c.release.result again.0 conn c.requires c.release.ensures again.1 again.2, c.in-Ok.ensures.opened)
+    let again = subst (λ found. OpensFilesAgain c.release-store.result found) c.in-Some.is c.in_ok-connection.ensures.ok early in
+    (conn, opens_after c.args.broker c.release-store.result again.0 conn c.requires c.release-store.ensures again.1 again.2, c.in-Ok.ensures.opened)
 
 pub returns-in-None-clause-again : goal.returns-in-None-clause-again
 returns-in-None-clause-again g c =
-    (c.release.result, subst (λ found. OpensFilesAgain c.release.result found) c.in-None.is c.in_ok-connection.ensures.ok, c.release.ensures)
+    (c.release-store.result, subst (λ found. OpensFilesAgain c.release-store.result found) c.in-None.is c.in_ok-connection.ensures.ok, c.release-store.ensures)
