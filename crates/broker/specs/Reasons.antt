@@ -8,7 +8,7 @@ use Rattle.sqlite.specs.View.{IsClean}
 use Rattle.broker_core.specs.Name.{IsName, IsToken}
 use Rattle.broker_core.specs.Text.{Text}
 use Rattle.broker_core.specs.declared.answer.Answer.{Answer}
-use Rattle.broker_service.specs.declared.opening.OpenFault.TheVariants as opening
+use Rattle.broker_database.specs.declared.opening.OpenFault.TheVariants as opening
 use Rattle.command_line.specs.declared.line.Line.{Line}
 use Rattle.command_line.specs.declared.line.Line.TheVariants.{CanIDeploy, Check, Init, Migrate, Normalise}
 use Rattle.command_line.specs.declared.line.Line.TheVariants.{Replay, Serve}

@@ -7,14 +7,13 @@ ghost use Rattle.broker_core.specs.declared.answer.Answer.TheVariants.{BadForm};
 ghost use Rattle.command_facts.specs.Callers.{token_of};
 ghost use Rattle.command_facts.specs.Performs.{Performs, FailsToChangeFrom, IsMisnamed, CallersStep, TokensStep};
 ghost use Rattle.command_facts.specs.Primitives.{broker_primitives};
-ghost use Rattle.broker_service.specs.Causes.{Transacted};
-ghost use Rattle.broker_service.specs.Ends.{IsNoFailure};
+ghost use Rattle.broker_service.specs.Transacted.{IsNoFailure, Transacted};
 
-use crate::ending::conclude;
 use answer_texts::Answer;
 use broker_core::answer::Answer as Outcome;
 use broker_core::command::{Command, FormFault};
 use broker_core::policy::{Caller, Rule};
+use broker_database::conclude;
 use command_facts::callers::caller_of;
 use contract_commands::branch_pact::get_branch_pact;
 use contract_commands::pacts::get_pact;
