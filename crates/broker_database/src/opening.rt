@@ -19,7 +19,7 @@ ghost use Rattle.broker_database.specs.Opening.{MakesRest, MakesOrFails, OnlyIfU
 
 use crate::ending::conclude;
 use broker_core::name::Token;
-use command_facts::callers::digest_of;
+use caller_facts::callers::digest_of;
 use registry_tables::{format_of, is_blank, make_strict_environments};
 use sqlite::{Alter, Connection};
 use std::alloc::Global;

@@ -1,7 +1,7 @@
 //! What runs the commands of a stream.
 ghost use Rattle.sqlite.specs.Held.{Held};
 ghost use Rattle.sqlite.specs.State.{State};
-ghost use Rattle.command_facts.specs.Callers.{token_of};
+ghost use Rattle.caller_facts.specs.Callers.{token_of};
 ghost use Rattle.broker_database.specs.BrokerView.{BrokerView};
 ghost use Rattle.broker_database.specs.Calls.{Applied};
 

@@ -1,7 +1,7 @@
 //! The broker.
 ghost use Rattle.std.specs.Prelude.{◌≡◌, false};
 ghost use Rattle.sqlite.specs.Held.{state};
-ghost use Rattle.command_facts.specs.Callers.{token_of};
+ghost use Rattle.caller_facts.specs.Callers.{token_of};
 ghost use Rattle.command_facts.specs.Primitives.{broker_primitives};
 ghost use Rattle.broker_database.specs.Calls.{Applied, Created, Opened};
 ghost use Rattle.broker_service.specs.Transacted.{IsSoundCommand};

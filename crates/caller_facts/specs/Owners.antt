@@ -5,7 +5,7 @@ use Rattle.broker_core.specs.State.{State as Broker}
 use Rattle.broker_core.specs.Policy.{allows}
 use Rattle.broker_core.specs.declared.policy.Caller.{Caller}
 use Rattle.broker_core.specs.declared.policy.Rule.{Rule}
-use Rattle.command_facts.specs.declared.rules.OwnerFacts.{OwnerFacts}
+use Rattle.caller_facts.specs.declared.rules.OwnerFacts.{OwnerFacts}
 
 -- the team that owns a pacticipant, as a list
 abbrev pub owners_of : Option Text → List Text

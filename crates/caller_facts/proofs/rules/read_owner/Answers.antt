@@ -4,7 +4,7 @@ use Rattle.sqlite.specs.Held.{state}
 use Rattle.table_access.{specs.declared.StoreFault.{StoreFault}, proofs.CallLemmas.{then_stop}}
 use Rattle.broker_core.specs.{Name.{IsName}, Text.{Text}}
 use Rattle.table_access.specs.declared.StoreFault.TheVariants as faults
-use Rattle.command_facts.proofs.rules.read_owner.Goals as goal
+use Rattle.caller_facts.proofs.rules.read_owner.Goals as goal
 
 -- the owner of a pacticipant has a name, so that only memory is wanting
 only_memory : (fault : StoreFault) (owner : Option (String Global)) (found : Option Text) → option_map string_bytes owner ≡ found → ((team : Text) → found ≡ Some team → IsName team)

@@ -1,11 +1,10 @@
 //! Who calls.
 
 ghost use Rattle.std.specs.Prelude.{◌≡◌, ◌↔◌, IfErr, ℕ, List, Some, false, IsTrue, MatchOption, IfOk, string_bytes};
-ghost use Rattle.broker_core.specs.Machine.{IsCallerOfDigest, IsCallerOfToken};
+ghost use Rattle.broker_core.specs.Machine.{IsCallerOfDigest};
 ghost use Rattle.broker_core.specs.Name.{IsName};
 ghost use Rattle.broker_tables.specs.Calm.{CalmQueries};
-ghost use Rattle.command_facts.specs.Callers.{token_of};
-ghost use Rattle.command_facts.specs.Primitives.{broker_primitives};
+ghost use Rattle.caller_facts.specs.Callers.{token_of, token_digest, IsSender};
 
 use broker_core::name::{Name, NameFault};
 use broker_core::policy::Caller;
@@ -17,7 +16,7 @@ use table_access::StoreFault;
 
 /// The digest of a token, by which it is known.
 pub fn digest_of(alloc: Global, token: &str) -> Result<String, StoreFault>
-    ensures ok { IfOk result (λ digest. string_bytes digest ≡ broker_primitives.digest_of token.now) }
+    ensures ok { IfOk result (λ digest. string_bytes digest ≡ token_digest token.now) }
     ensures cause { IfErr result (λ fault. fault ≡ StoreFault.Memory) }
 {
     match digest_text(alloc, &Sha256Digester, token.as_bytes()) {
@@ -87,7 +86,7 @@ pub fn caller_of<S: Alter>(
     token: Option<&str>,
 ) -> Result<Option<Caller>, StoreFault>
     ensures { CalmQueries S.Store conn.old conn.new result
-        (λ who s. IsCallerOfToken broker_primitives s (token_of token.entry) who) }
+        (λ who s. IsSender s (token_of token.entry) who) }
 {
     match token {
         Some(token) => {

@@ -1,7 +1,7 @@
 use Rattle.std.proofs.Common.{Some, None, ap, ◌∙◌}
 use Rattle.sqlite.specs.Held.{state}
 use Rattle.broker_tables.proofs.QueryLemmas.{calm_answers}
-use Rattle.command_facts.proofs.callers.team_with.Goals as goal
+use Rattle.caller_facts.proofs.callers.team_with.Goals as goal
 
 pub returns-in-Ok-stored_name : goal.returns-in-Ok-stored_name
 returns-in-Ok-stored_name g c =

@@ -4,7 +4,7 @@ ghost use Rattle.broker_core.specs.Policy.{allows, is_office};
 ghost use Rattle.broker_core.specs.Request.{has_grant};
 ghost use Rattle.broker_core.specs.Name.{IsName};
 ghost use Rattle.broker_tables.specs.Calm.{CalmQueries, CalmQueriesInPlace};
-ghost use Rattle.command_facts.specs.Owners.{owners_of, IsOwnerRead};
+ghost use Rattle.caller_facts.specs.Owners.{owners_of, IsOwnerRead};
 
 use crate::callers::stored_name;
 use broker_core::name::Name;

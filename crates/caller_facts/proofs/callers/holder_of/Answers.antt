@@ -2,8 +2,8 @@ use Rattle.std.proofs.Common.{refl, Option, MatchOption, ◌≡◌, ℕ, List, S
 use Rattle.sqlite.specs.Held.{state}
 use Rattle.broker_core.specs.{Machine.{IsCallerOfDigest}, declared.policy.Caller.TheVariants.{Office, Team}}
 use Rattle.broker_tables.proofs.QueryLemmas.{query_failed, calm_answers, calm_both}
-use Rattle.command_facts.proofs.CallerLemmas.{no_one}
-use Rattle.command_facts.proofs.callers.holder_of.Goals as goal
+use Rattle.caller_facts.proofs.CallerLemmas.{no_one}
+use Rattle.caller_facts.proofs.callers.holder_of.Goals as goal
 
 pub returns-then-is_same : goal.returns-then-is_same
 returns-then-is_same g c =
