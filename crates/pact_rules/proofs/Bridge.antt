@@ -4,7 +4,7 @@ use Rattle.std.proofs.{lemmas.Bool.{lt-leb}, lemmas.Bool.Decides.{nat_tests}}
 use Rattle.serde_json.specs.Written.{has_float, items_have_float, members_have_float}
 use Rattle.pact_paths.proofs.Checked.{same_Err, fault_of, no_fault}
 use Rattle.pact_rules.specs.Outcome.{Gives, GivesChecked, checked}
-use Rattle.pact_rules.specs.Trees.{Node, null, list, object, Nodes, node, Fields, field, IsTree, AreTrees, IsMap, IsBelowFields}
+use Rattle.pact_rules.specs.Trees.{Node, list, object, Nodes, node, Fields, field, IsTree, AreTrees, IsMap, IsBelowFields}
 use Rattle.pact_rules.specs.TreeReading.{whole_number, whole_tree, whole_items, whole_members, whole_or, tree_in, data_of, items_data, members_data}
 use Rattle.pact_rules.specs.{declared.tree.TreeFault.TheVariants.{Memory, NotWhole, TooDeep}, TreeView.{tree_view}, declared.tree.Tree.{Tree}}
 use Rattle.pact_rules.{specs.declared.tree.TreeFault.{TreeFault}, proofs.TreeLemmas.{whole_of}}

@@ -4,7 +4,7 @@ pub mod Each
 pub mod ChoiceLemmas
 pub mod MatchingLemmas
 pub mod PatternLemmas
-mod BuiltPatterns
+mod AcceptedPatterns
 pub mod OrderLemmas
 pub mod ReadingLemmas
 mod NameLemmas

@@ -1,14 +1,11 @@
 -- Looking into trees, and finding patterns.
 use Rattle.std.specs.{Cmp.Lexicographic.{slice_cmp}, Map.{lookup}, BTreeMap.{is_at}, Str.Iter.{HasSubslice}, Str.Pattern.{HasMatch, FindsText}}
-use Rattle.std.proofs.Common.{rules, eqb, vec_len, Vec, BTreeMap, MatchBool, ◌&&◌, ◌≡◌, ◌↔◌, ◌≤◌, suc, take, drop, length, ◌++◌, ⊎_elim, ℕ, ◌<◌, Bool, true, false, cond, List, [], ◌∷◌, get_or, Option, Some, None, option_map, is_some, IsSomeAnd, String, Global, string_bytes, nat_cmp, refl, sym, ap, ◌∙◌, arith, chars}
+use Rattle.std.proofs.Common.{rules, eqb, vec_len, Vec, BTreeMap, MatchBool, ◌&&◌, ◌≡◌, ◌↔◌, suc, take, drop, length, ◌++◌, ⊎_elim, ℕ, Bool, true, false, cond, List, [], ◌∷◌, Option, Some, None, option_map, is_some, String, Global, string_bytes, nat_cmp, refl, sym, ap, ◌∙◌, arith}
 use Rattle.std.proofs.{lemmas.Map.Text.{is_eq-slice_cmp}, lemmas.Slice.Eq.{bytes_eq-Decides}, lemmas.Bool.{or_cases, or_right}}
 use Rattle.std.proofs.{lemmas.Bool.Decides.{same_from_decides}, lemmas.List.{take_at, take-append-drop}, lemmas.Str.Pattern.{contains_text}}
-use Rattle.regex.specs.{declared.string.regex.Regex.{Regex}, Names.{names_of}, Patterns.{Re, find_str, default_config, Reads, SameCaptures}}
-use Rattle.regex.{specs.Strings.{regex_pattern, regex_source, regex_config, IsReadFromSource}, proofs.ForCallers.{is_match_alike}}
-use Rattle.pact_rules.specs.Matching.{get_field, pattern_of, is_found, nodes_len, begins, contains, equal_here, within, at_least, at_most, holds, passes, text_form}
+use Rattle.pact_rules.specs.Matching.{get_field, nodes_len, begins, contains, equal_here, within, at_least, at_most, holds, passes, text_form}
 use Rattle.pact_rules.specs.{declared.tree.Tree.{Tree, List as ListOf, Object, the_lemmas}, Trees.{Node, list, object}}
 use Rattle.pact_rules.specs.{TreeView.{tree_view, object_view, list_view}, RuleViews.{matcher_view}, declared.table.Matcher.TheVariants.{Include}}
-use Rattle.regex_syntax.specs.{Grammar.{Names, group_count, read}, Brackets.{Nested}}
 use Rattle.pact_rules.specs.declared.table.Matcher as code
 
 -- a member of an object as the code keeps it: its key and its tree
@@ -27,20 +24,6 @@ view-lookup name (e ∷ es) = found_or _ _ e.1 _ _ (is_eq-slice_cmp name (string
 pub is_some-view : (o : Option Tree) → is_some (option_map tree_view o) ≡ is_some o
 is_some-view None = refl
 is_some-view (Some t) = refl
-
-found_if : (o : Option (Nested Re × Names)) (most : ℕ) (a : Re) (names : Names) (hay : List ℕ) → ((k : ℕ) → get_or hay k 0 < 256)
-    → IsSomeAnd o (λ (re, found). (re.depth ≤ most) × SameCaptures a re.value × (names ≡ found) × (group_count a ≤ length names))
-    → is_some (find_str a hay 0) ≡ is_found (option_map (λ found. found.0.value) o) hay
-found_if None most a names hay bytes h = absurd h
-found_if (Some x) most a names hay bytes h = is_match_alike h.1 hay bytes true 0
-
--- a regex finds what the pattern of its text finds
-pub found_as_read : (r : Regex) (source hay : List ℕ) → regex_source r ≡ source → regex_config r ≡ default_config → IsReadFromSource r → ((k : ℕ) → get_or hay k 0 < 256)
-    → is_some (find_str (regex_pattern r) hay 0) ≡ is_found (pattern_of source) hay
-unfolding Reads
-found_as_read r source hay is config reads bytes =
-    let as_read : Reads default_config source r.pattern.program.hir (names_of r.pattern.names.items) = rw (is, config) at reads in
-    found_if (read default_config (chars source)) default_config.nest_limit (regex_pattern r) (names_of r.pattern.names.items) hay bytes as_read
 
 pub nodes_len_view : (ts : List Tree) → nodes_len (list_view ts) ≡ length ts
 nodes_len_view [] = refl
@@ -97,15 +80,3 @@ pub include_holds : (m : code.Matcher) (x y : Node) (own : Bool) (part : String 
     → MatchBool r (HasMatch (FindsText p) t) (FindsText p t None) → r ≡ holds (matcher_view m) x y own
 include_holds m x y own part t p r em et ep h =
     contains_decides r p t (contains_text r p t h) ∙ ap (λ q. contains q t) ep ∙ ap (passes (contains (string_bytes part))) et ∙ ap (λ n. holds (matcher_view n) x y own) (sym em)
-
-read_if : (o : Option (Nested Re × Names)) (most : ℕ) (a : Re) (names : Names)
-    → IsSomeAnd o (λ (re, found). (re.depth ≤ most) × SameCaptures a re.value × (names ≡ found) × (group_count a ≤ length names)) → is_some (option_map (λ found. found.0.value) o) ≡ true
-read_if None most a names h = absurd h
-read_if (Some x) most a names h = refl
-
--- the grammar reads what was built
-pub built_is_read : (r : Regex) (source : List ℕ) → regex_source r ≡ source → regex_config r ≡ default_config → IsReadFromSource r → is_some (pattern_of source) ≡ true
-unfolding Reads
-built_is_read r source is config reads =
-    let as_read : Reads default_config source r.pattern.program.hir (names_of r.pattern.names.items) = rw (is, config) at reads in
-    read_if (read default_config (chars source)) default_config.nest_limit (regex_pattern r) (names_of r.pattern.names.items) as_read

@@ -1,10 +1,9 @@
 -- What a matcher asks of an actual value.
-use Rattle.std.specs.Prelude.{take, length, ℕ, suc, Bool, true, false, not, ◌&&◌, ◌||◌, nat_le, List, [], ◌∷◌, Option, Some, None, is_some, option_map, if◌then◌else◌, bytes_eq, codes, chars, nat_eq}
+use Rattle.std.specs.Prelude.{take, length, ℕ, suc, Bool, true, false, not, ◌&&◌, ◌||◌, nat_le, List, [], ◌∷◌, Option, Some, None, is_some, if◌then◌else◌, bytes_eq, codes, nat_eq}
 use Rattle.std.specs.Fmt.{signed_decimal}
 use Rattle.std.specs.List.{list_all, list_any}
 use Rattle.std.specs.Ordering.{int_eq}
-use Rattle.regex.specs.Patterns.{Re, find_str, default_config}
-use Rattle.regex_syntax.specs.Grammar.{read}
+pub use Rattle.pact_patterns.specs.Patterns.{pattern_of, is_pattern, is_found}
 use Rattle.pact_rules.specs.Trees.{Node, null, truth, whole, text, list, object, Nodes, no_nodes, node, Fields, no_fields, field}
 use Rattle.pact_rules.specs.Rules.{Matcher, equality, same_type, regex, include, integer, is_null, Entry}
 
@@ -82,19 +81,6 @@ begins part bs = bytes_eq part (take (length part) bs)
 abbrev pub contains : List ℕ → List ℕ → Bool
 contains part [] = begins part []
 contains part (b ∷ bs) = begins part (b ∷ bs) || contains part bs
-
--- the pattern that the grammar reads in a text
-abbrev pub pattern_of : List ℕ → Option Re
-pattern_of source = option_map (λ found. found.0.value) (read default_config (chars source))
-
--- the grammar of patterns reads the text
-abbrev pub is_pattern : List ℕ → Bool
-is_pattern source = is_some (pattern_of source)
-
--- the pattern matches somewhere in the text
-abbrev pub is_found : Option Re → List ℕ → Bool
-is_found None t = false
-is_found (Some re) t = is_some (find_str re t 0)
 
 abbrev pub passes : (List ℕ → Bool) → Option (List ℕ) → Bool
 passes test None = false

@@ -1,10 +1,8 @@
 -- Why the crate `regex` builds no pattern of a text, and which fault that is.
-use Rattle.std.specs.Prelude.{◌≡◌, ◌≢◌, ℕ, List}
-use Rattle.regex.specs.Failures.{IsPattern}
-use Rattle.regex.specs.Patterns.{default_config, Refuses}
+use Rattle.std.specs.Prelude.{◌≡◌, ◌⊎◌, ◌<◌, ℕ, true, List, length}
 use Rattle.regex.specs.declared.error.Error.{Error}
 use Rattle.regex.specs.declared.error.Error.TheVariants.{Syntax, CompiledTooBig, Internal, OutOfMemory}
-use Rattle.regex_syntax.specs.declared.error.ErrorKind.TheVariants as kind
+use Rattle.pact_patterns.specs.Patterns.{IsCause, is_pattern}
 use Rattle.pact_rules.specs.Rules.{Matcher, equality, same_type, regex, include, integer, is_null}
 use Rattle.pact_rules.specs.declared.rule_fault.RuleFault.{RuleFault}
 use Rattle.pact_rules.specs.declared.rule_fault.RuleFault.TheVariants as rule_fault
@@ -25,17 +23,19 @@ as_match_fault (Syntax e) = match_fault.Pattern
 as_match_fault CompiledTooBig = match_fault.Pattern
 as_match_fault Internal = match_fault.Pattern
 
--- An error that the crate may answer for a text: memory ran out, the grammar of patterns doesn't read the text or it
--- nests too deep, or it is a pattern and what is built of it is too big.
-abbrev pub IsCause : List ℕ → Error → Type 0
-IsCause source OutOfMemory = Unit {0}
-IsCause source (Syntax e) = (e.kind ≢ kind.OutOfMemory) × Refuses default_config source e.kind
-IsCause source CompiledTooBig = IsPattern default_config source
-IsCause source Internal = ⊥
-
--- the fault comes of such an error
+-- the fault comes of an error that the crate may answer for the text
 abbrev pub HasCause : {F : Type 0} → (Error → F) → List ℕ → F → Type 0
 HasCause as_fault source fault = (error : Error) × IsCause source error × (fault ≡ as_fault error)
+
+-- the text of a pattern of a table has so many bytes at most (this project's own choice)
+abbrev pub most_pattern_bytes : ℕ
+most_pattern_bytes = 2048
+
+-- Why a pattern of a table is refused: by such an error, or its text is too long, or it is a pattern that asks for more
+-- than one may, or than is left for the patterns of a file.
+abbrev pub IsRefused : List ℕ → RuleFault → Type 0
+IsRefused source fault = HasCause as_rule_fault source fault
+    ⊎ ((fault ≡ rule_fault.Pattern) × ((most_pattern_bytes < length source) ⊎ (is_pattern source ≡ true)))
 
 -- How a matcher may fail: one that builds a text where no memory is left, one with a pattern as the crate refuses it,
 -- and no other.

@@ -5,14 +5,14 @@ ghost use Rattle.pact_rules.specs.TreeView.{tree_view, list_view, object_view};
 ghost use Rattle.pact_rules.specs.RuleViews.{matcher_view, entry_view};
 ghost use Rattle.pact_rules.specs.Matching.{holds as holds_of, entry_holds, equal_here, same_kind};
 ghost use Rattle.pact_rules.specs.Matching.{text_form as text_form_of, within, at_least, at_most, contains};
-ghost use Rattle.pact_rules.specs.Matching.{pattern_of, is_found as found_in, has_keys_of as has_keys};
+ghost use Rattle.pact_rules.specs.Matching.{has_keys_of as has_keys};
 ghost use Rattle.pact_rules.specs.Rules.{IsRegex};
-ghost use Rattle.pact_rules.specs.Refusals.{HasCause, CanFail, as_match_fault};
+ghost use Rattle.pact_rules.specs.Refusals.{CanFail};
 ghost use Rattle.pact_rules.specs.declared.matching.MatchFault.TheVariants.{Memory, Pattern};
 
 use crate::table::{Entry, Matcher};
 use crate::tree::Tree;
-use regex::Regex;
+use pact_patterns::{BuiltPatterns, Searches};
 use std::alloc::{AllocError, AllocFailed, Global};
 use std::collections::BTreeMap;
 use thiserror::Error;
@@ -73,6 +73,25 @@ pub fn holds(
     ensures pattern { IfErr result (λ e. e ≡ Pattern → IsRegex (matcher_view matcher.now)) }
     ensures fails { IfErr result (CanFail (matcher_view matcher.now)) }
 {
+    let patterns = BuiltPatterns::new(alloc);
+    let mut searches = Searches::new(alloc, &patterns);
+    holds_with(alloc, &mut searches, matcher, expected, actual, own_place)
+}
+
+/// The same by searches that are kept from one value to the next, so that a pattern that was built isn't built again.
+pub fn holds_with(
+    alloc: Global,
+    searches: &mut Searches<'_>,
+    matcher: &Matcher,
+    expected: &Tree,
+    actual: &Tree,
+    own_place: bool,
+) -> Result<bool, MatchFault>
+    ensures value { IfOk result (λ b. b ≡ holds_of (matcher_view matcher.now)
+        (tree_view expected.now) (tree_view actual.now) own_place) }
+    ensures pattern { IfErr result (λ e. e ≡ Pattern → IsRegex (matcher_view matcher.now)) }
+    ensures fails { IfErr result (CanFail (matcher_view matcher.now)) }
+{
     match matcher {
         Matcher::Equality => Ok(are_equal_here(expected, actual)),
         Matcher::SameType { min, max } => Ok(
@@ -80,7 +99,7 @@ pub fn holds(
                 && (!own_place || is_within(*min, *max, expected, actual)),
         ),
         Matcher::Regex(source) => match text_form(alloc, actual)? {
-            Some(text) => is_found(alloc, source, &text),
+            Some(text) => Ok(searches.finds(alloc, source, &text)?),
             None => Ok(false),
         },
         Matcher::Include(part) => match text_form(alloc, actual)? {
@@ -90,16 +109,6 @@ pub fn holds(
         Matcher::Integer => Ok(matches!(actual, Tree::Whole(_))),
         Matcher::IsNull => Ok(matches!(actual, Tree::Null)),
     }
-}
-
-/// Whether the pattern matches somewhere in the text.
-fn is_found(alloc: Global, source: &str, text: &str) -> Result<bool, MatchFault>
-    ensures found { IfOk result (λ b. b ≡ found_in (pattern_of source.now) text.now) }
-    ensures fails { IfErr result (HasCause as_match_fault source.now) }
-{
-    let regex = Regex::new(alloc, source)?;
-    let mut matcher = regex.matcher(alloc)?;
-    Ok(matcher.is_match(text))
 }
 
 /// The text of a scalar that has one.

@@ -1,19 +1,30 @@
-//! Patterns that were built already.
+//! The patterns of a file.
 
 ghost use Rattle.std.specs.Prelude.{◌≡◌, true, IfOk, IfErr};
 ghost use Rattle.pact_rules.specs.Matching.{is_pattern};
-ghost use Rattle.pact_rules.specs.Refusals.{HasCause, as_rule_fault};
+ghost use Rattle.pact_rules.specs.Refusals.{IsRefused};
 
 use crate::rule_fault::RuleFault;
-use regex::Regex;
+use pact_patterns::parts_of;
 use std::alloc::Global;
 use std::collections::BTreeSet;
 use std::marker::Model;
 
-/// The patterns that the crate `regex` built while the tables of a file were read, so that equal ones are built once.
+/// As many bytes has the text of a pattern at most.
+const MOST_BYTES: usize = 2_048;
+
+/// As many parts has a pattern at most.
+const MOST_PARTS: u64 = 131_072;
+
+/// As many parts have the patterns of a file, each different one counted once.
+const ROOM: u64 = 2_500_000;
+
+/// The patterns of the tables of a file that were read so far: equal ones are read once, and for all of them together
+/// there is only so much room.
 #[derive(Drop)]
 pub struct Patterns {
     sources: BTreeSet<String>,
+    room: u64,
 }
 
 impl Model for Patterns {
@@ -29,22 +40,31 @@ impl Model for Patterns {
 }
 
 impl Patterns {
-    /// No pattern was built yet. Takes no memory.
+    /// No pattern was read yet. Takes no memory.
     pub fn new(alloc: Global) -> Patterns {
         Patterns {
             sources: BTreeSet::new(alloc),
+            room: ROOM,
         }
     }
 
-    /// Builds the pattern, unless an equal one was built, so that a refused one is a fault of the table.
-    pub(crate) fn build(&mut self, alloc: Global, source: &str) -> Result<(), RuleFault>
+    /// Reads the pattern, unless an equal one was read, so that a refused one is a fault of the table. One that has too
+    /// many parts, or more than there is room for, is refused too.
+    pub(crate) fn accept(&mut self, alloc: Global, source: &str) -> Result<(), RuleFault>
         ensures read { IfOk result (λ _. is_pattern source.now ≡ true) }
-        ensures fails { IfErr result (HasCause as_rule_fault source.now) }
+        ensures fails { IfErr result (IsRefused source.now) }
     {
         if self.sources.contains(source) {
             return Ok(());
         }
-        let _regex = Regex::new(alloc, source)?;
+        if source.len() > MOST_BYTES {
+            return Err(RuleFault::Pattern);
+        }
+        let parts = parts_of(alloc, source)?;
+        if parts > MOST_PARTS || parts > self.room {
+            return Err(RuleFault::Pattern);
+        }
+        self.room -= parts;
         self.sources.insert(String::from_str(alloc, source)?)?;
         Ok(())
     }

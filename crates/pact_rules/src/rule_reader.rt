@@ -107,7 +107,7 @@ fn pattern_of(
 {
     match text_of(optional_member(members, "regex")) {
         Some(source) => {
-            patterns.build(alloc, source)?;
+            patterns.accept(alloc, source)?;
             Ok(Matcher::Regex(String::from_str(alloc, source)?))
         }
         None => Err(RuleFault::Pattern),

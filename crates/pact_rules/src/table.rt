@@ -1,6 +1,6 @@
 //! Rule tables: what they hold, and the entry that is chosen at a location.
 
-ghost use Rattle.std.specs.Prelude.{slice_get, Some, ◌≡◌, ◌<◌, length, map, ℕ, IfSome, option_map};
+ghost use Rattle.std.specs.Prelude.{slice_get, Some, true, ◌≡◌, ◌<◌, length, map, ℕ, IfErr, IfSome, option_map};
 ghost use Rattle.std.specs.Char.{to_ascii_lowercase};
 ghost use Rattle.std.specs.Cmp.Lexicographic.{slice_cmp};
 ghost use Rattle.std.specs.Ordering.{nat_cmp};
@@ -13,8 +13,11 @@ ghost use Rattle.pact_rules.specs.RuleViews.{rule_view, header_view, entry_view,
 ghost use Rattle.pact_rules.specs.Rules.{IsInOrder, no_rules, is_regex as is_regex_of, entry_has_regex};
 ghost use Rattle.pact_rules.specs.Rules.{IsOrderedBy, name_key, has_regex as has_regex_of};
 ghost use Rattle.pact_rules.specs.Tables.{header_entry};
+ghost use Rattle.pact_rules.specs.declared.matching.MatchFault.TheVariants.{Pattern};
 
+use crate::matching::MatchFault;
 use pact_paths::{Path, Step, weight};
+use pact_patterns::BuiltPatterns;
 use std::alloc::Global;
 use std::cmp::Ordering;
 use std::marker::Model;
@@ -138,6 +141,44 @@ impl RuleTable {
     {
         body_has_regex(&self.body) || headers_have_regex(&self.headers)
     }
+
+    /// Builds the patterns of the table that weren't built yet. Memory may run out, and `Pattern` comes only if the
+    /// table has a Regex matcher whose pattern is refused.
+    pub fn build_patterns(
+        &self,
+        alloc: Global,
+        patterns: &mut BuiltPatterns,
+    ) -> Result<(), MatchFault>
+        ensures { IfErr result (λ e. e ≡ Pattern → has_regex_of self.now ≡ true) }
+    {
+        if !self.has_regex() {
+            return Ok(());
+        }
+        build_body(alloc, patterns, &self.body)?;
+        build_headers(alloc, patterns, &self.headers)
+    }
+}
+
+fn build_body(
+    alloc: Global,
+    patterns: &mut BuiltPatterns,
+    rules: &[BodyRule],
+) -> Result<(), MatchFault> {
+    for rule in rules {
+        rule.entry.build(alloc, patterns)?;
+    }
+    Ok(())
+}
+
+fn build_headers(
+    alloc: Global,
+    patterns: &mut BuiltPatterns,
+    rules: &[HeaderRule],
+) -> Result<(), MatchFault> {
+    for rule in rules {
+        rule.entry.build(alloc, patterns)?;
+    }
+    Ok(())
 }
 
 /// The entry of the header of this name, among rules in the order of their names, both in lower case.
@@ -215,6 +256,15 @@ impl Entry {
             }
         }
         false
+    }
+
+    fn build(&self, alloc: Global, patterns: &mut BuiltPatterns) -> Result<(), MatchFault> {
+        for matcher in &self.matchers {
+            if let Matcher::Regex(source) = matcher {
+                patterns.build(alloc, source)?;
+            }
+        }
+        Ok(())
     }
 }
 

@@ -1,11 +1,10 @@
 -- Replies that meet an interaction.
 use Rattle.std.specs.{List.{list_any, find}, Str.{str_eq_ignore_ascii_case}}
-use Rattle.std.proofs.Common.{◌≡◌, ◌⊎◌, ◌↔◌, ℕ, Bool, true, false, List, [], ◌∷◌, IsTrue, IfOk, codes, option_map, Option, Some, None, Result, Ok, Err, refl, sym, ap, ◌∙◌, subst, ⊎_elim}
+use Rattle.std.proofs.Common.{◌≡◌, ◌↔◌, ℕ, Bool, true, false, List, [], ◌∷◌, IsTrue, IfOk, codes, option_map, Option, Some, None, Result, Ok, Err, refl, sym, ap, ◌∙◌, subst, ⊎_elim}
 use Rattle.std.proofs.{lemmas.Bool.{or_left, or_right}, lemmas.Option.{same_Some}}
 use Rattle.serde_json.specs.Data.{Data}
 use Rattle.pact_rules.specs.{Trees.{Node}, Rules.{Rules, Entry, BodyRule, HeaderRule, is_regex, has_regex}, Tables.{header_entry}, RuleReading.{IsReading}}
-use Rattle.pact_rules.specs.{declared.rule_fault.RuleFault.{RuleFault}, declared.rule_fault.RuleFault.TheVariants.{Pattern}, Lists.{IsIn}}
-use Rattle.pact_rules.proofs.ReadingLemmas.{reading_agrees}
+use Rattle.pact_rules.{specs.{declared.rule_fault.RuleFault.TheVariants.{Pattern}, Lists.{IsIn}}, proofs.ReadingLemmas.{reading_agrees}}
 use Rattle.pact_file.specs.{Headers.{HasHeaders}, Pact.{Header, Interaction}, Parts.{optional_at, status_in, body_in}, Rules.{TableRead, IsRulesOf}}
 use Rattle.pact_file.proofs.Steps.{ok_same, ok_err}
 use Rattle.reply_check.specs.{Bodies.{MeetsBody}, Meeting.{HasHeader, FitsHeader, Meets}, Recorded.{Reply, status_sent}, Sent.{IsFit, WasSent, WereSent}}

@@ -7,7 +7,7 @@ ghost use Rattle.pact_rules.specs.declared.matching.MatchFault.TheVariants.{Patt
 ghost use Rattle.reply_check.specs.Bodies.{is_empty as is_empty_of, MeetsBody};
 
 use crate::fit::{are_alike, fits};
-use pact_rules::{MatchFault, RuleTable, Tree};
+use pact_rules::{MatchFault, RuleTable, Searches, Tree};
 use std::alloc::Global;
 
 /// Whether a reply's body meets the expected one: none asks for nothing, null and the empty text for no body or the
@@ -16,6 +16,7 @@ use std::alloc::Global;
 #[tactic(auto, using(crate::proofs::BodyLemmas::meets_any, crate::proofs::BodyLemmas::meets_none, crate::proofs::BodyLemmas::meets_empty, crate::proofs::BodyLemmas::meets_full))]
 pub fn body_meets(
     alloc: Global,
+    searches: &mut Searches<'_>,
     rules: &RuleTable,
     expected: Option<&Tree>,
     actual: Option<&Tree>,
@@ -33,7 +34,7 @@ pub fn body_meets(
     if is_empty(expected) {
         return Ok(are_alike(expected, actual));
     }
-    fits(alloc, rules, expected, actual)
+    fits(alloc, searches, rules, expected, actual)
 }
 
 /// Whether a body is null or the empty text.

@@ -12,7 +12,7 @@ use crate::fault::CheckFault;
 use crate::meet::meets;
 use crate::reply::{Replies, Reply};
 use pact_file::{Interaction, Pact};
-use pact_rules::MatchFault;
+use pact_rules::{BuiltPatterns, MatchFault, Searches};
 use std::alloc::Global;
 use std::marker::Model;
 
@@ -76,8 +76,10 @@ pub fn check(alloc: Global, pact: &Pact, replies: &Replies) -> Result<Verdict, C
     if let Some(index) = first_unknown(interactions, replies) {
         return Err(CheckFault::UnknownInteraction(index));
     }
+    let patterns = patterns_of(alloc, interactions, replies)?;
+    let mut searches = Searches::new(alloc, &patterns);
     Ok(Verdict {
-        failing: failing_indices(alloc, interactions, replies)?,
+        failing: failing_indices(alloc, &mut searches, interactions, replies)?,
     })
 }
 
@@ -111,8 +113,55 @@ fn first_unknown(interactions: &[Interaction], replies: &[Reply]) -> Option<usiz
     None
 }
 
+/// The patterns of the interactions that have a reply, each built once.
+fn patterns_of(
+    alloc: Global,
+    interactions: &[Interaction],
+    replies: &[Reply],
+) -> Result<BuiltPatterns, MatchFault>
+    ensures { IfErr result (λ e. e ≡ Pattern → UsesPattern interactions.now replies.now) }
+{
+    let mut patterns = BuiltPatterns::new(alloc);
+    for interaction in interactions {
+        build_patterns(alloc, &mut patterns, interaction, replies)?;
+    }
+    Ok(patterns)
+}
+
+/// Builds the patterns of an interaction, if it has a reply.
+fn build_patterns(
+    alloc: Global,
+    patterns: &mut BuiltPatterns,
+    interaction: &Interaction,
+    replies: &[Reply],
+) -> Result<(), MatchFault>
+    ensures { IfErr result (λ e. e ≡ Pattern
+        → OneOf (λ r. BelongsTo interaction.now r) replies.now × HasPattern interaction.now) }
+{
+    if !has_reply(interaction, replies) {
+        return Ok(());
+    }
+    interaction.rules().build_patterns(alloc, patterns)
+}
+
+fn has_reply(interaction: &Interaction, replies: &[Reply]) -> bool
+    ensures { IsTrue result → OneOf (λ r. BelongsTo interaction.now r) replies.now }
+{
+    for reply in replies {
+        if belongs(interaction, reply) {
+            return true;
+        }
+    }
+    false
+}
+
 /// Whether a reply belongs to an interaction and meets it.
-fn answers(alloc: Global, interaction: &Interaction, reply: &Reply) -> Result<bool, MatchFault>
+fn answers(
+    alloc: Global,
+    searches: &mut Searches<'_>,
+    interaction: &Interaction,
+    reply: &Reply,
+) -> Result<bool, MatchFault>
     ensures value { IfOk result (λ b. IsTrue b
         ↔ (BelongsTo interaction.now reply.now × Meets interaction.now reply.now)) }
     ensures pattern { IfErr result (λ e. e ≡ Pattern
@@ -121,16 +170,21 @@ fn answers(alloc: Global, interaction: &Interaction, reply: &Reply) -> Result<bo
     if !belongs(interaction, reply) {
         return Ok(false);
     }
-    meets(alloc, interaction, reply)
+    meets(alloc, searches, interaction, reply)
 }
 
-fn passes(alloc: Global, interaction: &Interaction, replies: &[Reply]) -> Result<bool, MatchFault>
+fn passes(
+    alloc: Global,
+    searches: &mut Searches<'_>,
+    interaction: &Interaction,
+    replies: &[Reply],
+) -> Result<bool, MatchFault>
     ensures value { IfOk result (λ b. IsTrue b ↔ Passes replies.now interaction.now) }
     ensures pattern { IfErr result (λ e. e ≡ Pattern
         → OneOf (λ r. BelongsTo interaction.now r) replies.now × HasPattern interaction.now) }
 {
     for reply in replies {
-        if answers(alloc, interaction, reply)? {
+        if answers(alloc, searches, interaction, reply)? {
             return Ok(true);
         }
     }
@@ -139,6 +193,7 @@ fn passes(alloc: Global, interaction: &Interaction, replies: &[Reply]) -> Result
 
 fn failing_indices(
     alloc: Global,
+    searches: &mut Searches<'_>,
     interactions: &[Interaction],
     replies: &[Reply],
 ) -> Result<Vec<usize>, MatchFault>
@@ -147,7 +202,7 @@ fn failing_indices(
 {
     let mut failing = Vec::new(alloc);
     for (index, interaction) in interactions.iter().enumerate() {
-        if !passes(alloc, interaction, replies)? {
+        if !passes(alloc, searches, interaction, replies)? {
             failing.push(index)?;
         }
     }

@@ -16,7 +16,9 @@ ghost use Rattle.reply_check.specs.Computed.{fits as fits_of, items_fit as items
 ghost use Rattle.reply_check.specs.Computed.{members_fit as members_fit_of, meets_here as meets_here_of, example};
 ghost use Rattle.reply_check.specs.Computed.{expected_items, expected_fields};
 
-use pact_rules::{Alive, Entry, MatchFault, Matcher, RuleTable, Step, Tree, has_keys_of, holds};
+use pact_rules::{
+    Alive, Entry, MatchFault, Matcher, RuleTable, Searches, Step, Tree, has_keys_of, holds_with,
+};
 use std::alloc::Global;
 use std::collections::BTreeMap;
 
@@ -24,6 +26,7 @@ use std::collections::BTreeMap;
 /// and `Pattern` comes only if the table has a Regex matcher whose pattern is refused.
 pub fn fits(
     alloc: Global,
+    searches: &mut Searches<'_>,
     rules: &RuleTable,
     expected: &Tree,
     actual: &Tree,
@@ -33,7 +36,7 @@ pub fn fits(
     ensures pattern { IfErr result (λ e. e ≡ Pattern → has_regex rules.now ≡ true) }
 {
     let alive = rules.start(alloc)?;
-    fits_here(alloc, rules, &alive, actual, expected)
+    fits_here(alloc, searches, rules, &alive, actual, expected)
 }
 
 /// Whether the actual tree fits the expected one at the steps that the walk has taken. The actual tree, which the walk
@@ -41,6 +44,7 @@ pub fn fits(
 #[cycle(fitting)]
 fn fits_here(
     alloc: Global,
+    searches: &mut Searches<'_>,
     rules: &RuleTable,
     alive: &Alive,
     actual: &Tree,
@@ -51,17 +55,17 @@ fn fits_here(
         → b ≡ fits_of rules.now at (tree_view expected.now) (tree_view actual.now)) }
     ensures pattern { IfErr result (λ e. e ≡ Pattern → has_regex rules.now ≡ true) }
 {
-    if !meets_here(alloc, rules, alive, expected, actual)? {
+    if !meets_here(alloc, searches, rules, alive, expected, actual)? {
         return Ok(false);
     }
     match actual {
         Tree::List(items) => match as_list(expected) {
-            Some(examples) => items_fit(alloc, rules, alive, items, examples),
+            Some(examples) => items_fit(alloc, searches, rules, alive, items, examples),
             None => Ok(true),
         },
         Tree::Object(members) => match as_object(expected) {
             Some(examples) if !has_keys_of(examples, members) => Ok(false),
-            Some(examples) => members_fit(alloc, rules, alive, members, examples),
+            Some(examples) => members_fit(alloc, searches, rules, alive, members, examples),
             None => Ok(true),
         },
         Tree::Null | Tree::Truth(_) | Tree::Whole(_) | Tree::Text(_) => Ok(true),
@@ -72,6 +76,7 @@ fn fits_here(
 #[cycle(fitting)]
 fn fits_below(
     alloc: Global,
+    searches: &mut Searches<'_>,
     rules: &RuleTable,
     alive: &Alive,
     step: &Step,
@@ -85,7 +90,7 @@ fn fits_below(
     ensures pattern { IfErr result (λ e. e ≡ Pattern → has_regex rules.now ≡ true) }
 {
     let below = alive.step(alloc, rules, step)?;
-    fits_here(alloc, rules, &below, actual, expected)
+    fits_here(alloc, searches, rules, &below, actual, expected)
 }
 
 fn as_list(tree: &Tree) -> Option<&Vec<Tree>>
@@ -112,6 +117,7 @@ fn as_object(tree: &Tree) -> Option<&BTreeMap<String, Tree>>
 #[cycle(fitting)]
 fn items_fit(
     alloc: Global,
+    searches: &mut Searches<'_>,
     rules: &RuleTable,
     alive: &Alive,
     actual: &Vec<Tree>,
@@ -126,7 +132,7 @@ fn items_fit(
     for (index, item) in actual.iter().enumerate() {
         if let Some(example) = example_at(expected, index) {
             let step = Step::Index(index as u64);
-            if !fits_below(alloc, rules, alive, &step, item, example)? {
+            if !fits_below(alloc, searches, rules, alive, &step, item, example)? {
                 return Ok(false);
             }
         }
@@ -138,6 +144,7 @@ fn items_fit(
 #[cycle(fitting)]
 fn members_fit(
     alloc: Global,
+    searches: &mut Searches<'_>,
     rules: &RuleTable,
     alive: &Alive,
     actual: &BTreeMap<String, Tree>,
@@ -152,7 +159,7 @@ fn members_fit(
     for (key, member) in actual.iter() {
         if let Some(example) = expected.get(key.as_str()) {
             let step = Step::Key(key.clone()?);
-            if !fits_below(alloc, rules, alive, &step, member, example)? {
+            if !fits_below(alloc, searches, rules, alive, &step, member, example)? {
                 return Ok(false);
             }
         }
@@ -170,6 +177,7 @@ fn example_at(expected: &Vec<Tree>, index: usize) -> Option<&Tree>
 /// Whether the two meet at this node: the chosen entry holds, or they are alike if none is.
 fn meets_here(
     alloc: Global,
+    searches: &mut Searches<'_>,
     rules: &RuleTable,
     alive: &Alive,
     expected: &Tree,
@@ -183,7 +191,14 @@ fn meets_here(
     match alive.chosen(rules) {
         Some(index) => {
             let own_place = alive.own_place(rules);
-            entry_holds(alloc, rules.entry(index), expected, actual, own_place)
+            entry_holds(
+                alloc,
+                searches,
+                rules.entry(index),
+                expected,
+                actual,
+                own_place,
+            )
         }
         None => Ok(are_alike(expected, actual)),
     }
@@ -192,6 +207,7 @@ fn meets_here(
 /// Whether the matchers hold together, or one of them does.
 pub(crate) fn entry_holds(
     alloc: Global,
+    searches: &mut Searches<'_>,
     entry: &Entry,
     expected: &Tree,
     actual: &Tree,
@@ -202,14 +218,29 @@ pub(crate) fn entry_holds(
     ensures pattern { IfErr result (λ e. e ≡ Pattern → entry_has_regex (entry_view entry.now) ≡ true) }
 {
     if entry.any {
-        any_holds(alloc, &entry.matchers, expected, actual, own_place)
+        any_holds(
+            alloc,
+            searches,
+            &entry.matchers,
+            expected,
+            actual,
+            own_place,
+        )
     } else {
-        all_hold(alloc, &entry.matchers, expected, actual, own_place)
+        all_hold(
+            alloc,
+            searches,
+            &entry.matchers,
+            expected,
+            actual,
+            own_place,
+        )
     }
 }
 
 fn any_holds(
     alloc: Global,
+    searches: &mut Searches<'_>,
     matchers: &[Matcher],
     expected: &Tree,
     actual: &Tree,
@@ -222,7 +253,7 @@ fn any_holds(
         → list_any is_regex (map matcher_view matchers.now) ≡ true) }
 {
     for matcher in matchers {
-        if holds(alloc, matcher, expected, actual, own_place)? {
+        if holds_with(alloc, searches, matcher, expected, actual, own_place)? {
             return Ok(true);
         }
     }
@@ -231,6 +262,7 @@ fn any_holds(
 
 fn all_hold(
     alloc: Global,
+    searches: &mut Searches<'_>,
     matchers: &[Matcher],
     expected: &Tree,
     actual: &Tree,
@@ -243,7 +275,7 @@ fn all_hold(
         → list_any is_regex (map matcher_view matchers.now) ≡ true) }
 {
     for matcher in matchers {
-        if !holds(alloc, matcher, expected, actual, own_place)? {
+        if !holds_with(alloc, searches, matcher, expected, actual, own_place)? {
             return Ok(false);
         }
     }

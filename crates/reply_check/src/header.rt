@@ -14,7 +14,7 @@ ghost use Rattle.reply_check.specs.Sent.{WasSent, WereSent};
 use crate::fit::entry_holds;
 use crate::header_value::has_value;
 use pact_file::Header;
-use pact_rules::{MatchFault, RuleTable, Tree};
+use pact_rules::{MatchFault, RuleTable, Searches, Tree};
 use std::alloc::Global;
 use std::cmp::Ordering;
 
@@ -22,6 +22,7 @@ use std::cmp::Ordering;
 /// names. Other headers are allowed.
 pub(crate) fn headers_meet(
     alloc: Global,
+    searches: &mut Searches<'_>,
     rules: &RuleTable,
     expected: &[Header],
     sent: &[Header],
@@ -31,7 +32,7 @@ pub(crate) fn headers_meet(
     ensures pattern { IfErr result (λ e. e ≡ Pattern → has_regex rules.now ≡ true) }
 {
     for header in expected {
-        if !was_sent(alloc, rules, header, sent)? {
+        if !was_sent(alloc, searches, rules, header, sent)? {
             return Ok(false);
         }
     }
@@ -40,6 +41,7 @@ pub(crate) fn headers_meet(
 
 fn was_sent(
     alloc: Global,
+    searches: &mut Searches<'_>,
     rules: &RuleTable,
     expected: &Header,
     sent: &[Header],
@@ -49,7 +51,7 @@ fn was_sent(
     ensures pattern { IfErr result (λ e. e ≡ Pattern → has_regex rules.now ≡ true) }
 {
     match sent_as(expected.name(), sent) {
-        Some(header) => value_fits(alloc, rules, expected, header.value()),
+        Some(header) => value_fits(alloc, searches, rules, expected, header.value()),
         None => Ok(false),
     }
 }
@@ -76,6 +78,7 @@ fn name_order(header: &Header, name: &str) -> Ordering
 /// an entry the values are the same but for what doesn't count.
 fn value_fits(
     alloc: Global,
+    searches: &mut Searches<'_>,
     rules: &RuleTable,
     expected: &Header,
     sent: &str,
@@ -88,7 +91,7 @@ fn value_fits(
         Some(entry) => {
             let expected = Tree::Text(String::from_str(alloc, expected.value())?);
             let sent = Tree::Text(String::from_str(alloc, sent)?);
-            entry_holds(alloc, entry, &expected, &sent, false)
+            entry_holds(alloc, searches, entry, &expected, &sent, false)
         }
     }
 }

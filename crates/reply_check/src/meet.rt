@@ -8,12 +8,17 @@ use crate::body::body_meets;
 use crate::header::headers_meet;
 use crate::reply::Reply;
 use pact_file::Interaction;
-use pact_rules::MatchFault;
+use pact_rules::{MatchFault, Searches};
 use std::alloc::Global;
 
 /// Whether a reply meets an interaction: the status is equal, each expected header was sent with a value that fits,
 /// and the body meets the expected one. Memory may run out, and `Pattern` comes only if the interaction has a pattern.
-pub fn meets(alloc: Global, interaction: &Interaction, reply: &Reply) -> Result<bool, MatchFault>
+pub fn meets(
+    alloc: Global,
+    searches: &mut Searches<'_>,
+    interaction: &Interaction,
+    reply: &Reply,
+) -> Result<bool, MatchFault>
     ensures value { IfOk result (λ b. IsTrue b ↔ Meets interaction.now reply.now) }
     ensures pattern { IfErr result (λ e. e ≡ Pattern → HasPattern interaction.now) }
 {
@@ -21,8 +26,14 @@ pub fn meets(alloc: Global, interaction: &Interaction, reply: &Reply) -> Result<
         return Ok(false);
     }
     let rules = interaction.rules();
-    if !headers_meet(alloc, rules, interaction.headers(), reply.headers())? {
+    if !headers_meet(
+        alloc,
+        searches,
+        rules,
+        interaction.headers(),
+        reply.headers(),
+    )? {
         return Ok(false);
     }
-    body_meets(alloc, rules, interaction.body(), reply.body())
+    body_meets(alloc, searches, rules, interaction.body(), reply.body())
 }

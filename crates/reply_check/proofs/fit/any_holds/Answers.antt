@@ -3,8 +3,8 @@ use Rattle.reply_check.proofs.WalkLemmas.{regex_among}
 use Rattle.pact_rules.specs.{Rules.{is_regex}, RuleViews.{matcher_view}, declared.matching.MatchFault.TheVariants.{Pattern}}
 use Rattle.reply_check.proofs.fit.any_holds.Goals as goal
 
-pub returns-in_err-holds-clause-pattern : goal.returns-in_err-holds-clause-pattern
-returns-in_err-holds-clause-pattern c =
-    let among : c.in_err-holds.field-0.0 ≡ Pattern → list_any is_regex (map matcher_view c.args.matchers.now) ≡ true
-    = λ e. regex_among c.args.matchers.now c.loop-matcher.matcher-index c.matcher-item.result (grind arith) (grind arith) (c.in_err-holds.ensures.pattern e) in
+pub returns-in_err-holds_with-clause-pattern : goal.returns-in_err-holds_with-clause-pattern
+returns-in_err-holds_with-clause-pattern c =
+    let among : c.in_err-holds_with.field-0.0 ≡ Pattern → list_any is_regex (map matcher_view c.args.matchers.now) ≡ true
+    = λ e. regex_among c.args.matchers.now c.loop-matcher.matcher-index c.matcher-item.result (grind arith) (grind arith) (c.in_err-holds_with.ensures.pattern e) in
     search (rules, among)

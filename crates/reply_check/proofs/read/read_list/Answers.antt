@@ -2,7 +2,7 @@ use Rattle.serde_json.specs.View.{view}
 use Rattle.pact_file.proofs.ReadLemmas.{value_sound}
 use Rattle.reply_check.specs.Replies.{ReplyRead}
 use Rattle.pact_rules.proofs.Each.{goes_on, ends, is_done, begins}
-use Rattle.std.proofs.{Common.{◌≡◌, arith}, lemmas.Result.{err_from_is_err_and}}
+use Rattle.std.proofs.{Common.{arith}, lemmas.Result.{err_from_is_err_and}}
 use Rattle.reply_check.proofs.read.read_list.Goals as goal
 
 pub loop-index-init : goal.loop-index-init

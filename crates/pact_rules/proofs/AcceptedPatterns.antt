@@ -1,11 +1,11 @@
--- The patterns that were built are read by the grammar.
+-- The patterns that were accepted are read by the grammar.
 use Rattle.std.specs.{BTreeMap.{is_at}, BTreeSet.{insert_key}, Cmp.Lexicographic.{slice_cmp}, List.{AllByRecursion, list_any}}
 use Rattle.std.proofs.Common.{◌≡◌, ℕ, List, [], ◌∷◌, Bool, true, false, ◌||◌, nat_cmp, String, Global, string_bytes, string_cmp, refl, sym, ap, ◌∙◌, true≢false}
 use Rattle.std.proofs.{lemmas.Map.Text.{is_eq-slice_cmp}, lemmas.Slice.Eq.{bytes_eq-Decides}}
 use Rattle.pact_rules.{specs.Matching.{is_pattern}, proofs.OrderLemmas.{match_any}}
 
-abbrev pub AreBuilt : List (String Global) → Type 0
-AreBuilt ks = AllByRecursion (λ (k : String Global). is_pattern (string_bytes k) ≡ true) ks
+abbrev pub AreAccepted : List (String Global) → Type 0
+AreAccepted ks = AllByRecursion (λ (k : String Global). is_pattern (string_bytes k) ≡ true) ks
 
 abbrev IsKey : List ℕ → String Global → Bool
 IsKey source k = is_at (λ (k : String Global). slice_cmp nat_cmp source (string_bytes k)) k
@@ -14,14 +14,14 @@ found : (source : List ℕ) (k : String Global) (b rest : Bool) → IsKey source
 found source k true rest is p later h = ap is_pattern ((bytes_eq-Decides source (string_bytes k)).0 (sym (is_eq-slice_cmp source (string_bytes k)) ∙ is)) ∙ p
 found source k false rest is p later h = later h
 
--- one that was built is a pattern
-pub built : (source : List ℕ) (ks : List (String Global)) → AreBuilt ks → list_any (is_at (λ (k : String Global). slice_cmp nat_cmp source (string_bytes k))) ks ≡ true → is_pattern source ≡ true
-built source [] all h = absurd (true≢false (sym h))
-built source (k ∷ ks) all h = found source k (IsKey source k) _ refl all.0 (λ t. built source ks all.1 t) h
+-- one that was accepted is a pattern
+pub accepted : (source : List ℕ) (ks : List (String Global)) → AreAccepted ks → list_any (is_at (λ (k : String Global). slice_cmp nat_cmp source (string_bytes k))) ks ≡ true → is_pattern source ≡ true
+accepted source [] all h = absurd (true≢false (sym h))
+accepted source (k ∷ ks) all h = found source k (IsKey source k) _ refl all.0 (λ t. accepted source ks all.1 t) h
 
 -- and one more may be kept
-pub one_more : (k : String Global) (ks : List (String Global)) → is_pattern (string_bytes k) ≡ true → AreBuilt ks → AreBuilt (insert_key string_cmp ks k)
+pub one_more : (k : String Global) (ks : List (String Global)) → is_pattern (string_bytes k) ≡ true → AreAccepted ks → AreAccepted (insert_key string_cmp ks k)
 one_more k [] p all = (p, tt)
 one_more k (x ∷ xs) p all =
-    match_any (string_cmp k x) (k ∷ x ∷ xs) (x ∷ xs) (x ∷ insert_key string_cmp xs k) AreBuilt (λ less. (p, all)) (λ equal. all)
+    match_any (string_cmp k x) (k ∷ x ∷ xs) (x ∷ xs) (x ∷ insert_key string_cmp xs k) AreAccepted (λ less. (p, all)) (λ equal. all)
     (λ greater. (all.0, one_more k xs p all.1))

@@ -1,6 +1,6 @@
 use Rattle.std.proofs.Common.{◌∙◌, string_bytes, option_map, Some, sym, ap}
 use Rattle.pact_rules.{specs.TreeView.{tree_view}, proofs.MatchingLemmas.{include_holds}}
-use Rattle.pact_rules.proofs.matching.holds.Goals as goal
+use Rattle.pact_rules.proofs.matching.holds_with.Goals as goal
 
 pub returns-in-Some-2-clause-value : goal.returns-in-Some-2-clause-value
 returns-in-Some-2-clause-value c =

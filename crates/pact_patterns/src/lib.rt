@@ -1,0 +1,9 @@
+//! Patterns of matching rules: how much one asks for, and searches by those that were built.
+#![tactic(auto)]
+
+mod built;
+mod parts;
+mod searches;
+
+pub use parts::parts_of;
+pub use searches::{BuiltPatterns, Searches};
