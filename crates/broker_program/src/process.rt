@@ -1,5 +1,6 @@
 //! The program over the words and the standard streams of its process.
-ghost use Rattle.std.specs.Prelude.{◌≡◌, ◌⊎◌, IfOk, MatchResult, map, string_bytes};
+ghost use Rattle.std.specs.Prelude.{◌≡◌, ◌⊎◌, IfOk, map, string_bytes};
+ghost use Rattle.std.specs.IoError.{error_kind};
 ghost use Rattle.std.specs.Process.{exit_status};
 ghost use Rattle.sqlite.specs.WalFiles.{image_at};
 ghost use Rattle.command_line.specs.Lines.{texts_of};
@@ -9,7 +10,7 @@ use crate::left::Left;
 use crate::running::run;
 use sqlite::{FileFrom, Start};
 use std::alloc::{AllocError, Global};
-use std::io::{Read, Stderr, Stdin, Stdout, Write};
+use std::io::{ErrorKind, Read, Stderr, Stdin, Stdout, Write};
 use std::process::ExitCode;
 use std::{env, io};
 
@@ -66,28 +67,32 @@ fn run_words<S: Start>(rt: &HostRuntime, start: S) -> io::Result<Ended<S>>
     Ok(end)
 }
 
-/// What the process ends with: the status of its run, or 3 if there was no memory for its words.
-fn ended<S: Start>(run: io::Result<Ended<S>>) -> (ExitCode, Left<FileFrom<S>>)
-    ensures { MatchResult run (λ end. (exit_status result.0 ≡ end.0) × (result.1 ≡ end.1))
-        (λ _. exit_status result.0 ≡ 3) }
+/// What a process ends with whose words can't be read, and what standard error says: 2 if a word isn't UTF-8, and else
+/// 3, since there is no memory for them.
+fn unread(error: &io::Error) -> (u8, &'static str)
+    ensures { ((error_kind error.now ≡ ErrorKind.InvalidData) × (result.0 ≡ 2)) ⊎ (result.0 ≡ 3) }
 {
-    match run {
-        Ok((status, left)) => (ExitCode::from(status), left),
-        Err(_) => (ExitCode::from(3), Left::Nothing),
+    if error.kind() == ErrorKind::InvalidData {
+        (2, "error: a word of the command line isn't UTF-8")
+    } else {
+        (3, "memory")
     }
 }
 
-/// Runs the process's words over its standard streams as `run` does, and answers the status to end with: 3, with
-/// `memory` on standard error, if there is no memory for the words. The streams keep nothing back, so that there is
-/// nothing to flush. What is left of the file that the command worked on comes with the status.
+/// Runs the process's words over its standard streams as `run` does, and answers the status to end with: 2 if a word
+/// isn't UTF-8, and 3, with `memory` on standard error, if there is no memory for the words. The streams keep nothing
+/// back, so that there is nothing to flush. What is left of the file that the command worked on comes with the status.
 pub fn run_process<S: Start>(rt: &HostRuntime, start: S) -> (ExitCode, Left<FileFrom<S>>)
-    ensures { (exit_status result.0 ≡ 3) ⊎ SomeRun (image_at S.Start)
+    ensures { (exit_status result.0 ≡ 2) ⊎ ((exit_status result.0 ≡ 3) ⊎ SomeRun (image_at S.Start)
         ⟦<Stdin as Read>⟧.remaining ⟦<Stdout as Write>⟧.contents ⟦<Stderr as Write>⟧.contents
-        (exit_status result.0) result.1 }
+        (exit_status result.0) result.1) }
 {
-    let run = run_words(rt, start);
-    if run.is_err() {
-        let _ = rt.eprintln("memory");
+    match run_words(rt, start) {
+        Ok((status, left)) => (ExitCode::from(status), left),
+        Err(error) => {
+            let (status, line) = unread(&error);
+            let _ = rt.eprintln(line);
+            (ExitCode::from(status), Left::Nothing)
+        }
     }
-    ended(run)
 }

@@ -1,7 +1,7 @@
 //! Why a command fails.
 use answer_texts::Answer;
-use broker_http::ServeFault;
 use broker_database::OpenFault;
+use broker_http::ServeFault;
 use pact_file::PactFault;
 use reply_check::{CheckFault, RepliesFault};
 

@@ -5,8 +5,8 @@ ghost use Rattle.program_io.specs.Reported.{IsLineOut, IsReported};
 
 use crate::fault::RunFault;
 use crate::output::write_line;
-use broker_http::ServeFault;
 use broker_database::OpenFault;
+use broker_http::ServeFault;
 use std::alloc::{AllocError, Global};
 use std::io::Write;
 
