@@ -4,10 +4,10 @@
     checks/patterns.py PROGRAM [OTHER]     PROGRAM is the path of `broker`; of an OTHER broker the times are printed too
 
 Reads pact files that have many patterns, or large ones, by `normalise`: each is read, or refused with `pact 7.7` and
-its place as docs/LIMITS.md says, within a second of processor time and 64 MB. Then checks replies by `check`: one
-pattern over 1, 1,000 and 20,000 values, a hundred different ones, and twenty over a thousand values each. The bounds
-are of the time that the processor works, so other work on the machine changes them little. Prints a line for each file
-with its seconds and its megabytes."""
+its place as docs/LIMITS.md says, within a second of processor time and 100 MB, which as many rules without a pattern
+take too. Then checks replies by `check`: one pattern over 1, 1,000 and 20,000 values, a hundred different ones, and
+twenty over a thousand values each. The bounds are of the time that the processor works, so other work on the machine
+changes them little. Prints a line for each file with its seconds and its megabytes."""
 import json, os, resource, subprocess, sys, tempfile
 from typing import Any, NamedTuple
 
@@ -15,7 +15,7 @@ PROGRAMS = [os.path.abspath(it) for it in sys.argv[1:]]
 REFUSED = "pact 7.7 interactions[0]\n"
 NAME = r"^[\w \-]{1,100}$"
 # In seconds of the processor and in units of 10^6 bytes: of reading a file, and of a check.
-READING, ROOM = 1.0, 64
+READING, ROOM = 1.0, 100
 MOST_BYTES = 1_048_576
 
 
@@ -80,7 +80,7 @@ FILES = [
     ("2,000 large ones", different(r"\w{300}%05d", 2_000), True),
     ("a megabyte of large ones", filled(r"\w{300}%05d"), True),
     ("5,000 small ones", different("^x%05d$", 5_000), False),
-    ("a megabyte of small ones", filled("^x%05d$"), True),
+    ("a megabyte of small ones", filled("^x%05d$"), False),
     ("400 of Unicode's classes", different(r"^\pL\pN\d\w{1,8}%05d$", 400), False),
     ("a megabyte of Unicode's classes", filled(r"^\pL\pN\d\w{1,8}%05d$"), True),
     ("150 without case", different("(?i)^order-[a-z]{1,20}-%05d$", 150), False),
@@ -116,9 +116,9 @@ def twenty() -> tuple[bytes, bytes]:
 CHECKS = [
     ("one pattern, 1 value", one_list(1), 0.5),
     ("one pattern, 1,000 values", one_list(1_000), 0.5),
-    ("one pattern, 20,000 values", one_list(20_000), 1.5),
-    ("a hundred, 100 values each", a_hundred(), 4.0),
-    ("twenty, 1,000 values each", twenty(), 2.0),
+    ("one pattern, 20,000 values", one_list(20_000), 0.5),
+    ("a hundred, 100 values each", a_hundred(), 2.0),
+    ("twenty, 1,000 values each", twenty(), 1.0),
 ]
 
 
