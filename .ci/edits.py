@@ -112,6 +112,20 @@ def named_by(function):
     return "::".join([*(it for it in inside.split("/") if it not in ("lib", "main", "mod")), function.name])
 
 
+def taken_as_proved(crate, changed):
+    """Proofs with a hole of the crate's functions that aren't changed, by path: what calls one is then checked by its
+    contract, and its own proof, which `rt ci` does, isn't done again. Methods and functions of a cycle keep theirs."""
+    found = {}
+    for it in (it for file in files_of(crate, "src", ".rt") for it in functions_in(file)):
+        path = named_by(it).replace("::", "/")
+        is_cycle = "#[cycle(" in it.code[: it.at].rpartition("\n\n")[2] or re.search(rf"\b{it.name}\(", it.body)
+        if it not in changed and not it.type and it.end > it.begin and not is_cycle:
+            use = f"use Rattle.{crate}.proofs.{path.replace('/', '.')}.Statement.{{statement}}"
+            proof = f"pub {it.name}_spec : {{M : Type 1}} → statement M\n{it.name}_spec = ?"
+            found[f"proofs/{path}/Proof.antt"] = f"{use}\n\n{proof}\n"
+    return found
+
+
 def rounds_of(crate, edits):
     """The edits in rounds: in one round no two change one function. One that changes what is in none is alone."""
     rounds = []

@@ -1,5 +1,5 @@
 """The kit's rt as a module, and checks of crates in a copy of the repository, over libraries that are proved."""
-import importlib.machinery, importlib.util, os, re, shutil, subprocess, sys, tempfile
+import contextlib, importlib.machinery, importlib.util, os, re, shutil, subprocess, sys, tempfile
 from collections import namedtuple
 
 sys.dont_write_bytecode = True
@@ -67,6 +67,10 @@ class Copy:
                 if os.path.isdir(f"{crate.folder}/{part}"):
                     shutil.copytree(f"{crate.folder}/{part}", f"{at}/{part}")
             for path, text in texts.items():
+                os.makedirs(os.path.dirname(f"{at}/{path}"), exist_ok=True)
+                for it in ("Invariants", "Answers") if path.endswith("/Proof.antt") else ():
+                    with contextlib.suppress(FileNotFoundError):
+                        os.remove(f"{at}/{os.path.dirname(path)}/{it}.antt")
                 with open(f"{at}/{path}", "w", encoding="utf-8") as it:
                     it.write(text)
             line = ["check", *crate.words(["--jobs", "1", *words], keeps=False), "--incremental", kept]

@@ -4,6 +4,7 @@
   `uses` cites none: its callers are proved from public contracts.
 - Each lemma is cited: by a proof, by a tactic of the code, or, as a worked example is, by a document. In a file whose
   name ends with Example or Examples none has to be.
+- No proof names a part of another function's: so each function can be checked with all others taken as proved.
 - In specs/ and proofs/ of the crates over broker_tables no tree and no column of a table is a bare number: it has a
   name in broker_tables/specs/Schema.antt. Place 0, a row's number in any table, may be one, and so may a place in the
   answer of a SELECT: a row of an answer is called `row`. UNNAMED has the files that are left out."""
@@ -23,6 +24,7 @@ CITED = re.compile(r"(?m)^\s*use Rattle\.(?:([\w.+]+)\.\{(.*)\}|([\w.]+)(?: as \
 LEMMA = re.compile(
     r"(?m)^( *)(?:(?:pub|abbrev|unfoldable|opaque)\s+)*(?!use\b|module\b|let\b|where\b)([^\s:(){},;.=|λ]+)\s*:\s"
 )
+PART = re.compile(r"Rattle\.(\w+)\.proofs\.([^\s{}]+?)\.(?:Goals|Given|Answers|Invariants|Lts|View|Proof)\b")
 TERM = re.compile(r"[^\s(){}\[\],;.:]+")
 
 
@@ -77,6 +79,15 @@ def idle(crates):
                     yield f"{os.path.relpath(path, TOP)}:{line}: nothing cites {lemma}"
 
 
+def of_others(crates):
+    """Parts of another function's proof that a proof names."""
+    for path in (path for it in crates for path in files_of(it.name, "proofs", ".antt")):
+        crate, own = re.search(r"crates/(\w+)/proofs/?(.*)/[^/]+$", path).groups()
+        for it in PART.finditer(text_of(path)):
+            if it.groups() != (crate, own.replace("/", ".")):
+                yield f"{place(path, text_of(path), it.start())}: it names {it[0]}"
+
+
 def unnamed(crates):
     """Trees and columns of the broker's tables that are bare numbers."""
     below = crates_in(text_of(f"{TOP}/crates.txt"))
@@ -91,4 +102,5 @@ def unnamed(crates):
 def faults(product, checks):
     yield from not_offered(product + checks)
     yield from idle(product + checks)
+    yield from of_others(product + checks)
     yield from unnamed(product + checks)
