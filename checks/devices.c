@@ -1,14 +1,14 @@
-/* Stands before the C library's own calls on a peer of the program, and is that peer, at a clock of its own: so what fails
-   at one byte, or waits for seconds, is tried exactly and in no time. checks/devices.py builds it and gives it to the
-   program by LD_PRELOAD, with PEERS, a folder. In it are, of each connection from 1 on, what the peer sends, N.sent, and
-   how it does, N.plan; there N.taken is made, what the peer took, and N.report: when its connection was closed, and how
-   many bytes the last read asked for. With STREAMS the peer 1 is standard input and standard output.
+/* Stands before the C library's own calls on a peer of the program, and is that peer, at a clock of its own: so what
+   fails at one byte, or waits for seconds, is tried exactly and in no time. checks/devices.py builds it and gives it to
+   the program by LD_PRELOAD, with PEERS, a folder. In it are, of each connection from 1 on, what the peer sends,
+   N.sent, and how it does, N.plan; there N.taken is made, what the peer took, and N.report: when its connection was
+   closed, and how many bytes the last read asked for. With STREAMS the peer 1 is standard input and standard output.
 
    A plan is numbers, of times in milliseconds: when the peer comes; how many bytes a read gives at most; after how many
-   bytes a read fails, and by which errno; how many bytes it takes, how many at once, how long apart, and by which errno a
-   write fails behind them (0: it takes none; -1: it waits); whether a signal cuts each other call short, and how long the
-   program is stopped at the second such; how many pieces it sends; and of each when it is sent, and its length: the end,
-   if that is 0. */
+   bytes a read fails, and by which errno; how many bytes it takes, how many at once, how long apart, and by which errno
+   a write fails behind them (0: it takes none; -1: it waits); whether a signal cuts each other call short, and how long
+   the program is stopped at the second such; how many pieces it sends; and of each when it is sent, and its length: the
+   end, if that is 0. */
 #define _GNU_SOURCE
 #include <errno.h>
 #include <fcntl.h>

@@ -1,11 +1,12 @@
 #!/usr/bin/env python3
-"""Peers of the program that fail at one byte, or make it wait: exactly, and at a clock of their own, so that an hour takes
-no time (devices.c). `.ci/program` runs it on both builds. It takes a quarter of a minute.
+"""Peers of the program that fail at one byte, or make it wait: exactly, and at a clock of their own, so that an hour
+takes no time (devices.c). `.ci/program` runs it on both builds. It takes seconds.
 
     checks/devices.py PROGRAM [WORD]     PROGRAM is the path of `broker`; with a WORD only the lines that hold it
 
-Prints a line for each, `ok` or `WRONG`, and ends with 1 if one is wrong, and with 77 if there is no C compiler (cc). What
-is expected is from docs/OPERATING.md and docs/LIMITS.md; the requests and answers are those of stops/first-run.story."""
+Prints a line for each, `ok` or `WRONG`, and ends with 1 if one is wrong, and with 77 if there is no C compiler (cc).
+What is expected is from docs/OPERATING.md and docs/LIMITS.md; the requests and answers are those of
+stops/first-run.story."""
 import sys
 
 sys.dont_write_bytecode = True
@@ -13,7 +14,7 @@ import errno, os, shutil, subprocess, tempfile, typing
 from concurrent.futures import ProcessPoolExecutor
 from messages import answer, lines_in, request
 from multiprocessing import get_context
-from plays import Wrong, free_address, shown
+from plays import Wrong, free_address
 
 HOME = os.path.dirname(os.path.abspath(__file__))
 PROGRAM = os.path.abspath(sys.argv[1])
@@ -35,8 +36,8 @@ class Peer(typing.NamedTuple):
     reads: int = MOST
     fails: int = MOST
     read_error: int = 0
-    # How many bytes it takes, how many at once and how long apart, and by which error a write fails behind them: none is
-    # taken if that is 0, and it is waited for if that is -1.
+    # How many bytes it takes, how many at once and how long apart, and by which error a write fails behind them: none
+    # is taken if that is 0, and it is waited for if that is -1.
     room: int = MOST
     at_once: int = MOST
     apart: int = 0
@@ -110,7 +111,8 @@ def played(words, peers, **settings):
             with open(f"{room}/{number}.plan", "w", encoding="ascii") as it:
                 it.write(peer.plan())
         env = {**os.environ, "LD_PRELOAD": SHIM, "PEERS": room, **settings}
-        done = subprocess.run([PROGRAM, *words], env=env, stdin=subprocess.DEVNULL, capture_output=True, timeout=PATIENCE)
+        pipes = {"stdin": subprocess.DEVNULL, "capture_output": True, "timeout": PATIENCE}
+        done = subprocess.run([PROGRAM, *words], env=env, **pipes)
         numbers = range(1, len(peers) + 1)
         reports = [[int(it) for it in read(f"{room}/{number}.report").split()] for number in numbers]
         taken = [read(f"{room}/{number}.taken") for number in numbers]
@@ -235,22 +237,25 @@ def each_lack():
 # Peers that make the broker wait
 
 HALF = b"GET / HTTP/1.1\r\n"
+HALF_BODY = request(None, "PUT / {}").replace(b": 2", b": 4")
 UNTAKEN = Peer(((0, ASKED),), signals=1)
 # A peer, when another one comes, what the first takes, and when its connection is closed. A signal cuts each other wait
 # short, which changes nothing.
 WAITS = {
     "half a head has ten seconds": (Peer(((0, HALF),), signals=1), MOST, b"", 10_000),
-    "half a body has ten seconds": (Peer(((0, request(None, "PUT / {}").replace(b": 2", b": 4")),), signals=1), MOST, b"", 10_000),
+    "half a body has ten seconds": (Peer(((0, HALF_BODY),), signals=1), MOST, b"", 10_000),
     "a byte now and then has ten seconds for all": (
         Peer(((0, b"G"), (3000, b"E"), (6000, b"T"), (9000, b" "), (12_000, b"/")), signals=1), MOST, b"", 10_000),
     "a silent peer has a second more once another comes": (Peer((), signals=1), 500, b"", 1500),
-    "a silent peer may stay for an hour": (Peer(((3_600_000, ASKED), (3_600_001, b"")), signals=1), MOST, TOLD, 3_600_001),
+    "a silent peer may stay for an hour": (
+        Peer(((3_600_000, ASKED), (3_600_001, b"")), signals=1), MOST, TOLD, 3_600_001),
     "an idle peer has five milliseconds if another waits": (Peer(((7, ASKED),), signals=1), 0, TOLD, 12),
     "a message that has begun has its time, though another waits": (
         Peer(((0, ASKED + b"GET / "), (9000, b"HTTP/1.1\r\nhost: b\r\n\r\n")), signals=1), 0, TOLD * 2, 9005),
     "an answer that isn't taken has ten seconds": (UNTAKEN._replace(room=0), MOST, b"", 10_000),
     "an answer that is taken in part has ten seconds": (UNTAKEN._replace(room=50), MOST, TOLD[:50], 10_000),
-    "an answer that is taken now and then has ten seconds for all": (UNTAKEN._replace(at_once=10, apart=4000), MOST, TOLD[:20], 10_000),
+    "an answer that is taken now and then has ten seconds for all": (
+        UNTAKEN._replace(at_once=10, apart=4000), MOST, TOLD[:20], 10_000),
     "an hour's stop in an answer takes no time": (
         Peer(((0, ASKED), (1, b"")), signals=1, stopped=3_600_000), MOST, TOLD, 3_600_000),
     "an hour's stop in a request takes no time": (
@@ -286,7 +291,9 @@ def main():
     chosen = [(text, function()) for text, function in CASES if not sys.argv[2:] or sys.argv[2] in text]
     wrong = 0
     with ProcessPoolExecutor(mp_context=get_context("fork")) as workers:
-        tried = [(text, workers.map(attempt, [(function, it) for it in parts], chunksize=4)) for text, (function, parts) in chosen]
+        tried = []
+        for text, (function, parts) in chosen:
+            tried.append((text, workers.map(attempt, [(function, it) for it in parts], chunksize=4)))
         for text, lines in tried:
             lines = list(lines)
             why = [it for it in lines if it]

@@ -753,18 +753,19 @@ def consumer(name):
 @case("two hundred deployed consumers: each is listed, and the provider lacks a result for each")
 def many(room):
     red, names = "token-of-the-team-red", [f"p{number}" for number in range(100, 300)]
-    first = [put_team("red"), request("PUT /environments/dev", body='{"gated":false}'), request("PUT /grants/team/red/environment/dev")]
-    first += [request("PUT /pacticipants/stock", body='{"team":"red"}'), request("PUT /pacticipants/stock/versions/1", red)]
+    first = [put_team("red"), request("PUT /environments/dev", body='{"gated":false}')]
+    first += [request("PUT /grants/team/red/environment/dev"), request("PUT /pacticipants/stock", body='{"team":"red"}')]
+    first.append(request("PUT /pacticipants/stock/versions/1", red))
     with Serving(new_file(room), 201) as it:
         same("answers", it.ask(b"".join(first)), [DONE] * len(first))
         for number, name in enumerate(names, 1):
             same(name, it.ask(b"".join(consumer(name))), [DONE, '{"answer":"done","content":%d}' % number, DONE])
     with Serving(it.file, 1) as it:
-        asked = request("GET /environments/dev", red) + request("GET /can-i-deploy?pacticipant=stock&version=1&environment=dev", red)
-        listed, gate = map(json.loads, it.ask(asked))
+        gate = request("GET /can-i-deploy?pacticipant=stock&version=1&environment=dev", red)
+        listed, shown = map(json.loads, it.ask(request("GET /environments/dev", red) + gate))
     same("listed", listed["deployed"], [{"instance": "", "pacticipant": name, "version": "1"} for name in names])
     lacks = {"consumerVersion": "1", "kind": "missing", "provider": "stock", "providerVersion": "1"}
-    same("lacking", gate["faults"], [{"consumer": name, **lacks} for name in names])
+    same("lacking", shown["faults"], [{"consumer": name, **lacks} for name in names])
 
 
 def attempt(number):

@@ -1,13 +1,13 @@
-/* Stands before the C library's own calls on the two files of a broker, its database FILE and its log FILE-wal: those by
-   which the program opens, measures, reads, writes, cuts and syncs a file (nm -D PROGRAM). From one call on a file on it
-   refuses each, as a disk does that stops; and it keeps the file as it was last synced.
-   checks/stops.py builds it and gives it to the program by LD_PRELOAD, with
+/* Stands before the C library's own calls on the two files of a broker, its database FILE and its log FILE-wal: those
+   by which the program opens, measures, reads, writes, cuts and syncs a file (nm -D PROGRAM). From one call on a file
+   on it refuses each, as a disk does that stops; and it keeps the file as it was last synced. checks/stops.py builds it
+   and gives it to the program by LD_PRELOAD, with
 
    STOPS_FILE      the path of the database
    STOPS_SIDE      the file that stops, `database` or `log`
    STOPS_PASSES    how many calls on it pass
-   STOPS_KEPT      a folder: `database` and `log` in it are the files as they were last synced, if they were; `calls` has of
-                   each, the database first, how many calls there were and how many of them were refused
+   STOPS_KEPT      a folder: `database` and `log` in it are the files as they were last synced, if they were; `calls`
+                   has of each, the database first, how many calls there were and how many of them were refused
    STOPS_FORGETS   if it is set, nothing is kept at a sync, as by a disk that says that it has synced and hasn't
 
    What the program takes for chance is the same at each run, so that two runs leave the same bytes. */
@@ -51,7 +51,8 @@ static int kept_file(const char *name) {
 
 __attribute__((destructor)) static void end(void) {
   char text[128];
-  int length = snprintf(text, sizeof text, "%lu %lu %lu %lu\n", calls[DATABASE], refused[DATABASE], calls[LOG], refused[LOG]);
+  int length = snprintf(text, sizeof text, "%lu %lu %lu %lu\n",
+                        calls[DATABASE], refused[DATABASE], calls[LOG], refused[LOG]);
   int out = kept_file("calls");
   if (syscall(SYS_write, out, text, length) != length)
     abort();
@@ -120,7 +121,9 @@ int statx(int fd, const char *path, int flags, unsigned mask, struct statx *abou
   OR_REFUSED(syscall(SYS_statx, fd, path, flags, mask, about));
 }
 ssize_t pread(int fd, void *text, size_t most, off_t at) { OR_REFUSED(syscall(SYS_pread64, fd, text, most, at)); }
-ssize_t pwrite(int fd, const void *text, size_t most, off_t at) { OR_REFUSED(syscall(SYS_pwrite64, fd, text, most, at)); }
+ssize_t pwrite(int fd, const void *text, size_t most, off_t at) {
+  OR_REFUSED(syscall(SYS_pwrite64, fd, text, most, at));
+}
 int ftruncate(int fd, off_t length) { OR_REFUSED(syscall(SYS_ftruncate, fd, length)); }
 int fsync(int fd) { OR_REFUSED(keep(fd, syscall(SYS_fsync, fd))); }
 int fdatasync(int fd) { OR_REFUSED(keep(fd, syscall(SYS_fdatasync, fd))); }

@@ -1,40 +1,40 @@
 #!/usr/bin/env python3
-"""Stops the program at every call on its files, and looks whether anything is lost. `.ci/program` runs it on both builds.
-It takes half a minute.
+"""Stops the program at every call on its files, and looks whether anything is lost. `.ci/program` runs it on both
+builds. It takes half a minute.
 
     checks/stops.py PROGRAM [NAME..]     PROGRAM is the path of `broker`; with NAMEs only these files of stops
 
 The steps of a file checks/stops/NAME.stops are done one after another over the two files of a broker, its log and its
-database. Each is done again and again on copies of what was before it: the log, and then the database, passes no call of
-the program on, or one, two and so on, and refuses all behind them, until none is refused (stops.c). Of each file there is
-then what was last synced or what was written, in all four ways, as after a loss of power or an end of the process. The
-program opens them again, and the questions are asked: their answers are those of before the step or those of after it, and
-after it if the step was acknowledged. Prints a line for each file, and compares how many steps it has with
-checks/stops/counts. Last, a disk that says that it has synced and hasn't must lose something. Ends with 1 if something is
-otherwise, and with 77 if there is no C compiler (cc).
+database. Each is done again and again on copies of what was before it: the log, and then the database, passes no call
+of the program on, or one, two and so on, and refuses all behind them, until none is refused (stops.c). Of each file
+there is then what was last synced or what was written, in all four ways, as after a loss of power or an end of the
+process. The program opens them again, and the questions are asked: their answers are those of before the step or
+those of after it, and after it if the step was acknowledged. Prints a line for each file, and compares how many steps
+it has with checks/stops/counts. Last, a disk that says that it has synced and hasn't must lose something. Ends with 1
+if something is otherwise, and with 77 if there is no C compiler (cc).
 
 In a file of stops a line that begins with two spaces goes on where the line before it ended; the others are:
 
-    # TEXT, or nothing                  no part of the file
-    @ CALLER TOKEN                      a caller's token; the first is the office's
-    & NAME                              what the story NAME says comes first, unstopped, on a new broker. Of the lines of a
-                                        story (stories.py) it has only callers, requests, answers and `= end`
-    > CALLER METHOD PATH BODY           a step, a request; the caller may be `-`, for none, and the body may be left out
-    < STATUS FIELD | FIELD BODY         its answer; fields beside those of each answer come between bars; the body begins
-                                        with `{`
-    >* CALLER METHOD PATH BODY          such a step, which is also done again on what each stop left; then the questions
-                                        are answered as after it
-    >= CALLER METHOD PATH BODY          such a step, also done again, that writes nothing: the files have the bytes that a
-                                        connection without a request leaves
-    * create                            a step, also done again, that makes the broker; it is the first
-    * migrate                           a step, also done again, that migrates the tables
-    ! STATEMENT                         the statements make the tables, in place of a broker
-    ? CALLER METHOD PATH BODY           a question, asked over copies, so that what it changes is forgotten; if answers are
-                                        written under the questions they are those after all steps
-    = sessions                          two steps each are a session, over one start of the program, stopped after so many
-                                        calls since then; the sessions are stopped in a row, and the questions are asked
-                                        after them: their answers are those after some first requests of each session were
-                                        done, among them what it acknowledged"""
+    # TEXT, or nothing              no part of the file
+    @ CALLER TOKEN                  a caller's token; the first is the office's
+    & NAME                          what the story NAME says comes first, unstopped, on a new broker. Of the lines of
+                                    a story (stories.py) it has only callers, requests, answers and `= end`
+    > CALLER METHOD PATH BODY       a step, a request; the caller may be `-`, for none, and the body may be left out
+    < STATUS FIELD | FIELD BODY     its answer; fields beside those of each answer come between bars; the body begins
+                                    with `{`
+    >* CALLER METHOD PATH BODY      such a step, which is also done again on what each stop left; then the questions
+                                    are answered as after it
+    >= CALLER METHOD PATH BODY      such a step, also done again, that writes nothing: the files have the bytes that a
+                                    connection without a request leaves
+    * create                        a step, also done again, that makes the broker; it is the first
+    * migrate                       a step, also done again, that migrates the tables
+    ! STATEMENT                     the statements make the tables, in place of a broker
+    ? CALLER METHOD PATH BODY       a question, asked over copies, so that what it changes is forgotten; if answers
+                                    are written under the questions they are those after all steps
+    = sessions                      two steps each are a session, over one start of the program, stopped after so many
+                                    calls since then; the sessions are stopped in a row, and the questions are asked
+                                    after them: their answers are those after some first requests of each session were
+                                    done, among them what it acknowledged"""
 import sys
 
 sys.dont_write_bytecode = True
@@ -57,8 +57,8 @@ SIDES = "log", "database"
 # More calls than any step makes.
 MOST_CALLS = 10_000
 STORE, STOPPED = answer('500 {"answer":"store"}'), answer('503 {"answer":"stopped"}')
-# How the program ends if nothing is refused, and how it may end: a file can't be used, there is no broker yet in it, or its
-# making or its migration failed.
+# How the program ends if nothing is refused, and how it may end: a file can't be used, there is no broker yet in it, or
+# its making or its migration failed.
 WELL, ENDS = (0, b""), [(0, b""), (3, b"file\n"), (3, b"open 2\n"), (3, b"open 5\n")]
 
 
@@ -132,10 +132,15 @@ class Stops:
     def runs(self):
         """The streams of the sessions if of each so many first requests are sent, in each way; last all."""
         counts = itertools.product(range(SESSION + 1), repeat=len(self.sessions()))
-        return [[b"".join(it.act for it in steps[:count]) for steps, count in zip(self.sessions(), each)] for each in counts]
+        return [[stream_of(it, count) for it, count in zip(self.sessions(), each)] for each in counts]
 
 
 Step = collections.namedtuple("Step", "kind act answer")
+
+
+def stream_of(steps, count):
+    """The first so many requests of these steps."""
+    return b"".join(it.act for it in steps[:count])
 
 
 # Doing
@@ -147,8 +152,8 @@ NO_FILES = Files(None, None)
 # A stop: one of the files passes so many calls on.
 Stop = collections.namedtuple("Stop", "side passes")
 NEVER = Stop("log", MOST_CALLS)
-# What came of an act: what was put out, how the program ended, the files as they were written and as they were last synced,
-# and whether no call was refused.
+# What came of an act: what was put out, how the program ended, the files as they were written and as they were last
+# synced, and whether no call was refused.
 Done = collections.namedtuple("Done", "out ended written synced is_whole")
 
 
@@ -240,7 +245,7 @@ def acted(office, files, act, stop=NEVER, **settings):
 
 def ways(done):
     """What there may be of the files after a stop: each as it was last synced, or as it was written."""
-    return {Files(log, base) for log in (done.synced.log, done.written.log) for base in (done.synced.database, done.written.database)}
+    return set(itertools.starmap(Files, itertools.product(*zip(done.synced, done.written))))
 
 
 # The steps
@@ -273,7 +278,8 @@ class Trial(collections.namedtuple("Trial", "place office questions step base be
         return None if again == self.after else "done again it leaves something else"
 
     def stop(self, side, **settings):
-        """Stops the step at every call of a file, until no call is refused: how many stops there were, and how it lapses."""
+        """Stops the step at every call of a file, until no call is refused: how many stops there were, and how it
+        lapses."""
         find, cuts = functools.lru_cache(maxsize=8)(self.found), 0
         for passes in range(MOST_CALLS):
             done = acted(self.office, self.base, self.step.act, Stop(side, passes), **settings)
@@ -296,8 +302,8 @@ class Trial(collections.namedtuple("Trial", "place office questions step base be
 
 
 def ends(passes, cuts, is_well):
-    """What the first stop says at which no call was refused: nothing was tried, unless those before it cut something and
-    it doesn't."""
+    """What the first stop says at which no call was refused: nothing was tried, unless those before it cut something
+    and it doesn't."""
     return None if cuts and is_well else f"nothing was stopped within {passes} calls"
 
 
@@ -349,15 +355,16 @@ def acknowledged(out):
 
 def may_be(stopped, run):
     """Whether what was stopped may be this run: the same is left, and what was acknowledged is done in it."""
-    return stopped.kept == run.kept and all(map(lambda out, wanted: wanted.startswith(acknowledged(out)), stopped.outs, run.outs))
+    are_done = (wanted.startswith(acknowledged(out)) for out, wanted in zip(stopped.outs, run.outs))
+    return stopped.kept == run.kept and all(are_done)
 
 
 class Sessions(collections.namedtuple("Sessions", "office questions base streams runs")):
     """Sessions in a row, and the runs that they may have been, the last of them whole."""
 
     def run(self, streams, stop=NEVER, are_synced=(False, False)):
-        """What comes of sessions that are sent these streams, if each stops there and leaves the log and the database as
-        they were last synced or as they were written."""
+        """What comes of sessions that are sent these streams, if each stops there and leaves the log and the database
+        as they were last synced or as they were written."""
         files, outs, is_whole = self.base, [], True
         for stream in streams:
             done = acted(self.office, files, stream, stop)
@@ -367,8 +374,8 @@ class Sessions(collections.namedtuple("Sessions", "office questions base streams
         return Run(outs, acted(self.office, files, self.questions).out, is_whole)
 
     def stop(self, side, are_synced):
-        """Stops each of the sessions at every call of a file, until no call is refused: how many stops there were, and how
-        they lapse."""
+        """Stops each of the sessions at every call of a file, until no call is refused: how many stops there were, and
+        how they lapse."""
         cuts = 0
         for passes in range(MOST_CALLS):
             stopped = self.run(self.streams, Stop(side, passes), are_synced)
@@ -445,7 +452,8 @@ def main():
         prepared = list(workers.map(attempt, [functools.partial(tasks, name) for name in names]))
         done = [[workers.submit(attempt, it) for it in (found or (0, []))[1]] for found, _ in prepared]
         last = workers.submit(attempt, forgetful)
-        sums = [told(name, it, [future.result() for future in each], wanted.get(name)) for name, it, each in zip(names, prepared, done)]
+        done = [[it.result() for it in each] for each in done]
+        sums = [told(name, it, each, wanted.get(name)) for name, it, each in zip(names, prepared, done)]
         _, why = last.result()
     steps, stops, wrong = map(sum, zip(*sums))
     print(f"WRONG  {why}" if why else "a disk that forgets is noticed")
