@@ -7,9 +7,10 @@
 What it reports meanwhile (console, faults, requests, addresses) is in page.events. It has a profile of its own, in the
 room."""
 import base64, fcntl, json, os, select, signal, subprocess, time
+from collections.abc import Callable
 from typing import Any
 
-PATIENCE = 30
+PATIENCE = 60
 Answer = dict[str, Any]
 # The keys that aren't letters, with their codes.
 KEYS = {"Tab": 9, "Enter": 13, " ": 32, "ArrowDown": 40, "ArrowUp": 38, "Backspace": 8}
@@ -104,9 +105,14 @@ class Browser:
 
     def wait(self, expression: str, what: str) -> None:
         """Waits until the expression is true in the page, or an element."""
+        self.until(lambda: bool(self.js(f"!!({expression})")), what)
+
+    def until(self, is_so: Callable[[], bool], what: str) -> None:
+        """Waits until this is so, and reads what the browser reports meanwhile."""
         until = time.monotonic() + PATIENCE
         while time.monotonic() < until:
-            if self.js(f"!!({expression})"):
+            self.js("0")
+            if is_so():
                 return
             time.sleep(0.02)
         raise Unseen(f"{what} isn't shown; the page says: {self.js('document.body.innerText')!r}")

@@ -96,8 +96,8 @@ def client_module() -> ModuleType:
 def types(room: str) -> None:
     """Each of its Python files, as mypy reads them for the oldest Python that is promised."""
     words = ["mypy", "--strict", "--python-version", "3.9", "--scripts-are-modules", "--cache-dir", f"{room}/cache"]
-    for files in (["client/holzhebo"], ["client/pages.py"]):
-        run([*words, *files], env={"MYPYPATH": f"{TOP}/checks"})
+    for file in "client/holzhebo", "client/pages.py":
+        run([*words, file])
 
 
 # The commands
@@ -156,14 +156,18 @@ def desk(room: str) -> None:
     faulty = json.loads(pact("a knife"))
     faulty["interactions"][0]["response"].update(FAULTY)
     texts = {"fork": pact("a fork"), "cup": pact("a cup"), "empty": "", "faulty": json.dumps(faulty)}
+    texts["café"] = pact("a cup").replace('"shop"', '"shop & café"')
     for name, text in texts.items():
         with open(f"{room}/{name}.json", "w", encoding="utf-8") as it:
             it.write(text)
-    with fleet(room) as (_, client):
+    with fleet(room) as (server, client):
+        server.do(OFFICE, "PUT /pacticipants/shop%20%26%20caf%C3%A9", '{"team":"red"}')
         for it in commands(f"{TOP}/checks/client/desk.lines"):
             done = client.run(it.caller, *it.words)
             wanted = Done(it.status, "".join(f"{line}\n" for line in it.output), "".join(f"{line}\n" for line in it.errors))
             same(f"desk.lines:{it.line}: {' '.join(it.words)}", done, wanted)
+        branch = "/pacts/provider/stock/consumer/shop%20%26%20caf%C3%A9/branch/feat%2F%221%22%5C"
+        same("the contract of a branch", server.ask(RED, f"GET {branch}")[0], 200)
 
 
 @test("help and usage")
@@ -205,30 +209,39 @@ def vectors() -> List[bytes]:
     return sorted(files, key=lambda it: (len(it), it))
 
 
-def changed(value: Any) -> Iterator[Any]:
-    """The value with one key or one item taken out, named otherwise, or with another value."""
-    if isinstance(value, dict):
-        for key, it in value.items():
-            rest = {name: other for name, other in value.items() if name != key}
-            yield rest
-            yield from ({**rest, name: it} for name in (f"{key}x", f"${key}", key.upper(), ""))
-            yield from ({**rest, key: other} for other in [*VALUES, *changed(it)])
-    elif isinstance(value, list):
-        for at, it in enumerate(value):
-            yield value[:at] + value[at + 1 :]
-            yield value[: at + 1] + value[at:]
-            yield from (value[:at] + [other] + value[at + 1 :] for other in [*VALUES, *changed(it)])
+def spots(value: Any, path: Tuple[Any, ...] = ()) -> Iterator[Tuple[Any, ...]]:
+    """The places of a value's members and items."""
+    for key, it in value.items() if isinstance(value, dict) else enumerate(value) if isinstance(value, list) else ():
+        yield (*path, key)
+        yield from spots(it, (*path, key))
+
+
+def changed(file: bytes, path: Tuple[Any, ...], way: int) -> bytes:
+    """The file with one key or item taken out, named otherwise, or with another value."""
+    whole = json.loads(file)
+    inner = whole
+    for key in path[:-1]:
+        inner = inner[key]
+    it = inner[path[-1]]
+    if way < len(VALUES):
+        inner[path[-1]] = VALUES[way]
+    else:
+        del inner[path[-1]]
+        if isinstance(inner, dict) and way > len(VALUES):
+            inner[(f"{path[-1]}x", f"${path[-1]}", path[-1].upper(), "")[way - len(VALUES) - 1]] = it
+    return json.dumps(whole).encode()
 
 
 BYTES = b'"{}[]:,0x$.\\\xff\x00 *-e\n\'?'
 
 
 def mutants(file: bytes, place: int) -> Iterator[bytes]:
-    """A share of the file's changes: of keys, and of bytes."""
+    """A share of the file's changes, more of a longer one: of keys, and of bytes."""
     with contextlib.suppress(ValueError):
-        every = [json.dumps(it).encode() for it in changed(json.loads(file))]
-        yield from every[place % 7 :: len(every) // 10 + 1]
-    step = len(file) // 5 + 1
+        paths = list(spots(json.loads(file)))
+        for number in range(min(60, 4 + len(file) // 60) if paths else 0):
+            yield changed(file, paths[(place + 7 * number) % len(paths)], (place + number) % (len(VALUES) + 5))
+    step = len(file) // min(40, 2 + len(file) // 90) + 1
     for at in range(place % step, len(file), step):
         yield file[:at] + BYTES[(at + place) % len(BYTES) :][:1] + file[at + 1 :]
 
@@ -259,7 +272,7 @@ def explain(room: str) -> None:
     files = vectors()
     small = [it for it in files if len(it) < 30000]
     asked = [*files, *(it for place, file in enumerate(small) for it in mutants(file, place))]
-    if len(files) < 300 or len(asked) < 4000:
+    if len(files) < 300 or len(asked) < 3000:
         raise Wrong(f"only {len(files)} files, {len(asked)} with their changes")
     with concurrent.futures.ProcessPoolExecutor(mp_context=get_context("fork")) as workers:
         wrong = [it for it in workers.map(compare, asked, chunksize=32) if it]
@@ -273,7 +286,8 @@ PATTERNS = ["a", "(?=a)", "(?!a)", "(?<=a)", "(?<!a)", r"(a)\1", r"a\\1", r"[(?=
 
 @test("patterns")
 def patterns(room: str) -> None:
-    """A pattern that is called refused without the program is refused by it; and by the tool with the program both ways."""
+    """A pattern that is called refused without the program is refused by it. With it each is judged, and the program's
+    first fault is there also if it refuses for the file what it takes by itself."""
     holzhebo = client_module()
     program = holzhebo.Program(PROGRAM)
     refused = [it for it in PATTERNS if holzhebo.is_surely_refused(it) is False]
@@ -290,6 +304,11 @@ def patterns(room: str) -> None:
         same(pattern, (done.status, lines), (status, ["pact 7.7 interactions[0]"] * status))
         without = json.loads(client.done("none", "explain", "file.json", "--json"))["file.json"]
         same(f"{pattern} without the program", [it["pattern"] for it in without["notJudged"]], [pattern])
+    with open(f"{room}/stub", "w", encoding="utf-8") as it:
+        it.write("#!/bin/sh\ngrep -q 'a book' || exit 0\necho 'pact 7.7 interactions[0]' >&2\nexit 3\n")
+    os.chmod(f"{room}/stub", 0o755)
+    done = client.run("none", "explain", "file.json", "--program", f"{room}/stub")
+    same("patterns that are too large together", (done.status, done.output.split("\n")[:2]), (1, ["file.json: 1 fault", "  pact 7.7 interactions[0]  $"]))
 
 
 # verify
@@ -387,6 +406,21 @@ ANSWERS = {
 }
 
 
+# Why it fails or can't be sent, as it is said.
+WHYS = {
+    "without a type": "there is no header Content-Type",
+    "another status": "the status is 500 and not 200",
+    "a redirect": "the status is 302 and not 200",
+    "a title that is a number": "a header or the body differs",
+    "no body": "there is no body, or a header differs",
+    "nothing, and hangs": "the provider doesn't answer within 1 seconds",
+    "nothing, and closes": "the provider closes without an answer",
+    "and closes in the middle": "the provider closes in the middle of an answer",
+    "a fraction": "the provider's body has 9.5 at $.pages, and replies are recorded without fractions",
+    "bytes that are no text": "the provider's body is no text",
+}
+
+
 class Handler(http.server.BaseHTTPRequestHandler):
     """A provider: it answers by its table, and keeps what it was asked."""
 
@@ -462,6 +496,8 @@ def play_each(room: str, server: Server, client: Client, number: int, name: str)
         told = play(room, client, stock, f"b{number}", {PASSES: 0, FAILS: 1, UNPLAYED: 3}[wanted], "--states-url", f"{stock.url}/states")
     others = {PASSES: PASSES, FAILS: PASSES, UNPLAYED: "played"}[wanted]
     same(name, [it["outcome"] for it in told["played"]], [wanted] + [others] * 4)
+    if name in WHYS or wanted == PASSES:
+        same(f"{name}: why", told["played"][0]["why"], WHYS.get(name, ""))
     same(f"{name}: sent", told["outcome"], "not sent" if wanted == UNPLAYED else wanted)
     rows = json.loads(server.ask(BLUE, f"GET /matrix?pacticipant=stock&version=b{number}")[1]).get("rows")
     if wanted == UNPLAYED:
@@ -525,10 +561,12 @@ def verify_unplayable(room: str) -> None:
     answers = {**KEPT, "GET /books/1": Reply(), "POST /states": Reply(status=500)}
     with fleet(room) as (server, client), Stock(answers) as stock:
         publish_book(server, "10", book_pact(*(interaction(f"z{why}", {"path": "/", **it}, {}) for why, it in UNPLAYABLE.items())))
-        told = play(room, client, stock, "d1", 3)
+        told = play(room, client, stock, "d1", 3, "--junit", f"{room}/junit.xml")
         whys = {it["description"][1:]: it["why"] for it in told["played"] if it["outcome"] == UNPLAYED}
         same("whys", whys, {it: it for it in UNPLAYABLE})
         same("of all", (told["outcome"], told["why"]), ("not sent", f"{len(UNPLAYABLE)} interactions can't be played"))
+        suite = xml.etree.ElementTree.parse(f"{room}/junit.xml").getroot()[0]
+        same("JUnit", [suite.get(it) for it in ("tests", "failures", "errors")], ["12", "0", "12"])
         publish_book(server, "11", book_pact())
         words = ["verify", "--provider", "stock", "--version", "d1", "--url", stock.url, "--contract", "shop", "11"]
         done = client.run("blue", *words, "--states-url", f"{stock.url}/states")
@@ -722,6 +760,157 @@ def https(room: str) -> None:
     broker.server_close()
 
 
+# Builds
+
+
+BUILDS = f"{TOP}/examples/builds"
+STUBS = {
+    "bin/gh": 'echo "$@" >> started',
+    "bin/git": "exit 0",
+    "bin/mvn": 'echo "$@" > verified; exit "${VERIFIER:-0}"',
+    "run-tests": "mkdir -p pacts; cp pact.json pacts/shop-stock.json",
+    "start-service": "exit 0",
+    "roll-out": 'exit "${ROLLOUT:-0}"',
+}
+
+
+class Build:
+    """A folder in which the lines of a build are run, over a broker and a provider that listen elsewhere."""
+
+    def __init__(self, room: str, client: Client, stock: Stock) -> None:
+        self.room, self.places = room, {"https://broker.example.org": client.url, "http://127.0.0.1:8080": stock.url}
+        for name, text in STUBS.items():
+            os.makedirs(os.path.dirname(f"{room}/{name}"), exist_ok=True)
+            with open(f"{room}/{name}", "w", encoding="utf-8") as it:
+                it.write(f"#!/bin/sh\n{text}\n")
+            os.chmod(f"{room}/{name}", 0o755)
+        with open(f"{room}/bin/holzhebo", "w", encoding="utf-8") as it:
+            it.write(f'#!/bin/sh\nexec {shlex.join(PYTHON)} {CLIENT} "$@"\n')
+        os.chmod(f"{room}/bin/holzhebo", 0o755)
+
+    def placed(self, text: str) -> str:
+        for place, other in self.places.items():
+            text = text.replace(place, other)
+        return text
+
+    def lines(self, shell: List[str], text: str, env: Dict[str, str]) -> int:
+        """Runs these lines; what they print has no token."""
+        env = {key: self.placed(it) for key, it in env.items()}
+        path = {"PATH": f"{self.room}/bin:{os.environ['PATH']}"}
+        done = subprocess.run([*shell, "-c", self.placed(text)], cwd=self.room, env={**os.environ, **env, **path}, capture_output=True, text=True, timeout=120)
+        secret(done.stdout + done.stderr)
+        if done.returncode not in (0, 1):
+            raise Wrong(f"{text} ends with {done.returncode}: {done.stdout}{done.stderr}")
+        return done.returncode
+
+    def github(self, name: str, token: str, given: Dict[str, str], after: Callable[[str], None] = lambda line: None) -> int:
+        """Runs a workflow as GitHub does: each step by bash, with what an earlier one wrote for the next. The first step
+        that fails ends it."""
+        import yaml  # type: ignore[import]
+
+        with open(f"{BUILDS}/github/{name}", encoding="utf-8") as file:
+            workflow = yaml.safe_load(file)
+        given, kept = {"secrets.HOLZHEBO_TOKEN": token, "secrets.PROVIDER_BUILDS": "-", **given}, f"{self.room}/{name}.env"
+        for step in [it for job in workflow["jobs"].values() for it in job["steps"] if "run" in it]:
+            env = {**workflow["env"], **step.get("env", {}), "GITHUB_ENV": kept, **given}
+            if os.path.exists(kept):
+                with open(kept, encoding="utf-8") as file:
+                    env.update(line.rstrip("\n").split("=", 1) for line in file)
+            env = {key: re.sub(r"\$\{\{ (\S+) \}\}", lambda it: given[it[1]], str(it)) for key, it in env.items() if "." not in key}
+            status = self.lines(["bash", "-e", "-o", "pipefail"], step["run"], env)
+            if status:
+                return status
+            after(step["run"])
+        return 0
+
+    def gitlab(self, job: str, token: str, **given: str) -> int:
+        import yaml
+
+        with open(f"{BUILDS}/gitlab-ci.yml", encoding="utf-8") as file:
+            jobs = yaml.safe_load(file)
+        env = {**jobs["variables"], "HOLZHEBO_TOKEN": token, **given}
+        return self.lines(["bash", "-e", "-o", "pipefail"], "\n".join(jobs[job]["script"]), env)
+
+    def jenkins(self, token: str, **given: str) -> List[int]:
+        with open(f"{BUILDS}/Jenkinsfile", encoding="utf-8") as file:
+            text = file.read()
+        env = {"HOLZHEBO_BROKER": re.findall(r"HOLZHEBO_BROKER = '(.*)'", text)[0], "HOLZHEBO_TOKEN": token, **given}
+        steps = [one or more for more, one in re.findall(r"(?s)sh (?:\'\'\'(.*?)\'\'\'|'(.*?)')\n", text)]
+        return [self.lines(["sh", "-e"], it, env) for it in steps]
+
+
+def in_live(server: Server) -> List[str]:
+    said = json.loads(server.ask(RED, "GET /environments/live")[1])
+    return [f"{it['pacticipant']} {it['version']} {it['instance']}".rstrip() for it in said["deployed"]]
+
+
+@test("builds of GitHub")
+def github(room: str) -> None:
+    with fleet(room) as (server, client), Stock({"GET /": Reply()}) as stock:
+        build, threads = Build(room, client, stock), []  # type: Build, List[concurrent.futures.Future[int]]
+        with open(f"{room}/pact.json", "w", encoding="utf-8") as it:
+            it.write(pact("a spoon"))
+        with concurrent.futures.ThreadPoolExecutor(1) as workers:
+
+            def after(line: str) -> None:
+                if line.startswith("gh "):
+                    with open(f"{room}/started", encoding="utf-8") as file:
+                        given = {f"inputs.{key}": it for key, it in re.findall(r"(\w+)=(\S+)", file.read())}
+                    runs = {"GITHUB_RUN_ID": "7", "GITHUB_RUN_ATTEMPT": "1"}
+                    threads.append(workers.submit(build.github, "contract.yml", BLUE, {**given, **runs}))
+
+            commit = {"GITHUB_SHA": "c0ffee", "GITHUB_REF_NAME": "main"}
+            same("the consumer's build", build.github("consumer.yml", RED, commit, after), 0)
+            same("the contract's build", [it.result() for it in threads], [0])
+        rows = json.loads(server.ask(RED, "GET /matrix?pacticipant=shop&version=c0ffee")[1])["rows"]
+        same("the result", [(it["providerVersion"], it["evidence"], it["success"]) for it in rows], [("1", "checked", True)])
+        same("the release", build.github("release.yml", RED, {"inputs.version": "c0ffee"}), 0)
+        same("what is live", in_live(server), ["shop c0ffee", "stock 1"])
+        same("a rollout that fails", build.github("release.yml", RED, {"inputs.version": "1", "ROLLOUT": "1"}), 1)
+        same("what is live then", in_live(server), ["shop c0ffee", "stock 1"])
+        same("a release that isn't permitted", build.github("release.yml", RED, {"inputs.version": "2"}), 1)
+        own = {"GITHUB_SHA": "f00d", "GITHUB_RUN_ID": "8", "GITHUB_RUN_ATTEMPT": "1"}
+        same("the provider's build", build.github("provider.yml", BLUE, own), 0)
+        stock.answers["GET /"] = Reply(500)
+        same("one that breaks the contract", build.github("provider.yml", BLUE, {**own, "GITHUB_SHA": "bad", "GITHUB_RUN_ID": "9"}), 1)
+
+
+@test("builds of GitLab and Jenkins")
+def gitlab(room: str) -> None:
+    with fleet(room) as (server, client), Stock({"GET /": Reply()}) as stock:
+        build = Build(room, client, stock)
+        with open(f"{room}/pact.json", "w", encoding="utf-8") as it:
+            it.write(pact("a spoon"))
+        commit = {"CI_COMMIT_SHA": "c0ffee", "CI_COMMIT_BRANCH": "main"}
+        same("the consumer's", build.gitlab("consumer", RED, **commit), 0)
+        same("the contract's", build.gitlab("contract", BLUE, CONSUMER="shop", CONSUMER_VERSION="c0ffee", CI_JOB_ID="1"), 0)
+        same("the wait", build.gitlab("wait for the result", RED, **commit), 0)
+        same("the release", build.gitlab("release", RED, VERSION="c0ffee"), 0)
+        same("what is live", in_live(server), ["shop c0ffee", "stock 1"])
+        same("a rollout that fails", (build.gitlab("release", RED, VERSION="1", ROLLOUT="1"), in_live(server)), (1, ["shop c0ffee", "stock 1"]))
+        same("the provider's", build.gitlab("provider", BLUE, CI_COMMIT_SHA="f00d", CI_JOB_ID="2"), 0)
+        same("Jenkins", build.jenkins(BLUE, GIT_COMMIT="j1", BUILD_TAG="jenkins-1"), [0, 0, 0])
+        same("Jenkins, a failure", build.jenkins(BLUE, GIT_COMMIT="j2", BUILD_TAG="jenkins-2", VERIFIER="1"), [0, 1, 1])
+        rows = json.loads(server.ask(BLUE, "GET /matrix?pacticipant=stock&version=j2")[1])["rows"]
+        same("the failure is stored", [(it["consumerVersion"], it["success"]) for it in rows], [("c0ffee", False)])
+
+
+# Pages
+
+
+@test("man pages and completions")
+def pages(room: str) -> None:
+    """They are what --help says, can be read by mandoc and zsh, and bash completes by them."""
+    os.symlink(PROGRAM, f"{room}/broker")
+    run([sys.executable, "client/pages.py", "--check", "client/holzhebo", f"{room}/broker"])
+    for name in "holzhebo", "broker":
+        run(["mandoc", "-T", "lint", "-W", "error", f"client/pages/{name}.1"])
+        run(["zsh", "-n", f"client/pages/_{name}"])
+    for words, wanted in (["holzhebo", "can"], ["can-i-deploy"]), (["holzhebo", "can-i-deploy", "--w"], ["--wait"]), (["broker", "serve", "--l"], ["--listen"]), (["holzhebo", "help", "und"], ["undeploy"]):
+        text = f'source client/pages/{words[0]}.bash; COMP_WORDS=({" ".join(words)}); COMP_CWORD={len(words) - 1}; _{words[0]}; echo "${{COMPREPLY[@]}}"'
+        same(f"completion of {words}", run(["bash", "-c", text]).split(), wanted)
+
+
 def attempt(name: str, function: Callable[[str], None]) -> bool:
     began = time.time()
     with tempfile.TemporaryDirectory() as room:
@@ -735,8 +924,13 @@ def attempt(name: str, function: Callable[[str], None]) -> bool:
 
 
 def main() -> int:
-    wrong = [name for name, function in TESTS if (not sys.argv[2:] or sys.argv[2] in name) and not attempt(name, function)]
-    return 1 if wrong else 0
+    """Tries what forks workers by itself, and then the others, some beside one another, the longest first."""
+    chosen = [it for it in TESTS if not sys.argv[2:] or sys.argv[2] in it[0]]
+    well = [attempt(*it) for it in chosen if it[1] is explain]
+    with concurrent.futures.ThreadPoolExecutor(4) as workers:
+        others = sorted((it for it in chosen if it[1] is not explain), key=lambda it: it[1] is not desk)
+        well += workers.map(lambda it: attempt(*it), others)
+    return 0 if all(well) else 1
 
 
 if __name__ == "__main__":

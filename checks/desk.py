@@ -12,7 +12,7 @@ from typing import Any
 
 sys.dont_write_bytecode = True
 from browser import Browser, Unseen
-from desk_scenes import FAILURES, GOOD, SCENES, cells, holders, hostile, shows, signs_in, tried, unknown
+from desk_scenes import FAILURES, GOOD, SCENES, cells, holders, hostile, is_report, shows, signs_in, tried, unknown
 from desk_shown import AFTER, BOARD, OLDER
 from desk_world import DENIED, READER, RED, Caddy, Proxy, World, listens, text_of, without, write
 from hub import OFFICE, PROGRAM, TOP, Wrong, free_port, run, same
@@ -29,8 +29,7 @@ def the_page(world: World, takes_pictures: bool) -> None:
         page.look(1000, "light")
         tried(page, world, SCENES + FAILURES)
         same("a script that is put into the page isn't run", page.js(INLINE), True)
-        reports = [it for it in page.events if "ContentSecurityPolicyIssue" in str(it)]
-        same("reports of the policy, once there is something to report", len(reports), 1)
+        page.until(lambda: any(is_report(it, True) for it in page.events), "a report of the policy")
         if takes_pictures:
             pictures(page, world)
     for token in READER, OFFICE, RED:

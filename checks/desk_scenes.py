@@ -3,7 +3,7 @@ world in which the page is served."""
 import json, os, re, shutil, time
 from collections.abc import Callable
 
-from browser import Browser, Unseen
+from browser import Answer, Browser, Unseen
 from desk_shown import ASKED, BOARD, FOREIGN, INSTEAD, LIVE, LONG, MARKUP, MATRIX, SLASH, STRICT, TODAY, TURNED
 from desk_shown import UNRESULTED, WITHOUT
 from desk_world import DENIED, READER, RED, World, stub, without, write
@@ -247,10 +247,8 @@ def overtaken(page: Browser, world: World) -> None:
     page.call("Fetch.enable", patterns=[{"urlPattern": "*/can-i-deploy?pacticipant=shop*"}])
     page.js("location.hash = '#/ask/shop/1.4/live'")
     page.wait("document.querySelector('.waits')", "a question under way")
+    page.until(lambda: any(it["method"] == "Fetch.requestPaused" for it in page.events), "a request that is held")
     held = [it["params"]["requestId"] for it in page.events if it["method"] == "Fetch.requestPaused"]
-    while not held:
-        page.js("0")
-        held = [it["params"]["requestId"] for it in page.events if it["method"] == "Fetch.requestPaused"]
     same("while it is asked", text(page, "main"), "Asking the broker …")
     shows(page, "ask/web/6/live")
     for it in held:
@@ -361,26 +359,27 @@ def requests_are_right(world: World) -> None:
             raise Wrong(f"the page sends {method} {path}")
 
 
+LOUD = "Runtime.consoleAPICalled", "Runtime.exceptionThrown", "Page.javascriptDialogOpening"
+
+
+def is_report(event: Answer, fails: bool) -> bool:
+    """Whether a fault is reported: by the console, the policy of contents, or a dialog; a failed request isn't one if
+    some are to fail."""
+    entry = event["params"].get("entry", {"level": "none"})
+    failed = entry.get("source") == "network" and entry["text"].startswith("Failed to load resource")
+    is_logged = entry["level"] in ("warning", "error") and not (fails and failed)
+    return is_logged or event["method"] in LOUD or "ContentSecurityPolicyIssue" in str(event)
+
+
 def is_quiet(page: Browser, fails: bool) -> None:
-    """Nothing is reported by the console, the policy of contents or a dialog; failed requests only if some are to."""
+    """Nothing is reported, and no address has had a token."""
     for it in page.events:
-        entry = it["params"].get("entry", {})
-        failed = entry.get("source") == "network" and entry.get("text", "").startswith("Failed to load resource")
-        if it["method"] == "Log.entryAdded" and not (fails and failed):
-            raise Wrong(f"the browser reports {entry}")
-        if it["method"] in (
-            "Runtime.consoleAPICalled",
-            "Runtime.exceptionThrown",
-            "Audits.issueAdded",
-            "Page.javascriptDialogOpening",
-        ):
+        if is_report(it, fails):
             raise Wrong(f"the browser reports {it}")
         params = it["params"]
-        address = " ".join(
-            str(each.get("url")) for each in (params, params.get("request", {}), params.get("frame", {}))
-        )
-        if "token-0" in address:
-            raise Wrong(f"a token is in the address {address}")
+        addresses = [str(each.get("url")) for each in (params, params.get("request", {}), params.get("frame", {}))]
+        if "token-0" in " ".join(addresses):
+            raise Wrong(f"a token is in the address {addresses}")
     page.events.clear()
 
 

@@ -278,7 +278,7 @@ def slow(front, _):
     took = time.monotonic() - began
     for peer in peers:
         peer.close()
-    if took > 2:
+    if took > 5:
         raise Wrong(f"another client waits {took:.1f} s")
 
 
@@ -317,21 +317,23 @@ def leaked(front, broker):
 
 
 def limited(front, _):
-    """At once more requests from one address than may wait: the rest is 429. Another address is answered at once."""
-    time.sleep(0.1)
+    """At once more requests from one address than may wait: the rest is 429. Another address isn't limited by it."""
     message = front.message(f"authorization: Bearer {RED}".encode(), "GET /environments/live")
-    peers = [front.open() for _ in range(WAITING + 50)]
+    peers = [front.open() for _ in range(WAITING + 150)]
+    began = time.monotonic()
     for peer in peers:
         peer.sendall(message)
-    began = time.monotonic()
+    asked = time.monotonic()
     same("another address", front.exchange(message, "127.0.0.2")[0], 200)
-    took = time.monotonic() - began
+    other = time.monotonic() - asked
     statuses = [answered(peer)[0] for peer in peers]
-    lasted = time.monotonic() - began
+    took = time.monotonic() - began
     for peer in peers:
         peer.close()
-    if took > 1 or set(statuses) != {200, 429} or statuses.count(200) < WAITING or lasted < 0.75 * WAITING / RATE:
-        raise Wrong(f"{statuses.count(200)} are answered 200 in {lasted:.1f} s, and another address after {took:.1f} s")
+    longest = WAITING / RATE
+    if set(statuses) != {200, 429} or statuses.count(200) < WAITING or took < 0.9 * longest or other > 0.75 * longest:
+        said = f"{statuses.count(200)} of {len(statuses)} are answered 200 in {took:.1f} s"
+        raise Wrong(f"{said}, and another address after {other:.1f} s")
 
 
 def unlogged(front, _):

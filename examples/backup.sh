@@ -3,9 +3,8 @@
 # Usage: backup.sh PROGRAM FILE COPY [BROKER]
 #   BROKER is the process that serves the file, by its number or by the name of its service (systemctl); run this as its
 #   user or as root. Without BROKER nobody may have the file open, so stop the service first.
-# Needs sqlite3 (the Debian package sqlite3), Linux, and beside the copy as much room again as it takes. The copy is
-# COPY and, if there is a log, COPY-wal; the two belong together. Ends with 0 if both are there and tested; else with 1
-# and without them.
+# Needs sqlite3 (the Debian package sqlite3), Linux, and beside the copy as much room again as it takes. COPY is one
+# file with all rows. Ends with 0 if it is there and tested; else with 1 and without it.
 #
 # Why a copy of a broker that serves is right: it is paused (signal STOP) while its two files are copied byte for byte.
 # They are then what is there if the program is killed at that moment, and this is a sound file with all that was
@@ -13,7 +12,11 @@
 # of 50 MB on a local disk; who asks meanwhile waits. The pause ends before the copy is tested, and however this script
 # ends; only if it is killed by signal 9 while it copies, end the pause yourself: `kill -CONT NUMBER`. sqlite3's own
 # .backup and VACUUM are no way: they can't read a file in use, and what they make has wrong sums.
-set -eu
+#
+# The newest rows are in the second file, the log, and without it the first one opens too, but lacks them. So the
+# program moves them into the first one, which it does when it ends by itself: it serves the copy for one connection, on
+# a port of loopback, and nothing is asked.
+set -euo pipefail
 program=${1:?the path of the program broker}
 file=${2:?the file of the broker}
 copy=${3:?the file to make}
@@ -54,26 +57,31 @@ go_on() { [ -z "$paused" ] || send CONT || kill -s CONT "$pid"; paused=; }
 # The lock that a broker, or sqlite3, has on an open file.
 is_open() { grep -q ":$(stat -c %i -- "$file") 10737418" /proc/locks; }
 
-paused= room= copying=
+paused= room= child=
 trap 'exit 1' HUP INT TERM
 # It ends with 1 also if a command failed with another status, or a signal in the middle of $(..) ended bash with 2.
 clean_up() {
   ended=$?
   go_on || true
-  kill ${copying:-} 2> /dev/null || true
+  kill ${child:-} 2> /dev/null || true
   rm -rf "$copy.part" "$copy.part-wal" ${room:+"$room"}
   [ "$ended" = 0 ] || exit 1
 }
 trap clean_up EXIT
 
-# copy_pair FROM TO: both files, as they are. The copying is waited for, so that a signal ends this script also if it
-# hangs.
+# What was begun is waited for, so that a signal ends this script also if that hangs.
+await() {
+  child=$!
+  wait "$child" || { child=; return 1; }
+  child=
+}
+
+# copy_pair FROM TO: both files, as they are.
 copy_pair() {
   for end in "" -wal; do
     [ -e "$1$end" ] || continue
-    cp -- "$1$end" "$2$end" & copying=$!
-    wait "$copying"
-    copying=
+    cp -- "$1$end" "$2$end" &
+    await
   done
 }
 
@@ -92,24 +100,43 @@ else
   ! is_open || fail "$file was opened while it was copied: try again"
   pause_said=
 fi
+room=$(mktemp -d "$copy.rows.XXXXXX")
 
-# The broker opens a copy of the copy, and sqlite3 another one: either may write to what it opens.
-room=$(mktemp -d "$copy.test.XXXXXX")
-copy_pair "$copy.part" "$room/a.db"
-said=$("$program" can-i-deploy --file "$room/a.db" --token 0000000000000000 --pacticipant none --version none \
-  --to-environment none 2>&1) || true
-case $said in
-  '{"answer":'* | 'open 3.'*) ;;
-  *) fail "the broker doesn't open the copy: $said" ;;
-esac
-rm -f "$room/a.db"*
-copy_pair "$copy.part" "$room/b.db"
-said=$(sqlite3 -bail "$room/b.db" 'PRAGMA integrity_check; PRAGMA foreign_key_check' 2>&1) || true
-[ "$said" = ok ] || fail "the copy isn't sound: $said"
-format=$(sqlite3 "$room/b.db" 'SELECT format FROM meta')
-contracts=$(sqlite3 "$room/b.db" 'SELECT count(*) FROM contracts')
+# All rows of the copy and its log, as a digest. sqlite3 reads another copy, since it writes to what it opens.
+rows() {
+  copy_pair "$copy.part" "$room/a.db"
+  sqlite3 -bail "$room/a.db" .dump | sha256sum
+  rm -f "$room/a.db"*
+}
 
-sync -- "$copy.part"*
-[ ! -e "$copy.part-wal" ] || mv -- "$copy.part-wal" "$copy-wal"
+# serve_once PORT: serves the copy for one connection, which is made and closed here.
+serve_once() {
+  "$program" serve --file "$copy.part" --listen "127.0.0.1:$1" --connections 1 2> "$room/said" &
+  child=$!
+  while kill -0 "$child" 2> /dev/null && ! (: < "/dev/tcp/127.0.0.1/$1") 2> /dev/null; do sleep 0.02; done
+  await
+}
+
+# Moves what is in the log into the copy. A file of an older format isn't served: sqlite3 does it, as it has no sums.
+fold() {
+  for _ in 1 2 3 4 5 6 7 8 9; do
+    if serve_once $((20000 + RANDOM % 12000)); then return; fi
+    case $(cat "$room/said") in
+      listen) ;;
+      'open 3.'*) sqlite3 -bail "$copy.part" 'PRAGMA wal_checkpoint(TRUNCATE)' > /dev/null && return ;;
+      *) break ;;
+    esac
+  done
+  fail "the broker doesn't open the copy: $(cat "$room/said")"
+}
+
+before=$(rows)
+fold
+rm -f "$copy.part-wal"
+[ "$(rows)" = "$before" ] || fail "the copy without its log has other rows than with it"
+said=$("$(dirname "$0")/test-copy.sh" "$program" "$copy.part") || [ $? = 2 ] || exit 1
+
+sync -- "$copy.part"
 mv -- "$copy.part" "$copy"
-echo "$copy holds format $format with $contracts contracts$pause_said"
+sync -- "$(dirname -- "$copy")"
+echo "$copy holds $said$pause_said"

@@ -18,14 +18,14 @@ trap 'rm -rf "$room"' EXIT
 for caller in office-token-0001 red-team-token-0001 blue-team-token-0001; do
   printf 'authorization: Bearer %s\n' "$caller" > "$room/${caller%%-*}"
 done
-wait=(--retry 50 --retry-connrefused --retry-delay 1)
+how=(-s --retry 50 --retry-connrefused --retry-delay 1)
 
 # ask STATUS CALLER METHOD PATH [BODY]: one request, which has to be answered with the status; the answer is in $answer
 ask() {
   local status=$1 caller=$2 method=$3 path=$4
-  answer=$(printf %s "${5-}" | curl -sS ${wait+"${wait[@]}"} -w '\n%{http_code}' -X "$method" -H @"$room/$caller" \
-    --data-binary @- "$url/$path") || exit 1
-  unset wait
+  answer=$(printf %s "${5-}" | curl "${how[@]}" -w '\n%{http_code}' -X "$method" -H @"$room/$caller" \
+    --data-binary @- "$url/$path") || { echo "there is no answer from $url" >&2; exit 1; }
+  how=(-sS)
   if [ "${answer##*$'\n'}" != "$status" ]; then
     echo "$method /$path: $answer" >&2
     echo "the demo needs a new broker, whose office has the token office-token-0001" >&2
@@ -119,7 +119,8 @@ ask 409 red POST environments/live/deployments '{"pacticipant":"shop","version":
 echo "$answer"
 cat << END
 
-Look at it with the page (docs/DESK.md says how it is served), or with curl: \`authorization: Bearer office-token-0001\`
+Look at it with the page: by README's lines at http://127.0.0.1:9393/desk/, with the token desk-token-000001
+(docs/DESK.md says how else it is served). Or with curl, and \`authorization: Bearer office-token-0001\`.
   #/board                    what is where; "today" beside it asks the gate again: the canary and shop 1.3 are refused
   #/ask/shop/1.4/live        refused: absent, failed, missing and claimed, once each, and who has to act
   #/ask/web/6/live           may go: its contract is that of web 5, so nothing had to be verified again

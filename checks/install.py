@@ -1,0 +1,192 @@
+#!/usr/bin/env python3
+"""The installation of docs/OPERATING.md, and what its unit allows. Takes a few seconds, as root.
+
+    checks/install.py PROGRAM     PROGRAM is the path of `broker`
+
+The lines of the section Install are run as they are, in a root of their own: that of this machine with a layer over
+it, which takes what they write, and a network of its own. There systemd is played by a few lines, which start the
+program by the user, the umask, the environment and the words of the unit. Then systemd-analyze reads the unit, and
+rates it at most 2.0; and the program, while it makes and serves a file, asks of the system only what the unit allows.
+
+Needs Linux and the Debian packages curl, iproute2, openssl, strace and systemd. Prints a line for each, and ends with 1
+if one is otherwise than it has to be, or with 77 if a tool isn't installed or there may be no such root here."""
+import sys
+
+sys.dont_write_bytecode = True
+import os, re, shutil, subprocess, tempfile, time
+from hub import PROGRAM, RED, TOP, NotRun, Server, Wrong
+from hub import new_file, register, run, same, verify
+
+UNIT = f"{TOP}/examples/broker.service"
+# The most that systemd-analyze may say, of 10.
+MOST = 2.0
+# Mounts a root of its own in $1, with the folders $2 and $3 in it, and runs $4 there.
+ROOT = """
+mount --make-rprivate /
+mount -t tmpfs none "$1"
+mkdir "$1/above" "$1/work" "$1/root"
+mount -t overlay overlay -o "lowerdir=/,upperdir=$1/above,workdir=$1/work" "$1/root"
+mount -t proc none "$1/root/proc"
+mount --rbind /dev "$1/root/dev"
+for folder in "$2" "$3"; do
+  mkdir -p "$1/root$folder"
+  mount --bind "$folder" "$1/root$folder"
+done
+ip link set lo up
+exec chroot "$1/root" sh -euc "$4"
+"""
+SYSTEMCTL = """#!/bin/sh
+value() { sed -n "s/^$1=//p" /etc/systemd/system/broker.service; }
+case "$*" in
+  daemon-reload) ;;
+  "enable --now broker")
+    cd /
+    umask "$(value UMask)"
+    setsid runuser -u "$(value User)" -- env "$(value Environment)" $(value ExecStart) > /dev/null 2>&1 &
+    ;;
+  *) exit 1 ;;
+esac
+"""
+# Run after the lines: whose is what they made, who may read it, and what they left to be read by others.
+MADE = """
+echo
+cd /var/lib/broker
+stat -c '%n %U %G %a' . broker.db /usr/local/bin/broker /root/office-token /root/office /root/red-token
+getent passwd broker | cut -d: -f6-
+systemd-analyze verify /etc/systemd/system/broker.service 2>&1
+"""
+PRINTED = """{"answer":"no route"}{"answer":"done"}
+. broker broker 700
+broker.db broker broker 600
+/usr/local/bin/broker root root 755
+/root/office-token root root 600
+/root/office root root 600
+/root/red-token root root 600
+/var/lib/broker:/usr/sbin/nologin
+"""
+
+
+def lines():
+    """The lines of the section Install, with the program that is tried in the place of the one in the repository."""
+    with open(f"{TOP}/docs/OPERATING.md", encoding="utf-8") as it:
+        section = re.search(r"(?ms)^## Install\n(.*?)^## ", it.read())
+    blocks = re.findall(r"(?ms)^```\n(.*?)^```$", section[1] if section else "")
+    same("blocks of the section", len(blocks), 2)
+    return "\n".join(blocks).replace("crates/broker/out/broker", PROGRAM)
+
+
+def in_own_root(room, text):
+    """What these lines do in a root of their own, below the top of the repository."""
+    folders = [room, TOP, os.path.dirname(PROGRAM)]
+    words = ["unshare", "--mount", "--net", "--pid", "--fork", "--kill-child", "bash", "-euc", ROOT, "bash", *folders]
+    return subprocess.run([*words, text], capture_output=True, text=True, timeout=120, check=False)
+
+
+def installed(room):
+    tried = in_own_root(room, "exit 0")
+    if tried.returncode:
+        raise NotRun(f"there may be no root of its own here: {tried.stderr.strip()}")
+    stub = f"cat > /usr/local/bin/systemctl <<'END'\n{SYSTEMCTL}END\nchmod 755 /usr/local/bin/systemctl\n"
+    done = in_own_root(room, f"cd {TOP}\n{stub}{lines()}{MADE}")
+    if done.returncode:
+        raise Wrong(f"the lines end with {done.returncode}: {done.stdout}{done.stderr}")
+    same("what the lines print", done.stdout, PRINTED)
+
+
+# The unit
+
+
+def rated(_):
+    text = run(["systemd-analyze", "security", "--no-pager", "--offline=true", UNIT])
+    said = re.search(r"Overall exposure level for broker.service: ([0-9.]+)", text)
+    if not said or float(said[1]) > MOST:
+        raise Wrong(f"systemd-analyze rates it {said[1] if said else 'in no way'}, over {MOST}")
+    with open(f"{TOP}/docs/OPERATING.md", encoding="utf-8") as it:
+        stated = re.findall(r"`systemd-analyze security broker` says ([0-9.]+),", it.read())
+    same("the rating that the section says", stated, [said[1]])
+
+
+def setting(key):
+    with open(UNIT, encoding="utf-8") as it:
+        return re.findall(rf"(?m)^{key}=(.*)$", it.read())
+
+
+def groups():
+    """The names in each group of calls, as systemd has them."""
+    found = {}
+    for line in run(["systemd-analyze", "syscall-filter", "--no-pager"]).split("\n"):
+        if line.startswith("@"):
+            names = found.setdefault(line, [])
+        elif line.startswith("    ") and not line.startswith("    #"):
+            names.append(line.strip())
+    return found
+
+
+def calls_of(name, known):
+    """The calls that a name of a filter means."""
+    return {name} if not name.startswith("@") else {it for part in known[name] for it in calls_of(part, known)}
+
+
+def allowed():
+    """The calls that the unit allows: those of its first line without those of the second."""
+    known, (first, second) = groups(), setting("SystemCallFilter")
+    same("the first letter of the second filter", second[0], "~")
+    more = [calls_of(it, known) for it in first.split()]
+    less = [calls_of(it, known) for it in second[1:].split()]
+    return set.union(calls_of("@default", known), *more) - set.union(*less)
+
+
+def within(room):
+    """The fleet is made and asked of a program whose calls are written down."""
+    folder = f"{room}/lib"
+    os.mkdir(folder)
+    file, trace = new_file(folder), f"{room}/trace"
+    usual = Server(file)
+    words = ["strace", "-f", "-qq", "-o", trace, *usual.words]
+    with Server(file, words) as server:
+        register(server)
+        verify(server)
+        same("an answer", server.ask(RED, "GET /environments/live")[0], 200)
+        run(["pkill", "-TERM", "-P", str(server.process.pid)])
+        server.process.wait(60)
+    with open(trace, encoding="utf-8") as it:
+        text = it.read()
+    made = set(re.findall(r"(?m)^\d+ +(\w+)\(", text))
+    same("calls that the unit forbids", sorted(made - allowed()), [])
+    families = set(re.findall(r"socket\((\w+)", text)) - set(setting("RestrictAddressFamilies")[0].split())
+    same("kinds of sockets that it forbids", sorted(families), [])
+    same("memory that is written and run", re.findall(r"(?m)^.*PROT_WRITE\|PROT_EXEC.*$", text), [])
+    opened = re.findall(r'openat\([^"]*"([^"]*)", [^)]*O_(?:RDWR|WRONLY|CREAT)', text)
+    same("files that are written elsewhere", [it for it in opened if not it.startswith(folder)], [])
+    if len(made) < 10 or not opened:
+        raise Wrong(f"strace saw too little: {sorted(made)}")
+
+
+TRIALS = {
+    "the lines of Install": installed,
+    "how the unit is rated": rated,
+    "what the program asks of the system": within,
+}
+
+
+def main():
+    for tool in "curl", "ip", "openssl", "strace", "systemd-analyze", "unshare":
+        if not shutil.which(tool):
+            print(f"not run: {tool} isn't installed")
+            return 77
+    for name, trial in TRIALS.items():
+        began = time.monotonic()
+        with tempfile.TemporaryDirectory() as room:
+            trial(room)
+        print(f"ok     {name}: {time.monotonic() - began:.1f} s", flush=True)
+    return 0
+
+
+try:
+    sys.exit(main())
+except NotRun as why:
+    print(f"not run: {why}")
+    sys.exit(77)
+except (Wrong, OSError, subprocess.SubprocessError) as why:
+    print(f"WRONG  {str(why) or repr(why)}")
+    sys.exit(1)

@@ -1,0 +1,182 @@
+#!/usr/bin/env python3
+"""Writes the man page and the completions of a program from what its `--help` says.
+
+    client/pages.py PROGRAM..           writes client/pages/NAME.1, NAME.bash and _NAME of each
+    client/pages.py --check PROGRAM..   writes nothing; ends with 1 if one of them is otherwise
+
+To use them: `man client/pages/holzhebo.1`; `source client/pages/holzhebo.bash` in ~/.bashrc; for zsh copy `_holzhebo` to
+a folder of `fpath`."""
+import os, re, subprocess, sys
+from typing import Dict, List, NamedTuple, Set, Tuple
+
+FOLDER = os.path.join(os.path.dirname(os.path.abspath(__file__)), "pages")
+Rows = List[Tuple[str, str]]  # what is in the left column of a help, and its text
+FILES = ("FILE", "PACT", "REPLIES", "PATH", "DIR")  # the values that are names of files
+
+
+class Help(NamedTuple):
+    """What a program or a command says of itself: what it is, its usage, its columns by their heading, and the rest."""
+
+    about: str
+    usage: str
+    columns: Dict[str, Rows]
+    rest: str
+
+
+def help_of(words: List[str]) -> str:
+    return subprocess.run([*words, "--help"], check=True, capture_output=True, text=True).stdout
+
+
+def parse(text: str) -> Help:
+    """Reads a help: paragraphs, of which those with a heading have two columns."""
+    about, _, after = text.partition("\n\nUsage: ")
+    usage, _, after = after.partition("\n\n")
+    columns: Dict[str, Rows] = {}
+    while True:
+        head = re.match(r"(Commands|Arguments|Options):\n((?:  +.*\n?)+)\n?", after)
+        if not head:
+            return Help(about, usage, columns, after.strip("\n"))
+        rows = [re.split(r"  +", it.strip(), maxsplit=1) for it in head[2].splitlines()]
+        columns[head[1]] = [(row[0], row[1] if row[1:] else "") for row in rows]
+        after = after[head.end() :]
+
+
+class Program(NamedTuple):
+    name: str
+    help: Help
+    commands: Dict[str, Help]
+
+
+def read(path: str) -> Program:
+    whole = parse(help_of([path]))
+    names = [name for name, _ in whole.columns["Commands"] if name != "help"]
+    return Program(os.path.basename(path), whole, {name: parse(help_of([path, name])) for name in names})
+
+
+def options(help: Help) -> List[Tuple[str, List[str], str]]:
+    """The long options: name, names of values, text."""
+    found = []
+    for left, text in help.columns["Options"]:
+        name = re.search(r"--[a-z-]+", left)
+        if name:
+            found.append((name[0], [it.upper() for it in re.findall(r"<([A-Za-z-]+)>", left)], text))
+    return found
+
+
+def takes_file(values: List[str]) -> bool:
+    return any(it in FILES for it in values)
+
+
+# The man page
+
+
+def roff(text: str) -> str:
+    """The text as roff has it."""
+    lines = text.replace("\\", "\\e").replace("-", "\\-").split("\n")
+    return "\n".join(f"\\&{it}" if it[:1] in (".", "'") else it for it in lines)
+
+
+def rows_page(rows: Rows) -> str:
+    return "".join(f".TP\n\\fB{roff(left)}\\fR\n{roff(text)}\n" for left, text in rows)
+
+
+def rest_page(text: str) -> str:
+    """The rest of a help, with its lines as they are."""
+    return f".nf\n{roff(text)}\n.fi\n"
+
+
+def man_page(program: Program) -> str:
+    about = re.sub(r"\s+", " ", program.help.about)
+    parts = [f'.TH {program.name.upper()} 1 "" "{program.name}" ""\n.SH NAME\n{program.name} \\- {roff(about)}\n']
+    parts.append(f".SH SYNOPSIS\n.B {roff(program.help.usage)}\n.SH DESCRIPTION\n{rest_page(program.help.rest)}")
+    parts.append(f".SH OPTIONS\n{rows_page(program.help.columns['Options'])}.SH COMMANDS\n")
+    for name, help in program.commands.items():
+        columns = "".join(rows_page(help.columns.get(it, [])) for it in ("Arguments", "Options"))
+        parts.append(f".SS {roff(name)}\n{roff(help.about)}\n.PP\n.B {roff(help.usage)}\n{columns}.PP\n{rest_page(help.rest)}")
+    return "".join(parts)
+
+
+# Completions
+
+
+def bash(program: Program) -> str:
+    """Completes commands, the options of a command, and names of files."""
+    names = " ".join([*program.commands, "help", "--help", "--version"])
+    cases, files = "", set()  # type: str, Set[str]
+    for name, help in program.commands.items():
+        own = options(help)
+        files.update(it for it, values, _ in own if takes_file(values))
+        cases += f'    {name}) words="{" ".join(it for it, _, _ in own)}" ;;\n'
+    return f"""# Completion of {program.name} for bash; made by client/pages.py
+_{program.name}() {{
+  local word=${{COMP_WORDS[COMP_CWORD]}} before=${{COMP_WORDS[COMP_CWORD - 1]}} words=
+  case ${{COMP_WORDS[1]}} in
+{cases}    help) words="{" ".join(program.commands)}" ;;
+  esac
+  [ "$COMP_CWORD" = 1 ] && words="{names}"
+  case $before in {"|".join(sorted(files)) or "--"}) words= ;; esac
+  COMPREPLY=()
+  [[ -n $words && ( $word == -* || $COMP_CWORD = 1 || ${{COMP_WORDS[1]}} = help ) ]] &&
+    mapfile -t COMPREPLY < <(compgen -W "$words" -- "$word")
+  [ ${{#COMPREPLY[@]}} -gt 0 ] || mapfile -t COMPREPLY < <(compgen -f -- "$word")
+}}
+complete -o filenames -F _{program.name} {program.name}
+"""
+
+
+def zsh_text(text: str) -> str:
+    return re.sub(r"([\[\]:\\])", r"\\\1", text).replace("'", "'\\''")
+
+
+def zsh(program: Program) -> str:
+    commands = "\n".join(f"    '{name}:{zsh_text(help.about)}'" for name, help in program.commands.items())
+    cases = ""
+    for name, help in program.commands.items():
+        lines = []
+        for option, values, text in options(help):
+            ends = "".join(f":{it.lower()}:{'_files' if it in FILES else ' '}" for it in values)
+            lines.append(f"        '*{option}[{zsh_text(text)}]{ends}'")
+        cases += f"    {name})\n      _arguments -S \\\n" + " \\\n".join([*lines, "        '*:file:_files' ;;\n"])
+    return f"""#compdef {program.name}
+# Completion of {program.name} for zsh; made by client/pages.py
+_{program.name}() {{
+  local -a commands=(
+{commands}
+    'help:Print help'
+  )
+  if (( CURRENT == 2 )); then
+    _describe command commands
+    return
+  fi
+  local command=$words[2]
+  shift words
+  (( CURRENT-- ))
+  case $command in
+{cases}    help) _describe command commands ;;
+  esac
+}}
+_{program.name} "$@"
+"""
+
+
+def main(words: List[str]) -> int:
+    check, wrong = "--check" in words, 0
+    for path in [it for it in words if it != "--check"]:
+        program = read(path)
+        texts = {f"{program.name}.1": man_page(program), f"{program.name}.bash": bash(program), f"_{program.name}": zsh(program)}
+        for name, text in texts.items():
+            place = os.path.join(FOLDER, name)
+            if not check:
+                os.makedirs(FOLDER, exist_ok=True)
+                with open(place, "w", encoding="utf-8") as it:
+                    it.write(text)
+                continue
+            with open(place, encoding="utf-8") as it:
+                if it.read() != text:
+                    print(f"client/pages/{name} isn't what --help says: run client/pages.py {path}")
+                    wrong = 1
+    return wrong
+
+
+if __name__ == "__main__":
+    sys.exit(main(sys.argv[1:]))

@@ -1,0 +1,50 @@
+#!/usr/bin/env bash
+# Tests a backup of a broker's file, as backup.sh and restore.sh do: the program opens a copy of it, which reads every
+# page, and sqlite3 finds another copy sound. The backup stays as it is. Says how much is in it.
+# Usage: test-copy.sh PROGRAM COPY
+# Needs sqlite3 (the Debian package sqlite3), and beside COPY as much room as it takes. Ends with 0 if COPY is sound,
+# with 2 if it is sound but of a format that this program doesn't serve, and else with 1.
+set -eu
+program=${1:?the path of the program broker}
+copy=${2:?the backup}
+fail() { echo "$*" >&2; exit 1; }
+for tool in sqlite3 "$program"; do command -v "$tool" > /dev/null || fail "$tool isn't installed"; done
+[ -f "$copy" ] || fail "$copy isn't there"
+umask 077
+
+copying=
+room=$(mktemp -d "$copy.test.XXXXXX")
+trap 'exit 1' HUP INT TERM
+clean_up() {
+  ended=$?
+  kill ${copying:-} 2> /dev/null || true
+  rm -rf "$room"
+  [ "$ended" -le 2 ] || exit 1
+}
+trap clean_up EXIT
+
+# A copy to open, since who opens one may write to it: the file, and its log if it has one.
+lend() {
+  for end in "" -wal; do
+    [ -e "$copy$end" ] || continue
+    cp -- "$copy$end" "$1$end" & copying=$!
+    wait "$copying"
+    copying=
+  done
+}
+
+lend "$room/a.db"
+said=$("$program" can-i-deploy --file "$room/a.db" --token 0000000000000000 --pacticipant none --version none \
+  --to-environment none 2>&1) || true
+rm -f "$room/a.db"*
+case $said in
+  '{"answer":'*) ended=0 ;;
+  'open 3.'*) ended=2 ;;
+  *) fail "the broker doesn't open $copy: $said" ;;
+esac
+lend "$room/b.db"
+said=$(sqlite3 -bail "$room/b.db" 'PRAGMA integrity_check; PRAGMA foreign_key_check' 2>&1) || true
+[ "$said" = ok ] || fail "$copy isn't sound: $said"
+sqlite3 "$room/b.db" "SELECT 'format ' || format || ' with ' || (SELECT count(*) FROM contracts) || ' contracts'
+  FROM meta"
+exit $ended
