@@ -9,7 +9,7 @@
 - The page: its lines for a list of requests between two copies, written by hand.
 - Names that look like markup, or that can't be seen: only the report's own elements are in the page.
 - No token and no digest of one is in it; what it refuses, by its status.
-- 40,000 contracts within ten seconds of processor time.
+- 40,000 contracts within ten seconds of processor time; its types, by mypy.
 
 Prints a line for each, and ends with 1 if one is otherwise."""
 import sys
@@ -406,9 +406,13 @@ def try_large():
     return f"{size / 1e6:.0f} MB in {took:.1f} s, a page of {len(text) / 1e6:.1f} MB"
 
 
+def try_types():
+    return run(["mypy", "--strict", "--cache-dir", "/dev/null", TOOL]).strip()
+
+
 def main():
     tests = {"the gate of stories": try_stories, "the gate of random histories": try_histories, "the page": try_page}
-    tests |= {"refusals": try_refusals, "hostile names": try_names, "40,000 contracts": try_large}
+    tests |= {"refusals": try_refusals, "hostile names": try_names, "40,000 contracts": try_large, "types": try_types}
     wrong = 0
     for name, function in tests.items():
         try:
