@@ -1,11 +1,12 @@
 #!/usr/bin/env python3
-"""Tries the package of packaging/deb: made, read by lintian, installed, upgraded, removed and purged. `.ci/program` runs
-it, as root.
+"""Tries the package of packaging/deb: made, read by lintian, installed, upgraded, removed and purged, as root.
+`.ci/program` runs it.
 
     checks/package.py PROGRAM     PROGRAM is the path of `broker`
 
-dpkg works in a root of its own: that of this machine with a layer over it, which takes what is written, and a network of
-its own. There systemctl only writes down how it is called, and the service is the command line of the package's unit.
+dpkg works in a root of its own: that of this machine with a layer over it, which takes what is written, and a network
+of its own. There systemctl only writes down how it is called, and the service is the command line of the package's
+unit.
 
 Needs Linux and the Debian packages curl, dpkg-dev, lintian and systemd. Prints a line for each, and ends with 1 if one
 is otherwise than it has to be, or with 77 if there may be no such root here."""
@@ -155,7 +156,8 @@ def made(room):
 
 def read_by_lintian(room):
     said = subprocess.run(["lintian", "--allow-root", f"{room}/new.deb"], capture_output=True, text=True, check=False)
-    same("what lintian says", (said.returncode, [it for it in said.stdout.split("\n") if it[:2] in ("E:", "W:")]), (0, []))
+    faults = [it for it in said.stdout.split("\n") if it.startswith(("E:", "W:"))]
+    same("what lintian says", (said.returncode, faults), (0, []))
 
 
 def age(room):
@@ -169,8 +171,8 @@ def age(room):
 
 def in_own_root(room, text):
     with tempfile.TemporaryDirectory() as mount:
-        words = ["unshare", "--mount", "--net", "--pid", "--fork", "--kill-child", "bash", "-euc", ROOT, "bash", mount, room, text]
-        return subprocess.run(words, capture_output=True, text=True, timeout=300, check=False)
+        words = ["unshare", "--mount", "--net", "--pid", "--fork", "--kill-child", "bash", "-euc", ROOT]
+        return subprocess.run([*words, "bash", mount, room, text], capture_output=True, text=True, timeout=300, check=False)
 
 
 def lived(room, version):
@@ -191,7 +193,8 @@ def lived(room, version):
 def main():
     with tempfile.TemporaryDirectory() as room:
         version = made(room)
-        print(f"made twice: holzhebo_{version}_amd64.deb, {os.path.getsize(f'{room}/new.deb') / 1e6:.1f} MB", flush=True)
+        size = os.path.getsize(f"{room}/new.deb") / 1e6
+        print(f"made twice: holzhebo_{version}_amd64.deb, {size:.1f} MB", flush=True)
         read_by_lintian(room)
         print("lintian: no error and no warning", flush=True)
         age(room)

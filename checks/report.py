@@ -199,7 +199,7 @@ WANTED = {
     "What is where": [
         "Of the versions that are in gated environments, today's gate would refuse 2.",
         "service|live gated|open open|test open|vault gated, strict",
-        "shop|1 released;3 refused today|||",
+        "shop|1 released;3 released, deployed refused today|||",
         "stock|1 refused today|||1",
         "shop 3 in live",
         "stock 1 fails the contract of shop 3: failed, for the team blue",
@@ -237,9 +237,10 @@ SINCE = [
     "+ shop 3 deployed in live",
     "− stock 1 deployed in open",
     "+ shop 1 released in live",
+    "+ shop 3 released in live",
 ]
 ROWS = ["teams|3|+1", "pacticipants|3|+1", "versions|5|+1", "branches|1|+1", "environments|4|+1", "grants|6|+0"]
-ROWS += ["contents|4|+1", "contracts|4|+1", "results|4|+2", "latest|3|+1", "deployed|3|+0", "released|1|+1"]
+ROWS += ["contents|4|+1", "contracts|4|+1", "results|4|+2", "latest|3|+1", "deployed|3|+0", "released|2|+2"]
 
 
 def change(server):
@@ -254,7 +255,8 @@ def change(server):
     server.do(RED, f"PUT {path}/4", pact("a key"))
     server.do(BLUE, f"POST {path}/4/results", '{"providerApplicationVersion":"1","success":false,"run":"r1"}')
     server.do(RED, "POST /environments/live/deployments", '{"pacticipant":"shop","version":"3"}')
-    server.do(RED, "POST /environments/live/releases", '{"pacticipant":"shop","version":"1"}')
+    for version in "13":
+        server.do(RED, "POST /environments/live/releases", '{"pacticipant":"shop","version":"%s"}' % version)
     server.do(BLUE, "POST /environments/open/undeployments", '{"pacticipant":"stock","version":"1"}')
     server.do(BLUE, f"POST {path}/3/results", '{"providerApplicationVersion":"1","success":false}')
 

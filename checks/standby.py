@@ -1,14 +1,14 @@
 #!/usr/bin/env python3
-"""The drill with two machines: copies are kept of the first one's file, it is lost, and the second one takes over, by the
-scripts of examples/. Takes some seconds.
+"""The drill with two machines: copies are kept of the first one's file, it is lost, and the second one takes over, by
+the scripts of examples/. Takes some seconds.
 
     checks/standby.py PROGRAM     PROGRAM is the path of `broker`
 
 Each machine is a folder, with a `systemctl` that starts and stops the program on a port of its own (checks/drill.py). A
 second machine has to refuse while the first one answers, or without a sound copy, and then to change nothing. After it
-took over it answers what the first one did as the copy was made; and once what examples/who.py lists is sent again, what
-the first one did last. Prints a line for each, and ends with 1 if one is otherwise than it has to be, or with 77 if curl
-or sqlite3 isn't installed."""
+took over it answers what the first one did as the copy was made; and once what examples/who.py lists is sent again,
+what the first one did last. Prints a line for each, and ends with 1 if one is otherwise than it has to be, or with 77
+if curl or sqlite3 isn't installed."""
 import sys
 
 sys.dont_write_bytecode = True
@@ -103,7 +103,8 @@ def taken_over(first, second):
     first.do(RED, "POST /environments/live/deployments", DEPLOYMENT)
     with open(f"{first.room}/broker.log", "w", encoding="utf-8") as log:
         log.write(line(early, "PUT", "/pacticipants/shop/versions/3", ""))
-        log.write(line(datetime.datetime.now(datetime.timezone.utc), "POST", "/environments/live/deployments", DEPLOYMENT))
+        late = datetime.datetime.now(datetime.timezone.utc)
+        log.write(line(late, "POST", "/environments/live/deployments", DEPLOYMENT))
     last = first.answers()
     if at_copy == last:
         raise Wrong("the change isn't in the answers")

@@ -15,5 +15,6 @@ fail() { echo "$*" >&2; exit 1; }
 [ -d "$folder" ] || fail "$folder isn't a folder"
 "$(dirname "$0")/backup.sh" "$program" "$file" "$folder/broker-$(date -u +%Y-%m-%dT%H:%M:%SZ).db" ${5+"$5"}
 # The names have an order, which is that of their dates.
-find "$folder" -maxdepth 1 -type f -name 'broker-????-??-??T??:??:??Z.db' | LC_ALL=C sort -r | tail -n "+$((keep + 1))" |
+find "$folder" -maxdepth 1 -type f -name 'broker-????-??-??T??:??:??Z.db' |
+  LC_ALL=C sort -r | tail -n "+$((keep + 1))" |
   while IFS= read -r copy; do rm -f -- "$copy" "$copy-wal"; done
