@@ -9,7 +9,8 @@ BODIES, DEFINITIONS = f"{TOP}/wrong-bodies", f"{TOP}/wrong-definitions"
 
 
 def in_folder(folder):
-    return [f"{folder}/{it}" for it in sorted(os.listdir(folder)) if it.endswith(".edit")] if os.path.isdir(folder) else []
+    names = sorted(os.listdir(folder)) if os.path.isdir(folder) else []
+    return [f"{folder}/{it}" for it in names if it.endswith(".edit")]
 
 
 def in_gate(crate):

@@ -1,4 +1,4 @@
-"""The kit's rt as a module, and checks of crates in a copy of the repository, over libraries that were proved before."""
+"""The kit's rt as a module, and checks of crates in a copy of the repository, over libraries that are proved."""
 import importlib.machinery, importlib.util, os, re, shutil, subprocess, sys, tempfile
 from collections import namedtuple
 
@@ -20,8 +20,8 @@ def rt_module():
 
 
 class Copy:
-    """A copy of the crates. What `rt ci` builds here in the repository is given to it as second names of the same files,
-    which `rt` never writes into: so they stay as they are, whatever it does here next."""
+    """A copy of the crates. What `rt ci` builds here in the repository is given to it as second names of the same
+    files, which `rt` never writes into: so they stay as they are, whatever it does here next."""
 
     def __init__(self, anew):
         self.rt = rt_module()

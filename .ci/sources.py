@@ -83,8 +83,8 @@ def bald(header):
 
 
 def subject(header):
-    """The type that an `impl` or a `trait` is of, and of which trait its functions are, by the name that a check prints:
-    `FromError` for an `impl From<Error>`, None for those of the type itself."""
+    """The type that an `impl` or a `trait` is of, and of which trait its functions are, by the name that a check
+    prints: `FromError` for an `impl From<Error>`, None for those of the type itself."""
     names = re.split(r"\sfor\s", bald(header))
     of = re.search(r"(\w+)\s*(?:where\b.*)?$", names[-1].strip(), re.S)[1]
     if len(names) == 1:

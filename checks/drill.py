@@ -77,9 +77,9 @@ class Service:
         asks += [f"GET /can-i-deploy?pacticipant=shop&version={it}&environment=vault" for it in "123"]
         return [self.ask(RED, it) for it in asks] + [self.ask(BLUE, "GET /environments/open")]
 
-    def backup(self, name):
+    def backup(self, name, program=PROGRAM):
         copy = f"{self.room}/backup/{name}"
-        said = run(["examples/backup.sh", PROGRAM, self.file, copy, "broker"], env=self.env)
+        said = run(["examples/backup.sh", program, self.file, copy, "broker"], env=self.env)
         if not re.fullmatch(rf"{copy} holds format 2 with 3 contracts, and the broker was paused for \d+ ms\n", said):
             raise Wrong(f"backup.sh says {said}")
         return copy
@@ -138,6 +138,31 @@ def one_file(service, copy, before):
         service.port = port
 
 
+SERVES = """#!/bin/sh
+[ "$1" = serve ] && [ -e {room}/refusal ] && {{ cat {room}/refusal >&2; {then}; exit 3; }}
+exec {program} "$@"
+"""
+
+
+def refusing(service, line, then):
+    """A program whose `serve` is refused with this line, and what it does then."""
+    for name, text in ("refusal", line), ("program", SERVES.format(room=service.room, program=PROGRAM, then=then)):
+        with open(f"{service.room}/{name}", "w", encoding="utf-8") as it:
+            it.write(text + "\n")
+    os.chmod(f"{service.room}/program", 0o755)
+    return f"{service.room}/program"
+
+
+def refused(service, copy, _):
+    """A port that is in use is replaced by another one; a copy that isn't served is none."""
+    other = service.backup("other.db", refusing(service, "listen", f"rm {service.room}/refusal"))
+    same("the refusal", os.path.exists(f"{service.room}/refusal"), False)
+    os.remove(other)
+    program = refusing(service, "file", "true")
+    run(["examples/backup.sh", program, service.file, other, "broker"], 1, service.env)
+    same("the files of the backups", os.listdir(os.path.dirname(copy)), [os.path.basename(copy)])
+
+
 def lost(service, copy, before):
     """What was done after the backup is lost with the file; all before it is there again."""
     service.do(RED, "POST /environments/live/deployments", '{"pacticipant":"shop","version":"1"}')
@@ -192,6 +217,7 @@ def two_files(service, copy, before):
 
 TRIALS = {
     "a backup while it serves is one file": one_file,
+    "a copy that can't be served": refused,
     "a file that is lost": lost,
     "a file that is damaged": damaged,
     "a copy that is damaged": bad_copy,

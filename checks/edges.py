@@ -10,7 +10,7 @@ is refused to."""
 import sys
 
 sys.dont_write_bytecode = True
-import json, os, resource, shutil, signal, socket, sqlite3, stat, struct, subprocess, tempfile, time
+import hashlib, json, os, resource, shutil, signal, socket, sqlite3, stat, struct, subprocess, tempfile, time
 from concurrent.futures import ProcessPoolExecutor
 from multiprocessing import get_context
 from hub import DONE, OFFICE, TOP, NotRun, Wrong, free_port, request, same
@@ -726,6 +726,45 @@ def too_large(room):
         same("normalise", run("normalise", stdin=it, limits=limits), (3, "", "memory\n"))
     words = ["check", "--pact", f"{room}/large", "--replies", f"{room}/large"]
     same("check", run(*words, limits=limits), (3, "", "memory\n"))
+
+
+# What is in the file
+
+
+@case("init makes the row of the format and of the office's digest, and the indexes")
+def made(room):
+    it = sqlite3.connect(new_file(room))
+    digest = hashlib.sha256(OFFICE.encode()).hexdigest()
+    same("meta", it.execute("SELECT one, format, office_digest FROM meta").fetchall(), [(1, 2, digest)])
+    indexes = ["contents_by_digest", "contracts_by_content", "latest_by_provider_version", "versions_by_pacticipant"]
+    found = it.execute("SELECT name FROM sqlite_schema WHERE type = 'index' AND sql IS NOT NULL ORDER BY name")
+    same("indexes", [name for name, in found], indexes)
+    it.close()
+
+
+def consumer(name):
+    """Requests that deploy a version of a pacticipant of its own, which has a contract with stock."""
+    red, text = "token-of-the-team-red", PACT.replace('"shop"', f'"{name}"')
+    yield request(f"PUT /pacticipants/{name}", body='{"team":"red"}')
+    yield request(f"PUT /pacts/provider/stock/consumer/{name}/version/1", red, text)
+    yield request("POST /environments/dev/deployments", red, '{"pacticipant":"%s","version":"1"}' % name)
+
+
+@case("two hundred deployed consumers: each is listed, and the provider lacks a result for each")
+def many(room):
+    red, names = "token-of-the-team-red", [f"p{number}" for number in range(100, 300)]
+    first = [put_team("red"), request("PUT /environments/dev", body='{"gated":false}'), request("PUT /grants/team/red/environment/dev")]
+    first += [request("PUT /pacticipants/stock", body='{"team":"red"}'), request("PUT /pacticipants/stock/versions/1", red)]
+    with Serving(new_file(room), 201) as it:
+        same("answers", it.ask(b"".join(first)), [DONE] * len(first))
+        for number, name in enumerate(names, 1):
+            same(name, it.ask(b"".join(consumer(name))), [DONE, '{"answer":"done","content":%d}' % number, DONE])
+    with Serving(it.file, 1) as it:
+        asked = request("GET /environments/dev", red) + request("GET /can-i-deploy?pacticipant=stock&version=1&environment=dev", red)
+        listed, gate = map(json.loads, it.ask(asked))
+    same("listed", listed["deployed"], [{"instance": "", "pacticipant": name, "version": "1"} for name in names])
+    lacks = {"consumerVersion": "1", "kind": "missing", "provider": "stock", "providerVersion": "1"}
+    same("lacking", gate["faults"], [{"consumer": name, **lacks} for name in names])
 
 
 def attempt(number):

@@ -26,7 +26,8 @@ def same(what, got, wanted):
 
 
 def run(words, status=0, env=None, text=None):
-    """What the words print on standard output, run from the top of the repository; they have to end with the status."""
+    """What the words print on standard output, run from the top of the repository; they have to end with the status. A
+    check that can't be run ends with 77. Of one that fails its lines with WRONG are shown, if it has any."""
     pipes = {"stdin": subprocess.PIPE, "stdout": subprocess.PIPE, "stderr": subprocess.PIPE, "text": True}
     it = subprocess.Popen(words, cwd=TOP, env={**os.environ, **(env or {})}, start_new_session=True, **pipes)
     try:
@@ -35,8 +36,11 @@ def run(words, status=0, env=None, text=None):
         os.killpg(it.pid, signal.SIGKILL)
         it.communicate()
         raise
+    if it.returncode == 77 != status:
+        raise NotRun(output.strip().split("\n")[-1].removeprefix("not run: "))
     if it.returncode != status:
-        raise Wrong(f"{' '.join(words)} ends with {it.returncode} and not {status}: {output}{errors}")
+        wrong = "\n    ".join(row for row in output.split("\n") if row.startswith("WRONG"))
+        raise Wrong(f"{' '.join(words)} ends with {it.returncode} and not {status}: {wrong or output + errors}")
     return output
 
 

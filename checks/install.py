@@ -155,7 +155,8 @@ def within(room):
     same("calls that the unit forbids", sorted(made - allowed()), [])
     families = set(re.findall(r"socket\((\w+)", text)) - set(setting("RestrictAddressFamilies")[0].split())
     same("kinds of sockets that it forbids", sorted(families), [])
-    same("memory that is written and run", re.findall(r"(?m)^.*PROT_WRITE\|PROT_EXEC.*$", text), [])
+    run_memory = r"(?m)^.*(?:PROT_WRITE\|PROT_EXEC|mprotect\(.*PROT_EXEC).*$"
+    same("memory that is written and run", re.findall(run_memory, text), [])
     opened = re.findall(r'openat\([^"]*"([^"]*)", [^)]*O_(?:RDWR|WRONLY|CREAT)', text)
     same("files that are written elsewhere", [it for it in opened if not it.startswith(folder)], [])
     if len(made) < 10 or not opened:

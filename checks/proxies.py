@@ -240,6 +240,8 @@ def ordinary(front, broker):
     verify(front)
     for ask in "GET /environments/live", "GET /matrix?pacticipant=shop&version=1", "GET /no/route", "DELETE /teams/red":
         same(ask, front.ask(RED, ask), broker.ask(RED, ask))
+    same("whether it is alive", front.ask("", "GET /"), (404, '{"answer":"no route"}'))
+    same("a method that isn't served", front.ask("", "OPTIONS /")[0], 501)
     front.do(RED, "POST /environments/live/deployments", '{"pacticipant":"shop","version":"1"}')
     same("without a token", front.exchange(front.message(b"accept: */*", "GET /environments/live")), DENIED)
 
@@ -261,6 +263,9 @@ def bodies(front, _):
     path = "PUT /pacts/provider/stock/consumer/shop/version/size"
     same("a body of the limit", front.ask(RED, path, sized(LIMIT)), (200, '{"answer":"done","content":4}'))
     among("a body over the limit", front.ask(RED, path, sized(LIMIT + 1)), front.too_large)
+    deployment = '{"pacticipant":"shop","version":"1","more":"%s"}' % ("x" * 200_000)
+    answer = front.ask(RED, "POST /environments/live/deployments", deployment)
+    same("a deployment with another long key", answer, (200, '{"answer":"already"}'))
     head, text = front.message(f"authorization: Bearer {RED}".encode(), path), pact("a size").encode()
     head = head.replace(b"content-length: 0", b"transfer-encoding: chunked")
     among("a body in chunks", front.exchange(head + b"%x\r\n%s\r\n0\r\n\r\n" % (len(text), text)), front.in_chunks)

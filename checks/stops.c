@@ -1,5 +1,6 @@
-/* Stands before the C library's own calls on the two files of a broker, its database FILE and its log FILE-wal. From one
-   call on a file on it refuses each, as a disk does that stops; and it keeps the file as it was last synced.
+/* Stands before the C library's own calls on the two files of a broker, its database FILE and its log FILE-wal: those by
+   which the program opens, measures, reads, writes, cuts and syncs a file (nm -D PROGRAM). From one call on a file on it
+   refuses each, as a disk does that stops; and it keeps the file as it was last synced.
    checks/stops.py builds it and gives it to the program by LD_PRELOAD, with
 
    STOPS_FILE      the path of the database
@@ -98,40 +99,26 @@ static int keep(int fd, int result) {
   return result;
 }
 
-/* How a file is opened: the rights of a new one follow. */
-#define OPENED(folder, path, flags)                                                                                    \
-  va_list more;                                                                                                        \
-  va_start(more, flags);                                                                                               \
-  int rights = flags & O_CREAT ? va_arg(more, int) : 0;                                                  \
-  va_end(more);                                                                                                        \
-  int side = side_at(path);                                                                                            \
-  return is_refused(side) ? -1 : noted(syscall(SYS_openat, folder, path, flags, rights), side)
-#define REFUSED_OR(fd, call) return is_refused(side_in(fd)) ? -1 : (call)
+int open(const char *path, int flags, ...) {
+  va_list more;
+  va_start(more, flags);
+  int rights = flags & O_CREAT ? va_arg(more, int) : 0, side = side_at(path);
+  va_end(more);
+  return is_refused(side) ? -1 : noted(syscall(SYS_openat, AT_FDCWD, path, flags, rights), side);
+}
 
-int open(const char *path, int flags, ...) { OPENED(AT_FDCWD, path, flags); }
-int openat(int folder, const char *path, int flags, ...) { OPENED(folder, path, flags); }
 int close(int fd) {
   noted(fd, 0);
   return syscall(SYS_close, fd);
 }
-int unlink(const char *path) { return is_refused(side_at(path)) ? -1 : syscall(SYS_unlinkat, AT_FDCWD, path, 0); }
-ssize_t read(int fd, void *text, size_t most) { REFUSED_OR(fd, syscall(SYS_read, fd, text, most)); }
-ssize_t write(int fd, const void *text, size_t most) { REFUSED_OR(fd, syscall(SYS_write, fd, text, most)); }
-ssize_t pread(int fd, void *text, size_t most, off_t at) { REFUSED_OR(fd, syscall(SYS_pread64, fd, text, most, at)); }
-ssize_t pwrite(int fd, const void *text, size_t most, off_t at) {
-  REFUSED_OR(fd, syscall(SYS_pwrite64, fd, text, most, at));
-}
-off_t lseek(int fd, off_t at, int whence) { REFUSED_OR(fd, syscall(SYS_lseek, fd, at, whence)); }
-int fstat(int fd, struct stat *about) { REFUSED_OR(fd, syscall(SYS_fstat, fd, about)); }
-int ftruncate(int fd, off_t length) { REFUSED_OR(fd, syscall(SYS_ftruncate, fd, length)); }
-int fsync(int fd) { REFUSED_OR(fd, keep(fd, syscall(SYS_fsync, fd))); }
-int fdatasync(int fd) { REFUSED_OR(fd, keep(fd, syscall(SYS_fdatasync, fd))); }
 
-/* The same calls by the names that they have for large files. */
-#define ALSO(name, other) extern __typeof__(name) other __attribute__((alias(#name)))
-ALSO(open, open64);
-ALSO(openat, openat64);
-ALSO(pread, pread64);
-ALSO(pwrite, pwrite64);
-ALSO(lseek, lseek64);
-ALSO(ftruncate, ftruncate64);
+#define OR_REFUSED(call) return is_refused(side_in(fd)) ? -1 : (call)
+
+int statx(int fd, const char *path, int flags, unsigned mask, struct statx *about) {
+  OR_REFUSED(syscall(SYS_statx, fd, path, flags, mask, about));
+}
+ssize_t pread(int fd, void *text, size_t most, off_t at) { OR_REFUSED(syscall(SYS_pread64, fd, text, most, at)); }
+ssize_t pwrite(int fd, const void *text, size_t most, off_t at) { OR_REFUSED(syscall(SYS_pwrite64, fd, text, most, at)); }
+int ftruncate(int fd, off_t length) { OR_REFUSED(syscall(SYS_ftruncate, fd, length)); }
+int fsync(int fd) { OR_REFUSED(keep(fd, syscall(SYS_fsync, fd))); }
+int fdatasync(int fd) { OR_REFUSED(keep(fd, syscall(SYS_fdatasync, fd))); }

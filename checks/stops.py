@@ -226,7 +226,7 @@ class Room:
 def acted(office, files, act, stop=NEVER, **settings):
     """Does this over copies of the files, one of which stops there: makes, migrates, or serves a stream."""
     with tempfile.TemporaryDirectory(dir=MEMORY) as folder:
-        room, address = Room(folder, files), free_address()
+        room, address = Room(os.path.realpath(folder), files), free_address()
         words = [MAKINGS.get(act, "serve"), "--file", room.file]
         if act not in MAKINGS:
             words += ["--listen", "%s:%d" % address, "--connections", "1"]
@@ -404,10 +404,11 @@ def tasks(name):
 
 
 def forgetful():
-    """A disk that says that it has synced and hasn't: what was acknowledged is lost."""
-    first = trials(Stops("create"))[0]
-    _, lapse = first.stop("database", STOPS_FORGETS="1")
-    if not lapse or not lapse.endswith("something is taken"):
+    """A disk that says that it has synced and hasn't loses what was acknowledged."""
+    first = trials(Stops("first-run"))[0]
+    done = acted(first.office, first.base, first.step.act, STOPS_FORGETS="1")
+    lapse = first.lapse(done.out, done.ended, first.found(done.synced))
+    if lapse != "something is taken":
         raise Wrong(f"a disk that forgets isn't noticed: {lapse}")
     return 0, None
 

@@ -77,7 +77,7 @@ def forbidden_file(folder):
 
 
 def forbidden_log(folder):
-    """As it is after root ran a command over the file."""
+    """As it is after root copied both files there."""
     file = broker_file(folder)
     with open(f"{file}-wal", "w", encoding="ascii"):
         os.chmod(f"{file}-wal", 0o600)

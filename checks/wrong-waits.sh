@@ -1,7 +1,7 @@
 #!/usr/bin/env bash
 # Shows that slow-peers.py sees a broker that waits for its peers otherwise than it has to: it runs slow-peers.py over
 # the program with a library before the C library's calls, which has the effect of a wrong body on a socket:
-#   nobody-waits   no peer is found to wait while another is served (wrong-bodies/broker/nobody_ever_waits.edit)
+#   nobody-waits   no peer is found to wait while another is served (wrong-bodies/program_io/nobody_ever_waits.edit)
 #   each-write     each write of an answer may wait for 10 seconds, whatever the answer has taken before
 #                  (wrong-bodies/http_messages/each_write_waits_anew.edit)
 #   no-reads       a time limit for reads isn't set, and a read waits for as long as the peer likes

@@ -4,8 +4,8 @@
     client/pages.py PROGRAM..           writes client/pages/NAME.1, NAME.bash and _NAME of each
     client/pages.py --check PROGRAM..   writes nothing; ends with 1 if one of them is otherwise
 
-To use them: `man client/pages/holzhebo.1`; `source client/pages/holzhebo.bash` in ~/.bashrc; for zsh copy `_holzhebo` to
-a folder of `fpath`."""
+To use them: `man client/pages/holzhebo.1`; `source client/pages/holzhebo.bash` in ~/.bashrc; for zsh copy `_holzhebo`
+to a folder of `fpath`."""
 import os, re, subprocess, sys
 from typing import Dict, List, NamedTuple, Set, Tuple
 
@@ -92,7 +92,8 @@ def man_page(program: Program) -> str:
     parts.append(f".SH OPTIONS\n{rows_page(program.help.columns['Options'])}.SH COMMANDS\n")
     for name, help in program.commands.items():
         columns = "".join(rows_page(help.columns.get(it, [])) for it in ("Arguments", "Options"))
-        parts.append(f".SS {roff(name)}\n{roff(help.about)}\n.PP\n.B {roff(help.usage)}\n{columns}.PP\n{rest_page(help.rest)}")
+        parts.append(f".SS {roff(name)}\n{roff(help.about)}\n.PP\n.B {roff(help.usage)}\n{columns}.PP\n")
+        parts.append(rest_page(help.rest))
     return "".join(parts)
 
 
@@ -163,7 +164,8 @@ def main(words: List[str]) -> int:
     check, wrong = "--check" in words, 0
     for path in [it for it in words if it != "--check"]:
         program = read(path)
-        texts = {f"{program.name}.1": man_page(program), f"{program.name}.bash": bash(program), f"_{program.name}": zsh(program)}
+        name = program.name
+        texts = {f"{name}.1": man_page(program), f"{name}.bash": bash(program), f"_{name}": zsh(program)}
         for name, text in texts.items():
             place = os.path.join(FOLDER, name)
             if not check:

@@ -102,10 +102,11 @@ else
 fi
 room=$(mktemp -d "$copy.rows.XXXXXX")
 
-# All rows of the copy and its log, as a digest. sqlite3 reads another copy, since it writes to what it opens.
+# rows DIGEST: writes a digest of all rows of the copy and its log. sqlite3 reads another copy, since it writes to what
+# it opens.
 rows() {
   copy_pair "$copy.part" "$room/a.db"
-  sqlite3 -bail "$room/a.db" .dump | sha256sum
+  sqlite3 -bail "$room/a.db" .dump | sha256sum > "$1"
   rm -f "$room/a.db"*
 }
 
@@ -130,10 +131,11 @@ fold() {
   fail "the broker doesn't open the copy: $(cat "$room/said")"
 }
 
-before=$(rows)
+rows "$room/before"
 fold
 rm -f "$copy.part-wal"
-[ "$(rows)" = "$before" ] || fail "the copy without its log has other rows than with it"
+rows "$room/after"
+cmp -s "$room/before" "$room/after" || fail "the copy without its log has other rows than with it"
 said=$("$(dirname "$0")/test-copy.sh" "$program" "$copy.part") || [ $? = 2 ] || exit 1
 
 sync -- "$copy.part"

@@ -30,8 +30,9 @@ def in_wrong_files():
 
 def in_must_fail(crates):
     for it in crates:
-        if bool(in_gate(it.name)) != (it.name in KIT):
-            yield f"crates/{it.name}/must-fail: it has {'an' if in_gate(it.name) else 'no'} edit, against .ci/rules/bodies.py"
+        has = bool(in_gate(it.name))
+        if has != (it.name in KIT):
+            yield f"crates/{it.name}/must-fail: it has {'an' if has else 'no'} edit, against .ci/rules/bodies.py"
 
 
 def turned(crate):
@@ -57,10 +58,12 @@ def calls(caller, callee):
         return bool(re.search(rf"\b{callee.type}\b", caller.code[caller.at : caller.end]))
     if callee.type:
         of_type = re.search(rf"\b{callee.type}(?:::<[^>]*>)?::{name}\b", body)
-        return bool(of_type or caller.type == callee.type and re.search(rf"\bSelf::{name}\b", body) or re.search(rf"\.{name}\s*\(", body))
+        of_self = caller.type == callee.type and re.search(rf"\bSelf::{name}\b", body)
+        return bool(of_type or of_self or re.search(rf"\.{name}\s*\(", body))
     if re.search(rf"(?<![.\w]){name}\s*(?:\(|::<)", body):
         return True
-    is_bound = re.search(rf"\blet\s[^=;]*\b{name}\b|\|[^|]*\b{name}\b[^|]*\||\b{name}\s*:", caller.code[caller.at : caller.end])
+    code = caller.code[caller.at : caller.end]
+    is_bound = re.search(rf"\blet\s[^=;]*\b{name}\b|\|[^|]*\b{name}\b[^|]*\||\b{name}\s*:", code)
     return not is_bound and bool(re.search(rf"[(,]\s*(?:\w+::)*{name}\s*[,)]", body))
 
 
@@ -132,4 +135,5 @@ def faults(product, checks):
     yield from in_must_fail(product + checks)
     lacking = ((crate, it) for crate in product for it in without_wrong_body(crate))
     yield from against("wrong-bodies/WITHOUT", lacking, "has no wrong body", "has one")
-    yield from against(".ci/UNCALLED", uncalled(product, checks), "is called by no other crate of the product", "is called")
+    lacking = uncalled(product, checks)
+    yield from against(".ci/UNCALLED", lacking, "is called by no other crate of the product", "is called")

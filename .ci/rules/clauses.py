@@ -25,8 +25,8 @@ def too_wide(crates):
     yield from (f"{at}: a clause of {width} characters, more than {WIDEST}" for width, at in found if width > WIDEST)
     wide = sum(width > WIDE for width, _ in found)
     if wide * SHARE > len(found):
-        share = 100 * wide / len(found)
-        yield f"{wide} of {len(found)} clauses have more than {WIDE} characters: {share:.1f} %, more than {100 // SHARE} %"
+        share = f"{100 * wide / len(found):.1f} %, more than {100 // SHARE} %"
+        yield f"{wide} of {len(found)} clauses have more than {WIDE} characters: {share}"
 
 
 def too_many(crates):

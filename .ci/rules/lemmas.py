@@ -4,9 +4,9 @@
   `uses` cites none: its callers are proved from public contracts.
 - Each lemma is cited: by a proof, by a tactic of the code, or, as a worked example is, by a document. In a file whose
   name ends with Example or Examples none has to be.
-- In specs/ and proofs/ of the crates over broker_tables no tree and no column of a table is a bare number: it has a name
-  in broker_tables/specs/Schema.antt. Place 0, a row's number in any table, may be one, and so may a place in the answer
-  of a SELECT: a row of an answer is called `row`. UNNAMED has the files that are left out."""
+- In specs/ and proofs/ of the crates over broker_tables no tree and no column of a table is a bare number: it has a
+  name in broker_tables/specs/Schema.antt. Place 0, a row's number in any table, may be one, and so may a place in the
+  answer of a SELECT: a row of an answer is called `row`. UNNAMED has the files that are left out."""
 import os, re
 from collections import Counter, defaultdict
 
@@ -20,7 +20,9 @@ PLACE = re.compile(
     r"|column (?!row\b)[\w.]+ [1-9]\d*)\b(?!\.)"
 )
 CITED = re.compile(r"(?m)^\s*use Rattle\.(?:([\w.+]+)\.\{(.*)\}|([\w.]+)(?: as \w+)?)$")
-LEMMA = re.compile(r"(?m)^( *)(?:(?:pub|abbrev|unfoldable|opaque)\s+)*(?!use\b|module\b|let\b|where\b)([^\s:(){},;.=|λ]+)\s*:\s")
+LEMMA = re.compile(
+    r"(?m)^( *)(?:(?:pub|abbrev|unfoldable|opaque)\s+)*(?!use\b|module\b|let\b|where\b)([^\s:(){},;.=|λ]+)\s*:\s"
+)
 TERM = re.compile(r"[^\s(){}\[\],;.:]+")
 
 

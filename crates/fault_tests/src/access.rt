@@ -1,11 +1,25 @@
 //! Statements, transactions and rows, over a table of the tests' own.
-use crate::tables::{fail_of, is_text};
 use sqlite::{Alter, Connection, MemStore, Row, params};
 use std::alloc::Global;
 use std::test::Fail;
 use table_access::{
     ReadRow, StoreFault, begin, change, commit, has_row, list_of, number_of, rollback, text_of,
 };
+
+fn fail_of(fault: StoreFault) -> Fail {
+    match fault {
+        StoreFault::Memory => Fail::from("memory"),
+        StoreFault::Store => Fail::from("store"),
+    }
+}
+
+/// Whether exactly this was found.
+fn is_text(found: Result<Option<String>, StoreFault>, wanted: Option<&str>) -> bool {
+    match found {
+        Ok(found) => found.as_deref() == wanted,
+        Err(_) => false,
+    }
+}
 
 fn make<S: Alter>(conn: &mut Connection<S>) -> Result<(), StoreFault> {
     change(

@@ -1,8 +1,0 @@
-pub mod VerdictLemmas
-pub mod ResultLemmas
-pub mod UnchangedLemmas
-pub mod RefusalLemmas
-pub mod ReopeningLemmas
-pub mod ServingLemmas
-mod CallLemmas
-pub mod PeriodLemmas

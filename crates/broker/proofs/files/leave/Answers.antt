@@ -1,9 +1,0 @@
-use Rattle.std.proofs.Common.{arith}
-use Rattle.sqlite.specs.{State.{HasCleanDisk}, Files.{file_state}}
-use Rattle.broker.proofs.files.leave.Goals as goal
-
-pub returns : goal.returns
-returns g c clean =
-    let kept = c.into_store.ensures in
-    let early : HasCleanDisk (file_state c.args.connection) = omega (arith, clean, kept.quiet.clean) in
-    (early, record { numbered = kept.numbered clean; sound = kept.sound clean; outcomes = kept.quiet.outcomes })

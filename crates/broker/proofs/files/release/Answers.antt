@@ -1,4 +1,0 @@
-use Rattle.broker.proofs.files.release.Goals as goal
-
-pub returns : goal.returns
-returns g c = rw c.connection_of.ensures at c.leave.ensures

@@ -1,0 +1,7 @@
+pub mod ResultLemmas
+pub mod UnchangedLemmas
+pub mod RefusalLemmas
+pub mod ReopeningLemmas
+pub mod ServingLemmas
+mod CallLemmas
+pub mod PeriodLemmas

@@ -1,0 +1,29 @@
+-- what a call on the database of a file that failed leaves of it
+use Rattle.std.proofs.Common.{◌≡◌, ◌≤◌, sym, subst, arith}
+use Rattle.sqlite_disk.specs.declared.Disk.{Ghosts}
+use Rattle.sqlite_trees.specs.View.{doubt}
+use Rattle.sqlite.specs.{Files.{file_state}, FileStore.{view}, Held.{Held}, Recovery.{Image}, State.{HasCleanDisk}, View.{IsClean}}
+use Rattle.sqlite.specs.declared.FileStore.{FileStore}
+use Rattle.broker_service.specs.declared.opening.OpenFault.{OpenFault}
+use Rattle.broker_program.specs.{Files.{GivesUpAs, LeavesStore, OpensOn}, Refusals.{FailsThere, IsOfDatabase}, declared.left.Left.{Left}}
+use Rattle.broker_program.specs.declared.left.Left.TheVariants.{Closed, GivenUp, Nothing, Served}
+use Rattle.program_io.specs.declared.fault.RunFault.{RunFault}
+use Rattle.program_io.specs.declared.fault.RunFault.TheVariants as run_fault
+
+module _ {D : Type 0} {g : Ghosts D} where
+  pub store_weaker : (P Q : FileStore D g → Type 0) (rest : Left D g) → ((store : FileStore D g) → P store → Q store) → LeavesStore P rest → LeavesStore Q rest
+  store_weaker P Q (GivenUp store) f p = f store p
+  store_weaker P Q Nothing f p = p
+  store_weaker P Q (Closed files) f p = p
+  store_weaker P Q (Served service) f p = p
+
+  pub fails_there : (held : Image) (Fails : Held (FileStore D g) → Held (FileStore D g) → OpenFault → Type 0) (old new : Held (FileStore D g)) (fault : OpenFault) (told : RunFault) (rest : Left D g)
+      → OpensOn held old → doubt (file_state old).is_clean ≤ doubt (file_state new).is_clean → Fails old new fault
+      → told ≡ run_fault.Open fault → LeavesStore (GivesUpAs new) rest → IsOfDatabase held Fails told rest
+  fails_there held Fails old new fault told rest opens later fails is gives =
+      let there : LeavesStore (λ (store : FileStore D g). IsClean (view store) → FailsThere held Fails fault store) rest =
+      store_weaker (GivesUpAs new) (λ store. IsClean (view store) → FailsThere held Fails fault store) rest (λ store given clean.
+      let kept = given clean in
+      let early : HasCleanDisk (file_state old) = omega (arith, kept.0, later) in
+      record { connection = old; end = new; starts = opens early; fails = fails; clean = kept.0; left = kept.1 }) gives in
+      subst (λ (f : RunFault). IsOfDatabase held Fails f rest) (sym is) there

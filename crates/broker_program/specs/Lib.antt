@@ -1,0 +1,10 @@
+pub mod Replays
+pub mod Told
+pub mod Files
+pub mod Serving
+pub mod Reopening
+pub mod Making
+pub mod Running
+pub mod Life
+pub mod Reasons
+pub mod Refusals

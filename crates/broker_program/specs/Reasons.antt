@@ -1,0 +1,122 @@
+-- why a command over a broker failed (this project's own choice)
+use Rattle.std.specs.Prelude.{◌≡◌, ◌⊎◌, ⊤, ℕ, List, Option, None, IsSome}
+use Rattle.sqlite_disk.specs.declared.Disk.{Ghosts}
+use Rattle.sqlite.specs.FileStore.{view}
+use Rattle.sqlite.specs.Recovery.{Image}
+use Rattle.sqlite.specs.View.{IsClean}
+use Rattle.broker_core.specs.Name.{IsName, IsToken}
+use Rattle.broker_core.specs.Text.{Text}
+use Rattle.broker_core.specs.declared.answer.Answer.{Answer}
+use Rattle.command_line.specs.declared.line.Line.{Line}
+use Rattle.command_line.specs.declared.line.Line.TheVariants.{CanIDeploy, Check, Init, Migrate, Normalise}
+use Rattle.command_line.specs.declared.line.Line.TheVariants.{Replay, Serve}
+use Rattle.program_io.specs.Listening.{ListensOn}
+use Rattle.program_io.specs.Reported.{FailsToCheck, FailsToNormalise, IsFromOutside, IsNoName, IsTokenFault}
+use Rattle.program_io.specs.declared.fault.RunFault.{RunFault}
+use Rattle.program_io.specs.declared.fault.RunFault.TheVariants as run_fault
+use Rattle.broker_program.specs.Files.{LeavesServed, LeavesStore}
+use Rattle.broker_program.specs.Refusals.{IsLeftUnserved, IsOfDatabase, MakesNone, MigratesNone, OpensNone}
+use Rattle.broker_program.specs.Replays.{ReplaysUpTo}
+use Rattle.broker_program.specs.Serving.{ServedSome}
+use Rattle.broker_program.specs.Told.{AnswersQuestion, permission, question}
+use Rattle.broker_program.specs.declared.can_i_deploy.Question.{Question}
+use Rattle.broker_program.specs.declared.left.Left.{Left}
+
+-- a broker couldn't be made
+abbrev pub IsOpeningFault : RunFault → Type 0
+IsOpeningFault (run_fault.Open f) = ⊤
+IsOpeningFault run_fault.Memory = ⊤
+IsOpeningFault _ = ⊥
+
+-- the fault of `replay`, by what it was asked and what it did
+module _ (office : Text) (before after old new : Option (List ℕ)) where
+  -- some messages were answered before it
+  abbrev pub CutsReplay : RunFault → Type 0
+  CutsReplay (run_fault.Serve f) = ReplaysUpTo office before after old new f
+  CutsReplay _ = ⊥
+
+  abbrev pub EndsReplay : RunFault → Type 0
+  EndsReplay f = IsTokenFault office f ⊎ (IsToken office × (IsOpeningFault f ⊎ CutsReplay f))
+
+-- ---- the fault of a command over a broker's file
+
+-- the three names of a question are names
+abbrev pub AsksByNames : Question → Type 0
+AsksByNames question = IsName question.pacticipant.now × IsName question.version.now × IsName question.environment.now
+
+-- the text of one of its names isn't a name; or there was no memory for it
+abbrev pub IsNameFault : Question → RunFault → Type 0
+IsNameFault question f =
+    IsNoName question.pacticipant.now f
+    ⊎ (IsNoName question.version.now f ⊎ IsNoName question.environment.now f)
+
+-- one of the texts isn't what it should be, the token before the names; or there was no memory for them
+abbrev pub IsQuestionFault : Question → RunFault → Type 0
+IsQuestionFault question f =
+    IsTokenFault question.token.now f ⊎ (IsToken question.token.now × IsNameFault question f)
+
+-- the broker's answer says nothing of a permission, and is the fault; or it does, and couldn't be written
+abbrev pub IsAnswerFault : Answer → RunFault → Type 0
+IsAnswerFault answer f =
+    ((permission answer ≡ None) × (f ≡ run_fault.Answer answer)) ⊎ (IsSome (permission answer) × IsFromOutside f)
+
+-- a broker's file couldn't be opened again
+abbrev pub IsReopeningFault : RunFault → Type 0
+IsReopeningFault f = IsFromOutside f ⊎ IsOpeningFault f
+
+-- Serving ended: the file failed; or some connections were served, the broker stopped, and its file couldn't be opened
+-- again, of which nothing more is said.
+abbrev pub CutsService : {D : Type 0} {g : Ghosts D} → RunFault → Left D g → Type 0
+CutsService f rest = IsFromOutside f ⊎ (IsOpeningFault f × LeavesServed ServedSome rest)
+
+-- Held is what the log and the database file held at first, and rest what the command left of them. That a file or a
+-- stream failed, or that there was no memory, has no cause in these clauses: nothing says why a path isn't opened.
+module _ {D : Type 0} {g : Ghosts D} (held : Image) where
+  -- no broker is opened there: the fault is what the database there is found to be
+  abbrev pub FailsToOpen : RunFault → Left D g → Type 0
+  FailsToOpen f rest = IsFromOutside f ⊎ IsOfDatabase held OpensNone f rest
+
+  -- none is made there whose office has this token
+  abbrev pub FailsToMakeIn : Text → RunFault → Left D g → Type 0
+  FailsToMakeIn office f rest = IsFromOutside f ⊎ IsOfDatabase held (MakesNone office) f rest
+
+  -- the fault of `init`: the token is looked at first
+  abbrev pub FailsToMake : Text → RunFault → Left D g → Type 0
+  FailsToMake office f rest = IsTokenFault office f ⊎ (IsToken office × FailsToMakeIn office f rest)
+
+  -- the fault of `migrate`
+  abbrev pub FailsToMigrate : RunFault → Left D g → Type 0
+  FailsToMigrate f rest = IsFromOutside f ⊎ IsOfDatabase held MigratesNone f rest
+
+  -- The fault of `can-i-deploy`: its texts are looked at first, then the file is opened, and the broker there asked.
+  abbrev pub FailsToAnswer : Question → RunFault → Left D g → Type 0
+  FailsToAnswer question f rest =
+      IsQuestionFault question f ⊎ (IsToken question.token.now × AsksByNames question × FailsToOpen f rest)
+
+  abbrev pub FailsToAsk : Question → RunFault → Left D g → Type 0
+  FailsToAsk question f rest =
+      FailsToAnswer question f rest
+      ⊎ ((answer : Answer) × LeavesStore (AnswersQuestion held question answer) rest × IsAnswerFault answer f)
+
+  -- the address isn't listened on, and the broker there was opened first; no contract says why an address of loopback
+  -- isn't listened on
+  abbrev pub FailsToListen : RunFault → Left D g → Type 0
+  FailsToListen run_fault.Listen rest = LeavesStore (λ store. IsClean (view store) → IsLeftUnserved held store) rest
+  FailsToListen _ rest = ⊥
+
+  -- The fault of `serve`: the file is opened first, and then the address is listened on.
+  abbrev pub FailsToServe : Text → RunFault → Left D g → Type 0
+  FailsToServe listen f rest =
+      FailsToOpen f rest ⊎ FailsToListen f rest ⊎ (ListensOn listen × CutsService f rest)
+
+-- The fault of a command has its reason.
+module _ {D : Type 0} {g : Ghosts D} (held : Image) (before after old new : Option (List ℕ)) (rest : Left D g) where
+  abbrev pub IsFaultOf : Line → RunFault → Type 0
+  IsFaultOf (Replay token) f = EndsReplay token.now before after old new f
+  IsFaultOf Normalise f = FailsToNormalise before after f
+  IsFaultOf (Check pact replies) f = FailsToCheck f
+  IsFaultOf (Init file token) f = FailsToMake held token.now f rest
+  IsFaultOf (Migrate file) f = FailsToMigrate held f rest
+  IsFaultOf (Serve file listen connections) f = FailsToServe held listen.now f rest
+  IsFaultOf (CanIDeploy file token pacticipant version environment) f =
+      FailsToAsk held (question token pacticipant version environment) f rest

@@ -1,0 +1,119 @@
+-- what a command line has read and written when the program ends (this project's own choice)
+use Rattle.std.specs.Prelude.{◌≡◌, ◌≢◌, ◌⊎◌, ℕ, List, Bool, true, false, Option}
+use Rattle.sqlite_disk.specs.declared.Disk.{Ghosts}
+use Rattle.sqlite.specs.Recovery.{Image}
+use Rattle.broker_core.specs.Name.{IsToken}
+use Rattle.clap.specs.Words.{Text}
+use Rattle.command_line.specs.Lines.{Says, is_line}
+use Rattle.broker_program.specs.Replays.{Replays, ReplaysUntil}
+use Rattle.broker_program.specs.Files.{LeavesClosed, LeavesServed}
+use Rattle.program_io.specs.Listening.{ListensOn}
+use Rattle.broker_program.specs.Making.{BrokerIsMade, FileIsMigrated}
+use Rattle.broker_program.specs.Reasons.{IsFaultOf}
+use Rattle.program_io.specs.Reported.{HasReport, IsReported}
+use Rattle.broker_program.specs.Serving.{ServesFile}
+use Rattle.broker_program.specs.Told.{Asks, AsksUntil, question}
+use Rattle.program_io.specs.Written.{Checks, ChecksUntil, Normalises, NormalisesUntil}
+use Rattle.program_io.specs.declared.fault.RunFault.{RunFault}
+use Rattle.program_io.specs.declared.fault.RunFault.TheVariants as run_fault
+use Rattle.broker_program.specs.declared.left.Left.{Left}
+use Rattle.command_line.specs.declared.line.Line.{Line}
+use Rattle.command_line.specs.declared.line.Line.TheVariants.{CanIDeploy, Check, Init, Migrate, Normalise}
+use Rattle.command_line.specs.declared.line.Line.TheVariants.{Replay, Serve}
+
+-- Held is what the files of a command held at first, and rest what the command left of them.
+module _ {D : Type 0} {g : Ghosts D} (held : Image) (before after old new : Option (List ℕ)) (rest : Left D g) where
+  -- nothing was read or written
+  abbrev pub IsSilent : Type 0
+  IsSilent = (after ≡ before) × (new ≡ old)
+
+  -- The command came to an end: it is done, its check passed or its version is permitted; or not so.
+  abbrev pub CommandEnds : Line → Bool → Type 0
+  CommandEnds (Replay token) passes = (passes ≡ true) × IsToken token.now × Replays token.now before after old new
+  CommandEnds (Init file token) passes =
+      (passes ≡ true) × IsToken token.now × IsSilent × LeavesClosed (BrokerIsMade g held token.now) rest
+  CommandEnds (Migrate file) passes = (passes ≡ true) × IsSilent × LeavesClosed (FileIsMigrated g held) rest
+  CommandEnds (Serve file listen connections) passes =
+      (passes ≡ true) × IsSilent × ListensOn listen.now × LeavesServed (ServesFile g held connections) rest
+  CommandEnds Normalise passes = (passes ≡ true) × Normalises before after old new
+  CommandEnds (Check pact replies) passes = (after ≡ before) × Checks old new passes
+  CommandEnds (CanIDeploy file token pacticipant version environment) passes =
+      (after ≡ before) × Asks held (question token pacticipant version environment) old new rest passes
+
+  -- The command failed: what it wrote is a beginning of what it would have told.
+  abbrev pub CommandFails : Line → Type 0
+  CommandFails (Replay token) = IsSilent ⊎ ReplaysUntil token.now before after old new
+  CommandFails (Init file token) = IsSilent
+  CommandFails (Migrate file) = IsSilent
+  CommandFails (Serve file listen connections) = IsSilent
+  CommandFails Normalise = (new ≡ old) ⊎ NormalisesUntil before after old new
+  CommandFails (Check pact replies) = (after ≡ before) × ((new ≡ old) ⊎ ChecksUntil old new)
+  CommandFails (CanIDeploy file token pacticipant version environment) =
+      (after ≡ before)
+      × ((new ≡ old) ⊎ AsksUntil held (question token pacticipant version environment) old new rest)
+
+-- Remaining is what a reader still gives, contents what a writer has taken.
+module _ {D I O : Type 0} {g : Ghosts D} (held : Image) (remaining : I → Option (List ℕ)) (contents : O → Option (List ℕ)) (before after : I) (old new : O) (rest : Left D g) where
+  abbrev pub CommandEndsOn : Line → Bool → Type 0
+  CommandEndsOn = CommandEnds held (remaining before) (remaining after) (contents old) (contents new) rest
+
+  abbrev pub CommandFailsOn : Line → Type 0
+  CommandFailsOn = CommandFails held (remaining before) (remaining after) (contents old) (contents new) rest
+
+  abbrev pub IsFaultOn : Line → RunFault → Type 0
+  IsFaultOn = IsFaultOf held (remaining before) (remaining after) (contents old) (contents new) rest
+
+-- The texts are the words; the reader was before and is after, standard output was old and is new, standard error was
+-- untold and is told, and shows what it has taken. Rest is what is left of the command's file.
+module _ {D I O E : Type 0} {g : Ghosts D} (held : Image) (remaining : I → Option (List ℕ)) (contents : O → Option (List ℕ)) (shows : E → Option (List ℕ)) where
+  -- what carrying out a command promises of the status that the program ends with
+  pub record LineRan (line : Line) (before after : I) (old new : O) (untold told : E) (status : ℕ) (rest : Left D g) : Type 0 where
+    pub statuses : (status ≡ 0) ⊎ ((status ≡ 1) ⊎ (status ≡ 3))
+    -- it is done, or its check failed or its version isn't permitted; nothing is on standard error
+    pub done : status ≡ 0
+        → CommandEndsOn held remaining contents before after old new rest line true × (told ≡ untold)
+    pub refused : status ≡ 1
+        → CommandEndsOn held remaining contents before after old new rest line false × (told ≡ untold)
+    -- it failed, and standard error says why
+    pub fails : status ≡ 3 → CommandFailsOn held remaining contents before after old new rest line
+    pub reports : status ≡ 3
+        → (fault : RunFault) × IsFaultOn held remaining contents before after old new rest line fault
+        × IsReported fault (shows untold) (shows told)
+
+  -- what running the words promises of it
+  pub record Ran (words : List Text) (before after : I) (old new : O) (untold told : E) (status : ℕ) (rest : Left D g) : Type 0 where
+    pub statuses : (status ≡ 0) ⊎ ((status ≡ 1) ⊎ ((status ≡ 2) ⊎ (status ≡ 3)))
+    -- what the command was to do is done, and standard output has what it tells
+    pub done : status ≡ 0 → is_line words ≡ true
+        → (line : Line) × Says words line
+        × CommandEndsOn held remaining contents before after old new rest line true
+    -- the check failed or the version isn't permitted, and standard output says so
+    pub refused : status ≡ 1
+        → (line : Line) × Says words line
+        × CommandEndsOn held remaining contents before after old new rest line false
+    -- in both nothing is on standard error
+    pub quiet : status ≡ 0 → is_line words ≡ true → told ≡ untold
+    pub quiet_refused : status ≡ 1 → told ≡ untold
+    -- a mistake in the words is reported on standard error alone
+    pub usage : status ≡ 2 → (is_line words ≢ true) × (new ≡ old)
+    -- words that are no command line run nothing: nothing is read, and the status tells of no check
+    pub idle : is_line words ≢ true → (after ≡ before) × (status ≢ 1)
+    -- a command that failed has written no more than a beginning of what it would have told
+    pub fails : status ≡ 3 → is_line words ≡ true
+        → ((after ≡ before) × (new ≡ old))
+        ⊎ ((line : Line) × Says words line
+        × CommandFailsOn held remaining contents before after old new rest line)
+    -- one line on standard error says why it failed
+    pub reports : status ≡ 3 → HasReport (shows untold) (shows told)
+    -- and it has its reason: there was no memory for the words, or the command failed for it
+    pub reason : status ≡ 3 → is_line words ≡ true
+        → IsReported run_fault.Memory (shows untold) (shows told)
+        ⊎ ((line : Line) × (fault : RunFault) × Says words line
+        × IsFaultOn held remaining contents before after old new rest line fault
+        × IsReported fault (shows untold) (shows told))
+
+  -- some words were run over some streams, and the program ends with this status
+  abbrev pub SomeRun : ℕ → Left D g → Type 0
+  SomeRun status rest =
+      (words : List Text) × (before : I) × (after : I) × (old : O) × (new : O) × (untold : E) × (told : E)
+      × Ran words before after old new untold told status rest

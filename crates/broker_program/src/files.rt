@@ -1,0 +1,145 @@
+//! A broker in a file.
+ghost use Rattle.std.specs.Prelude.{◌≡◌, false, Ok, IfErr, IfOk};
+ghost use Rattle.sqlite.specs.Files.{file_state};
+ghost use Rattle.sqlite.specs.WalFiles.{image_at};
+ghost use Rattle.broker_service.specs.Calls.{Opened};
+ghost use Rattle.broker_program.specs.Files.{ClosesAs, GivesUpAs, LeavesStore, OpensBroker, OpensOn};
+ghost use Rattle.broker_program.specs.Reasons.{FailsToOpen, IsOpeningFault};
+ghost use Rattle.program_io.specs.Reported.{IsFromOutside};
+ghost use Rattle.broker_program.specs.Refusals.{IsOfDatabase, OpensNone};
+
+use crate::left::Left;
+use broker_service::{Broker, OpenFault};
+use program_io::fault::RunFault;
+use sqlite::{Connection, Error, ErrorCode, FileFrom, FileStore, Files, Start};
+use std::fs;
+
+/// A connection over a file that held what `S` says.
+pub(crate) type FileConnection<S> = Connection<FileStore<FileFrom<S>>>;
+
+/// A broker over a file that held what `S` says. It ends by `close` or `release`, and is nowhere dropped: its drop is
+/// proved again in each function that has one.
+pub(crate) type FileBroker<S> = Broker<FileStore<FileFrom<S>>>;
+
+/// Why a command over a file failed, and what it left of the file.
+pub(crate) type Failed<S> = (RunFault, Left<FileFrom<S>>);
+
+/// Why it failed, without what is left of the file.
+pub(crate) fn fault_of<S: Start>(failed: Failed<S>) -> RunFault
+    ensures { result ≡ failed.0 }
+{
+    let (fault, left) = failed;
+    drop(left);
+    fault
+}
+
+/// A connection over the file of this path, which is made with page sums if it isn't there. `File`: it can't be read or
+/// written, another program has it open, or it is no database.
+pub(crate) fn connect<S: Start>(
+    rt: &HostRuntime,
+    path: &str,
+    start: S,
+) -> Result<FileConnection<S>, Failed<S>>
+    ensures ok { IfOk result (OpensOn (image_at S.Start)) }
+    ensures cause { IfErr result (λ failed. IsFromOutside failed.0) }
+{
+    match Connection::open_from(rt, path, true, start) {
+        Ok(connection) => Ok(connection),
+        Err((Error::SqliteFailure(ErrorCode::OutOfMemory), _)) => {
+            Err((RunFault::Memory, Left::Nothing))
+        }
+        Err(_) => Err((RunFault::File, Left::Nothing)),
+    }
+}
+
+/// The same over a file that has to be there. `File` if it isn't.
+pub(crate) fn connect_existing<S: Start>(
+    rt: &HostRuntime,
+    path: &str,
+    start: S,
+) -> Result<FileConnection<S>, Failed<S>>
+    ensures ok { IfOk result (OpensOn (image_at S.Start)) }
+    ensures cause { IfErr result (λ failed. IsFromOutside failed.0) }
+{
+    match fs::exists(rt, path) {
+        Ok(true) => connect(rt, path, start),
+        _ => Err((RunFault::File, Left::Nothing)),
+    }
+}
+
+/// Closes the file, so that all of it is in the file itself. `File`: what is in its log couldn't be copied.
+pub(crate) fn disconnect<S: Start>(
+    connection: FileConnection<S>,
+) -> Result<Files<FileFrom<S>>, Failed<S>>
+    ensures ok { IfOk result (ClosesAs connection) }
+    ensures cause { IfErr result (λ failed. IsFromOutside failed.0) }
+{
+    match connection.close_files() {
+        Ok(files) => Ok(files),
+        Err((_, _)) => Err((RunFault::File, Left::Nothing)),
+    }
+}
+
+/// Gives the file up as it is: what is in its log stays there.
+fn leave<S: Start>(connection: FileConnection<S>) -> FileStore<FileFrom<S>>
+    ensures { GivesUpAs connection result }
+{
+    connection.into_store()
+}
+
+/// Gives the file up in which no broker is made, opened or migrated, and says why.
+pub(crate) fn give_up<S: Start>(connection: FileConnection<S>, fault: OpenFault) -> Failed<S>
+    ensures { (result.0 ≡ RunFault.Open fault) × LeavesStore (GivesUpAs connection) result.1 }
+{
+    (RunFault::Open(fault), Left::GivenUp(leave(connection)))
+}
+
+/// The broker in the database of the connection.
+pub(crate) fn broker_of<S: Start>(connection: FileConnection<S>) -> Result<FileBroker<S>, Failed<S>>
+    ensures runs { IfOk result (λ b. b.is_stopped ≡ false) }
+    ensures opened { IfOk result (λ b. Opened file_state connection (Ok b)) }
+    ensures fault { IfErr result (λ failed. IsOpeningFault failed.0) }
+    ensures cause { OpensOn (image_at S.Start) connection
+        → IfErr result (λ failed. IsOfDatabase (image_at S.Start) OpensNone failed.0 failed.1) }
+{
+    match Broker::open(connection) {
+        Ok(broker) => Ok(broker),
+        Err(refused) => Err(give_up(refused.connection, refused.fault)),
+    }
+}
+
+/// The broker in the file of this path, which has to be there.
+pub(crate) fn open_broker<S: Start>(
+    rt: &HostRuntime,
+    path: &str,
+    start: S,
+) -> Result<FileBroker<S>, Failed<S>>
+    ensures runs { IfOk result (λ b. b.is_stopped ≡ false) }
+    ensures opened { IfOk result (OpensBroker (image_at S.Start)) }
+    ensures cause { IfErr result (λ failed. FailsToOpen (image_at S.Start) failed.0 failed.1) }
+{
+    let connection = connect_existing(rt, path, start)?;
+    broker_of(connection)
+}
+
+/// The broker's connection.
+fn connection_of<S: Start>(broker: FileBroker<S>) -> FileConnection<S>
+    ensures { result ≡ broker.connection }
+{
+    broker.close()
+}
+
+/// Gives the broker's file up, as it is.
+pub(crate) fn release<S: Start>(broker: FileBroker<S>) -> FileStore<FileFrom<S>>
+    ensures { GivesUpAs broker.connection result }
+{
+    leave(connection_of(broker))
+}
+
+/// Closes the broker's file.
+pub(crate) fn close<S: Start>(broker: FileBroker<S>) -> Result<Files<FileFrom<S>>, Failed<S>>
+    ensures ok { IfOk result (ClosesAs broker.connection) }
+    ensures cause { IfErr result (λ failed. IsFromOutside failed.0) }
+{
+    disconnect(connection_of(broker))
+}

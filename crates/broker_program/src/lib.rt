@@ -1,0 +1,19 @@
+//! The program's commands over any reader and writers, and over the words and the streams of its process.
+#![tactic(auto)]
+
+mod can_i_deploy;
+mod files;
+mod init;
+pub mod laws;
+mod left;
+mod migrate;
+mod process;
+mod reopening;
+mod replay;
+mod routes;
+mod running;
+mod serve;
+
+pub use left::{Left, Service};
+pub use process::run_process;
+pub use running::run;

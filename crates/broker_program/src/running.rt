@@ -1,0 +1,186 @@
+//! Running a command over any reader and writers.
+ghost use Rattle.std.specs.Prelude.{◌≡◌, ◌≢◌, ◌⊎◌, IfErr, IfOk, OnErr};
+ghost use Rattle.sqlite.specs.WalFiles.{image_at};
+ghost use Rattle.clap.specs.Values.{kind_of};
+ghost use Rattle.command_line.specs.Lines.{texts_of};
+ghost use Rattle.program_io.specs.Reported.{HasReport, IsReported};
+ghost use Rattle.broker_program.specs.Running.{CommandEndsOn, CommandFailsOn, IsFaultOn, LineRan, Ran};
+
+use crate::can_i_deploy::{Question, ask};
+use crate::init::init;
+use crate::left::Left;
+use crate::migrate::migrate;
+use crate::replay::replay;
+use crate::serve::serve_file;
+use clap::Error;
+use clap::error::ErrorKind;
+use command_line::{Line, read_line};
+use program_io::check::check;
+use program_io::fault::RunFault;
+use program_io::normalise::normalise;
+use program_io::report::report;
+use sqlite::{FileFrom, Start};
+use std::alloc::Global;
+use std::io::{Read, Write};
+
+/// The status of a command that failed, with the fault on standard error.
+fn fail<E: Write>(alloc: Global, fault: &RunFault, errors: &mut E) -> u8
+    ensures status { result ≡ 3 }
+    ensures reported { IsReported fault.now (E.contents errors.old) (E.contents errors.new) }
+{
+    report(alloc, fault, errors);
+    3
+}
+
+/// Reports what `clap` says of the words: help on standard output, a mistake on standard error.
+fn tell<W: Write, E: Write>(alloc: Global, error: &Error, output: &mut W, errors: &mut E) -> u8
+    ensures memory { kind_of error.now ≡ ErrorKind.OutOfMemory → (result ≡ 3) × (output.new ≡ output.old)
+        × IsReported RunFault.Memory (E.contents errors.old) (E.contents errors.new) }
+    ensures mistake { kind_of error.now ≢ ErrorKind.OutOfMemory
+        → kind_of error.now ≢ ErrorKind.DisplayHelp → kind_of error.now ≢ ErrorKind.DisplayVersion
+        → result ≡ 2 }
+    ensures usage { result ≡ 2 → output.new ≡ output.old }
+    ensures shown { (kind_of error.now ≡ ErrorKind.DisplayHelp) ⊎ (kind_of error.now ≡ ErrorKind.DisplayVersion)
+        → (result ≡ 0) ⊎ (result ≡ 3) }
+    ensures statuses { (result ≡ 0) ⊎ ((result ≡ 2) ⊎ (result ≡ 3)) }
+    ensures reports { result ≡ 3 → HasReport (E.contents errors.old) (E.contents errors.new) }
+{
+    if error.kind() == ErrorKind::OutOfMemory {
+        return fail(alloc, &RunFault::Memory, errors);
+    }
+    if error.use_stderr() {
+        let _ = write!(errors, "{error}");
+        return 2;
+    }
+    match write!(output, "{error}") {
+        Ok(()) => 0,
+        Err(_) => fail(alloc, &RunFault::File, errors),
+    }
+}
+
+/// A command that ended or failed, and what it left of the file that it worked on.
+type Carried<S> = (Result<bool, RunFault>, Left<FileFrom<S>>);
+
+/// Runs the command, and says whether it is done, its check passed or its version is permitted, and what it left of the
+/// file that it worked on.
+fn carry_out<S: Start, R: Read, W: Write>(
+    rt: &HostRuntime,
+    line: Line<'_>,
+    start: S,
+    input: &mut R,
+    output: &mut W,
+) -> Carried<S>
+    ensures ends { IfOk result.0 (CommandEndsOn (image_at S.Start) R.remaining W.contents
+        input.old input.new output.old output.new result.1 line.entry) }
+    ensures fails { OnErr result.0 (CommandFailsOn (image_at S.Start) R.remaining W.contents
+        input.old input.new output.old output.new result.1 line.entry) }
+    ensures cause { IfErr result.0 (IsFaultOn (image_at S.Start) R.remaining W.contents
+        input.old input.new output.old output.new result.1 line.entry) }
+{
+    match line {
+        Line::Replay { office_token } => match replay(rt.alloc(), office_token, input, output) {
+            Ok(()) => (Ok(true), Left::Nothing),
+            Err(fault) => (Err(fault), Left::Nothing),
+        },
+        Line::Init { file, office_token } => match init(rt, file, office_token, start) {
+            Ok(files) => (Ok(true), Left::Closed(files)),
+            Err((fault, left)) => (Err(fault), left),
+        },
+        Line::Migrate { file } => match migrate(rt, file, start) {
+            Ok(files) => (Ok(true), Left::Closed(files)),
+            Err((fault, left)) => (Err(fault), left),
+        },
+        Line::Serve {
+            file,
+            listen,
+            connections,
+        } => match serve_file(rt, file, listen, connections, start) {
+            Ok(service) => (Ok(true), Left::Served(service)),
+            Err((fault, left)) => (Err(fault), left),
+        },
+        Line::Normalise => match normalise(rt.alloc(), input, output) {
+            Ok(()) => (Ok(true), Left::Nothing),
+            Err(fault) => (Err(fault), Left::Nothing),
+        },
+        Line::Check { pact, replies } => (check(rt, pact, replies, output), Left::Nothing),
+        Line::CanIDeploy {
+            file,
+            token,
+            pacticipant,
+            version,
+            environment,
+        } => {
+            let question = Question {
+                token,
+                pacticipant,
+                version,
+                environment,
+            };
+            ask(rt, file, question, start, output)
+        }
+    }
+}
+
+/// Runs the command, and answers the status that the program ends with, with the fault on standard error, and what is
+/// left of the file that it worked on.
+fn run_line<S: Start, R: Read, W: Write, E: Write>(
+    rt: &HostRuntime,
+    line: Line<'_>,
+    start: S,
+    input: &mut R,
+    output: &mut W,
+    errors: &mut E,
+) -> (u8, Left<FileFrom<S>>)
+    ensures { LineRan (image_at S.Start) R.remaining W.contents E.contents line.entry input.old input.new
+        output.old output.new errors.old errors.new result.0 result.1 }
+{
+    let (done, left) = carry_out(rt, line, start, input, output);
+    match done {
+        Ok(true) => (0, left),
+        Ok(false) => (1, left),
+        Err(fault) => {
+            let status = fail(rt.alloc(), &fault, errors);
+            drop(fault);
+            (status, left)
+        }
+    }
+}
+
+/// Runs the command that the words name: the program's own name, a command and its options. The result
+/// is the status that the program ends with.
+///
+/// 0: the command is done, its check passed or its version is permitted; or `clap`'s help or the version
+/// was asked for, which is written to `output`.
+/// 1: the check failed, or the version isn't permitted.
+/// 2: the words are no command line, and `clap`'s text on them is written to `errors`.
+/// 3: the command failed, and one line on `errors` says why.
+/// `token`, `name`: the text of an option isn't a token or a name. `file`: a file, `input` or `output`
+/// can't be read or written, or the file isn't there, is in use or is no database. `open n`: the broker
+/// couldn't be made, opened or migrated, by the number of the fault of `Broker::create`, `Broker::open`
+/// and `migrate`.
+/// `listen`: the address isn't one of loopback, or can't be listened on.
+/// `serve 1`, `serve 2` and `serve 3`, only of `replay`: the input failed, the output failed, or there was no memory
+/// for a message; the answers before are out.
+/// `pact n`, `replies n`, `check n`: the fault of the pact file, of the replies, or of their comparison.
+/// An answer's body: what the broker answered `can-i-deploy` otherwise. `memory`: there was no memory
+/// for anything else.
+/// If `errors` fails too, its text is lost. Neither `output` nor `errors` is flushed.
+///
+/// `S` stands for what the file of the command held, if it has one. What is left of it comes with the status: it was
+/// closed, or given up as it was; after a failure too, if its database was found to be none for the command.
+pub fn run<S: Start, R: Read, W: Write, E: Write>(
+    rt: &HostRuntime,
+    words: &[&str],
+    start: S,
+    input: &mut R,
+    output: &mut W,
+    errors: &mut E,
+) -> (u8, Left<FileFrom<S>>)
+    ensures { Ran (image_at S.Start) R.remaining W.contents E.contents (texts_of words.now) input.old input.new
+        output.old output.new errors.old errors.new result.0 result.1 }
+{
+    match read_line(rt.alloc(), &*words) {
+        Ok(line) => run_line(rt, line, start, input, output, errors),
+        Err(error) => (tell(rt.alloc(), &error, output, errors), Left::Nothing),
+    }
+}

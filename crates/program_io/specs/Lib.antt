@@ -1,0 +1,4 @@
+pub mod Faults
+pub mod Listening
+pub mod Reported
+pub mod Written

@@ -1,0 +1,88 @@
+-- what standard error shows of a command that failed, and why a command on pact files does (this project's own choice)
+use Rattle.std.specs.Prelude.{◌≡◌, ◌≢◌, ◌⊎◌, ◌↔◌, ⊤, ℕ, List, ◌++◌, Option, Ok, Err}
+use Rattle.std.specs.Io.KnownBytes.{Appends, Consumes, IsAtEnd}
+use Rattle.broker_core.specs.Name.{IsName, IsToken}
+use Rattle.broker_core.specs.Text.{Text}
+use Rattle.broker_service.specs.declared.opening.OpenFault.TheVariants as opening
+use Rattle.pact_file.specs.Normal.{Normal}
+use Rattle.pact_file.specs.Pact.{Interaction, Pact}
+use Rattle.pact_file.specs.declared.fault.PactFault.TheVariants as pact_fault
+use Rattle.reply_check.specs.Replies.{RepliesRead}
+use Rattle.reply_check.specs.Verdicts.{AreKnown, IsFirstUnknown, UsesPattern}
+use Rattle.reply_check.specs.declared.fault.CheckFault.{CheckFault}
+use Rattle.reply_check.specs.declared.fault.CheckFault.TheVariants as check_fault
+use Rattle.reply_check.specs.declared.fault.RepliesFault.TheVariants as replies_fault
+use Rattle.reply_check.specs.declared.reply.Reply.{Reply}
+use Rattle.program_io.specs.Faults.{fault_text}
+use Rattle.program_io.specs.Written.{IsBegun, newline}
+use Rattle.program_io.specs.declared.fault.RunFault.{RunFault}
+use Rattle.program_io.specs.declared.fault.RunFault.TheVariants as run_fault
+
+-- ---- what is shown
+
+-- the line is out, or if the writer failed a beginning of it
+abbrev pub IsLineOut : List ℕ → Option (List ℕ) → Option (List ℕ) → Type 0
+IsLineOut text old new = Appends old new (text ++ newline) ⊎ IsBegun (text ++ newline) old new
+
+-- the text of the fault has parts that aren't fixed, so that it takes memory
+abbrev pub HasParts : RunFault → Type 0
+HasParts (run_fault.Open (opening.Format format)) = ⊤
+HasParts (run_fault.Pact f) = ⊤
+HasParts (run_fault.Replies f) = ⊤
+HasParts (run_fault.Check f) = ⊤
+HasParts _ = ⊥
+
+-- the fault is reported; or there was no memory for its text, and that is
+abbrev pub IsReported : RunFault → Option (List ℕ) → Option (List ℕ) → Type 0
+IsReported f old new = IsLineOut (fault_text f) old new ⊎ (HasParts f × IsLineOut (fault_text run_fault.Memory) old new)
+
+abbrev pub HasReport : Option (List ℕ) → Option (List ℕ) → Type 0
+HasReport old new = (f : RunFault) × IsReported f old new
+
+-- ---- why it is reported
+
+-- a file or a stream failed, or there was no memory
+abbrev pub IsFromOutside : RunFault → Type 0
+IsFromOutside run_fault.File = ⊤
+IsFromOutside run_fault.Memory = ⊤
+IsFromOutside _ = ⊥
+
+-- the text isn't a token; or it is one, and there was no memory for it
+abbrev pub IsTokenFault : Text → RunFault → Type 0
+IsTokenFault text f =
+    (f ≡ run_fault.Token ↔ (¬ (IsToken text))) × ((f ≡ run_fault.Token) ⊎ (f ≡ run_fault.Memory))
+
+-- the text isn't a name; or there was no memory for it
+abbrev pub IsNoName : Text → RunFault → Type 0
+IsNoName text f = ((f ≡ run_fault.Name) × (¬ (IsName text))) ⊎ (f ≡ run_fault.Memory)
+
+-- the first fault of a pact file
+abbrev pub IsPactFault : List ℕ → RunFault → Type 0
+IsPactFault file (run_fault.Pact f) = f ≢ pact_fault.Memory → Normal file (Err f)
+IsPactFault file _ = ⊥
+
+-- a pact and replies can't be compared
+abbrev pub IsComparisonFault : List Interaction → List Reply → CheckFault → Type 0
+IsComparisonFault interactions replies (check_fault.UnknownInteraction i) = IsFirstUnknown interactions replies i
+IsComparisonFault interactions replies check_fault.Pattern =
+    AreKnown interactions replies × UsesPattern interactions replies
+IsComparisonFault interactions replies check_fault.Memory = ⊤
+
+-- the first fault of a file of replies, or of its comparison with the pact
+abbrev pub IsRepliesFault : Pact → List ℕ → RunFault → Type 0
+IsRepliesFault pact recorded (run_fault.Replies f) = f ≢ replies_fault.Memory → RepliesRead recorded (Err f)
+IsRepliesFault pact recorded (run_fault.Check f) =
+    (replies : List Reply) × RepliesRead recorded (Ok replies) × IsComparisonFault pact.interactions replies f
+IsRepliesFault pact recorded _ = ⊥
+
+-- the fault of `normalise`, by what was read
+abbrev pub FailsToNormalise : Option (List ℕ) → Option (List ℕ) → RunFault → Type 0
+FailsToNormalise before after f =
+    IsFromOutside f ⊎ ((file : List ℕ) × Consumes before after file × IsAtEnd after × IsPactFault file f)
+
+-- the fault of `check`, by what its files have
+abbrev pub FailsToCheck : RunFault → Type 0
+FailsToCheck f =
+    IsFromOutside f
+    ⊎ ((file : List ℕ) × IsPactFault file f)
+    ⊎ ((file : List ℕ) × (recorded : List ℕ) × (pact : Pact) × Normal file (Ok pact) × IsRepliesFault pact recorded f)

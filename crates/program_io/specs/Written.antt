@@ -1,0 +1,80 @@
+-- what the commands on pact files write: one line on standard output (this project's own choice)
+use Rattle.std.specs.Prelude.{◌≡◌, ◌<◌, ℕ, List, [], ◌∷◌, ◌++◌, length, Bool, true, false, Option, Ok, codes, decimal, take}
+use Rattle.std.specs.List.{flat_map}
+use Rattle.std.specs.Io.KnownBytes.{Appends, Consumes, IsAtEnd}
+use Rattle.pact_file.specs.Normal.{Normal}
+use Rattle.pact_file.specs.Pact.{Pact, normal_text}
+use Rattle.reply_check.specs.Replies.{RepliesRead}
+use Rattle.reply_check.specs.Verdicts.{AreFailing, AreKnown}
+use Rattle.reply_check.specs.declared.reply.Reply.{Reply}
+
+abbrev pub newline : List ℕ
+newline = codes "\n"
+
+-- a beginning of the bytes is out, but not the whole
+abbrev pub IsBegun : List ℕ → Option (List ℕ) → Option (List ℕ) → Type 0
+IsBegun bytes old new = (n : ℕ) × (n < length bytes) × Appends old new (take n bytes)
+
+-- ---- normalise
+
+-- the file is a pact file, and this its normal text
+abbrev pub IsNormalText : List ℕ → List ℕ → Type 0
+IsNormalText file text = (pact : Pact) × Normal file (Ok pact) × (text ≡ normal_text pact)
+
+module _ (file : List ℕ) (old new : Option (List ℕ)) where
+  abbrev pub TellsNormalText : Type 0
+  TellsNormalText = (text : List ℕ) × IsNormalText file text × Appends old new (text ++ newline)
+
+  abbrev pub BeginsNormalText : Type 0
+  BeginsNormalText = (text : List ℕ) × IsNormalText file text × IsBegun (text ++ newline) old new
+
+module _ (before after old new : Option (List ℕ)) where
+  -- of what was read to the end
+  abbrev pub Normalises : Type 0
+  Normalises = (file : List ℕ) × Consumes before after file × IsAtEnd after × TellsNormalText file old new
+
+  abbrev pub NormalisesUntil : Type 0
+  NormalisesUntil = (file : List ℕ) × Consumes before after file × IsAtEnd after × BeginsNormalText file old new
+
+-- ---- check
+
+-- a place, behind a space
+abbrev pub place_text : ℕ → List ℕ
+place_text place = codes " " ++ decimal place
+
+abbrev pub is_pass : List ℕ → Bool
+is_pass [] = true
+is_pass (place ∷ places) = false
+
+-- `pass`, or `fail 0 3`
+abbrev pub verdict_text : List ℕ → List ℕ
+verdict_text [] = codes "pass"
+verdict_text (place ∷ places) = codes "fail" ++ flat_map place_text (place ∷ places)
+
+-- these interactions of a pact fail by the replies that a file has
+abbrev pub AreFailingBy : Pact → List ℕ → List ℕ → Type 0
+AreFailingBy pact recorded places =
+    (replies : List Reply) × RepliesRead recorded (Ok replies)
+    × AreKnown pact.interactions replies × AreFailing pact.interactions replies places
+
+module _ (pact : Pact) (recorded : List ℕ) (old new : Option (List ℕ)) where
+  abbrev pub TellsVerdict : Bool → Type 0
+  TellsVerdict passes =
+      (places : List ℕ) × AreFailingBy pact recorded places × (passes ≡ is_pass places)
+      × Appends old new (verdict_text places ++ newline)
+
+  abbrev pub BeginsVerdict : Type 0
+  BeginsVerdict =
+      (places : List ℕ) × AreFailingBy pact recorded places × IsBegun (verdict_text places ++ newline) old new
+
+module _ (old new : Option (List ℕ)) where
+  -- of two files: no contract says what a file has
+  abbrev pub Checks : Bool → Type 0
+  Checks passes =
+      (file : List ℕ) × (recorded : List ℕ) × (pact : Pact)
+      × Normal file (Ok pact) × TellsVerdict pact recorded old new passes
+
+  abbrev pub ChecksUntil : Type 0
+  ChecksUntil =
+      (file : List ℕ) × (recorded : List ℕ) × (pact : Pact)
+      × Normal file (Ok pact) × BeginsVerdict pact recorded old new

@@ -1,0 +1,124 @@
+//! Recorded replies of a provider against a pact file.
+ghost use Rattle.std.specs.Prelude.{◌≡◌, ◌⊎◌, ◌++◌, IfErr, IfOk, OnErr, OnOk, string_bytes, codes};
+ghost use Rattle.std.specs.Io.KnownBytes.{Appends};
+ghost use Rattle.std.specs.List.{flat_map};
+ghost use Rattle.program_io.specs.Reported.{FailsToCheck, IsFromOutside, IsRepliesFault};
+ghost use Rattle.program_io.specs.Written.{AreFailingBy, BeginsVerdict, Checks, ChecksUntil, IsBegun, TellsVerdict};
+ghost use Rattle.program_io.specs.Written.{newline, place_text, verdict_text};
+
+use crate::fault::RunFault;
+use crate::normalise::pact_of;
+use crate::output::write_line;
+use pact_file::Pact;
+use reply_check::{Verdict, read_replies};
+use std::alloc::{AllocError, Global};
+use std::fs;
+use std::io::{ErrorKind, Write};
+
+/// What is in the file of this path.
+fn read_file(rt: &HostRuntime, path: &str) -> Result<Vec<u8>, RunFault>
+    ensures { IfErr result IsFromOutside }
+{
+    match fs::read(rt, path) {
+        Ok(bytes) => Ok(bytes),
+        Err(error) if error.kind() == ErrorKind::OutOfMemory => Err(RunFault::Memory),
+        Err(_) => Err(RunFault::File),
+    }
+}
+
+/// The verdict of the pact on the replies that a file has.
+fn verdict_of(alloc: Global, pact: &Pact, file: &[u8]) -> Result<Verdict, RunFault>
+    ensures ok { IfOk result (AreFailingBy pact.now file.now) }
+    ensures err { IfErr result (IsRepliesFault pact.now file.now) }
+{
+    match read_replies(alloc, file) {
+        Ok(replies) => match reply_check::check(alloc, pact, &replies) {
+            Ok(verdict) => Ok(verdict),
+            Err(fault) => Err(RunFault::Check(fault)),
+        },
+        Err(fault) => Err(RunFault::Replies(fault)),
+    }
+}
+
+/// Writes the place after a space.
+fn push_place(text: &mut String, place: usize) -> Result<(), AllocError>
+    ensures { OnOk result (string_bytes text.new ≡ string_bytes text.old ++ place_text place) }
+{
+    write!(text, " {place}")
+}
+
+/// `fail` and the places.
+fn failing_text(alloc: Global, places: &[usize]) -> Result<String, AllocError>
+    ensures { IfOk result (λ text. string_bytes text ≡ codes "fail" ++ flat_map place_text places.now) }
+{
+    let mut text = String::from_str(alloc, "fail")?;
+    for place in places {
+        push_place(&mut text, *place)?;
+    }
+    Ok(text)
+}
+
+/// `pass`, or `fail` and the places.
+#[tactic(auto, using(crate::proofs::VerdictLemmas::pass_text, crate::proofs::VerdictLemmas::fail_text))]
+fn verdict_text(alloc: Global, verdict: &Verdict) -> Result<String, AllocError>
+    ensures { IfOk result (λ text. string_bytes text ≡ verdict_text verdict.now) }
+{
+    if verdict.passes() {
+        String::from_str(alloc, "pass")
+    } else {
+        failing_text(alloc, verdict.failing())
+    }
+}
+
+/// Writes the verdict and a newline.
+fn write_verdict<W: Write>(alloc: Global, verdict: &Verdict, output: &mut W) -> Result<(), RunFault>
+    ensures ok { OnOk result (Appends (W.contents output.old) (W.contents output.new)
+        (verdict_text verdict.now ++ newline)) }
+    ensures err { OnErr result ((output.new ≡ output.old)
+        ⊎ IsBegun (verdict_text verdict.now ++ newline) (W.contents output.old) (W.contents output.new)) }
+    ensures cause { IfErr result IsFromOutside }
+{
+    match verdict_text(alloc, verdict) {
+        Ok(text) => write_line(output, text.as_str()),
+        Err(_) => Err(RunFault::Memory),
+    }
+}
+
+/// Writes the verdict of the pact on the replies that a file has, and a newline, and says whether it is a pass.
+#[tactic(auto, using(crate::proofs::VerdictLemmas::passes_is))]
+fn tell_verdict<W: Write>(
+    alloc: Global,
+    pact: &Pact,
+    file: &[u8],
+    output: &mut W,
+) -> Result<bool, RunFault>
+    ensures ok { IfOk result (TellsVerdict pact.now file.now (W.contents output.old) (W.contents output.new)) }
+    // Nothing was written, or a beginning of the verdict.
+    ensures err { OnErr result ((output.new ≡ output.old)
+        ⊎ BeginsVerdict pact.now file.now (W.contents output.old) (W.contents output.new)) }
+    ensures cause { IfErr result (λ f. IsFromOutside f ⊎ IsRepliesFault pact.now file.now f) }
+{
+    let verdict = verdict_of(alloc, pact, file)?;
+    write_verdict(alloc, &verdict, output)?;
+    Ok(verdict.passes())
+}
+
+/// Compares the replies in a file with the pact in another, writes the verdict and a newline, and says whether it is a
+/// pass.
+pub fn check<W: Write>(
+    rt: &HostRuntime,
+    pact: &str,
+    replies: &str,
+    output: &mut W,
+) -> Result<bool, RunFault>
+    ensures ok { IfOk result (Checks (W.contents output.old) (W.contents output.new)) }
+    // Nothing was written, or a beginning of the verdict.
+    ensures err { OnErr result ((output.new ≡ output.old)
+        ⊎ ChecksUntil (W.contents output.old) (W.contents output.new)) }
+    ensures cause { IfErr result FailsToCheck }
+{
+    let file = read_file(rt, pact)?;
+    let pact = pact_of(rt.alloc(), file.as_slice())?;
+    let recorded = read_file(rt, replies)?;
+    tell_verdict(rt.alloc(), &pact, recorded.as_slice(), output)
+}

@@ -1,0 +1,11 @@
+//! What the program needs that isn't a broker: why a command fails and how that is reported, the commands on pact
+//! files, the forms of tokens and names among the options, and where connections come in.
+#![tactic(auto)]
+
+pub mod check;
+pub mod fault;
+pub mod forms;
+pub mod listening;
+pub mod normalise;
+pub mod output;
+pub mod report;
