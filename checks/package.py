@@ -62,7 +62,8 @@ cat asked
 systemd-analyze verify /lib/systemd/system/broker.service 2>&1
 broker --version
 holzhebo --help | head -c 40 > /dev/null
-man -w broker holzhebo
+dpkg -L holzhebo | grep -E '/(man1|completions|vendor-completions)/' | sort
+grep -rl /usr/local/ /usr/share/holzhebo /lib/systemd/system/broker.service || true
 cmp /usr/share/holzhebo/desk/desk.json /usr/share/holzhebo/desk.json
 
 printf %s $token > token
@@ -108,8 +109,12 @@ WANTED = {
 --system daemon-reload
 try-restart broker.service
 broker @VERSION@
+/usr/share/bash-completion/completions/broker
+/usr/share/bash-completion/completions/holzhebo
 /usr/share/man/man1/broker.1.gz
 /usr/share/man/man1/holzhebo.1.gz
+/usr/share/zsh/vendor-completions/_broker
+/usr/share/zsh/vendor-completions/_holzhebo
 """,
     "upgraded": """--system daemon-reload
 try-restart broker.service
