@@ -8,7 +8,9 @@
    STOPS_PASSES    how many calls on it pass
    STOPS_KEPT      a folder: `database` and `log` in it are the files as they were last synced, if they were; `calls` has of
                    each, the database first, how many calls there were and how many of them were refused
-   STOPS_FORGETS   if it is set, nothing is kept at a sync, as by a disk that says that it has synced and hasn't */
+   STOPS_FORGETS   if it is set, nothing is kept at a sync, as by a disk that says that it has synced and hasn't
+
+   What the program takes for chance is the same at each run, so that two runs leave the same bytes. */
 #define _GNU_SOURCE
 #include <errno.h>
 #include <fcntl.h>
@@ -122,3 +124,8 @@ ssize_t pwrite(int fd, const void *text, size_t most, off_t at) { OR_REFUSED(sys
 int ftruncate(int fd, off_t length) { OR_REFUSED(syscall(SYS_ftruncate, fd, length)); }
 int fsync(int fd) { OR_REFUSED(keep(fd, syscall(SYS_fsync, fd))); }
 int fdatasync(int fd) { OR_REFUSED(keep(fd, syscall(SYS_fdatasync, fd))); }
+
+int getentropy(void *bytes, size_t length) {
+  memset(bytes, 7, length);
+  return 0;
+}

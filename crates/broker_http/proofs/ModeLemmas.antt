@@ -9,8 +9,8 @@ use Rattle.table_access.specs.{Calls.{HasFailed, fault_of}, declared.StoreFault.
 use Rattle.broker_core.specs.{Laws.{IsDone}, Machine.{Request as Asked, is_step}, State.{State as Broker}, Text.{Text}, declared.answer.Answer.{Answer}}
 use Rattle.broker_core.specs.declared.command.Command.{Command}
 use Rattle.broker_tables.{specs.{Readable.{IsReadable}, Room.{HasRoomFor, TakesRoom, enough}}, proofs.RoomLemmas.{room_for, takes_none, takes_then}}
-use Rattle.broker_service.specs.{BrokerView.{BrokerView}, Calls.{Applied}, Ends.{Applies, IsAsBefore, CommitsAtMostOnce}, Stored.{HoldsState}}
-use Rattle.broker_service.proofs.Transaction.{outlives_itself}
+use Rattle.broker_database.specs.{BrokerView.{BrokerView}, Calls.{Applied}, Ends.{Applies, IsAsBefore, CommitsAtMostOnce}, Stored.{HoldsState}}
+use Rattle.broker_database.proofs.Transaction.{outlives_itself}
 use Rattle.http_responses.specs.Responses.{Response}
 use Rattle.broker_http.specs.{Stream.{Responses}, Serving.{Mode, ModeStep, IsInMode, RunsReadable, IsDiskAtFault, StopsOnlyBy}}
 use Rattle.broker_http.specs.{Serving.Mode.{Running, IsStopped}, Journal.{Journal, JournalStep, written}}

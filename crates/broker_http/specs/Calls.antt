@@ -3,8 +3,8 @@ use Rattle.std.specs.Prelude.{◌≤◌, ℕ, Bool, List, length, Contains, Opti
 use Rattle.sqlite.specs.Tree.{Trees}
 use Rattle.sqlite.specs.Held.{Held}
 use Rattle.sqlite.specs.State.{State, HasCleanDisk, Survives}
-use Rattle.broker_service.specs.BrokerView.{BrokerView}
-use Rattle.broker_service.specs.Calls.{Applied}
+use Rattle.broker_database.specs.BrokerView.{BrokerView}
+use Rattle.broker_database.specs.Calls.{Applied}
 use Rattle.http_messages.specs.Message.{Message}
 use Rattle.http_requests.specs.declared.requests.Request.{Request}
 use Rattle.http_responses.specs.Responses.{Response, Writes}

@@ -10,8 +10,8 @@ use Rattle.broker_core.specs.Text.{Text}
 use Rattle.broker_core.specs.declared.answer.Answer.{Answer}
 use Rattle.broker_core.specs.declared.command.Command.TheVariants.{Deploy, Release}
 use Rattle.broker_core.specs.declared.command.Version.{Version}
-use Rattle.broker_service.specs.BrokerView.{BrokerView}
-use Rattle.broker_service.specs.Calls.{Applied}
+use Rattle.broker_database.specs.BrokerView.{BrokerView}
+use Rattle.broker_database.specs.Calls.{Applied}
 use Rattle.command_facts.specs.Primitives.{broker_primitives}
 use Rattle.http_messages.specs.Message.{Message}
 use Rattle.http_messages.specs.Messages.{BeginsWithMessage}

@@ -14,12 +14,12 @@ use Rattle.broker_core.specs.declared.answer.Answer.TheVariants as answers
 use Rattle.broker_core.specs.declared.command.Command.{Command}
 use Rattle.broker_tables.specs.Readable.{IsReadable}
 use Rattle.broker_tables.specs.Room.{HasRoomFor, enough}
-use Rattle.broker_service.specs.BrokerView.{BrokerView}
-use Rattle.broker_service.specs.Causes.{IsToBeDone, CommitLacksMemory}
-use Rattle.broker_service.specs.Ends.{HoldsNext}
+use Rattle.broker_database.specs.BrokerView.{BrokerView}
+use Rattle.broker_database.specs.Causes.{IsToBeDone, CommitLacksMemory}
+use Rattle.broker_database.specs.Ends.{HoldsNext}
 use Rattle.command_facts.specs.Patterns.{AsksPattern}
 use Rattle.command_facts.specs.Primitives.{broker_primitives}
-use Rattle.broker_service.specs.Stored.{Stores, HoldsState}
+use Rattle.broker_database.specs.Stored.{Stores, HoldsState}
 use Rattle.http_messages.specs.Message.{Message}
 use Rattle.http_responses.specs.Responses.{Response}
 use Rattle.broker_http.specs.Stream.{texts, Responses, StreamEnds, StreamCut}

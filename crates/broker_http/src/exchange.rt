@@ -1,16 +1,16 @@
 //! One message and its response.
 ghost use Rattle.std.specs.Prelude.{◌≡◌, ◌≤◌, [], vec_capacity, IfOk, IfErr};
-ghost use Rattle.sqlite.specs.Held.{state};
-ghost use Rattle.broker_service.specs.Calls.{Applied};
+ghost use Rattle.broker_database.specs.Calls.{Applied};
 ghost use Rattle.http_messages.specs.Message.{message};
 ghost use Rattle.http_messages.specs.Views.{IsHeadRead};
 ghost use Rattle.broker_http.specs.Calls.{ByBroker, IsResponded};
 ghost use Rattle.broker_http.specs.Stream.{ExchangeCut, ExchangeDone};
 
 use crate::served::ServeFault;
+use answer_texts::Answer;
 use broker_core::command::Command;
 use broker_core::name::Token;
-use broker_service::{Answer, Broker};
+use broker_database::Service;
 use http_messages::head::{Head, Refused};
 use http_requests::{Request, read_request};
 use http_responses::{
@@ -18,18 +18,17 @@ use http_responses::{
     write_refusal,
 };
 use http_routes::RouteTable;
-use sqlite::Alter;
 use std::alloc::Global;
 use std::io::Write;
 
 /// Runs a command of the caller with this token.
-fn apply<S: Alter>(
+fn apply<B: Service>(
     alloc: Global,
-    broker: &mut Broker<S>,
+    broker: &mut B,
     token: &Option<Token>,
     command: &Command,
 ) -> Answer
-    ensures { Applied (state S.Store) broker.old token.now command.now result broker.new }
+    ensures { Applied B.shown (B.seen broker.old) token.now command.now result (B.seen broker.new) }
 {
     match token {
         Some(token) => broker.apply(alloc, Some(token.as_str()), command),
@@ -40,16 +39,16 @@ fn apply<S: Alter>(
 /// Answers what a message asks, and says whether the response closes the stream.
 ///
 /// The response goes through the empty buffer, its head whole, so that nothing is allocated after the command.
-fn respond<S: Alter, W: Write>(
+fn respond<B: Service, W: Write>(
     alloc: Global,
-    broker: &mut Broker<S>,
+    broker: &mut B,
     request: Request,
     head_buffer: Vec<u8>,
     writer: &mut W,
 ) -> Result<bool, WriteFault>
     requires empty { head_buffer.items ≡ [] }
     requires capacity { HEAD_CAPACITY ≤ vec_capacity head_buffer }
-    ensures { IsResponded (state S.Store) broker.old broker.new
+    ensures { IsResponded B.shown (B.seen broker.old) (B.seen broker.new)
         (W.contents writer.old) (W.contents writer.new) request result }
 {
     match request {
@@ -81,20 +80,20 @@ fn respond<S: Alter, W: Write>(
 /// Answers a message by its head, what was read of it, and its body, and says whether the response closes the stream.
 ///
 /// `Memory` comes before anything is done; `Write` leaves a part of the response out.
-pub(crate) fn answer<S: Alter, W: Write>(
+pub(crate) fn answer<B: Service, W: Write>(
     alloc: Global,
     routes: &RouteTable,
-    broker: &mut Broker<S>,
+    broker: &mut B,
     text: &[u8],
     head: Result<Head, Refused>,
     body: &[u8],
     writer: &mut W,
 ) -> Result<bool, ServeFault>
     requires { IsHeadRead text.now head }
-    ensures ok { IfOk result (ExchangeDone (ByBroker (state S.Store)) broker.old (message text.now body.now) broker.new
-        (W.contents writer.old) (W.contents writer.new)) }
-    ensures fault { IfErr result (ExchangeCut (ByBroker (state S.Store)) broker.old (message text.now body.now)
-        broker.new (W.contents writer.old) (W.contents writer.new)) }
+    ensures ok { IfOk result (ExchangeDone (ByBroker B.shown) (B.seen broker.old) (message text.now body.now)
+        (B.seen broker.new) (W.contents writer.old) (W.contents writer.new)) }
+    ensures fault { IfErr result (ExchangeCut (ByBroker B.shown) (B.seen broker.old) (message text.now body.now)
+        (B.seen broker.new) (W.contents writer.old) (W.contents writer.new)) }
 {
     let Ok(head_buffer) = Vec::with_capacity(alloc, RESPONSE_CAPACITY) else {
         return Err(ServeFault::Memory);

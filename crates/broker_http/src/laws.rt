@@ -1,8 +1,7 @@
 //! The laws of streams. The program calls none of these.
-ghost use Rattle.sqlite.specs.Held.{state};
 ghost use Rattle.broker_http.specs.Laws.{ClosesByRequest, OneReading, StreamsDeployExactly, StreamsReleaseExactly};
 
-use sqlite::Alter;
+use broker_database::Service;
 
 /// The sentence for which this broker exists, of a stream of requests. A broker that [`crate::serve`]s one from
 /// a database that holds a state answers by steps of the machine, in order, from that state on (the field `machine`
@@ -17,7 +16,7 @@ pub fn headline_of_stream()
 
 /// A stream has one reading, however it is cut into reads and whatever a broker answers: the same messages, a response
 /// to each, the same rest and the same end. For whether a response closes its stream depends on its message alone.
-pub fn one_reading<S: Alter, U: Alter>()
-    ensures closes { ClosesByRequest (state S.Store) }
-    ensures reading { OneReading (state S.Store) (state U.Store) }
+pub fn one_reading<B: Service, C: Service>()
+    ensures closes { ClosesByRequest B.shown }
+    ensures reading { OneReading B.shown C.shown }
 {}

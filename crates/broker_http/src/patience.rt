@@ -1,30 +1,28 @@
 //! Serving a peer, and waiting for it no longer than the limits say.
-ghost use Rattle.sqlite.specs.Held.{state};
 ghost use Rattle.broker_http.specs.Calls.{IsServed};
 
 use crate::served::{ServeFault, Served};
 use crate::serving::serve;
-use broker_service::Broker;
+use broker_database::Service;
 use http_messages::patience::{Door, Incoming, Limits, Outgoing, PeerReader, PeerWriter, Wait};
 use http_routes::RouteTable;
-use sqlite::Alter;
 use std::alloc::Global;
 use std::cell::Cell;
 use std::time::Clock;
 
 /// Answers what the peer asks, as `serve` does, and waits for it as the limits say. If one is over, the reader or the
 /// writer has failed to `serve`. It gives the peer's two sides back.
-pub fn serve_peer<'a, S: Alter, R: PeerReader + Drop, W: PeerWriter + Drop, D: Door, C: Clock>(
+pub fn serve_peer<'a, B: Service, R: PeerReader + Drop, W: PeerWriter + Drop, D: Door, C: Clock>(
     alloc: Global,
     routes: &RouteTable,
-    broker: &mut Broker<S>,
+    broker: &mut B,
     reader: R,
     writer: W,
     door: &'a mut D,
     clock: &'a C,
     limits: Limits,
 ) -> (Result<Served, ServeFault>, R, W)
-    ensures { IsServed (state S.Store) broker.old broker.new
+    ensures { IsServed B.shown (B.seen broker.old) (B.seen broker.new)
         (R.remaining reader) (R.remaining result.1)
         (W.contents writer) (W.contents result.2) result.0 }
 {

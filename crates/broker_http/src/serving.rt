@@ -1,15 +1,13 @@
 //! Serving a stream.
 ghost use Rattle.std.specs.Prelude.{◌≡◌, ◌+◌, ◌≤◌, length, take, drop};
-ghost use Rattle.sqlite.specs.Held.{state};
 ghost use Rattle.broker_http.specs.Calls.{IsAnsweredByBroker, IsServed};
 
 use crate::exchange::answer;
 use crate::served::{Ended, ServeFault, Served};
-use broker_service::Broker;
+use broker_database::Service;
 use http_messages::buffer::{Buffer, drop_front};
 use http_messages::reading::{ReadOutcome, read_message};
 use http_routes::RouteTable;
-use sqlite::Alter;
 use std::alloc::Global;
 use std::io::{Read, Write};
 
@@ -26,14 +24,14 @@ fn message_parts(bytes: &[u8], head_len: usize, body_len: usize) -> (&[u8], &[u8
 /// Answers the messages of a stream one after another, by what the broker promises of each command on any disk.
 ///
 /// It is apart from `serve`, whose clause on the machine follows from this one at once.
-fn serve_all<R: Read, W: Write, S: Alter>(
+fn serve_all<R: Read, W: Write, B: Service>(
     alloc: Global,
     routes: &RouteTable,
-    broker: &mut Broker<S>,
+    broker: &mut B,
     reader: &mut R,
     writer: &mut W,
 ) -> Result<Served, ServeFault>
-    ensures { IsAnsweredByBroker (state S.Store) broker.old broker.new
+    ensures { IsAnsweredByBroker B.shown (B.seen broker.old) (B.seen broker.new)
         (R.remaining reader.old) (R.remaining reader.new)
         (W.contents writer.old) (W.contents writer.new) result }
 {
@@ -79,14 +77,14 @@ fn serve_all<R: Read, W: Write, S: Alter>(
 /// `ServeFault::Memory`: there was no memory for a message or its answer; nothing was done for it, and
 /// all answers before are out.
 /// The writer is not flushed. The table of routes can be made once for all streams.
-pub fn serve<R: Read, W: Write, S: Alter>(
+pub fn serve<R: Read, W: Write, B: Service>(
     alloc: Global,
     routes: &RouteTable,
-    broker: &mut Broker<S>,
+    broker: &mut B,
     reader: &mut R,
     writer: &mut W,
 ) -> Result<Served, ServeFault>
-    ensures { IsServed (state S.Store) broker.old broker.new
+    ensures { IsServed B.shown (B.seen broker.old) (B.seen broker.new)
         (R.remaining reader.old) (R.remaining reader.new)
         (W.contents writer.old) (W.contents writer.new) result }
 {

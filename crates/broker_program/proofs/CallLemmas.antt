@@ -5,7 +5,7 @@ use Rattle.sqlite_disk.specs.declared.Disk.{Ghosts}
 use Rattle.broker_core.specs.{Laws.{Exit}, Machine.{Request as Asked}}
 use Rattle.http_requests.specs.{declared.requests.Request.{Request}, declared.requests.Request.TheVariants.{Refused, NoRoute, NoMethod, Asks}}
 use Rattle.http_responses.specs.Responses.{Response}
-use Rattle.broker_service.specs.{BrokerView.{BrokerView}, Calls.{Applied}, Sessions.{RunsCalls, exit_of}}
+use Rattle.broker_database.specs.{BrokerView.{BrokerView}, Calls.{Applied}, Sessions.{RunsCalls, exit_of}}
 use Rattle.broker_http.specs.{Calls.{ByBroker, IsServed}, Exchange.{Responds}, Stream.{Responses}, declared.served.ServeFault.{ServeFault}}
 use Rattle.broker_http.specs.declared.served.Served.{Served}
 use Rattle.broker_program.specs.Serving.{ServesPeers}

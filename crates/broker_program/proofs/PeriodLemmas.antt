@@ -4,8 +4,8 @@ use Rattle.sqlite_disk.specs.declared.Disk.{Ghosts}
 use Rattle.sqlite_store.specs.Laws.{settled_at, stays_at}
 use Rattle.sqlite.specs.{Files.{IsOpened, file_state, image_of}, Held.{Held}, Recovery.{Image}, Start.{FindsIn}, State.{HasCleanDisk}}
 use Rattle.sqlite.specs.{declared.FileStore.{FileStore}, declared.file.Leftover.{Leftover}}
-use Rattle.broker_service.specs.{BrokerView.{BrokerView}, Life.{Kept, Period, PeriodLeads, LifeLeads, PeriodRuns, AreFilesOf, EndsAs, MayLeave}}
-use Rattle.broker_service.{specs.Life.Period.{Serving}, proofs.LifeLemmas.{file_leads}}
+use Rattle.broker_database.specs.{BrokerView.{BrokerView}, Life.{Kept, Period, PeriodLeads, LifeLeads, PeriodRuns, AreFilesOf, EndsAs, MayLeave}}
+use Rattle.broker_database.{specs.Life.Period.{Serving}, proofs.LifeLemmas.{file_leads}}
 use Rattle.broker_program.specs.{Life.{periods_of}, Serving.{StartsAfter, Work, Works}}
 use Rattle.sqlite.specs.declared.file.Leftover.TheVariants as left
 

@@ -4,7 +4,7 @@ use Rattle.sqlite_disk.specs.declared.Disk.{Ghosts}
 use Rattle.sqlite_trees.specs.View.{doubt}
 use Rattle.sqlite.specs.{Files.{file_state}, FileStore.{view}, Held.{Held}, Recovery.{Image}, State.{HasCleanDisk}, View.{IsClean}}
 use Rattle.sqlite.specs.declared.FileStore.{FileStore}
-use Rattle.broker_service.specs.declared.opening.OpenFault.{OpenFault}
+use Rattle.broker_database.specs.declared.opening.OpenFault.{OpenFault}
 use Rattle.broker_program.specs.{Files.{GivesUpAs, LeavesStore, OpensOn}, Refusals.{FailsThere, IsOfDatabase}, declared.left.Left.{Left}}
 use Rattle.broker_program.specs.declared.left.Left.TheVariants.{Closed, GivenUp, Nothing, Served}
 use Rattle.program_io.specs.declared.fault.RunFault.{RunFault}

@@ -5,7 +5,7 @@ use Rattle.sqlite_pool.proofs.StateLemmas.{clean_is, may_leave_is}
 use Rattle.sqlite_trees.{specs.View.{View}, proofs.Doubt.{no_doubt}}
 use Rattle.sqlite.specs.{FileStore.{files as store_files, state as store_state, view}, Files.{Finds, IsOpened, image_of}, Held.{Held}, Recovery.{Image}}
 use Rattle.sqlite.specs.{View.{IsClean}, WalFiles.{outcomes}, WalReads.{AreClean}, declared.FileStore.{FileStore}}
-use Rattle.broker_service.specs.{BrokerView.{BrokerView}, Life.{IsOpenedAfter}}
+use Rattle.broker_database.specs.{BrokerView.{BrokerView}, Life.{IsOpenedAfter}}
 use Rattle.broker_program.specs.{Files.{GivesUpAs}, Reopening.{EmptiesLog, IsStillGiven}, Serving.{OpensAfter}}
 use Rattle.sqlite.specs.declared.file.Leftover.TheVariants as left
 

@@ -3,7 +3,7 @@ use Rattle.std.proofs.Common.{◌≡◌, ◌≤◌, inl, inr, ℕ, ◌+◌, ◌-
 use Rattle.sqlite_disk.specs.{declared.Disk.{Ghosts}, declared.Files.{Files}}
 use Rattle.sqlite.specs.{Files.{file_state}, Recovery.{Image}, State.{HasCleanDisk}, WalReads.{AreClean}, declared.FileStore.{FileStore}}
 use Rattle.sqlite.specs.declared.file.Leftover.{Leftover}
-use Rattle.broker_service.specs.{BrokerView.{BrokerView}, Life.{EndsAs, IsGivenBack}}
+use Rattle.broker_database.specs.{BrokerView.{BrokerView}, Life.{EndsAs, IsGivenBack}}
 use Rattle.broker_program.specs.{Files.{ClosesAs, OpensBroker}, Refusals.{IsLeftUnserved}}
 use Rattle.broker_program.specs.Reopening.{HasServed, OpensBrokerAgain, ServesAll, ServesMore, ServesOn, ServesSoFar}
 use Rattle.broker_program.specs.{Serving.{LosesFiles, ServesFile, ServesNext, ServesOver, Work, Works, peers_of}, declared.left.Service.{Service}}

@@ -1,7 +1,7 @@
 -- a database that is as it was, and then as it was, is as it was
 use Rattle.std.proofs.Common.{◌∙◌}
 use Rattle.sqlite.specs.State.{State}
-use Rattle.broker_service.specs.Ends.{IsAsBefore}
+use Rattle.broker_database.specs.Ends.{IsAsBefore}
 
 pub still_as_before : (a b c : State) → IsAsBefore a b → IsAsBefore b c → IsAsBefore a c
 still_as_before a b c first second = record {

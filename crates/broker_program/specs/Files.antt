@@ -12,9 +12,9 @@ use Rattle.sqlite.specs.State.{HasCleanDisk}
 use Rattle.sqlite.specs.View.{IsClean}
 use Rattle.sqlite.specs.WalReads.{AreClean}
 use Rattle.sqlite.specs.declared.FileStore.{FileStore}
-use Rattle.broker_service.specs.BrokerView.{BrokerView}
-use Rattle.broker_service.specs.Calls.{Opened}
-use Rattle.broker_service.specs.Life.{IsGivenBack}
+use Rattle.broker_database.specs.BrokerView.{BrokerView}
+use Rattle.broker_database.specs.Calls.{Opened}
+use Rattle.broker_database.specs.Life.{IsGivenBack}
 use Rattle.broker_program.specs.declared.left.Left.{Left}
 use Rattle.broker_program.specs.declared.left.Left.TheVariants.{Closed, GivenUp, Served}
 use Rattle.broker_program.specs.declared.left.Service.{Service}

@@ -11,9 +11,9 @@ use Rattle.broker_core.specs.Text.{Text}
 use Rattle.broker_core.specs.declared.answer.Answer.{Answer}
 use Rattle.broker_core.specs.declared.command.Command.{Command}
 use Rattle.command_facts.specs.Primitives.{broker_primitives}
-use Rattle.broker_service.specs.Life.{Kept, Period, LifeLeads, AreFilesOf, MayLeave}
-use Rattle.broker_service.specs.Life.Period.{Making, Migrating, Serving}
-use Rattle.broker_service.specs.Sessions.{exit_of}
+use Rattle.broker_database.specs.Life.{Kept, Period, LifeLeads, AreFilesOf, MayLeave}
+use Rattle.broker_database.specs.Life.Period.{Making, Migrating, Serving}
+use Rattle.broker_database.specs.Sessions.{exit_of}
 use Rattle.broker_program.specs.Making.{MakesBroker, MigratesFile}
 use Rattle.broker_program.specs.Serving.{ServesOver, Work}
 use Rattle.broker_program.specs.Told.{BrokerAnswers}

@@ -12,8 +12,8 @@ use Rattle.sqlite.specs.WalReads.{AreClean}
 use Rattle.sqlite.specs.declared.FileStore.{FileStore}
 use Rattle.broker_core.specs.Text.{Text}
 use Rattle.command_facts.specs.Primitives.{broker_primitives}
-use Rattle.broker_service.specs.BrokerView.{BrokerView}
-use Rattle.broker_service.specs.Calls.{Created, Migrated}
+use Rattle.broker_database.specs.BrokerView.{BrokerView}
+use Rattle.broker_database.specs.Calls.{Created, Migrated}
 use Rattle.broker_program.specs.Files.{StartsFrom}
 
 -- Held is what the log and the database file held at first; the files are what is left of them.

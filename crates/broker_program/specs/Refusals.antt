@@ -9,10 +9,10 @@ use Rattle.sqlite.specs.State.{HasCleanDisk}
 use Rattle.sqlite.specs.View.{IsClean}
 use Rattle.sqlite.specs.declared.FileStore.{FileStore}
 use Rattle.broker_core.specs.Text.{Text}
-use Rattle.broker_service.specs.BrokerView.{BrokerView}
-use Rattle.broker_service.specs.Calls.{Created, Migrated, Opened}
-use Rattle.broker_service.specs.Life.{IsGivenBack}
-use Rattle.broker_service.specs.declared.opening.OpenFault.{OpenFault}
+use Rattle.broker_database.specs.BrokerView.{BrokerView}
+use Rattle.broker_database.specs.Calls.{Created, Migrated, Opened}
+use Rattle.broker_database.specs.Life.{IsGivenBack}
+use Rattle.broker_database.specs.declared.opening.OpenFault.{OpenFault}
 use Rattle.command_facts.specs.Primitives.{broker_primitives}
 use Rattle.broker_program.specs.Files.{LeavesStore, StartsFrom}
 use Rattle.program_io.specs.declared.fault.RunFault.{RunFault}

@@ -12,9 +12,9 @@ use Rattle.sqlite.specs.View.{IsClean}
 use Rattle.sqlite.specs.WalReads.{AreClean}
 use Rattle.sqlite.specs.declared.FileStore.{FileStore}
 use Rattle.sqlite.specs.declared.file.Leftover.TheVariants as left
-use Rattle.broker_service.specs.BrokerView.{BrokerView}
-use Rattle.broker_service.specs.Calls.{Opened}
-use Rattle.broker_service.specs.Life.{IsOpenedAfter}
+use Rattle.broker_database.specs.BrokerView.{BrokerView}
+use Rattle.broker_database.specs.Calls.{Opened}
+use Rattle.broker_database.specs.Life.{IsOpenedAfter}
 use Rattle.broker_program.specs.Files.{GivesUpAs}
 use Rattle.broker_program.specs.Serving.{LosesFiles, LosesSync, OpensAfter, ServesOver, ServesPeers, StartsAfter, Work}
 use Rattle.broker_program.specs.Serving.{peers_of}

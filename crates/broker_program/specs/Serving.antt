@@ -16,10 +16,10 @@ use Rattle.sqlite.specs.declared.file.Leftover.{Leftover}
 use Rattle.sqlite.specs.declared.file.Leftover.TheVariants as left
 use Rattle.broker_core.specs.Laws.{Exit}
 use Rattle.broker_core.specs.Machine.{Request}
-use Rattle.broker_service.specs.BrokerView.{BrokerView}
-use Rattle.broker_service.specs.Calls.{Opened}
-use Rattle.broker_service.specs.Life.{EndsAs, IsGivenBack, IsOpenedAfter}
-use Rattle.broker_service.specs.Sessions.{RunsCalls}
+use Rattle.broker_database.specs.BrokerView.{BrokerView}
+use Rattle.broker_database.specs.Calls.{Opened}
+use Rattle.broker_database.specs.Life.{EndsAs, IsGivenBack, IsOpenedAfter}
+use Rattle.broker_database.specs.Sessions.{RunsCalls}
 use Rattle.broker_http.specs.Calls.{IsServed}
 use Rattle.broker_http.specs.declared.served.ServeFault.{ServeFault}
 use Rattle.broker_http.specs.declared.served.Served.{Served}

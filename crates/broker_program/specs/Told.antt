@@ -18,10 +18,10 @@ use Rattle.broker_core.specs.declared.command.Command.{Command}
 use Rattle.broker_core.specs.declared.command.Command.TheVariants.{CanIDeploy}
 use Rattle.broker_core.specs.Laws.{IsDone}
 use Rattle.broker_core.specs.Text.{Text}
-use Rattle.broker_service.specs.BrokerView.{BrokerView}
-use Rattle.broker_service.specs.Calls.{Applied, Opened}
-use Rattle.broker_service.specs.Ends.{IsAsBefore}
-use Rattle.broker_service.specs.Life.{IsGivenBack}
+use Rattle.broker_database.specs.BrokerView.{BrokerView}
+use Rattle.broker_database.specs.Calls.{Applied, Opened}
+use Rattle.broker_database.specs.Ends.{IsAsBefore}
+use Rattle.broker_database.specs.Life.{IsGivenBack}
 use Rattle.program_io.specs.Written.{IsBegun, newline}
 use Rattle.broker_program.specs.Files.{LeavesStore, StartsFrom}
 use Rattle.broker_program.specs.declared.can_i_deploy.Question.{Question}

@@ -2,7 +2,7 @@
 ghost use Rattle.std.specs.Prelude.{◌≡◌, false, Ok, IfErr, IfOk};
 ghost use Rattle.sqlite.specs.Files.{file_state};
 ghost use Rattle.sqlite.specs.WalFiles.{image_at};
-ghost use Rattle.broker_service.specs.Calls.{Opened};
+ghost use Rattle.broker_database.specs.Calls.{Opened};
 ghost use Rattle.broker_program.specs.Files.{ClosesAs, GivesUpAs, LeavesStore, OpensBroker, OpensOn};
 ghost use Rattle.broker_program.specs.Reasons.{FailsToOpen, IsOpeningFault};
 ghost use Rattle.program_io.specs.Reported.{IsFromOutside};

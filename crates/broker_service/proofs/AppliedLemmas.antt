@@ -3,9 +3,9 @@ use Rattle.std.{specs.Prelude.{◌≢◌}, proofs.Common.{◌≡◌, ◌↔◌, 
 use Rattle.sqlite.specs.{Held.{Held}, State.{State, HasCleanDisk}}
 use Rattle.table_access.specs.{Calls.{KeepsLastCommit}, declared.StoreFault.{StoreFault}}
 use Rattle.broker_core.specs.{Laws.{IsDone}, State.{State as Broker}, Text.{Text}, declared.answer.Answer.{Answer}, declared.command.Command.{Command}}
-use Rattle.broker_service.specs.{BrokerView.{BrokerView}, Calls.{Applied}, Causes.{Transacted, StaysReadable, IsSoundCommand}}
-use Rattle.broker_service.specs.{Ends.{Applies, AppliesOrFails, IsAsBefore, IsUnchangedUnless, IsNoFailure}, Stored.{HoldsState}}
-use Rattle.broker_service.proofs.{EndLemmas.{deployed_exactly, released_exactly}, Transaction.{outlives_itself}}
+use Rattle.broker_database.specs.{BrokerView.{BrokerView}, Calls.{Applied}, Causes.{StaysReadable}, Ends.{Applies, IsAsBefore, IsUnchangedUnless}}
+use Rattle.broker_database.{specs.Stored.{HoldsState}, proofs.Transaction.{outlives_itself}}
+use Rattle.broker_service.{specs.Transacted.{AppliesOrFails, IsNoFailure, IsSoundCommand, Transacted}, proofs.EndLemmas.{deployed_exactly, released_exactly}}
 use Rattle.table_access.specs.declared.StoreFault.TheVariants as fault
 use Rattle.broker_core.specs.declared.answer.Answer.TheVariants as answers
 

@@ -7,7 +7,7 @@ use Rattle.broker_core.{specs.{declared.command.Command.TheVariants.{Deploy, Rel
 use Rattle.broker_core.proofs.Quiet.{only_done_changes}
 use Rattle.broker_tables.specs.Holds.{Holds}
 use Rattle.command_facts.specs.{Primitives.{broker_primitives}, Patterns.{RefusesPattern, AsksPattern}}
-use Rattle.broker_service.{specs.{Ends.{Steps, KeepsAtPattern, Applies}, Headline.{RecordsExactly}, Stored.{Stores, HoldsState}}, proofs.Sound.{stays_sound}}
+use Rattle.broker_database.{specs.{Ends.{Steps, KeepsAtPattern, Applies}, Headline.{RecordsExactly}, Stored.{Stores, HoldsState}}, proofs.Sound.{stays_sound}}
 use Rattle.registry_tables.proofs.TeamRows.{teams_differ}
 use Rattle.broker_core.proofs.Headline as headline
 

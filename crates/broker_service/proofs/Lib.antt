@@ -1,20 +1,4 @@
-pub mod Transaction
 pub mod TransactLemmas
-pub mod StoreFailures
 pub mod WorkFailures
-pub mod OpenFailures
-pub mod Sound
 pub mod EndLemmas
 pub mod AppliedLemmas
-pub mod SchemaLemmas
-pub mod SessionLemmas
-pub mod Blank
-pub mod Judgements
-pub mod MigrationLemmas
-pub mod MakeLemmas
-pub mod ListedLemmas
-pub mod StoredLemmas
-pub mod FormerOpening
-pub mod LifeLemmas
-mod LifeExamples
-mod MigrationExamples

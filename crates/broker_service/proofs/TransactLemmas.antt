@@ -10,10 +10,11 @@ use Rattle.broker_core.specs.SoundNames.{AreNames}
 use Rattle.broker_tables.specs.{Calm.{Serves, HasFailedOrMemory, FailsFromBetween}, Holds.{Holds, HoldsAfter}, Room.{HasRoomFor, TakesRoom, enough}}
 use Rattle.broker_tables.proofs.RoomLemmas.{takes_none}
 use Rattle.command_facts.specs.{Performs.{PerformsBetween, TokensStep, IsToChange, IsMisnamed}, Primitives.{broker_primitives}}
-use Rattle.broker_service.specs.{Causes.{HoldsReadable, IsToBeDone, IsNotKept, KeepsRoom, Transacted}, Ends.{AppliesOrFails, HoldsNext, Steps, KeepsAtPattern}}
-use Rattle.broker_service.specs.{Stored.{Stores, HoldsState}, Transaction.{Concludes}}
-use Rattle.broker_service.proofs.Transaction.{WholeTransaction, transaction_ends, transaction_unchanged, transaction_shows, transaction_begun, transaction_over, transaction_once, unbegun_ends, unbegun_unchanged, unbegun_over, once_at_most}
-use Rattle.broker_service.proofs.{EndLemmas.{done_steps, next_stored, steps_on, undone_keeps}, StoreFailures.{transaction_fails, work_failed}}
+use Rattle.broker_database.specs.{Causes.{HoldsReadable, IsToBeDone, IsNotKept, KeepsRoom}, Ends.{HoldsNext, Steps, KeepsAtPattern}}
+use Rattle.broker_database.specs.{Stored.{Stores, HoldsState}, Transaction.{Concludes}}
+use Rattle.broker_database.proofs.Transaction.{WholeTransaction, transaction_ends, transaction_unchanged, transaction_shows, transaction_begun, transaction_over, transaction_once, unbegun_ends, unbegun_unchanged, unbegun_over, once_at_most}
+use Rattle.broker_database.proofs.StoreFailures.{transaction_fails, work_failed}
+use Rattle.broker_service.{specs.Transacted.{AppliesOrFails, Transacted}, proofs.EndLemmas.{done_steps, next_stored, steps_on, undone_keeps}}
 use Rattle.table_access.proofs.EndLemmas as ends
 
 module _ (token : Option Text) (command : Command) where

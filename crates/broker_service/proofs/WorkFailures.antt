@@ -9,7 +9,7 @@ use Rattle.broker_tables.specs.{Calm.{Serves, FailsOnlyBy, HasFailedOrMemory, Ca
 use Rattle.broker_tables.proofs.FailLemmas.{fails_after}
 use Rattle.command_facts.specs.Performs.{PerformsBetween, FailsToChangeBetween, IsStepOf, CallersStep, TokensStep, IsToChange, IsMisnamed}
 use Rattle.command_facts.specs.Primitives.{broker_primitives}
-use Rattle.broker_service.specs.Ends.{IsNoFailure}
+use Rattle.broker_service.specs.Transacted.{IsNoFailure}
 use Rattle.broker_core.specs.declared.answer.Answer.TheVariants as answers
 
 module _ (old new : State) (r : Result Answer StoreFault) (caller : Caller) (given command : Command) (same : given ≡ command) where

@@ -1,13 +1,1 @@
-pub mod Stored
-pub mod BrokerView
-pub mod Ends
-pub mod Headline
-pub mod Opening
-pub mod Migration
-pub mod Handed
-pub mod Sessions
-pub mod Laws
-pub mod Calls
-pub mod Causes
-pub mod Transaction
-pub mod Life
+pub mod Transacted

@@ -1,17 +1,17 @@
 //! The broker.
 ghost use Rattle.std.specs.Prelude.{◌≡◌, false};
 ghost use Rattle.sqlite.specs.Held.{state};
-ghost use Rattle.command_facts.specs.Callers.{token_of};
+ghost use Rattle.caller_facts.specs.Callers.{token_of};
 ghost use Rattle.command_facts.specs.Primitives.{broker_primitives};
-ghost use Rattle.broker_service.specs.Calls.{Applied, Created, Opened};
-ghost use Rattle.broker_service.specs.Causes.{IsSoundCommand};
+ghost use Rattle.broker_database.specs.Calls.{Applied, Created, Opened};
+ghost use Rattle.broker_service.specs.Transacted.{IsSoundCommand};
 
-use crate::opening::{self, OpenFault};
 use crate::work::transact;
 use answer_texts::Answer;
 use broker_core::answer::Answer as Outcome;
 use broker_core::command::Command;
 use broker_core::name::Token;
+use broker_database::Refused;
 use broker_tables::has_readable_names;
 use command_facts::laws::readable_stays;
 use sqlite::{Alter, Connection};
@@ -27,20 +27,13 @@ pub struct Broker<S: Alter> {
 }
 
 impl<S: Alter> Model for Broker<S> {
-    ghost use Rattle.broker_service.specs.BrokerView.{BrokerView, broker_view_code};
+    ghost use Rattle.broker_database.specs.BrokerView.{BrokerView, broker_view_code};
 
     ghost Value = { BrokerView S };
 
     ghost coded = { broker_view_code S.code };
 
     ghost view = { λ b. record { connection = b.conn; is_stopped = b.stopped } };
-}
-
-/// Why there is no broker, with the connection handed back.
-#[derive(Drop)]
-pub struct Refused<S: Alter> {
-    pub fault: OpenFault,
-    pub connection: Connection<S>,
 }
 
 impl<S: Alter> Broker<S> {
@@ -58,7 +51,7 @@ impl<S: Alter> Broker<S> {
         ensures { Created (state S.Store) conn (broker_primitives.digest_of office.now) result }
     {
         let mut conn = conn;
-        match opening::create(alloc, &mut conn, office) {
+        match broker_database::create(alloc, &mut conn, office) {
             Ok(()) => Ok(Broker {
                 conn,
                 stopped: false,
@@ -79,7 +72,7 @@ impl<S: Alter> Broker<S> {
         ensures { Opened (state S.Store) conn result }
     {
         let mut conn = conn;
-        match opening::open(&mut conn) {
+        match broker_database::open(&mut conn) {
             Ok(()) => Ok(Broker {
                 conn,
                 stopped: false,

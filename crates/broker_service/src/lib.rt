@@ -13,13 +13,9 @@ macro_rules! done {
 }
 
 mod broker;
-mod ending;
-pub mod laws;
-mod migration;
-mod opening;
+mod service;
 mod work;
 
 pub use answer_texts::Answer;
-pub use broker::{Broker, Refused};
-pub use migration::migrate;
-pub use opening::OpenFault;
+pub use broker::Broker;
+pub use broker_database::{OpenFault, Refused, migrate};

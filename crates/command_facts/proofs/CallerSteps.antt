@@ -1,8 +1,15 @@
--- What a known caller's command leads to, where its form has no fault.
+-- Who sends a command, to the machine; and what a known caller's command leads to, where its form has no fault.
 use Rattle.std.{specs.Prelude.{Option, Some, None, MatchOption}, proofs.Common.{◌≡◌, refl, sym, subst}}
-use Rattle.broker_core.specs.{State.{State}, Request.{refusal}, Change.{Transition, unchanged_with}, Machine.{FindsFault, TakesEffect, StepOfCaller}}
-use Rattle.broker_core.specs.{declared.answer.Answer.{Answer}, declared.command.Command.{Command}, declared.policy.Caller.{Caller}}
+use Rattle.broker_core.specs.{State.{State}, Request.{refusal}, Change.{Transition, unchanged_with}}
+use Rattle.broker_core.specs.{Machine.{FindsFault, IsCallerOfToken, TakesEffect, StepOfCaller}, Text.{Text}, declared.answer.Answer.{Answer}}
+use Rattle.broker_core.specs.{declared.command.Command.{Command}, declared.policy.Caller.{Caller}}
+use Rattle.caller_facts.specs.Callers.{IsSender}
 use Rattle.command_facts.specs.Primitives.{broker_primitives}
+
+-- the machine knows who sends it
+pub sender_known : (s : State) (token : Option Text) (who : Option Caller) → IsSender s token who → IsCallerOfToken broker_primitives s token who
+sender_known s (Some token) who is = is
+sender_known s None who is = is
 
 module _ (s : State) (caller : Caller) (command : Command) (form : FindsFault broker_primitives command None) where
   -- it is refused

@@ -2,7 +2,6 @@ pub mod Refusals
 pub mod Again
 pub mod Digests
 mod DigestExamples
-pub mod CallerLemmas
 pub mod ReadableTexts
 pub mod ShortTexts
 pub mod CallerSteps

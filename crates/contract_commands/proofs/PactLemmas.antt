@@ -12,8 +12,8 @@ use Rattle.broker_core.specs.{declared.answer.Answer.TheVariants.{Done, Full, Ba
 use Rattle.broker_core.specs.declared.policy.Rule.{Rule}
 use Rattle.content_store.{specs.Contents.{is_among}, proofs.TextNumbers.{same_itself, none_before}}
 use Rattle.contract_tables.specs.Verified.{AddsContract}
-use Rattle.command_facts.specs.{declared.reading.ReadFault.TheVariants.{Form}, Owners.{owners_of}, Primitives.{broker_primitives}}
-use Rattle.command_facts.proofs.CallerSteps.{refuses, acts}
+use Rattle.caller_facts.specs.Owners.{owners_of}
+use Rattle.command_facts.{specs.{declared.reading.ReadFault.TheVariants.{Form}, Primitives.{broker_primitives}}, proofs.CallerSteps.{refuses, acts}}
 use Rattle.contract_commands.specs.Numbering.{NamesAs}
 use Rattle.contract_commands.specs.Pacts.{AreSidesRead, missing_side, missing_part, Admits, IsPlaceRead, CanPublish, CanRecord, contracted, Publishes, AsksContract, Reaches, ShowsReached}
 use Rattle.contract_commands.specs.{declared.numbers.VersionNumber.{VersionNumber}, declared.sides.ContractPlace.{ContractPlace}, declared.sides.Sides.{Sides}}

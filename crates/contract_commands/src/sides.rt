@@ -13,7 +13,7 @@ use broker_core::answer::{Answer, Missing};
 use broker_core::command::PactPath;
 use broker_core::name::{Name, Text};
 use broker_core::policy::{Caller, Rule};
-use command_facts::rules::{has_pacticipant, read_owner};
+use caller_facts::rules::{has_pacticipant, read_owner};
 use content_store::get;
 use contract_tables::contract_of;
 use registry_tables::version_of;

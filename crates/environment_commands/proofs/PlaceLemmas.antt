@@ -10,7 +10,8 @@ use Rattle.broker_core.specs.{declared.command.Command.TheVariants.{Deploy, Unde
 use Rattle.broker_core.specs.{declared.command.Version.{Version}, declared.policy.Caller.{Caller}, declared.policy.Rule.{Rule}}
 use Rattle.broker_core.specs.declared.policy.Rule.TheVariants.{A7}
 use Rattle.broker_tables.specs.{Holds.{QueriesBetween}, Calm.{FailsFromBetween}}
-use Rattle.command_facts.specs.{Owners.{owners_of}, Performs.{PerformsBetween, PerformsWhereBetween, FailsToChangeBetween, IsToChange, IsStepOf, IsMisnamed}}
+use Rattle.caller_facts.specs.Owners.{owners_of}
+use Rattle.command_facts.specs.Performs.{PerformsBetween, PerformsWhereBetween, FailsToChangeBetween, IsToChange, IsStepOf, IsMisnamed}
 use Rattle.command_facts.{specs.Primitives.{broker_primitives}, proofs.{CallerSteps.{refuses, acts}, PerformLemmas.{answered_then, performs_where}}}
 use Rattle.environment_commands.specs.{Effects.{Enacts}, Places.{IsVersionRead, HasPlace, IsAdmitted, IsAdmission, ChangesPlace}}
 use Rattle.environment_commands.{specs.{declared.places.Admitted.{Admitted}, declared.places.VersionFacts.{VersionFacts}}, proofs.FailLemmas.{fails_next}}

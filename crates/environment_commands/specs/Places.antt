@@ -15,7 +15,7 @@ use Rattle.broker_core.specs.declared.policy.Rule.{Rule}
 use Rattle.broker_core.specs.declared.policy.Rule.TheVariants.{A6, A7}
 use Rattle.broker_tables.specs.Numbers.{number_of}
 use Rattle.broker_tables.specs.Refusals.{AreShort}
-use Rattle.command_facts.specs.Owners.{IsOwnerRead}
+use Rattle.caller_facts.specs.Owners.{IsOwnerRead}
 use Rattle.deploy_tables.specs.Deployments.{IsEnvironment}
 use Rattle.environment_commands.specs.declared.places.Admitted.{Admitted}
 use Rattle.environment_commands.specs.declared.places.PlaceFacts.{PlaceFacts}

@@ -11,7 +11,7 @@ use broker_core::answer::{Answer, Missing};
 use broker_core::command::{Marks, Version};
 use broker_core::name::Name;
 use broker_core::policy::{Caller, Rule};
-use command_facts::rules::{OwnerFacts, read_grant, read_owner};
+use caller_facts::rules::{OwnerFacts, read_grant, read_owner};
 use registry_tables::{marks_of, version_of};
 use sqlite::{Alter, Connection};
 use std::alloc::Global;

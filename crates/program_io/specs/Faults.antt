@@ -3,8 +3,8 @@ use Rattle.std.specs.Prelude.{ℕ, List, ◌++◌, codes, decimal}
 use Rattle.answer_texts.specs.AnswerText.{answer_text}
 use Rattle.broker_http.specs.declared.served.ServeFault.{ServeFault}
 use Rattle.broker_http.specs.declared.served.ServeFault.TheVariants as serving
-use Rattle.broker_service.specs.declared.opening.OpenFault.{OpenFault}
-use Rattle.broker_service.specs.declared.opening.OpenFault.TheVariants as opening
+use Rattle.broker_database.specs.declared.opening.OpenFault.{OpenFault}
+use Rattle.broker_database.specs.declared.opening.OpenFault.TheVariants as opening
 use Rattle.pact_file.specs.Words.{fault_text as pact_text}
 use Rattle.reply_check.specs.Words.{check_text, replies_text}
 use Rattle.program_io.specs.declared.fault.RunFault.{RunFault}

@@ -3,7 +3,7 @@ use Rattle.std.specs.Prelude.{◌≡◌, ◌≢◌, ◌⊎◌, ◌↔◌, ⊤, �
 use Rattle.std.specs.Io.KnownBytes.{Appends, Consumes, IsAtEnd}
 use Rattle.broker_core.specs.Name.{IsName, IsToken}
 use Rattle.broker_core.specs.Text.{Text}
-use Rattle.broker_service.specs.declared.opening.OpenFault.TheVariants as opening
+use Rattle.broker_database.specs.declared.opening.OpenFault.TheVariants as opening
 use Rattle.pact_file.specs.Normal.{Normal}
 use Rattle.pact_file.specs.Pact.{Interaction, Pact}
 use Rattle.pact_file.specs.declared.fault.PactFault.TheVariants as pact_fault

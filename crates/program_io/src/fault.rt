@@ -1,7 +1,7 @@
 //! Why a command fails.
 use answer_texts::Answer;
 use broker_http::ServeFault;
-use broker_service::OpenFault;
+use broker_database::OpenFault;
 use pact_file::PactFault;
 use reply_check::{CheckFault, RepliesFault};
 

@@ -6,7 +6,7 @@ ghost use Rattle.program_io.specs.Reported.{IsLineOut, IsReported};
 use crate::fault::RunFault;
 use crate::output::write_line;
 use broker_http::ServeFault;
-use broker_service::OpenFault;
+use broker_database::OpenFault;
 use std::alloc::{AllocError, Global};
 use std::io::Write;
 

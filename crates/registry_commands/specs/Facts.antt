@@ -15,7 +15,7 @@ use Rattle.broker_core.specs.declared.policy.Caller.{Caller}
 use Rattle.broker_core.specs.declared.policy.Rule.TheVariants.{A3}
 use Rattle.broker_tables.specs.Numbers.{number_of}
 use Rattle.command_facts.specs.Primitives.{broker_primitives}
-use Rattle.command_facts.specs.Owners.{IsOwnerRead}
+use Rattle.caller_facts.specs.Owners.{IsOwnerRead}
 use Rattle.registry_commands.specs.declared.put_team.TeamFacts.{TeamFacts}
 use Rattle.registry_commands.specs.declared.put_pacticipant.PacticipantFacts.{PacticipantFacts}
 use Rattle.registry_commands.specs.declared.grants.GrantFacts.{GrantFacts}

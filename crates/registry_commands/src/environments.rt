@@ -9,7 +9,7 @@ use broker_core::answer::{Answer, Clash, Detail};
 use broker_core::command::{FormFault, Marks};
 use broker_core::name::{Name, Text};
 use broker_core::policy::{Caller, Rule};
-use command_facts::rules::is_office;
+use caller_facts::rules::is_office;
 use registry_tables::{add_environment, marks_of};
 use sqlite::{Alter, Connection};
 use std::alloc::Global;

@@ -8,7 +8,7 @@ ghost use Rattle.registry_commands.specs.Facts.{IsGrantRead, AnswersPutGrant, Ad
 use broker_core::answer::{Answer, Detail, Missing};
 use broker_core::name::Name;
 use broker_core::policy::{Caller, Rule};
-use command_facts::rules::is_office;
+use caller_facts::rules::is_office;
 use registry_tables::{add_grant, gated, granted, has_team, remove_grant};
 use sqlite::{Alter, Connection};
 use std::alloc::Global;

@@ -9,7 +9,7 @@ ghost use Rattle.broker_core.specs.declared.command.Command.TheVariants.{PutPact
 use broker_core::answer::{Answer, Clash, Detail, Missing};
 use broker_core::name::Name;
 use broker_core::policy::{Caller, Rule};
-use command_facts::rules::is_office;
+use caller_facts::rules::is_office;
 use registry_tables::{add_pacticipant, has_team, owner_of};
 use sqlite::{Alter, Connection};
 use std::alloc::Global;

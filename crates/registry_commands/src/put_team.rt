@@ -12,8 +12,8 @@ ghost use Rattle.broker_core.specs.declared.command.Command.TheVariants.{PutTeam
 use broker_core::answer::{Answer, Clash, Detail};
 use broker_core::name::{Name, Token};
 use broker_core::policy::{Caller, Rule};
-use command_facts::callers::{digest_of, holder_of};
-use command_facts::rules::is_office;
+use caller_facts::callers::{digest_of, holder_of};
+use caller_facts::rules::is_office;
 use registry_tables::add_team;
 use sqlite::{Alter, Connection};
 use std::alloc::Global;

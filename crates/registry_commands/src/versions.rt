@@ -17,7 +17,7 @@ use broker_core::limit::room;
 use broker_core::name::Name;
 use broker_core::policy::{Caller, Rule};
 use broker_tables::next_number;
-use command_facts::rules::{OwnerFacts, read_owner};
+use caller_facts::rules::{OwnerFacts, read_owner};
 use registry_tables::{add_branch, add_version_as, on_branch, version_count, version_of};
 use sqlite::{Alter, Connection};
 use std::alloc::Global;

@@ -5,7 +5,7 @@ use Rattle.broker_core.specs.{Change.{instance_of}, Headline.{IsRefusal}, Machin
 use Rattle.broker_core.specs.declared.answer.Answer.{Answer}
 use Rattle.broker_core.specs.declared.answer.Answer.TheVariants.{Done, Already, Shown, Denied, Unknown, BadForm, Taken, Full, NotPermitted, Pattern, Memory, Store, Stopped}
 use Rattle.broker_core.specs.declared.command.Version.{Version}
-use Rattle.broker_service.specs.{BrokerView.{BrokerView}, Headline.{RecordsExactly}, Stored.{HoldsState}}
+use Rattle.broker_database.specs.{BrokerView.{BrokerView}, Headline.{RecordsExactly}, Stored.{HoldsState}}
 use Rattle.command_facts.specs.Primitives.{broker_primitives}
 use Rattle.uses.specs.Deploying.{is_accepted, DeploysExactly}
 

@@ -7,9 +7,9 @@ use Rattle.sqlite.{specs.declared.file.Leftover.{Leftover}, proofs.Callers.{find
 use Rattle.table_access.specs.Durability.{HoldsDurably}
 use Rattle.broker_core.specs.State.{State as Broker}
 use Rattle.broker_tables.specs.{Holds.{format}, Making.{IsMarked}}
-use Rattle.broker_service.specs.{BrokerView.{BrokerView}, Calls.{Opened}, Life.{AreTreesOf, AreFilesOf, HoldsAsBefore, OpenedFilesHold, OpeningSpares}}
-use Rattle.broker_service.specs.{Life.Kept.{Blank, OfToday}, Opening.{Judged}, Stored.{Stores, HoldsState}, declared.broker.Refused.{Refused}}
-use Rattle.broker_service.specs.declared.opening.OpenFault.{OpenFault}
+use Rattle.broker_database.specs.{BrokerView.{BrokerView}, Calls.{Opened}, Life.{AreTreesOf, AreFilesOf, HoldsAsBefore, OpenedFilesHold, OpeningSpares}}
+use Rattle.broker_database.specs.{Life.Kept.{Blank, OfToday}, Opening.{Judged}, Stored.{Stores, HoldsState}, declared.opening.Refused.{Refused}}
+use Rattle.broker_database.specs.declared.opening.OpenFault.{OpenFault}
 use Rattle.uses.specs.Reopening.{KeepState, KeepsOverCrash, KeepsAsFiles, AreClosed, IsLeftOf, IsOpenedOver, IsOpenedAgain, IsOfDatabase, LosesNothing}
 use Rattle.uses.specs.declared.reopening.NotReopened.{NotReopened}
 

@@ -2,7 +2,7 @@
 use Rattle.std.proofs.Common.{◌≡◌, ℕ, List, [], Some, Ok, subst}
 use Rattle.sqlite.specs.{Held.{Held}, State.{State}}
 use Rattle.broker_core.specs.State.{State as Broker}
-use Rattle.broker_service.specs.BrokerView.{BrokerView}
+use Rattle.broker_database.specs.BrokerView.{BrokerView}
 use Rattle.broker_http.specs.{Calls.{ByMachine, IsAnsweredByMachine}, Journal.{blank}, Serving.{Serves}, Serving.Mode.{Running}}
 use Rattle.broker_http.specs.declared.served.Served.{Served}
 use Rattle.uses.specs.Streams.{MachineAnswers}

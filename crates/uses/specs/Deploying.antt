@@ -12,8 +12,8 @@ use Rattle.broker_core.specs.declared.answer.Answer.TheVariants.{Done, Already}
 use Rattle.broker_core.specs.declared.command.Command.{Command}
 use Rattle.broker_core.specs.declared.command.Command.TheVariants.{Deploy}
 use Rattle.broker_core.specs.declared.command.Version.{Version}
-use Rattle.broker_service.specs.BrokerView.{BrokerView}
-use Rattle.broker_service.specs.Stored.{HoldsState}
+use Rattle.broker_database.specs.BrokerView.{BrokerView}
+use Rattle.broker_database.specs.Stored.{HoldsState}
 use Rattle.command_facts.specs.Primitives.{broker_primitives}
 
 -- it was done, or had been done before

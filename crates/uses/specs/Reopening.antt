@@ -14,13 +14,13 @@ use Rattle.sqlite.specs.WalReads.{AreClean}
 use Rattle.sqlite.specs.declared.FileStore.{FileStore}
 use Rattle.sqlite.specs.declared.file.Leftover.{Leftover}
 use Rattle.broker_core.specs.State.{State as Broker}
-use Rattle.broker_service.specs.BrokerView.{BrokerView}
-use Rattle.broker_service.specs.Ends.{IsAsBefore}
-use Rattle.broker_service.specs.Life.{AreTreesOf, AreFilesOf, IsUnharmed, MayLeave}
-use Rattle.broker_service.specs.Life.Kept.{OfToday}
-use Rattle.broker_service.specs.Stored.{HoldsState}
-use Rattle.broker_service.specs.declared.opening.OpenFault.{OpenFault}
-use Rattle.broker_service.specs.declared.opening.OpenFault.TheVariants as fault
+use Rattle.broker_database.specs.BrokerView.{BrokerView}
+use Rattle.broker_database.specs.Ends.{IsAsBefore}
+use Rattle.broker_database.specs.Life.{AreTreesOf, AreFilesOf, IsUnharmed, MayLeave}
+use Rattle.broker_database.specs.Life.Kept.{OfToday}
+use Rattle.broker_database.specs.Stored.{HoldsState}
+use Rattle.broker_database.specs.declared.opening.OpenFault.{OpenFault}
+use Rattle.broker_database.specs.declared.opening.OpenFault.TheVariants as fault
 use Rattle.uses.specs.declared.reopening.NotReopened.{NotReopened}
 use Rattle.uses.specs.declared.reopening.NotReopened.TheVariants.{Unclosed, Unopened, NoBroker}
 

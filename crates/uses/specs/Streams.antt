@@ -4,7 +4,7 @@ use Rattle.std.specs.Io.KnownBytes.{IsAtEnd}
 use Rattle.sqlite.specs.Held.{Held}
 use Rattle.sqlite.specs.State.{State, HasCleanDisk}
 use Rattle.broker_core.specs.State.{State as Broker}
-use Rattle.broker_service.specs.BrokerView.{BrokerView}
+use Rattle.broker_database.specs.BrokerView.{BrokerView}
 use Rattle.broker_http.specs.Calls.{ByMachine}
 use Rattle.broker_http.specs.Journal.{Journal, IsRunFrom, blank}
 use Rattle.broker_http.specs.Serving.{IsInMode, Serves}

@@ -5,7 +5,7 @@ ghost use Rattle.sqlite.specs.State.{HasCleanDisk};
 ghost use Rattle.sqlite.specs.WalReads.{AreClean};
 ghost use Rattle.uses.specs.Reopening.{AreClosed, IsOpenedAgain, IsOpenedOver, KeepsAsFiles, LosesNothing};
 
-use broker_service::laws::sessions;
+use broker_database::laws::sessions;
 use broker_service::{Broker, Refused};
 use sqlite::{Connection, Error, FileStore, Files, Leftover, Options};
 use sqlite_disk::Disk;

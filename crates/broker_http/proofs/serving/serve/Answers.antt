@@ -1,6 +1,6 @@
 use Rattle.std.{specs.Prelude.{length, Contains}, proofs.Common.{◌≤◌, Result, Ok, Err, IfOk, Option, List, ℕ, subst, sym}}
-use Rattle.sqlite.specs.{Tree.{Trees}, Held.{Held, state}, State.{State, HasCleanDisk, Survives}}
-use Rattle.broker_service.specs.BrokerView.{BrokerView}
+use Rattle.sqlite.specs.{Tree.{Trees}, Held.{Held}, State.{State, HasCleanDisk, Survives}}
+use Rattle.broker_database.specs.BrokerView.{BrokerView}
 use Rattle.broker_http.specs.{Calls.{ByBroker, IsAnsweredByMachine}, Journal.{blank}, Serving.{Mode, IsInMode, ServesStream}}
 use Rattle.broker_http.{specs.{declared.served.ServeFault.{ServeFault}, declared.served.Served.{Served}}, proofs.JournalLemmas.{runs}}
 use Rattle.broker_http.proofs.ModeLemmas.{starts, machine, stops_so, all_survive}
@@ -45,6 +45,6 @@ module _ {X : Type 0} (shown : Held X → State) (s t : BrokerView X) (before af
 pub returns : goal.returns
 returns g c = record {
   answers = c.serve_all.ensures;
-  machine = machines (state g.S.Store) _ _ _ _ _ _ c.serve_all.result c.serve_all.ensures;
-  survives = survives (state g.S.Store) _ _ _ _ _ _ c.serve_all.result c.serve_all.ensures;
+  machine = machines (g.B.Service.shown) _ _ _ _ _ _ c.serve_all.result c.serve_all.ensures;
+  survives = survives (g.B.Service.shown) _ _ _ _ _ _ c.serve_all.result c.serve_all.ensures;
 }

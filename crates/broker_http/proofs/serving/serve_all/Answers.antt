@@ -1,6 +1,5 @@
 use Rattle.std.{specs.Io.KnownBytes.{Appends}, proofs.Common.{◌≢◌, ◌+◌, ◌++◌, length, drop, [], ◌∷◌, refl, sym, ◌∙◌, subst, arith, eqb-true, length-append}}
 use Rattle.std.proofs.{KnownBytes.{Consumes-nil, Consumes-trans, Appends-nil, Appends-trans}, lemmas.Result.{err_from_is_err_and}, lemmas.Bool.{eqb-false}}
-use Rattle.sqlite.specs.Held.{state}
 use Rattle.http_messages.specs.Reading.{IsOutcome}
 use Rattle.broker_http.specs.{Calls.{ByBroker}, Stream.{texts}}
 use Rattle.broker_http.proofs.ResponsesLemmas.{Responses-came, Responses-answered, Responses-broken, Responses-unread, AllOpen-then, texts-then, StreamEnds-at_end, StreamEnds-rest}
@@ -18,7 +17,7 @@ returns-in_err-head_len g c =
     rw (p.1, p.2) (record {
       ok = tt;
       end = tt;
-      fault = Responses-unread (ByBroker (state g.S.Store)) _ so_far.0 so_far.1 _ c.loop-answered.buffer.items _ _ _ _ _ _ _
+      fault = Responses-unread (ByBroker g.B.Service.shown) _ so_far.0 so_far.1 _ c.loop-answered.buffer.items _ _ _ _ _ _ _
           so_far.2 so_far.3 so_far.4 so_far.6 c.in_err-head_len.ensures.err.leaves;
     })
 
@@ -34,7 +33,7 @@ returns-in-End g c =
         so_far.1,
         bytes,
         Consumes-trans _ _ _ so_far.0 came.0 so_far.2 came.1,
-        Responses-came (ByBroker (state g.S.Store)) _ so_far.0 so_far.1 _ c.loop-answered.buffer.items came.0 bytes so_far.3 came.2,
+        Responses-came (ByBroker g.B.Service.shown) _ so_far.0 so_far.1 _ c.loop-answered.buffer.items came.0 bytes so_far.3 came.2,
         elim c.if-is_empty.branch [
           | then-is_empty w ↦ StreamEnds-at_end _ so_far.1 bytes w.ended-is so_far.4 (eqb-true (length bytes) 0 (sym c.is_empty.ensures ∙ w.if-is_empty.true))
           | else-is_empty w ↦ StreamEnds-rest _ so_far.1 bytes w.ended-is so_far.4
@@ -49,7 +48,7 @@ returns-in-End g c =
 
 pub returns-in_err-answer : goal.returns-in_err-answer
 returns-in_err-answer g c =
-    let exchange = ByBroker (state g.S.Store) in
+    let exchange = ByBroker g.B.Service.shown in
     let so_far = c.loop-answered.invariant in
     let came = c.in_ok-head_len.ensures.ok.gains in
     let bytes = c.read_message.new.buffer.items in
@@ -76,7 +75,7 @@ returns-in_err-answer g c =
 
 pub returns-then-branch : goal.returns-then-branch
 returns-then-branch g c =
-    let exchange = ByBroker (state g.S.Store) in
+    let exchange = ByBroker g.B.Service.shown in
     let so_far = c.loop-answered.invariant in
     let came = c.in_ok-head_len.ensures.ok.gains in
     let bytes = c.read_message.new.buffer.items in
@@ -101,7 +100,7 @@ returns-then-branch g c =
 
 pub loop-answered-preserved : goal.loop-answered-preserved
 loop-answered-preserved g c =
-    let exchange = ByBroker (state g.S.Store) in
+    let exchange = ByBroker g.B.Service.shown in
     let so_far = c.loop-answered.invariant in
     let came = c.in_ok-head_len.ensures.ok.gains in
     let bytes = c.read_message.new.buffer.items in

@@ -1,6 +1,6 @@
 use Rattle.std.proofs.Common.{Ok, Some, [], ◌∷◌, inl, refl}
 use Rattle.command_facts.specs.Primitives.{broker_primitives}
-use Rattle.broker_service.specs.{Life.Period.{Making, Migrating, Serving}, Sessions.{exit_of}}
+use Rattle.broker_database.specs.{Life.Period.{Making, Migrating, Serving}, Sessions.{exit_of}}
 use Rattle.broker_program.proofs.PeriodLemmas.{adds_period, adds_works, starts_after}
 use Rattle.sqlite.specs.declared.file.Leftover.TheVariants as left
 use Rattle.broker_program.proofs.laws.life_over_commands.Goals as goal

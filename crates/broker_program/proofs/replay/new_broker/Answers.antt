@@ -1,6 +1,6 @@
 use Rattle.std.proofs.Common.{refl}
 use Rattle.sqlite_trees.specs.View.{doubt}
-use Rattle.broker_service.proofs.Blank.{memory_is_blank}
+use Rattle.broker_database.proofs.Blank.{memory_is_blank}
 use Rattle.broker_program.proofs.replay.new_broker.Goals as goal
 
 pub returns-in-Ok-create-clause-holds : goal.returns-in-Ok-create-clause-holds

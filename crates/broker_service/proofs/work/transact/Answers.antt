@@ -1,5 +1,5 @@
 use Rattle.sqlite.specs.Held.{state}
-use Rattle.command_facts.specs.Callers.{token_of}
+use Rattle.caller_facts.specs.Callers.{token_of}
 use Rattle.broker_service.proofs.TransactLemmas.{transacted, untransacted}
 use Rattle.broker_service.proofs.work.transact.Goals as goal
 

@@ -1,7 +1,8 @@
 use Rattle.std.proofs.Common.{inl, inr, Ok, sym, subst}
 use Rattle.sqlite.specs.Held.{state}
 use Rattle.broker_core.specs.declared.answer.Answer.{Answer}
-use Rattle.command_facts.specs.{Callers.{token_of}, Performs.{PerformsBetween, TokensStep}}
+use Rattle.caller_facts.specs.Callers.{token_of}
+use Rattle.command_facts.specs.Performs.{PerformsBetween, TokensStep}
 use Rattle.broker_service.proofs.WorkFailures.{is_no_failure}
 use Rattle.broker_service.proofs.work.work.Goals as goal
 

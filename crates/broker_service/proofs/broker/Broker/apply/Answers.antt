@@ -1,8 +1,9 @@
 use Rattle.std.proofs.Common.{sym, subst}
 use Rattle.sqlite.specs.Held.{state}
 use Rattle.broker_core.specs.declared.answer.Answer.{Answer}
-use Rattle.broker_service.{specs.{BrokerView.{BrokerView}, Calls.{Applied}}, proofs.AppliedLemmas.{refused_stopped}}
-use Rattle.command_facts.specs.Callers.{token_of}
+use Rattle.broker_database.specs.{BrokerView.{BrokerView}, Calls.{Applied}}
+use Rattle.broker_service.proofs.AppliedLemmas.{refused_stopped}
+use Rattle.caller_facts.specs.Callers.{token_of}
 use Rattle.broker_service.proofs.broker.Broker.apply.Goals as goal
 
 pub returns : goal.returns

@@ -1,5 +1,5 @@
 use Rattle.std.proofs.Common.{refl}
-use Rattle.broker_service.proofs.Transaction.{keeps_on}
+use Rattle.broker_database.proofs.Transaction.{keeps_on}
 use Rattle.broker_service.proofs.broker.Broker.open.Goals as goal
 
 pub returns-in-Ok : goal.returns-in-Ok

@@ -1,8 +1,8 @@
 use Rattle.std.proofs.Common.{◌≡◌, ◌↔◌, Err, IsTrue, sym, subst, ap, ◌∙◌}
 use Rattle.sqlite.specs.Held.{state}
-use Rattle.broker_service.{specs.{BrokerView.{BrokerView}, Calls.{Applied}}, proofs.AppliedLemmas.{told, ran}}
-use Rattle.broker_service.proofs.broker.Broker.run.Goals.{in-Ok, in-Err-Memory, in-Err-Store, in-Store, in_default}
-use Rattle.command_facts.specs.Callers.{token_of}
+use Rattle.broker_database.specs.{BrokerView.{BrokerView}, Calls.{Applied}}
+use Rattle.broker_service.proofs.{AppliedLemmas.{told, ran}, broker.Broker.run.Goals.{in-Ok, in-Err-Memory, in-Err-Store, in-Store, in_default}}
+use Rattle.caller_facts.specs.Callers.{token_of}
 use Rattle.broker_core.specs.declared.answer.Answer.TheVariants as answers
 use Rattle.broker_service.proofs.broker.Broker.run.Goals as goal
 

@@ -1,0 +1,53 @@
+-- What is told of a database by the format that is found in it.
+use Rattle.std.specs.Prelude.{if◌then◌else◌}
+use Rattle.std.proofs.Common.{◌≡◌, ℕ, ℤ, Bool, pos, List, [], ◌∷◌, map, length, refl, sym, ap, subst, ◌∙◌, Some, None, Option, Ok, Err, true, false, ◌==◌}
+use Rattle.std.proofs.{lemmas.Bool.{eqb-true, eqb-false}, lemmas.List.{length-map}}
+use Rattle.sqlite.specs.{Table.{Table}, Effect.{Database}, declared.types.Value.TheVariants.{Int}, Order.{Row, column}, Edit.{id_in}}
+use Rattle.sqlite_schema.specs.Names.{same_name}
+use Rattle.table_access.specs.Columns.{whole_at}
+use Rattle.broker_core.specs.Text.{Text}
+use Rattle.broker_tables.specs.{Schema.{in_meta, meta, no_schema}, Making.{IsMarked}, Holds.{IsMeta}}
+use Rattle.registry_tables.specs.Format.{IsOfFormat, Finds, table_of}
+use Rattle.broker_database.specs.{declared.opening.OpenFault.TheVariants.{Format}, Opening.{OpensOrRefuses, judgement}}
+
+-- the judgement by the format that is found is right, whichever format is wanted
+pub judged : (wanted : ℕ) (db : Database) (found : Option ℕ) → Finds db found → OpensOrRefuses wanted db (judgement wanted found)
+judged wanted db None it = it
+judged wanted db (Some n) it = go (n == wanted) refl
+  where
+    go : (b : Bool) → (n == wanted) ≡ b → OpensOrRefuses wanted db (if b then Ok tt else Err (Format n))
+    go true e = subst (λ k. IsOfFormat k db) (let same : n ≡ wanted = eqb-true n wanted e in same) it
+    go false e = (it, eqb-false n wanted e)
+
+pub blank_none : (db : Database) (found : Option ℕ) → db.schema ≡ no_schema → Finds db found → found ≡ None
+blank_none db None blank it = refl
+blank_none db (Some n) blank it = let none : table_of meta.name db.schema ≡ None = ap (table_of meta.name) blank in absurd (let found = it.1 in cc)
+
+-- the format in the one row of meta
+pub one_told : (n : ℕ) (office : Text) (r : Row) → IsMeta n office (r ∷ []) → whole_at in_meta.format r ≡ pos n
+one_told n office r one = ap (λ (xs : List (ℤ × ℤ × Text)). first_of xs) one
+  where
+    first_of : List (ℤ × ℤ × Text) → ℤ
+    first_of [] = pos 0
+    first_of (x ∷ xs) = x.1
+
+one_format : (n k : ℕ) (office : Text) (rows : List Row) → IsMeta n office rows → map (λ row. column row in_meta.format) rows ≡ Int (pos k) ∷ [] → k ≡ n
+one_format n k office [] one is = absurd cc
+one_format n k office (r ∷ []) one is =
+    let shown : whole_at in_meta.format r ≡ pos k = (let same : column r in_meta.format ≡ Int (pos k) = cc in ap id_in same) in
+    (let both : pos k ≡ pos n = sym shown ∙ one_told n office r one in cc)
+one_format n k office (r ∷ q ∷ rows) one is = absurd cc
+
+-- the table of a broker's database that is found by meta's name
+meta_there : (n : ℕ) (office : Text) (db : Database) → IsMarked n office db → table_of meta.name db.schema ≡ Some meta
+unfolding same_name
+meta_there n office db marked = ap (table_of meta.name) marked.schema
+
+pub meta_is : (n : ℕ) (office : Text) (db : Database) → IsMarked n office db → (t : Table) → table_of meta.name db.schema ≡ Some t → t ≡ meta
+meta_is n office db marked t at = let both : Some t ≡ Some meta = sym at ∙ meta_there n office db marked in cc
+
+pub marked_some : (n : ℕ) (office : Text) (db : Database) (found : Option ℕ) → IsMarked n office db → Finds db found → found ≡ Some n
+marked_some n office db None marked it =
+    absurd (it meta (meta_there n office db marked) (((refl, refl), ((refl, refl), ((refl, refl), tt))), refl) (sym (length-map (db.trees in_meta.tree) _) ∙ ap length marked.row))
+marked_some n office db (Some k) marked it =
+    ap Some (one_format n k office (db.trees in_meta.tree) marked.row (subst (λ (t : Table). map (λ row. column row in_meta.format) (db.trees t.tree) ≡ Int (pos k) ∷ []) (meta_is n office db marked it.0 it.1) it.3))

@@ -1,0 +1,16 @@
+pub mod Transaction
+pub mod StoreFailures
+pub mod OpenFailures
+pub mod Sound
+pub mod SchemaLemmas
+pub mod SessionLemmas
+pub mod Blank
+pub mod Judgements
+pub mod MigrationLemmas
+pub mod MakeLemmas
+pub mod ListedLemmas
+pub mod StoredLemmas
+pub mod FormerOpening
+pub mod LifeLemmas
+mod LifeExamples
+mod MigrationExamples

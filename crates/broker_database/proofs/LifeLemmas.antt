@@ -1,0 +1,400 @@
+-- What files keep over any number of periods.
+use Rattle.std.specs.Coded.{coded_list}
+use Rattle.std.proofs.Common.{OnOk, IfErr, ◌≡◌, ◌≢◌, ◌<◌, ◌⊎◌, inl, inr, ℕ, List, [], ◌∷◌, ◌++◌, map, ◌==◌, length, Option, Some, None, Result, Ok, Err, true, false, IsTrue, refl, sym, subst, ap, ◌∙◌, arith}
+use Rattle.std.proofs.{Math.Logic.{∥∥₁_elim, ∥∥₁_map}, Math.Path.{fun_ext}}
+use Rattle.sqlite_disk.specs.{declared.Disk.{Ghosts}, declared.Files.{Files}}
+use Rattle.sqlite_trees.specs.Objects.{catalog_tree}
+use Rattle.sqlite_value.specs.contracts.row.Row.{the_row}
+use Rattle.sqlite.specs.{Tree.{Trees}, Recovery.{Image}, Schema.{Schema}, Effect.{Database, IsDatabase}, declared.FileStore.{FileStore}}
+use Rattle.sqlite.specs.{declared.file.Leftover.{Leftover}, Held.{Held, AreDatabases}, Start.{FindsIn}, State.{State, HasCleanDisk}}
+use Rattle.sqlite.{specs.Files.{HoldsDatabase, AreFoundIn, LeavesFiles, IsOpened, IsEmpty, file_state, image_of}, proofs.ListingLemmas.{empty_is_sound}}
+use Rattle.sqlite.proofs.{Theorems.{opens_again}, FileLemmas.{is_something}}
+use Rattle.sqlite_catalog.specs.Listing.{IsSound}
+use Rattle.sqlite_store.specs.{FileStore.{recovers}, Unopened.{state_of}, declared.store.open.Unopened.{Unopened}}
+use Rattle.table_access.specs.Durability.{HoldsDurably, IsOnDisk}
+use Rattle.broker_core.{specs.{Text.{Text}, Machine.{Request}, State.{State as Broker, opening}, Laws.{Exit, LeavesSessions}}, proofs.DoneLemmas.{sessions_run}}
+use Rattle.broker_core.proofs.SessionLemmas.{sessions, runs_once}
+use Rattle.broker_tables.specs.{Former.{former_format, former_tables}, Holds.{format}, Making.{IsBlank, IsMarked}, Schema.{no_schema, schema_of, broker_schema}}
+use Rattle.command_facts.specs.Primitives.{broker_primitives}
+use Rattle.broker_database.specs.{BrokerView.{BrokerView}, Calls.{Created, Opened, Migrated}, Ends.{AddsNoCrashState}, Handed.{verdict}}
+use Rattle.broker_database.specs.Life.{Kept, Period, calls_of, RunsFrom, LeavesAsWas, PeriodLeads, LifeLeads, BeginsFrom, sessions_in, LivesRun, AreTreesOf, KeepsLatest, PeriodRuns, PeriodsLead, MayLeave, AreFilesOf, EndsAs, HoldsAsBefore, LeavesUnopened, PeriodOnFiles, LifeOnFiles, LivesLead, OpenedFilesHold, IsUnharmed, OpeningSpares}
+use Rattle.broker_database.specs.{Life.Kept.{Blank, OfFormer, OfToday}, Life.Period.{Serving, Making, Migrating, NotOpened}, Migration.{StoresFormer, IsFormer}}
+use Rattle.broker_database.specs.{Opening.{Refuses, Judged, judgement}, Sessions.{IsOpenedOn, GivenRuns}, Stored.{Stores, HoldsState}}
+use Rattle.broker_database.{specs.{declared.opening.Refused.{Refused}, declared.opening.OpenFault.{OpenFault}}, proofs.Judgements.{blank_none, marked_some}}
+use Rattle.broker_database.proofs.{MigrationLemmas.{former_marked, held_now}, SchemaLemmas.{one_schema}, SessionLemmas.{given_clean, given_lead}}
+use Rattle.broker_database.proofs.Transaction.{adds_nothing}
+use base.Stored.{Coded-set}
+use Rattle.sqlite.specs.declared.file.Leftover.TheVariants as left
+use Rattle.broker_database.specs.declared.opening.OpenFault.TheVariants as fault
+
+-- ---- the trees that a connection was opened on
+
+module _ (trees : Trees) (c : State) (it : IsOpenedOn trees c) (settled : (t : Trees) → IsTrue c.is_open → c.may_leave t → t ≡ c.committed.trees) where
+  -- a connection on trees that are of a kind holds them, and has the schema of that kind
+  opened_holds : (P : Database → Type 0) → ((db : Database) → P db → db.schema.views ≡ []) → IsOnDisk P trees → HoldsDurably P c
+  opened_holds P plain found =
+      let sound : IsDatabase c.committed = (it.live it.opens.is_open).1 in
+      let on : IsOnDisk P c.committed.trees = subst (IsOnDisk P) (sym it.found) found in
+      let schema = one_schema (c.committed.trees catalog_tree) on.schema c.committed.schema on.sound.lists sound.lists (plain _ on.has) in
+      let has : P c.committed = subst (λ (x : Schema). P (record { schema = x; trees = c.committed.trees })) schema on.has in
+      record {
+        held = λ _. record { autocommit = it.opens.autocommit; same = it.opens.clean; sound = sound; has = has };
+        left = λ t may. subst (IsOnDisk P) (sym (settled t it.opens.is_open may)) on;
+      }
+
+  holds_blank : IsOnDisk IsBlank trees → HoldsDurably IsBlank c
+  holds_blank = opened_holds IsBlank (λ db is. ap (λ (x : Schema). x.views) is.schema)
+
+  holds_former : (s : Broker) → IsOnDisk (λ db. StoresFormer db s) trees → HoldsDurably (λ db. StoresFormer db s) c
+  holds_former s = opened_holds (λ db. StoresFormer db s) (λ db is. ap (λ (x : Schema). x.views) is.tables.schema)
+
+  holds_today : (s : Broker) → IsOnDisk (λ db. Stores db s) trees → HoldsDurably (λ db. Stores db s) c
+  holds_today s = opened_holds (λ db. Stores db s) (λ db is. ap (λ (x : Schema). x.views) is.tables.broker.schema)
+
+  -- it has no table, or some
+  no_table : IsOnDisk IsBlank trees → c.now.schema ≡ no_schema
+  no_table are = (held_now IsBlank c (holds_blank are) it.opens.is_open).schema
+
+  some_table : (P : Database → Type 0) (schema : Schema) → ((db : Database) → P db → db.schema ≡ schema) → (length schema.tables == 0) ≡ false → HoldsDurably P c → ¬ (c.now.schema ≡ no_schema)
+  some_table P schema has some held none =
+      let both : schema ≡ no_schema = sym (has c.now (held_now P c held it.opens.is_open)) ∙ none in
+      absurd (let wrong : (length schema.tables == 0) ≡ true = ap (λ (x : Schema). length x.tables == 0) both in cc)
+
+-- what is true of each database of a kind is true of what is held of that kind
+held_as : (P Q : Database → Type 0) (c : State) → ((db : Database) → P db → Q db) → HoldsDurably P c → HoldsDurably Q c
+held_as P Q c f h = record {
+  held = λ now. let it = h.held now in record { autocommit = it.autocommit; same = it.same; sound = it.sound; has = f c.committed it.has };
+  left = λ t may. let d = h.left t may in record { schema = d.schema; sound = d.sound; has = f _ d.has };
+}
+
+today_marked : (db : Database) (s : Broker) → Stores db s → IsMarked format s.office db
+today_marked db s held = record { tables = _; indexes = _; schema = held.tables.broker.schema; row = held.tables.meta }
+
+-- a database is opened only if it is judged so
+is_refused : (found : Option ℕ) (v : Result (Unit {0}) OpenFault) → judgement format found ≢ Ok tt → Judged format found v → v ≢ Ok tt
+is_refused found v other (inl is) ok = other (sym is ∙ ok)
+is_refused found v other (inr (inl is)) ok = absurd (let wrong : Err fault.Memory ≡ Ok tt = sym is ∙ ok in cc)
+is_refused found v other (inr (inr is)) ok = absurd (let wrong : Err fault.Store ≡ Ok tt = sym is ∙ ok in cc)
+
+-- ---- a period on trees
+
+module _ {X : Type 0} (shown : Held X → State) (settled : (c : Held X) (t : Trees) → IsTrue (shown c).is_open → (shown c).may_leave t → t ≡ (shown c).committed.trees) where
+  module _ (first last : Held X) (trees end : Trees) (on : IsOpenedOn trees (shown first)) (clean : HasCleanDisk (shown last)) (may : (shown last).may_leave end) where
+    -- nothing more may be left, so what was kept is
+    as_was : (kept : Kept) → AreTreesOf kept trees → AddsNoCrashState (shown first) (shown last) → AreTreesOf kept end
+    as_was kept are less = subst (AreTreesOf kept) (sym (settled first end on.opens.is_open (less end may) ∙ on.found)) are
+
+    -- there is no broker, and nothing more may be left
+    refused : (old : Kept) (r : Refused X) (calls : List (Request × Exit)) → AreTreesOf old trees → AddsNoCrashState (shown first) (shown r.connection)
+        → GivenRuns shown (Err r) calls last → (new : Kept) × LeavesAsWas old calls new × AreTreesOf new end
+    refused old r calls are less it = (old, (it.0, refl), as_was old are (subst (λ (c : Held X). AddsNoCrashState (shown first) (shown c)) it.1 less))
+
+    -- commands were run from a state that the broker held
+    ran : (s : Broker) (b : BrokerView X) (calls : List (Request × Exit)) → b.is_stopped ≡ false → HoldsState s (shown b.connection)
+        → GivenRuns shown (Ok b) calls last → (new : Kept) × RunsFrom s calls new × AreTreesOf new end
+    ran s b calls running holds it = let led = given_lead shown s b calls last end running holds it clean may in (OfToday led.0, (led.0, led.1, led.2, refl), led.3)
+
+    ran_none : (s : Broker) (calls : List (Request × Exit)) → calls ≡ [] → RunsFrom s calls (OfToday s)
+    ran_none s calls none = subst (λ (cs : List (Request × Exit)). RunsFrom s cs (OfToday s)) (sym none) (s, tt, refl, refl)
+
+    serves_today : (s : Broker) (given : Result (BrokerView X) (Refused X)) (calls : List (Request × Exit)) → IsOnDisk (λ db. Stores db s) trees → Opened shown first given
+        → GivenRuns shown given calls last → (new : Kept) × RunsFrom s calls new × AreTreesOf new end
+    serves_today s (Ok b) calls are opened it =
+        ran s b calls opened.runs (opened.holds (given_clean shown (Ok b) calls last it clean) s (holds_today trees (shown first) on (settled first) s are)) it
+    serves_today s (Err r) calls are opened it =
+        let less = adds_nothing _ _ opened.survives (given_clean shown (Err r) calls last it clean) in
+        (OfToday s, ran_none s calls it.0, as_was (OfToday s) are (subst (λ (c : Held X). AddsNoCrashState (shown first) (shown c)) it.1 less))
+
+    -- a database of another kind is not opened
+    serves_none : (old : Kept) (given : Result (BrokerView X) (Refused X)) (calls : List (Request × Exit)) → AreTreesOf old trees → Opened shown first given
+        → verdict given ≢ Ok tt → GivenRuns shown given calls last → (new : Kept) × LeavesAsWas old calls new × AreTreesOf new end
+    serves_none old (Ok b) calls are opened never it = absurd (never refl)
+    serves_none old (Err r) calls are opened never it = refused old r calls are (adds_nothing _ _ opened.survives (given_clean shown (Err r) calls last it clean)) it
+
+    -- where there are tables no broker is made
+    makes_none : (old : Kept) (office : Text) (given : Result (BrokerView X) (Refused X)) (calls : List (Request × Exit)) → AreTreesOf old trees → Created shown first office given
+        → ¬ ((shown first).now.schema ≡ no_schema) → GivenRuns shown given calls last → (new : Kept) × LeavesAsWas old calls new × AreTreesOf new end
+    makes_none old office (Ok b) calls are made some it = absurd (made.not_empty.1 some)
+    makes_none old office (Err r) calls are made some it =
+        refused old r calls are (subst (λ (c : Held X). AddsNoCrashState (shown first) (shown c)) (sym (made.same (made.not_empty.1 some))) (λ t may. may)) it
+
+    makes_new : (office : Text) (given : Result (BrokerView X) (Refused X)) (calls : List (Request × Exit)) → IsOnDisk IsBlank trees → Created shown first office given
+        → GivenRuns shown given calls last → (new : Kept) × (LeavesAsWas Blank calls new ⊎ RunsFrom (opening office) calls new) × AreTreesOf new end
+    makes_new office (Ok b) calls are made it =
+        let led = ran (opening office) b calls made.runs (made.made (given_clean shown (Ok b) calls last it clean) (holds_blank trees (shown first) on (settled first) are)).0 it in
+        (led.0, inr led.1, led.2)
+    makes_new office (Err r) calls are made it =
+        by r.fault (made.refuses (given_clean shown (Err r) calls last it clean) (holds_blank trees (shown first) on (settled first) are) (no_table trees (shown first) on (settled first) are))
+      where
+        may_here : (shown r.connection).may_leave end
+        may_here = subst (λ (c : Held X). (shown c).may_leave end) (sym it.1) may
+
+        by : (f : OpenFault) → Refuses IsBlank (λ db. Stores db (opening office)) (shown r.connection) f → (new : Kept) × (LeavesAsWas Blank calls new ⊎ RunsFrom (opening office) calls new) × AreTreesOf new end
+        by fault.Memory kept = (Blank, inl (it.0, refl), kept.left end may_here)
+        by fault.Store either = elim (either.left end may_here) [
+          | inl blank ↦ (Blank, inl (it.0, refl), blank)
+          | inr new ↦ (OfToday (opening office), inr (ran_none (opening office) calls it.0), new)
+        ]
+        by fault.NotEmpty never = absurd never
+        by fault.NotABroker never = absurd never
+        by (fault.Format n) never = absurd never
+
+    -- ---- a migration
+
+    migrates_former : (s : Broker) (given : Result (Unit {0}) OpenFault) → IsOnDisk (λ db. StoresFormer db s) trees → Migrated shown first last given
+        → (new : Kept) × PeriodLeads (OfFormer s) Migrating new × AreTreesOf new end
+    migrates_former s given are migrated = by given (migrated.migrates clean s held) (migrated.refuses clean s held)
+      where
+        held : HoldsDurably (λ db. StoresFormer db s) (shown first)
+        held = holds_former trees (shown first) on (settled first) s are
+
+        by : (r : Result (Unit {0}) OpenFault) → OnOk r (HoldsState s (shown last)) → IfErr r (Refuses (λ db. StoresFormer db s) (λ db. Stores db s) (shown last)) → (new : Kept) × PeriodLeads (OfFormer s) Migrating new × AreTreesOf new end
+        by (Ok u) now is = (OfToday s, inr refl, now.left end may)
+        by (Err fault.Memory) now kept = (OfFormer s, inl refl, kept.left end may)
+        by (Err fault.Store) now either = elim (either.left end may) [ inl is ↦ (OfFormer s, inl refl, is) | inr is ↦ (OfToday s, inr refl, is) ]
+        by (Err fault.NotEmpty) now never = absurd never
+        by (Err fault.NotABroker) now never = absurd never
+        by (Err (fault.Format n)) now never = absurd never
+
+  -- ---- a period
+
+  pub periods_lead : PeriodsLead shown
+  periods_lead (OfToday s) (Serving calls) first last trees end are on it clean may = serves_today first last trees end on clean may s it.0 calls are it.1 it.2
+  periods_lead (OfFormer s) (Serving calls) first last trees end are on it clean may =
+      let held = held_as (λ db. StoresFormer db s) (IsMarked former_format s.office) (shown first) (λ db is. former_marked db s is.tables) (holds_former trees (shown first) on (settled first) s are) in
+      let judged = it.1.marked (given_clean shown it.0 calls last it.2 clean) former_format s.office held in
+      serves_none first last trees end on clean may (OfFormer s) it.0 calls are it.1 (is_refused (Some former_format) (verdict it.0) (λ ok. let wrong : Err (fault.Format former_format) ≡ Ok tt = ok in cc) judged) it.2
+  periods_lead Blank (Serving calls) first last trees end are on it clean may =
+      let judged = it.1.blank (given_clean shown it.0 calls last it.2 clean) (holds_blank trees (shown first) on (settled first) are) in
+      serves_none first last trees end on clean may Blank it.0 calls are it.1 (is_refused None (verdict it.0) (λ ok. let wrong : Err fault.NotABroker ≡ Ok tt = ok in cc) judged) it.2
+  periods_lead (OfToday s) (Making office calls) first last trees end are on it clean may =
+      let some = some_table trees (shown first) on (settled first) (λ db. Stores db s) broker_schema (λ db is. is.tables.broker.schema) refl (holds_today trees (shown first) on (settled first) s are) in
+      makes_none first last trees end on clean may (OfToday s) office it.0 calls are it.1 some it.2
+  periods_lead (OfFormer s) (Making office calls) first last trees end are on it clean may =
+      let some = some_table trees (shown first) on (settled first) (λ db. StoresFormer db s) (schema_of (former_tables ++ [])) (λ db is. is.tables.schema) refl (holds_former trees (shown first) on (settled first) s are) in
+      makes_none first last trees end on clean may (OfFormer s) office it.0 calls are it.1 some it.2
+  periods_lead Blank (Making office calls) first last trees end are on it clean may = makes_new first last trees end on clean may office it.0 calls are it.1 it.2
+  periods_lead (OfToday s) Migrating first last trees end are on it clean may =
+      let marked = today_marked (shown first).now s (held_now (λ db. Stores db s) (shown first) (holds_today trees (shown first) on (settled first) s are) on.opens.is_open) in
+      let other : ¬ (IsFormer (shown first).now) = λ former. absurd (let wrong : Some former_format ≡ Some format = marked_some format s.office (shown first).now (Some former_format) marked former.0 in cc) in
+      (OfToday s, (refl, refl), as_was first last trees end on clean may (OfToday s) are (it.1.spares clean other))
+  periods_lead (OfFormer s) Migrating first last trees end are on it clean may = migrates_former first last trees end on clean may s it.0 are it.1
+  periods_lead Blank Migrating first last trees end are on it clean may =
+      let other : ¬ (IsFormer (shown first).now) = λ former. absurd (let wrong : Some former_format ≡ None = blank_none (shown first).now (Some former_format) (no_table trees (shown first) on (settled first) are) former.0 in cc) in
+      (Blank, (refl, refl), as_was first last trees end on clean may Blank are (it.1.spares clean other))
+  periods_lead old NotOpened first last trees end are on it clean may = absurd it
+
+-- ---- the same of the files
+
+-- a period in which the files weren't opened
+not_opened : (old : Kept) → PeriodLeads old NotOpened old
+not_opened (OfToday s) = (refl, refl)
+not_opened (OfFormer s) = (refl, refl)
+not_opened Blank = (refl, refl)
+
+-- trees without an entry have no tables
+blank_trees : (trees : Trees) → IsEmpty trees → IsOnDisk IsBlank trees
+blank_trees trees none = let sound = empty_is_sound trees none.1 in record { schema = no_schema; sound = sound; has = record { schema = refl; sound = sound } }
+
+-- an empty file has no entry
+found_empty : (image : Image) (trees : Trees) → image.db ≡ [] → AreFoundIn image trees → IsEmpty trees
+found_empty image trees none (inl found) = absurd (let some : 0 < length image.db = found.3.found.present in let never : 0 < 0 = subst (λ (bytes : List ℕ). 0 < length bytes) none some in omega (arith, never))
+found_empty image trees none (inr found) = found.1
+
+-- trees are the same if they are so by a thing that is there in some way
+trees_from : {A : Type 0} (p q : Trees) → ∥ A ∥₁ → (A → p ≡ q) → p ≡ q
+trees_from p q some so = fun_ext (λ n. ∥∥₁_elim some (Coded-set (coded_list the_row.coded) (p n) (q n)) (λ x. ap (λ (t : Trees). t n) (so x)))
+
+module _ {D : Type 0} (g : Ghosts D) where
+  abbrev shown : Held (FileStore D g) → State
+  shown = file_state {D = D} {g = g}
+
+  -- the trees that the files hold which keep something, or it is nothing, and they are empty
+  abbrev Holds : Kept → Image → Type 0
+  Holds kept image = ((trees : Trees) × HoldsDatabase image trees × AreTreesOf kept trees) ⊎ ((kept ≡ Blank) × (image.db ≡ []))
+
+  -- what a connection found that was opened on such files
+  abbrev Found : Kept → Held (FileStore D g) → Type 0
+  Found old conn = (trees : Trees) × AreTreesOf old trees × IsOpenedOn trees (shown conn)
+
+  found : (old : Kept) (held : Image) (conn : Held (FileStore D g)) → AreFilesOf g old held → IsOpened conn → FindsIn held (shown conn) → ∥ Found old conn ∥₁
+  found old held conn are opened finds = ∥∥₁_map are (λ (it : Holds old held). elim it [
+    | inl some ↦ let r : Found old conn = (some.0, some.2, record { opens = opened.0; live = opened.1; found = finds.holds some.0 some.1 }) in r
+    | inr none ↦
+        let trees = (shown conn).committed.trees in
+        let blank = subst (λ (k : Kept). AreTreesOf k trees) (sym none.0) (blank_trees trees (found_empty held trees none.1 finds.reads)) in
+        let r : Found old conn = (trees, blank, record { opens = opened.0; live = opened.1; found = refl }) in r
+  ])
+
+  -- what holds the same keeps the same
+  kept_before : (kept : Kept) (old new : Image) → AreFilesOf g kept old → HoldsAsBefore g old new → AreFilesOf g kept new
+  kept_before kept old new are same = ∥∥₁_elim are squash₁ (λ (it : Holds kept old). elim it [
+    | inl found ↦ ∥∥₁_map (same.same found.0 found.1) (λ holds. let r : Holds kept new = inl (found.0, holds, found.2) in r)
+    | inr none ↦ ∥∥₁_map (same.none none.1) (λ (now : (trees : Trees) × HoldsDatabase new trees × IsEmpty trees).
+        let r : Holds kept new = inl (now.0, now.1, subst (λ (k : Kept). AreTreesOf k now.0) (sym none.0) (blank_trees now.0 now.2)) in r)
+  ])
+
+  -- trees in which a connection ends, as they are found in this image
+  abbrev pub EndsIn : Held (FileStore D g) → Image → Type 0
+  EndsIn conn image = (trees : Trees) × (shown conn).may_leave trees × HoldsDatabase image trees
+
+  module _ (stays : (c : Held (FileStore D g)) → IsTrue (shown c).is_open → (shown c).may_leave (shown c).committed.trees)
+      (settled : (c : Held (FileStore D g)) (t : Trees) → IsTrue (shown c).is_open → (shown c).may_leave t → t ≡ (shown c).committed.trees) where
+    pub ends : (conn : Held (FileStore D g)) (rest : Leftover D g) (image : Image) → EndsAs g conn rest → MayLeave g rest image → ∥ EndsIn conn image ∥₁
+    ends conn (left.Store store) image back may =
+        ∥∥₁_map (opens_again store back.numbered back.sound image may) (λ db. let r : EndsIn conn image = (db.0, back.outcomes db.0 db.1, db.2) in r)
+    ends conn (left.Files files) image closed may =
+        ∥∥₁_map ((closed.left image may).both) (λ holds. let r : EndsIn conn image = ((shown conn).committed.trees, stays conn closed.was_open, holds) in r)
+    ends conn (left.Unopened it) image never may = absurd never
+
+    -- a period, from files which held this to what a crash may leave of its end
+    pub file_leads : (old : Kept) (held : Image) (period : Period) (first last : Held (FileStore D g)) (rest : Leftover D g) (image : Image)
+        → AreFilesOf g old held → IsOpened first → FindsIn held (shown first) → PeriodRuns shown period first last → HasCleanDisk (shown last) → EndsAs g last rest → MayLeave g rest image
+        → ∥ ((new : Kept) × PeriodLeads old period new × AreFilesOf g new image) ∥₁
+    file_leads old held period first last rest image are opened finds runs clean over may =
+        ∥∥₁_elim (found old held first are opened finds) squash₁ (λ (one : Found old first).
+        ∥∥₁_map (ends last rest image over may) (λ (end : EndsIn last image).
+        let led = periods_lead shown settled old period first last one.0 end.0 one.1 one.2 runs clean end.1 in
+        let r : (new : Kept) × PeriodLeads old period new × AreFilesOf g new image = (led.0, led.1, ∣ inl (end.0, end.2, led.2) ∣₁) in r))
+
+    -- something of this kind is kept by an image, or by all that a crash may leave
+    abbrev Keeps : (Kept → Type 0) → Image → Type 0
+    Keeps P image = (kept : Kept) × P kept × AreFilesOf g kept image
+
+    abbrev AllKeep : (Kept → Type 0) → Leftover D g → Type 0
+    AllKeep P rest = (image : Image) → MayLeave g rest image → ∥ Keeps P image ∥₁
+
+    abbrev After : (Kept → Type 0) → Period → Kept → Type 0
+    After P period new = (old : Kept) × P old × PeriodLeads old period new
+
+    opened_keeps : (P : Kept → Type 0) (first last : Leftover D g) (period : Period) (old new : Held (FileStore D g)) (files : Files D) → AllKeep P first → MayLeave g first (image_of g files)
+        → IsOpened old → FindsIn (image_of g files) (shown old) → PeriodRuns shown period old new → HasCleanDisk (shown new) → EndsAs g new last → AllKeep (After P period) last
+    opened_keeps P first last period old new files keep seen opened finds runs clean over image may =
+        let read = image_of g files in
+        ∥∥₁_elim (keep read seen) squash₁ (λ (one : Keeps P read).
+        ∥∥₁_map (file_leads one.0 read period old new last image one.2 opened finds runs clean over may) (λ (led : (new : Kept) × PeriodLeads one.0 period new × AreFilesOf g new image).
+        let r : Keeps (After P period) image = (led.0, (one.0, one.1, led.1), led.2) in r))
+
+    period_keeps : (P : Kept → Type 0) (first last : Leftover D g) (period : Period) → AllKeep P first → PeriodOnFiles g first period last → AllKeep (After P period) last
+    period_keeps P first last NotOpened keep it image may = elim (it.2 image may) [
+      | inl before ↦ ∥∥₁_map (keep image (it.1.left image before)) (λ (one : Keeps P image). let r : Keeps (After P NotOpened) image = (one.0, (one.0, one.1, not_opened one.0), one.2) in r)
+      | inr same ↦ ∥∥₁_map (keep (image_of g it.0) it.1.seen) (λ (one : Keeps P (image_of g it.0)).
+          let r : Keeps (After P NotOpened) image = (one.0, (one.0, one.1, not_opened one.0), kept_before one.0 (image_of g it.0) image one.2 same) in r)
+    ]
+    period_keeps P first last period keep it image may =
+        opened_keeps P first last period it.0 it.1 it.2.0 keep it.2.1.seen it.2.2 (record { holds = it.2.3.holds; reads = it.2.3.reads }) it.3 it.4 it.5 image may
+
+    life_keeps : (P : Kept → Type 0) (first last : Leftover D g) (life : List Period) → AllKeep P first → LifeOnFiles g first life last → AllKeep (λ new. (old : Kept) × P old × LifeLeads old life new) last
+    life_keeps P first last [] keep same image may =
+        ∥∥₁_map (keep image (subst (λ (rest : Leftover D g). MayLeave g rest image) same may)) (λ (one : Keeps P image).
+        let r : Keeps (λ new. (old : Kept) × P old × LifeLeads old [] new) image = (one.0, (one.0, one.1, refl), one.2) in r)
+    life_keeps P first last (period ∷ life) keep it image may =
+        ∥∥₁_map (life_keeps (After P period) it.0 last life (period_keeps P first it.0 period keep it.1) it.2 image may) (λ (end : Keeps (λ new. (mid : Kept) × After P period mid × LifeLeads mid life new) image).
+        let r : Keeps (λ new. (old : Kept) × P old × LifeLeads old (period ∷ life) new) image = (end.0, (end.1.1.0, end.1.1.1, (end.1.0, end.1.1.2, end.1.2)), end.2) in r)
+
+    pub lives_lead : LivesLead g
+    lives_lead old first last life keep it image may =
+        let only : Kept → Type 0 = λ kept. kept ≡ old in
+        ∥∥₁_map (life_keeps only first last life (λ i m. ∣ (old, refl, keep i m) ∣₁) it image may) (λ (end : Keeps (λ new. (old : Kept) × only old × LifeLeads old life new) image).
+        let r : (new : Kept) × LifeLeads old life new × AreFilesOf g new image = (end.0, subst (λ (k : Kept). LifeLeads k life end.0) end.1.1 end.1.2, end.2) in r)
+
+    pub opened_files_hold : OpenedFilesHold g
+    opened_files_hold s files trees conn some are opened finds =
+        let on : IsOpenedOn trees (shown conn) = record { opens = opened.0; live = opened.1; found = trees_from (shown conn).committed.trees trees some (finds.holds trees) } in
+        holds_today trees (shown conn) on (settled conn) s are
+
+-- ---- the sessions of a life
+
+-- the commands of a life were run, from the state that they begin from
+abbrev Ran : Kept → List Period → Broker → Type 0
+Ran old life last = (first : Broker) × BeginsFrom old life first × LeavesSessions broker_primitives first (map calls_of life) last
+
+begins_later : (old : Kept) (period : Period) (life : List Period) (first : Broker) → BeginsFrom old life first → BeginsFrom old (period ∷ life) first
+begins_later (OfToday s) period life first it = it
+begins_later (OfFormer s) period life first it = it
+begins_later Blank period life first it = (period ∷ it.0, it.1, it.2, it.3, ap (λ (more : List Period). period ∷ more) it.4, it.5)
+
+-- a period in which nothing was run
+idle : (old mid : Kept) (period : Period) (life : List Period) (last : Broker) → LeavesAsWas old (calls_of period) mid → Ran mid life last → Ran old (period ∷ life) last
+idle old mid period life last was more =
+    let here : Ran old life last = subst (λ (k : Kept). Ran k life last) was.1 more in
+    (here.0, begins_later old period life here.0 here.1, subst (λ (cs : List (Request × Exit)). LeavesSessions broker_primitives here.0 (cs ∷ map calls_of life) last) (sym was.0) (here.0, tt, refl, here.2))
+
+-- one in which a broker's commands were
+busy : (s : Broker) (mid : Kept) (calls : List (Request × Exit)) (life : List Period) (last : Broker) → RunsFrom s calls mid → Ran mid life last → LeavesSessions broker_primitives s (calls ∷ map calls_of life) last
+busy s mid calls life last run more =
+    let here : Ran (OfToday run.0) life last = subst (λ (k : Kept). Ran k life last) run.3 more in
+    (run.0, run.1, run.2, subst (λ (t : Broker). LeavesSessions broker_primitives t (map calls_of life) last) here.1 here.2)
+
+ran_on : (old mid : Kept) (period : Period) (life : List Period) (last : Broker) → PeriodLeads old period mid → Ran mid life last → Ran old (period ∷ life) last
+ran_on (OfToday s) mid (Serving calls) life last run more = (s, refl, busy s mid calls life last run more)
+ran_on Blank mid (Making office calls) life last (inl was) more = idle Blank mid (Making office calls) life last was more
+ran_on Blank mid (Making office calls) life last (inr run) more = (opening office, ([], office, calls, life, refl, refl), busy (opening office) mid calls life last run more)
+ran_on (OfFormer s) mid Migrating life last (inl same) more = idle (OfFormer s) mid Migrating life last (refl, same) more
+ran_on (OfFormer s) mid Migrating life last (inr same) more =
+    let here : Ran (OfToday s) life last = subst (λ (k : Kept). Ran k life last) same more in
+    (here.0, here.1, (here.0, tt, refl, here.2))
+ran_on old mid period life last was more = idle old mid period life last was more
+
+life_ran : (old : Kept) (life : List Period) (last : Broker) → LifeLeads old life (OfToday last) → Ran old life last
+life_ran (OfToday s) [] last same = (s, refl, (let is : last ≡ s = cc in is))
+life_ran (OfFormer s) [] last same = absurd (cc)
+life_ran Blank [] last same = absurd (cc)
+life_ran old (period ∷ life) last it = ran_on old it.0 period life last it.1 (life_ran it.0 life last it.2)
+
+pub lives_run : LivesRun
+lives_run old life last it =
+    let run = life_ran old life last it in
+    let are = sessions broker_primitives run.0 last (map calls_of life) run.2 in
+    record {
+      first = run.0;
+      begins = run.1;
+      sessions = are;
+      done = (sessions_run broker_primitives run.0 last (sessions_in life)).0 are;
+      again = λ again. runs_once broker_primitives run.0 last (sessions_in life) again are;
+    }
+
+pub keeps_latest : KeepsLatest
+keeps_latest s trees are = record { schema = are.schema; sound = are.sound; has = are.has.tables.latest }
+
+-- ---- an opening that failed
+
+module _ {D : Type 0} (g : Ghosts D) (files : Files D) where
+  unopened_spares : (now : Unopened D g) → LeavesFiles files (left.Unopened now) → IsUnharmed g (image_of g files) (left.Unopened now) → LeavesUnopened g files (left.Unopened now)
+  unopened_spares now (inl nothing) more image may = elim (nothing.1 image may) [
+    | inl before ↦ inl before
+    | inr (inl none) ↦ absurd (more.1 image may none)
+    | inr (inr empty) ↦ inr (record { same = λ trees held. absurd (is_something (image_of g files) trees held nothing.0); none = λ _. ∥∥₁_map empty (λ it. let r : (trees : Trees) × HoldsDatabase image trees × IsEmpty trees = (it.0, it.1, it.2) in r) })
+  ]
+  unopened_spares now (inr kept) more image may = elim ((kept.4 image may).same) [
+    | inl before ↦ inl before
+    | inr stands ↦ inr (record {
+      same = λ trees held.
+          let size = more.0 trees held in
+          let it = held.2 in
+          let r : HoldsDatabase image trees = (
+            (state_of now).page_size,
+            rw size at held.1,
+            record { pages = it.pages; wanted = it.wanted; schema = it.schema; found = stands.1 it.pages (rw size at it.found); ours = rw size at it.ours; reads = rw size at it.reads; sound = it.sound },
+          ) in ∣ r ∣₁;
+      none = λ none. absurd (kept.0 (inl (inl (ap length none))));
+    })
+  ]
+
+  store_spares : (now : FileStore D g) → LeavesFiles files (left.Store now) → IsUnharmed g (image_of g files) (left.Store now) → LeavesUnopened g files (left.Store now)
+  store_spares now found numbered image may =
+      let again : AreDatabases (recovers now) → ∥ ((trees : Trees) × recovers now trees × HoldsDatabase image trees) ∥₁ = λ sound. opens_again now numbered sound image may in
+      inr (record {
+        same = λ trees held.
+            let sound : AreDatabases (recovers now) = λ db is. (held.2.schema, subst (IsSound held.2.schema) (sym ((found db is).1 trees held)) held.2.sound) in
+            ∥∥₁_map (again sound) (λ (it : (t : Trees) × recovers now t × HoldsDatabase image t). subst (HoldsDatabase image) ((found it.0 it.1).1 trees held) it.2);
+        none = λ none.
+            let empty : (db : Trees) → recovers now db → IsEmpty db = λ db is. found_empty (image_of g files) db none (found db is).0 in
+            let sound : AreDatabases (recovers now) = λ db is. (no_schema, empty_is_sound db (empty db is).1) in
+            ∥∥₁_map (again sound) (λ (it : (t : Trees) × recovers now t × HoldsDatabase image t). let r : (t : Trees) × HoldsDatabase image t × IsEmpty t = (it.0, it.2, empty it.0 it.1) in r);
+      })
+
+pub opening_spares : {D : Type 0} (g : Ghosts D) → OpeningSpares g
+opening_spares g files (left.Files now) leaves more image may = inl (leaves image may)
+opening_spares g files (left.Unopened now) leaves more image may = unopened_spares g files now leaves more image may
+opening_spares g files (left.Store now) leaves more image may = store_spares g files now leaves more image may

@@ -1,0 +1,286 @@
+-- What a migration finds, and what it leaves of a state.
+use Rattle.std.specs.{Prelude.{if◌then◌else◌, option_map, IsTrue, ◌↔◌, IsSomeAnd, Result, Ok, Err, OnOk, IfErr}, Option.{option_map_or}}
+use Rattle.std.proofs.Common.{◌≡◌, ◌≢◌, ◌==◌, ◌∷◌, [], ◌⊎◌, inl, inr, ℕ, List, Bool, true, false, not, ◌&&◌, refl, sym, ap, subst, ◌∙◌, drop, find, slice_get, arith, Option, Some, None, Result, Ok, Err}
+use Rattle.std.proofs.lemmas.Bool.{eqb-true, eqb-false}
+use Rattle.sqlite.specs.{Effect.{Database}, Held.{Held}, Schema.{Schema}, State.{State}, Table.{Table}, declared.types.Value.TheVariants.{Int}}
+use Rattle.sqlite_rules.specs.Lists.{Has}
+use Rattle.table_access.{specs.{declared.StoreFault.{StoreFault}, Durability.{HoldsDurably}}, proofs.SoundLemmas.{has_place, whole_in}}
+use Rattle.broker_core.specs.{declared.answer.Answer.TheVariants.{Shown}, declared.answer.Shown.TheVariants.{Gate}}
+use Rattle.broker_core.specs.{declared.command.Command.TheVariants.{CanIDeploy}, declared.command.Marks.{Marks}, declared.command.Version.{Version}}
+use Rattle.broker_core.specs.{declared.need.Kind.TheVariants.{Failed, Claimed}, declared.need.Latest.{Latest}, declared.need.Need.{Need}}
+use Rattle.broker_core.specs.{declared.need.PairFault.{PairFault}, Change.{Transition, unchanged_with}, Faults.{fault_of, kind_of}}
+use Rattle.broker_core.specs.{Gate.{IsGood, IsPermitted, IsFault, Judges}, Machine.{TakesEffect}, State.{State as Broker, is_strict}, Text.{Text}}
+use Rattle.sqlite_schema.specs.{declared.schema.Column.{Column}, Names.{same_name}}
+use Rattle.broker_tables.specs.{Schema.{no_schema, schema_of, in_meta}, Holds.{IsMeta}, Making.{IsBlank, IsMarked}}
+use Rattle.broker_tables.{specs.Former.{HoldsFormer, IsUnmarked, former_tables, former_format}, proofs.Former.{unmarked}}
+use Rattle.registry_tables.specs.Format.{AreLike, AreKeys, HasForm, HasFormerTables, HasNoFormat, SharesTree, IsOfFormat, FindsFormer}
+use Rattle.command_facts.specs.Primitives.{broker_primitives}
+use Rattle.broker_database.specs.{Calls.{Migrated}, Ends.{IsUnchangedUnless}}
+use Rattle.broker_database.specs.Migration.{StoresFormer, BringsUpOrNot, MigratesOrRefuses, WasGood, WasPermitted, WasFault, WasJudged, Showed, JudgesAsBefore, former_kind, former_fault, former_marks}
+use Rattle.broker_database.specs.{Opening.{Refuses, IsUnchangedUnlessStore, judgement, open_fault}, Stored.{Stores, HoldsState}}
+use Rattle.broker_database.specs.{declared.opening.OpenFault.{OpenFault}, declared.opening.OpenFault.TheVariants.{Format}}
+use Rattle.broker_database.proofs.{Judgements.{one_told, meta_is, blank_none, marked_some}, OpenFailures.{judgement_is_none}}
+use Rattle.table_access.specs.declared.StoreFault.TheVariants as store_fault
+use Rattle.broker_tables.specs.Schema as tables
+
+-- what is held durably is seen, while the connection is open
+pub held_now : (P : Database → Type 0) (c : State) → HoldsDurably P c → IsTrue c.is_open → P c.now
+held_now P c keeps now = let was = keeps.held now in subst P (sym was.same) was.has
+
+-- ---- the format that is found
+
+-- a database of format 1 has meta as its first table, with its one row
+pub former_marked : (db : Database) (s : Broker) → HoldsFormer db s → IsMarked former_format s.office db
+former_marked db s held = record { tables = drop 1 (schema_of former_tables).tables; indexes = (schema_of former_tables).indexes; schema = held.schema; row = held.meta }
+
+-- each column is like itself
+like_itself : (cs : List Column) → AreLike cs cs
+like_itself [] = tt
+like_itself (c ∷ cs) = ((refl, refl), like_itself cs)
+
+keys_themselves : (keys : List (List ℕ)) → AreKeys keys keys
+keys_themselves [] = tt
+keys_themselves (places ∷ keys) = (refl, keys_themselves keys)
+
+-- a table has its own form, whichever tree has its rows
+form : (t : Table) (tree : ℕ) → HasForm t (record t { tree = tree })
+form t tree = (like_itself t.columns, (refl, refl, keys_themselves t.uniques))
+
+former_schema : HasFormerTables (schema_of former_tables)
+unfolding same_name
+former_schema = (
+  form tables.meta 0,
+  (
+    form tables.teams 1,
+    (
+      form tables.pacticipants 4,
+      (
+        form tables.versions 6,
+        (
+          form tables.branches 8,
+          (
+            form tables.environments 10,
+            (
+              form tables.grants 12,
+              (form tables.contents 14, (form tables.contracts 15, (form tables.results 17, (form tables.latest 19, (form tables.deployed 21, (form tables.released 23, tt)))))),
+            ),
+          ),
+        ),
+      ),
+    ),
+  ),
+)
+
+pub former_tables_there : (db : Database) (s : Broker) → HoldsFormer db s → HasFormerTables db.schema
+former_tables_there db s held = subst HasFormerTables (sym held.schema) former_schema
+
+pub former_found : (db : Database) (s : Broker) (found : Option ℕ) → HoldsFormer db s → FindsFormer db found → found ≡ Some former_format
+former_found db s None held (inl foreign) = marked_some former_format s.office db None (former_marked db s held) foreign
+former_found db s None held (inr (tells, lacks)) = absurd (lacks (former_tables_there db s held))
+former_found db s (Some n) held it = marked_some former_format s.office db (Some n) (former_marked db s held) it.0
+
+-- and nothing keeps its format from being told
+pub former_told : (db : Database) (s : Broker) → HoldsFormer db s → ¬ (HasNoFormat db ⊎ SharesTree db)
+former_told db s held (inl (table, at, is, (row, rows, none))) =
+    let one : db.trees in_meta.tree ≡ row ∷ [] = subst (λ (t : Table). db.trees t.tree ≡ row ∷ []) (meta_is former_format s.office db (former_marked db s held) table at) rows in
+    let there = has_place db.schema.tables 0 tables.meta (ap (λ (c : Schema). slice_get c.tables 0) held.schema) in
+    let number = whole_in db held.kept.sound tables.meta there row (subst (λ xs. Has xs row) (sym one) (inl refl)) 1 _ refl refl refl refl refl in
+    none former_format (number ∙ ap Int (one_told former_format s.office row (subst (IsMeta former_format s.office) one held.meta))) (omega arith)
+former_told db s held (inr (table, at, is, other)) =
+    other (subst (λ (t : Table). find (λ u. u.tree == t.tree) db.schema.tables ≡ Some t) (sym (meta_is former_format s.office db (former_marked db s held) table at)) (ap (λ (c : Schema). find (λ u. u.tree == in_meta.tree) c.tables) held.schema))
+
+-- the judgement by what is found is right
+judged_former : (db : Database) (found : Option ℕ) → FindsFormer db found → MigratesOrRefuses db (judgement former_format found)
+judged_former db None it = it
+judged_former db (Some n) it = go (n == former_format) refl
+  where
+    go : (b : Bool) → (n == former_format) ≡ b → MigratesOrRefuses db (if b then Ok tt else Err (Format n))
+    go true e =
+        let same : n ≡ former_format = eqb-true n former_format e in
+        (subst (λ k. IsOfFormat k db) same it.0, it.1 same)
+    go false e = (it.0, eqb-false n former_format e)
+
+blank_former : (db : Database) (found : Option ℕ) → db.schema ≡ no_schema → FindsFormer db found → found ≡ None
+blank_former db None blank it = refl
+blank_former db (Some n) blank it = blank_none db (Some n) blank it.0
+
+marked_former : (n : ℕ) (office : Text) (db : Database) (found : Option ℕ) → n ≢ former_format → IsMarked n office db → FindsFormer db found → found ≡ Some n
+marked_former n office db None other marked (inl foreign) = marked_some n office db None marked foreign
+marked_former n office db None other marked (inr (tells, lacks)) =
+    let is : Some former_format ≡ Some n = marked_some n office db (Some former_format) marked tells in
+    absurd (other (let same : n ≡ former_format = cc in same))
+marked_former n office db (Some k) other marked it = marked_some n office db (Some k) marked it.0
+
+-- ---- the gate's words
+
+good_before : (need : Need) → IsGood false need → WasGood need
+good_before need good = (good.0, passes need.latest good.1)
+  where
+    passes : (o : Option Latest) → IsSomeAnd o (λ latest. IsTrue latest.pass × (IsTrue false → IsTrue latest.checked)) → IsSomeAnd o (λ latest. IsTrue latest.pass)
+    passes None h = h
+    passes (Some latest) h = h.0
+
+good_now : (need : Need) → WasGood need → IsGood false need
+good_now need good = (good.0, passes need.latest good.1)
+  where
+    passes : (o : Option Latest) → IsSomeAnd o (λ latest. IsTrue latest.pass) → IsSomeAnd o (λ latest. IsTrue latest.pass × (IsTrue false → IsTrue latest.checked))
+    passes None h = h
+    passes (Some latest) h = (h, λ never. absurd cc)
+
+same_kind : (w : Option Text) (latest : Option Latest) → kind_of false w latest ≡ former_kind w latest
+same_kind None latest = refl
+same_kind (Some w) None = refl
+same_kind (Some w) (Some latest) = by_pass latest.pass
+  where
+    by_pass : (pass : Bool) → (if not pass then Some Failed else if false && not latest.checked then Some Claimed else None) ≡ (if pass then None else Some Failed)
+    by_pass true = refl
+    by_pass false = refl
+
+same_fault : (need : Need) → fault_of false need ≡ former_fault need
+same_fault need = ap (option_map (λ kind. record {
+  consumer = need.consumer;
+  consumer_version = need.consumer_version;
+  provider = need.provider;
+  provider_version = need.provider_version;
+  kind = kind;
+})) (same_kind need.provider_version need.latest)
+
+-- ---- where no environment is strict
+
+module _ (s : Broker) (are : IsUnmarked s) where
+  lenient : (e : Text) → is_strict s e ≡ false
+  lenient e = go (s.environments e) refl
+    where
+      go : (o : Option Marks) → s.environments e ≡ o → option_map_or (λ (marks : Marks). marks.strict) o false ≡ false
+      go None is = refl
+      go (Some marks) is = are.lenient e marks is
+
+  permits_now : (v : Version) (e : Text) → IsPermitted s v e ↔ WasPermitted s v e
+  permits_now v e = (forward, back)
+    where
+      forward : IsPermitted s v e → WasPermitted s v e
+      forward (inl all) = inl (λ need is. good_before need (subst (λ strict. IsGood strict need) (lenient e) (all need is)))
+      forward (inr ungated) = inr ungated
+
+      back : WasPermitted s v e → IsPermitted s v e
+      back (inl all) = inl (λ need is. subst (λ strict. IsGood strict need) (sym (lenient e)) (good_now need (all need is)))
+      back (inr ungated) = inr ungated
+
+  same_now : (e : Text) (need : Need) → fault_of (is_strict s e) need ≡ former_fault need
+  same_now e need = ap (λ strict. fault_of strict need) (lenient e) ∙ same_fault need
+
+  faults_now : (v : Version) (e : Text) (fault : PairFault) → IsFault s v e fault ↔ WasFault s v e fault
+  faults_now v e fault = (
+    λ it. (it.0, it.1, sym (same_now e it.0) ∙ it.2),
+    λ it. (it.0, it.1, same_now e it.0 ∙ it.2),
+  )
+
+  judged_before : (v : Version) (e : Text) (permitted : Bool) (faults : List PairFault) → Judges s v e permitted faults → WasJudged s v e permitted faults
+  judged_before v e permitted faults it = record {
+    verdict = (λ yes. (permits_now v e).0 (it.verdict.0 yes), λ was. it.verdict.1 ((permits_now v e).1 was));
+    faults_are = record {
+      sorted = it.faults_are.sorted;
+      exactly = λ f. (λ c. (faults_now v e f).0 ((it.faults_are.exactly f).0 c), λ is. (it.faults_are.exactly f).1 ((faults_now v e f).1 is));
+    };
+  }
+
+  judged_now : (v : Version) (e : Text) (permitted : Bool) (faults : List PairFault) → WasJudged s v e permitted faults → Judges s v e permitted faults
+  judged_now v e permitted faults it = record {
+    verdict = (λ yes. (permits_now v e).1 (it.verdict.0 yes), λ is. it.verdict.1 ((permits_now v e).0 is));
+    faults_are = record {
+      sorted = it.faults_are.sorted;
+      exactly = λ f. (λ c. (faults_now v e f).1 ((it.faults_are.exactly f).0 c), λ is. (it.faults_are.exactly f).1 ((faults_now v e f).0 is));
+    };
+  }
+
+  marks_before : (e : Text) (marks : Marks) → s.environments e ≡ Some marks → marks ≡ former_marks marks.gated
+  marks_before e marks is = ap (λ strict. record marks { strict = strict }) (are.lenient e marks is)
+
+  shows_before : (v : Version) (e : Text) (out : Transition) → TakesEffect broker_primitives s (CanIDeploy v e) out → Showed s v e out
+  shows_before v e out (marks, is, (permitted, faults, judged, shown)) = (
+    marks.gated,
+    ap (option_map (λ (m : Marks). m.gated)) is,
+    (permitted, faults, judged_before v e permitted faults judged, shown ∙ ap (λ m. unchanged_with s (Shown (Gate e m permitted faults))) (marks_before e marks is)),
+  )
+
+  shows_now : (v : Version) (e : Text) (out : Transition) → Showed s v e out → TakesEffect broker_primitives s (CanIDeploy v e) out
+  shows_now v e out (gated, is, (permitted, faults, judged, shown)) = go (s.environments e) refl
+    where
+      go : (o : Option Marks) → s.environments e ≡ o → TakesEffect broker_primitives s (CanIDeploy v e) out
+      go None none = absurd (let some = is in cc)
+      go (Some marks) some =
+          let same : marks.gated ≡ gated = (let both : Some marks.gated ≡ Some gated = sym (ap (option_map (λ (m : Marks). m.gated)) some) ∙ is in cc) in
+          (marks, some, (permitted, faults, judged_now v e permitted faults judged, shown ∙ ap (λ m. unchanged_with s (Shown (Gate e m permitted faults))) (ap former_marks (sym same) ∙ sym (marks_before e marks some))))
+
+  pub judges_as_before : JudgesAsBefore s
+  judges_as_before = record { unmarked = are; permits = permits_now; faults = faults_now; shows = λ v e out. (shows_before v e out, shows_now v e out) }
+
+-- of each state that a database of format 1 holds
+pub judges_former : (db : Database) (s : Broker) → HoldsFormer db s → JudgesAsBefore s
+judges_former db s held = judges_as_before s (unmarked former_format [] db s held)
+
+-- ---- the record of a migration, from what its transaction leaves
+
+pub always : (r : Result (Unit {0}) OpenFault) (P : Type 0) → P → OnOk r P
+always (Ok u) P it = it
+always (Err fault) P it = tt
+
+-- where the judgement refuses, no database of format 1 was found
+refused_other : (old new : State) (found : Option ℕ) → IsUnchangedUnless (λ f. f ≡ Some former_format) old new (Ok found) → IfErr (judgement former_format found) (IsUnchangedUnlessStore old new)
+refused_other old new None it = it (λ is. cc)
+refused_other old new (Some n) it = go (n == former_format) refl
+  where
+    go : (b : Bool) → (n == former_format) ≡ b → IfErr {T = Unit {0}} (if b then Ok tt else Err (Format n)) (IsUnchangedUnlessStore old new)
+    go true e = tt
+    go false e = it (λ is. eqb-false n former_format e (let same : n ≡ former_format = cc in same))
+
+-- a format was found
+pub migrated : {X : Type 0} (shown : Held X → State) (old new : Held X) (found : Option ℕ) → BringsUpOrNot shown old new (Ok found) → Migrated shown old new (judgement former_format found)
+migrated shown old new found up = record {
+  migrates = λ clean s keeps. always (judgement former_format found) (HoldsState s (shown new)) (up.ends clean s keeps).1;
+  refuses = λ clean s keeps.
+      let is : Ok tt ≡ judgement former_format found = sym (ap (judgement former_format) (up.ends clean s keeps).0) in
+      subst (λ (r : Result (Unit {0}) OpenFault). IfErr r (Refuses (λ db. StoresFormer db s) (λ db. Stores db s) (shown new))) is tt;
+  judges = λ clean. judged_former (shown old).now found (up.found clean).1;
+  calm = λ clean fresh is. absurd (judgement_is_none former_format found is);
+  calm_former = λ s fit clean fresh holds is. absurd (judgement_is_none former_format found is);
+  blank = λ clean keeps.
+      let it = up.found clean in
+      inl (ap (judgement former_format) (blank_former (shown old).now found (held_now IsBlank (shown old) keeps it.0).schema it.1));
+  marked = λ clean n office other keeps.
+      let it = up.found clean in
+      inl (ap (judgement former_format) (marked_former n office (shown old).now found other (held_now (IsMarked n office) (shown old) keeps it.0) it.1));
+  unchanged = λ clean. refused_other (shown old) (shown new) found (up.unchanged clean);
+  over = up.over;
+  survives = up.survives;
+  spares = up.spares;
+}
+
+-- the database failed
+pub unmigrated : {X : Type 0} (shown : Held X → State) (old new : Held X) (why : StoreFault) → BringsUpOrNot shown old new (Err why) → Migrated shown old new (Err (open_fault why))
+unmigrated shown old new store_fault.Memory up = record {
+  migrates = λ _ _ _. tt;
+  refuses = up.ends;
+  judges = λ _. tt;
+  calm = λ clean fresh is. absurd (cc);
+  calm_former = λ s fit clean fresh holds is. absurd (cc);
+  blank = λ _ _. inr (inl refl);
+  marked = λ _ _ _ _ _. inr (inl refl);
+  unchanged = up.unchanged;
+  over = up.over;
+  survives = up.survives;
+  spares = up.spares;
+}
+unmigrated shown old new store_fault.Store up = record {
+  migrates = λ _ _ _. tt;
+  refuses = up.ends;
+  judges = λ _. tt;
+  calm = λ clean fresh is. up.calm clean fresh refl;
+  calm_former = λ s fit clean fresh holds is. up.calm_former s fit clean fresh holds refl;
+  blank = λ _ _. inr (inr refl);
+  marked = λ _ _ _ _ _. inr (inr refl);
+  unchanged = up.unchanged;
+  over = up.over;
+  survives = up.survives;
+  spares = up.spares;
+}

@@ -1,0 +1,34 @@
+use Rattle.std.{specs.Prelude.{IfErr}, proofs.Common.{inl, Result, Ok, Err, sym, subst, ap, ◌∙◌}}
+use Rattle.sqlite.specs.{Held.{state}, State.{State}}
+use Rattle.broker_tables.specs.{Making.{IsBlank, IsMarked}, Holds.{format}}
+use Rattle.broker_database.specs.{Ends.{IsAsBefore}, Opening.{IsUnchangedUnlessStore, OpensOrRefuses, judgement}, declared.opening.OpenFault.{OpenFault}}
+use Rattle.broker_database.proofs.{Judgements.{judged, blank_none, marked_some}, MigrationLemmas.{always, held_now}, OpenFailures.{judgement_is_none}}
+use Rattle.broker_database.specs.declared.opening.OpenFault.TheVariants as told
+use Rattle.broker_database.proofs.opening.open.Goals as goal
+
+unless_store : (old new : State) (r : Result (Unit {0}) OpenFault) → IsAsBefore old new → IfErr r (IsUnchangedUnlessStore old new)
+unless_store old new (Ok u) it = tt
+unless_store old new (Err told.NotEmpty) it = it
+unless_store old new (Err told.NotABroker) it = it
+unless_store old new (Err (told.Format n)) it = it
+unless_store old new (Err told.Memory) it = it
+unless_store old new (Err told.Store) it = it.commit
+
+pub returns-in-Ok : goal.returns-in-Ok
+returns-in-Ok g c =
+    let old = state g.S.Store c.args.conn.now in
+    let new = state g.S.Store c.find_format.new.conn in
+    record {
+      judges = λ clean. subst (OpensOrRefuses format old.now) (sym c.judge.ensures) (judged format old.now c.in-Ok.found (c.in-Ok.ensures.found clean).1);
+      calm = λ clean fresh is. absurd (judgement_is_none format c.in-Ok.found (sym c.judge.ensures ∙ is));
+      blank = λ clean keeps.
+          let it = c.in-Ok.ensures.found clean in
+          inl (c.judge.ensures ∙ ap (judgement format) (blank_none old.now c.in-Ok.found (held_now IsBlank old keeps it.0).schema it.1));
+      marked = λ clean n office keeps.
+          let it = c.in-Ok.ensures.found clean in
+          inl (c.judge.ensures ∙ ap (judgement format) (marked_some n office old.now c.in-Ok.found (held_now (IsMarked n office) old keeps it.0) it.1));
+      kept = λ clean. always c.judge.result (IsAsBefore old new) (c.find_format.ensures.same clean);
+      unchanged = λ clean. unless_store old new c.judge.result (c.find_format.ensures.same clean);
+      over = c.find_format.ensures.over;
+      survives = c.find_format.ensures.survives;
+    }

@@ -1,0 +1,162 @@
+-- what a public call of the broker promises, on any disk and any database: one record a call
+use Rattle.std.specs.Prelude.{◌≡◌, ◌≢◌, ◌⊎◌, ◌↔◌, ℕ, List, false, IsTrue, Option, Some, None, Result, Err, OnOk, IfOk, IfErr, IsErrAnd}
+use Rattle.sqlite.specs.Held.{Held}
+use Rattle.sqlite.specs.State.{State, HasCleanDisk, Survives}
+use Rattle.table_access.specs.Calls.{KeepsLastCommit, HasFailed}
+use Rattle.table_access.specs.Durability.{HoldsDurably}
+use Rattle.table_access.specs.declared.StoreFault.TheVariants as faults
+use Rattle.broker_core.specs.Change.{instance_of}
+use Rattle.broker_core.specs.Laws.{IsDone}
+use Rattle.broker_core.specs.Machine.{is_step}
+use Rattle.broker_core.specs.State.{State as Broker, opening}
+use Rattle.broker_core.specs.Text.{Text}
+use Rattle.broker_core.specs.declared.answer.Answer.{Answer}
+use Rattle.broker_core.specs.declared.answer.Answer.TheVariants as answers
+use Rattle.broker_core.specs.declared.command.Command.{Command}
+use Rattle.broker_core.specs.declared.command.Command.TheVariants.{Deploy, Release}
+use Rattle.broker_core.specs.declared.command.Version.{Version}
+use Rattle.broker_tables.specs.Former.{former_format}
+use Rattle.broker_tables.specs.Holds.{format}
+use Rattle.broker_tables.specs.Making.{IsBlank, IsMarked}
+use Rattle.broker_tables.specs.Schema.{no_schema}
+use Rattle.broker_database.specs.BrokerView.{BrokerView}
+use Rattle.broker_database.specs.Causes.{HoldsReadable, IsNotKept, KeepsRoom, StaysReadable}
+use Rattle.broker_database.specs.Ends.{Applies, IsAsBefore, AddsNoCrashState, CommitsAtMostOnce, LeavesNoTransaction}
+use Rattle.broker_database.specs.Handed.{left_by, verdict}
+use Rattle.broker_database.specs.Headline.{RecordsExactly}
+use Rattle.broker_database.specs.Migration.{StoresFormer, HoldsFormerState, MigratesOrRefuses, IsFormer, OnlyIfNotMigrated}
+use Rattle.broker_database.specs.Opening.{Refuses, MakesNew, RefusesNew, IsUnchangedUnlessStore, OpensOrRefuses, Judged, IsFresh, TellsNothing, OnlyIfUntold, OnlyIfStoreFailed}
+use Rattle.broker_database.specs.Stored.{Stores, HoldsState}
+use Rattle.broker_database.specs.declared.opening.Refused.{Refused}
+use Rattle.broker_database.specs.declared.opening.OpenFault.{OpenFault}
+use Rattle.broker_database.specs.declared.opening.OpenFault.TheVariants as fault
+
+-- shown is what a connection shows of its store
+module _ {X : Type 0} (shown : Held X → State) where
+  -- What a broker leaves of a command that came with this token, and what it answers.
+  pub record Applied (old : BrokerView X) (token : Option Text) (command : Command) (answer : Answer)
+      (new : BrokerView X) : Type 0 where
+    -- the machine's answer and its next state; or Pattern, Memory or Store, and no step
+    pub applies : HasCleanDisk (shown new.connection) → old.is_stopped ≡ false
+        → (s : Broker) → HoldsState s (shown old.connection)
+        → Applies s token command (shown new.connection) answer
+    -- a deployment is recorded exactly where it may be
+    pub deployments : HasCleanDisk (shown new.connection) → old.is_stopped ≡ false
+        → IsTrue (is_step answer) → (s : Broker) → HoldsState s (shown old.connection)
+        → (e : Text) (v : Version) (instance : Option Text) → command ≡ Deploy e v instance
+        → RecordsExactly s token e v (λ t. t.deployed (e, v.pacticipant, instance_of instance) ≡ Some v.name)
+        (shown new.connection) answer
+    -- and so is a release
+    pub releases : HasCleanDisk (shown new.connection) → old.is_stopped ≡ false
+        → IsTrue (is_step answer) → (s : Broker) → HoldsState s (shown old.connection)
+        → (e : Text) (v : Version) → command ≡ Release e v
+        → RecordsExactly s token e v (λ t. IsTrue (t.released (e, v))) (shown new.connection) answer
+    -- whatever the database is: Done and Store aside, it is as it was
+    pub unchanged : HasCleanDisk (shown new.connection) → old.is_stopped ≡ false
+        → answer ≢ answers.Store → ¬ (IsDone answer) → IsAsBefore (shown old.connection) (shown new.connection)
+    -- Store: the last commit is the old one, while its connection is open
+    pub fails : HasCleanDisk (shown new.connection) → answer ≡ answers.Store
+        → KeepsLastCommit (shown old.connection) (shown new.connection)
+    -- Store, from a state that can be read back: the store failed, unless the command was to be done; so no refusal, no
+    -- request without a token and none that only reads stops a broker whose disk works. And one that was to be done, if
+    -- the tables have numbers for its rows, only if the store failed or COMMIT was refused for want of memory.
+    pub calm : HasCleanDisk (shown new.connection) → old.is_stopped ≡ false → answer ≡ answers.Store
+        → (s : Broker) → HoldsReadable s (shown old.connection)
+        → HasFailed (shown old.connection) (shown new.connection) faults.Store
+        ⊎ IsNotKept shown s token command old.connection new.connection
+    -- a step leads from a state that can be read back to one that can
+    pub readable : StaysReadable token command
+    -- the numbers of rows that the tables have left: a command takes some at most
+    pub room : HasCleanDisk (shown new.connection) → old.is_stopped ≡ false
+        → (s : Broker) → HoldsState s (shown old.connection) → KeepsRoom (shown old.connection) (shown new.connection)
+    -- whatever the answer is, no transaction is left open
+    pub over : LeavesNoTransaction (shown old.connection) (shown new.connection)
+    -- Store alone stops the broker
+    pub stops : old.is_stopped ≡ false → (IsTrue new.is_stopped ↔ (answer ≡ answers.Store))
+    -- a stopped broker answers Stopped and is left as it is, and no other one answers so
+    pub stopped : IsTrue old.is_stopped → (answer ≡ answers.Stopped) × (new ≡ old)
+    pub runs : old.is_stopped ≡ false → answer ≢ answers.Stopped
+    -- on a disk that fails, and when the program is stopped in the call: at most one commit
+    pub survives : CommitsAtMostOnce (shown old.connection) (shown new.connection)
+
+  -- What the making of a broker leaves of a connection, and what it hands back. Its office's token has this digest.
+  pub record Created (old : Held X) (office : Text) (given : Result (BrokerView X) (Refused X)) : Type 0 where
+    -- on a database without tables: a new broker's database
+    pub made : IfOk given (λ b. MakesNew office (shown old) (shown b.connection))
+    -- or a failure: there are no tables, and after Store a crash may leave the new broker's
+    pub refuses : IfErr given (λ r. RefusesNew office (shown old) (shown r.connection) r.fault)
+    -- Store: on a connection as it is opened and a database without tables, the store failed, or COMMIT was refused for
+    -- want of memory; no statement that makes a table or an index is refused
+    pub calm : OnlyIfStoreFailed shown IsBlank (opening office) old (left_by given) (verdict given ≡ Err fault.Store)
+    -- NotEmpty: there is a table, an index or a view
+    pub not_empty : IsErrAnd given (λ r. r.fault ≡ fault.NotEmpty) ↔ (¬ ((shown old).now.schema ≡ no_schema))
+    -- and the connection is handed back as it was
+    pub same : IfErr given (λ r. r.fault ≡ fault.NotEmpty → r.connection ≡ old)
+    -- whatever the database is: where no broker is made, it is as it was, or after Store the last commit is the old one
+    pub unchanged : IfErr given (λ r. HasCleanDisk (shown r.connection)
+        → IsUnchangedUnlessStore (shown old) (shown r.connection) r.fault)
+    -- a new broker isn't stopped
+    pub runs : IfOk given (λ b. b.is_stopped ≡ false)
+    -- whatever is handed back, no transaction is left open
+    pub over : LeavesNoTransaction (shown old) (shown (left_by given))
+    -- on a disk that fails, and when the program is stopped in the call: at most one commit
+    pub survives : CommitsAtMostOnce (shown old) (shown (left_by given))
+
+  -- What the opening of a broker leaves of a connection, and what it hands back.
+  pub record Opened (old : Held X) (given : Result (BrokerView X) (Refused X)) : Type 0 where
+    -- a failure aside: the database is of today's format, or it is told what it is instead
+    pub judges : HasCleanDisk (shown (left_by given)) → OpensOrRefuses format (shown old).now (verdict given)
+    -- of a database without tables: NotABroker, or a failure
+    pub blank : HasCleanDisk (shown (left_by given)) → HoldsDurably IsBlank (shown old)
+        → Judged format None (verdict given)
+    -- Store: on a connection as it is opened, the store failed, or meta has no number as its format
+    pub calm : OnlyIfUntold (shown old) (shown (left_by given)) (verdict given ≡ Err fault.Store)
+    -- of one that is marked with a format: whether that is today's, or a failure
+    pub marked : HasCleanDisk (shown (left_by given)) → (n : ℕ) (office : List ℕ)
+        → HoldsDurably (IsMarked n office) (shown old) → Judged format (Some n) (verdict given)
+    -- the database is as it was
+    pub kept : IfOk given (λ b. HasCleanDisk (shown b.connection) → IsAsBefore (shown old) (shown b.connection))
+    -- so that the broker holds the state that was held
+    pub holds : IfOk given (λ b. HasCleanDisk (shown b.connection) → (s : Broker) → HoldsState s (shown old)
+        → HoldsState s (shown b.connection))
+    -- where no broker is opened, the database is as it was too, or after Store the last commit is the old one
+    pub unchanged : IfErr given (λ r. HasCleanDisk (shown r.connection)
+        → IsUnchangedUnlessStore (shown old) (shown r.connection) r.fault)
+    -- an opened broker isn't stopped
+    pub runs : IfOk given (λ b. b.is_stopped ≡ false)
+    -- whatever is handed back, no transaction is left open
+    pub over : LeavesNoTransaction (shown old) (shown (left_by given))
+    -- on a disk that fails, and when the program is stopped in the call: what a crash leaves, it left before
+    pub survives : Survives (shown old) (shown (left_by given)) (λ _. ⊥)
+
+  -- What a migration leaves of a connection, and what it answers.
+  pub record Migrated (old new : Held X) (given : Result (Unit {0}) OpenFault) : Type 0 where
+    -- of a broker's database of format 1: it is one of today's with the same state, of which the gate says what it said
+    -- (the law `former_gate`)
+    pub migrates : HasCleanDisk (shown new) → (s : Broker) → HoldsFormerState s (shown old)
+        → OnOk given (HoldsState s (shown new))
+    -- or a failure: it is of format 1 with that state, and after Store a crash may leave today's
+    pub refuses : HasCleanDisk (shown new) → (s : Broker) → HoldsFormerState s (shown old)
+        → IfErr given (Refuses (λ db. StoresFormer db s) (λ db. Stores db s) (shown new))
+    -- a failure aside: the database had the tables of format 1, or it is told what it is instead
+    pub judges : HasCleanDisk (shown new) → MigratesOrRefuses (shown old).now given
+    -- Store: on a connection as it is opened, the store failed, or meta has no number as its format; or the database had
+    -- the tables of format 1, and a change or the commit was refused
+    pub calm : HasCleanDisk (shown new) → IsFresh (shown old) → given ≡ Err fault.Store
+        → TellsNothing (shown old) (shown new) ⊎ IsFormer (shown old).now
+    -- and where it held a state in that format that can be read back: the store failed, or COMMIT was refused for want of
+    -- memory; no statement that makes a table or an index, or sets the format, is refused
+    pub calm_former : OnlyIfNotMigrated shown old new (given ≡ Err fault.Store)
+    -- of a database without tables: NotABroker, or a failure
+    pub blank : HasCleanDisk (shown new) → HoldsDurably IsBlank (shown old) → Judged former_format None given
+    -- of one that is marked with another format: which that is, or a failure
+    pub marked : HasCleanDisk (shown new) → (n : ℕ) (office : List ℕ) → n ≢ former_format
+        → HoldsDurably (IsMarked n office) (shown old) → Judged former_format (Some n) given
+    -- whatever the database is: where it isn't migrated it is as it was, or after Store the last commit is the old one
+    pub unchanged : HasCleanDisk (shown new) → IfErr given (IsUnchangedUnlessStore (shown old) (shown new))
+    -- whatever the answer is, no transaction is left open
+    pub over : LeavesNoTransaction (shown old) (shown new)
+    -- on a disk that fails, and when the program is stopped in the call: at most one commit
+    pub survives : CommitsAtMostOnce (shown old) (shown new)
+    -- and none on a database that isn't of format 1, whatever the answer is: what a crash leaves, it left before
+    pub spares : HasCleanDisk (shown new) → ¬ (IsFormer (shown old).now) → AddsNoCrashState (shown old) (shown new)

@@ -1,0 +1,51 @@
+-- how a transaction ends
+use Rattle.std.specs.Prelude.{◌≡◌, ◌⊎◌, Bool, false, IsTrue, Result, Ok, Err, OnOk, IfErr, is_ok}
+use Rattle.sqlite.specs.Tree.{Trees}
+use Rattle.sqlite.specs.Effect.{Database}
+use Rattle.sqlite.specs.State.{State, HasCleanDisk, Survives, Commits, IsLive}
+use Rattle.table_access.specs.declared.StoreFault.{StoreFault}
+use Rattle.table_access.specs.declared.StoreFault.TheVariants as faults
+use Rattle.table_access.specs.Calls.{KeepsLastCommit}
+use Rattle.table_access.specs.Durability.{HoldsDurably, HoldsEither}
+use Rattle.table_access.specs.Unit.{IsOver, TellsRollback}
+
+-- It is committed where something is to be kept, and else rolled back; or the database refused that.
+pub record Finishes (old new : State) (keeps : Bool) (ended : Result (Unit {0}) StoreFault) : Type 0 where
+  pub committed : HasCleanDisk new → IsTrue keeps → OnOk ended (Commits old new)
+  -- else nothing is committed, and no transaction is open any more
+  pub over : HasCleanDisk new → (keeps ≡ false) ⊎ (is_ok ended ≡ false) → KeepsLastCommit old new × IsOver new
+  -- where nothing is to be kept: why the database refused ROLLBACK, which leaves what a done one leaves
+  pub told : HasCleanDisk new → keeps ≡ false → TellsRollback old new ended
+  -- a refused commit is a failure of the database
+  pub unsure : IsTrue keeps → IfErr ended (λ fault. fault ≡ faults.Store)
+  -- what is committed is a database
+  pub live : IsTrue keeps → IsLive old
+  -- what a crash leaves while the connection is open was committed last
+  pub settled : (trees : Trees) → IsTrue new.is_open → new.may_leave trees → trees ≡ new.committed.trees
+  -- a crash leaves what it left before, or what was to be committed
+  pub survives : Survives old new (λ trees. IsTrue keeps × (trees ≡ old.now.trees))
+
+-- the fault that is told where the end was refused by one: that of the end, but for a work that had failed by Store
+abbrev pub worst : {A : Type 0} → Result A StoreFault → StoreFault → StoreFault
+worst (Err faults.Store) refusal = faults.Store
+worst _ refusal = refusal
+
+-- what the work came to, or the fault of the end
+abbrev pub conclusion : {A : Type 0} → Result A StoreFault → Result (Unit {0}) StoreFault → Result A StoreFault
+conclusion worked (Ok done) = worked
+conclusion worked (Err refusal) = Err (worst worked refusal)
+
+-- How a transaction ends in which a work came to worked: it is committed where something is to be kept, else rolled back,
+-- and the answer is what the work came to, or the fault of a refused end.
+pub record Concludes {A : Type 0} (old new : State) (keeps : Bool) (worked result : Result A StoreFault) : Type 0 where
+  pub ended : Result (Unit {0}) StoreFault
+  pub ends : Finishes old new keeps ended
+  pub answer : result ≡ conclusion worked ended
+
+-- For private clauses: what a transaction leaves of a connection that held a database of the kind P: what its answer
+-- says; or, without memory, the same; or the database failed, and a crash may leave one of P or of Q.
+abbrev pub EndsOrFails : {A : Type 0} → (Database → Type 0) → (Database → Type 0) → (A → Type 0)
+    → State → Result A StoreFault → Type 0
+EndsOrFails P Q Answers new (Ok a) = Answers a
+EndsOrFails P Q Answers new (Err faults.Memory) = HoldsDurably P new
+EndsOrFails P Q Answers new (Err faults.Store) = HoldsEither P Q new
