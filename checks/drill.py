@@ -246,8 +246,9 @@ def main():
     return 0
 
 
-try:
-    sys.exit(main())
-except (Wrong, OSError, subprocess.SubprocessError) as why:
-    print(f"WRONG  {str(why) or repr(why)}")
-    sys.exit(1)
+if __name__ == "__main__":
+    try:
+        sys.exit(main())
+    except (Wrong, OSError, subprocess.SubprocessError) as why:
+        print(f"WRONG  {str(why) or repr(why)}")
+        sys.exit(1)

@@ -394,11 +394,12 @@ def main(names, written, wrong):
     return 1 if wrong else 0
 
 
-if lacks := lacks_strict_tables():
-    print(f"not run: {lacks}")
-    sys.exit(77)
-WRITTEN = written_counts(f"{FOLDERS[0]}/counts")
-THERE = {it.removesuffix(".story") for folder in FOLDERS for it in os.listdir(folder) if it.endswith(".story")}
-NAMES = [os.path.basename(it).removesuffix(".story") for it in sys.argv[2:]] or sorted({*THERE, *WRITTEN})
-STORIES, UNREAD = read_all(NAMES)
-sys.exit(main(NAMES, WRITTEN, UNREAD))
+if __name__ == "__main__":
+    if lacks := lacks_strict_tables():
+        print(f"not run: {lacks}")
+        sys.exit(77)
+    WRITTEN = written_counts(f"{FOLDERS[0]}/counts")
+    THERE = {it.removesuffix(".story") for folder in FOLDERS for it in os.listdir(folder) if it.endswith(".story")}
+    NAMES = [os.path.basename(it).removesuffix(".story") for it in sys.argv[2:]] or sorted({*THERE, *WRITTEN})
+    STORIES, UNREAD = read_all(NAMES)
+    sys.exit(main(NAMES, WRITTEN, UNREAD))
