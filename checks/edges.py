@@ -229,12 +229,12 @@ def lost_input(room):
         same("replay", run("replay", "--office-token", OFFICE, text=put_team("red"), stdout=full), (3, "", "serve 2\n"))
 
 
-@case("words that aren't UTF-8 end with 3, one line and no file")
+@case("words that aren't UTF-8 end with 2, one line that says so and no file")
 def odd_words(room):
     for words in [b"init", b"--file", room.encode() + b"/\xff.db", b"--office-token", OFFICE.encode()], [b"\xff"], [b"normalise", b"\xc3"]:
         status, output, errors = run(*words)
-        same(f"status and output of {words}", (status, output), (3, ""))
-        same(f"lines of {words}", errors.count("\n"), 1)
+        same(f"status and output of {words}", (status, output), (2, ""))
+        same(f"line of {words}", errors, "error: a word of the command line isn't UTF-8\n")
     unchanged(room, {})
 
 
