@@ -4,8 +4,7 @@ use Rattle.std.proofs.Common.{◌≡◌, ◌↔◌, ℕ, Bool, true, false, List
 use Rattle.std.proofs.{lemmas.Bool.{or_left, or_right}, lemmas.Option.{same_Some}}
 use Rattle.serde_json.specs.Data.{Data}
 use Rattle.pact_rules.specs.{Trees.{Node}, Rules.{Rules, Entry, BodyRule, HeaderRule, is_regex, has_regex}, Tables.{header_entry}, RuleReading.{IsReading}}
-use Rattle.pact_rules.specs.{declared.rule_fault.RuleFault.TheVariants.{Pattern}, Lists.{IsIn}}
-use Rattle.pact_rules.proofs.ReadingLemmas.{reading_agrees}
+use Rattle.pact_rules.{specs.{declared.rule_fault.RuleFault.TheVariants.{Pattern}, Lists.{IsIn}}, proofs.ReadingLemmas.{reading_agrees}}
 use Rattle.pact_file.specs.{Headers.{HasHeaders}, Pact.{Header, Interaction}, Parts.{optional_at, status_in, body_in}, Rules.{TableRead, IsRulesOf}}
 use Rattle.pact_file.proofs.Steps.{ok_same, ok_err}
 use Rattle.reply_check.specs.{Bodies.{MeetsBody}, Meeting.{HasHeader, FitsHeader, Meets}, Recorded.{Reply, status_sent}, Sent.{IsFit, WasSent, WereSent}}
