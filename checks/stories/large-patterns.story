@@ -1,15 +1,27 @@
 & two-teams
-# A pattern of 100,000 characters.
+# A pattern of 2,049 bytes is refused, one of 2,048 is used.
 >> PUT /pacts/provider/stock/consumer/shop/version/1 HTTP/1.1\r\n
   host: b\r\n
   authorization: Bearer red-team-token-01\r\n
-  content-length: 100421\r\n
+  content-length: 2470\r\n
   \r\n
 >> {"consumer":{"name":"shop"},"provider":{"name":"stock"},"interactions":[{"description":"a book","request":{
   "method":"GET","path":"/books/1"},"response":{"status":200,"headers":{"Content-Type":"application/json"},"body":{
   "id":1,"title":"Ada"},"matchingRules":{"body":{"$.id":{"matchers":[{"match":"integer"}]},"$.title":{"matchers":[{
   "match":"regex","regex":"
->+ 100000 a
+>+ 2049 a
+>> "}]}}}}}],"metadata":{"pactSpecification":{"version":"3.0.0"}}}
+< 422 {"answer":"bad form","fault":"pact 7.7 interactions[0]"}
+>> PUT /pacts/provider/stock/consumer/shop/version/1 HTTP/1.1\r\n
+  host: b\r\n
+  authorization: Bearer red-team-token-01\r\n
+  content-length: 2469\r\n
+  \r\n
+>> {"consumer":{"name":"shop"},"provider":{"name":"stock"},"interactions":[{"description":"a book","request":{
+  "method":"GET","path":"/books/1"},"response":{"status":200,"headers":{"Content-Type":"application/json"},"body":{
+  "id":1,"title":"Ada"},"matchingRules":{"body":{"$.id":{"matchers":[{"match":"integer"}]},"$.title":{"matchers":[{
+  "match":"regex","regex":"
+>+ 2048 a
 >> "}]}}}}}],"metadata":{"pactSpecification":{"version":"3.0.0"}}}
 < 200 {"answer":"done","content":1}
 > B POST /pacts/provider/stock/consumer/shop/version/1/replies {"providerApplicationVersion":"1","replies":[{
@@ -19,11 +31,11 @@
 >> POST /pacts/provider/stock/consumer/shop/version/1/replies HTTP/1.1\r\n
   host: b\r\n
   authorization: Bearer blue-team-token-1\r\n
-  content-length: 100196\r\n
+  content-length: 2244\r\n
   \r\n
 >> {"providerApplicationVersion":"1","replies":[{"description":"a book","response":{"status":200,"headers":{
   "content-type":"application/json; charset=utf-8"},"body":{"id":7,"title":"
->+ 100000 a
+>+ 2048 a
 >> ","pages":90}}}]}
 < 200 {"answer":"done","failing":[],"result":2,"success":true}
 # Patterns that grow beyond what is built are refused; one that grows less is built.
