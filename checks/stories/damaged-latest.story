@@ -18,7 +18,8 @@
 < 500 {"answer":"store"}
 !
 > B POST /environments/live/deployments {"pacticipant":"stock","version":"1"}
-< 200 {"answer":"already"}
+< 500 {"answer":"store"}
+!
 > B POST /environments/live/releases {"pacticipant":"stock","version":"1"}
 < 500 {"answer":"store"}
 !
