@@ -283,7 +283,7 @@ def keyboard(page: Browser, world: World) -> None:
 
 
 def looks(page: Browser, world: World) -> None:
-    """Narrow, dark, and on paper."""
+    """Narrow, dark, and printed."""
     signs_in(page, world, READER)
     grounds = []
     for scheme in "light", "dark":
@@ -300,7 +300,7 @@ def looks(page: Browser, world: World) -> None:
     shown = page.js(
         "['nav', 'form', 'header button', '.verdict'].map(it => getComputedStyle(document.querySelector(it)).display)"
     )
-    same("on paper: links, form, button, verdict", shown, ["none", "none", "none", "block"])
+    same("printed: links, form, button, verdict", shown, ["none", "none", "none", "block"])
     page.call("Emulation.setEmulatedMedia", media="")
 
 
