@@ -16,25 +16,11 @@ sys.dont_write_bytecode = True
 import os, re, shutil, subprocess, tempfile, time
 from hub import PROGRAM, RED, TOP, NotRun, Server, Wrong
 from hub import new_file, register, run, same, verify
+from own_root import in_own_root
 
 UNIT = f"{TOP}/examples/broker.service"
 # The most that systemd-analyze may say, of 10.
 MOST = 2.0
-# Mounts a root of its own in $1, with the folders $2 and $3 in it, and runs $4 there.
-ROOT = """
-mount --make-rprivate /
-mount -t tmpfs none "$1"
-mkdir "$1/above" "$1/work" "$1/root"
-mount -t overlay overlay -o "lowerdir=/,upperdir=$1/above,workdir=$1/work" "$1/root"
-mount -t proc none "$1/root/proc"
-mount --rbind /dev "$1/root/dev"
-for folder in "$2" "$3"; do
-  mkdir -p "$1/root$folder"
-  mount --bind "$folder" "$1/root$folder"
-done
-ip link set lo up
-exec chroot "$1/root" sh -euc "$4"
-"""
 SYSTEMCTL = """#!/bin/sh
 value() { sed -n "s/^$1=//p" /etc/systemd/system/broker.service; }
 case "$*" in
@@ -75,19 +61,9 @@ def lines():
     return "\n".join(blocks).replace("crates/broker/out/broker", PROGRAM)
 
 
-def in_own_root(room, text):
-    """What these lines do in a root of their own, below the top of the repository."""
-    folders = [room, TOP, os.path.dirname(PROGRAM)]
-    words = ["unshare", "--mount", "--net", "--pid", "--fork", "--kill-child", "bash", "-euc", ROOT, "bash", *folders]
-    return subprocess.run([*words, text], capture_output=True, text=True, timeout=120, check=False)
-
-
-def installed(room):
-    tried = in_own_root(room, "exit 0")
-    if tried.returncode:
-        raise NotRun(f"there may be no root of its own here: {tried.stderr.strip()}")
+def installed(_):
     stub = f"cat > /usr/local/bin/systemctl <<'END'\n{SYSTEMCTL}END\nchmod 755 /usr/local/bin/systemctl\n"
-    done = in_own_root(room, f"cd {TOP}\n{stub}{lines()}{MADE}")
+    done = in_own_root("sh", f"cd {TOP}\n{stub}{lines()}{MADE}", [TOP, os.path.dirname(PROGRAM)], 120)
     if done.returncode:
         raise Wrong(f"the lines end with {done.returncode}: {done.stdout}{done.stderr}")
     same("what the lines print", done.stdout, PRINTED)

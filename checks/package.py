@@ -15,20 +15,8 @@ import sys
 sys.dont_write_bytecode = True
 import hashlib, os, re, subprocess, tempfile
 from hub import PROGRAM, TOP, NotRun, Wrong, run, same
+from own_root import in_own_root
 
-# Mounts a root of its own in $1, with the folder $2 in it, and runs $3 there.
-ROOT = """
-mount --make-rprivate /
-mount -t tmpfs none "$1"
-mkdir "$1/above" "$1/work" "$1/root"
-mount -t overlay overlay -o "lowerdir=/,upperdir=$1/above,workdir=$1/work" "$1/root"
-mount -t proc none "$1/root/proc"
-mount --rbind /dev "$1/root/dev"
-mkdir -p "$1/root$2"
-mount --bind "$2" "$1/root$2"
-ip link set lo up
-exec chroot "$1/root" bash -euc "$3"
-"""
 # What is done there, in the folder of the packages. Each line that begins with `== ` is followed by what is compared.
 LINES = r"""
 cd @ROOM@
@@ -174,18 +162,9 @@ def age(room):
     run(["dpkg-deb", "--root-owner-group", "--build", f"{room}/tree", f"{room}/old.deb"])
 
 
-def in_own_root(room, text):
-    with tempfile.TemporaryDirectory() as mount:
-        words = ["unshare", "--mount", "--net", "--pid", "--fork", "--kill-child", "bash", "-euc", ROOT]
-        return subprocess.run([*words, "bash", mount, room, text], capture_output=True, text=True, timeout=300, check=False)
-
-
 def lived(room, version):
     """What is there after each step of the package's life."""
-    tried = in_own_root(room, "exit 0")
-    if tried.returncode:
-        raise NotRun(f"there may be no root of its own here: {tried.stderr.strip()}")
-    done = in_own_root(room, LINES.replace("@ROOM@", room))
+    done = in_own_root("bash", LINES.replace("@ROOM@", room), [room], 300)
     parts = re.split(r"(?m)^== (.*)\n", done.stdout)
     found = dict(zip(parts[1::2], parts[2::2]))
     for name, wanted in WANTED.items():

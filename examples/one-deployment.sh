@@ -17,8 +17,8 @@ wait=(--retry 50 --retry-connrefused --retry-delay 1)
 # files, since the words of a command line are seen by others on the machine.
 ask() {
   echo "$2 /$3 ${4-}"
-  curl -sS ${wait+"${wait[@]}"} -X "$2" -H @<(echo "authorization: Bearer $1") --data-binary @<(printf %s "${4-}") \
-    "$url/$3"
+  curl -sS ${wait+"${wait[@]}"} -X "$2" -H @<(printf 'authorization: Bearer %s\n' "$1") \
+    --data-binary @<(printf %s "${4-}") "$url/$3"
   echo
   unset wait
 }
