@@ -1,15 +1,16 @@
 -- Why the work of a command fails: the store failed, a growth was refused, or its change was.
-use Rattle.std.proofs.{Common.{◌≡◌, inl, inr, true, false, Ok, Some, Option, Result, sym, ap, subst, ◌∙◌, ◌⊎◌}, lemmas.Result.{IfErr-weaker}}
+use Rattle.std.{specs.Prelude.{⊤}, proofs.Common.{Bool, ◌≡◌, inl, inr, true, false, Ok, Some, Option, Result, sym, ap, subst, ◌∙◌, ◌⊎◌}}
+use Rattle.std.proofs.lemmas.Result.{IfErr-weaker}
 use Rattle.sqlite.specs.State.{State, HasCleanDisk}
-use Rattle.table_access.{specs.{Calls.{CallsTablesBetween, EndsBy}, declared.StoreFault.{StoreFault}}, proofs.CallLemmas.{ended_with}}
+use Rattle.table_access.{specs.{Calls.{CallsTablesBetween, EndsBy}, declared.StoreFault.{StoreFault}}, proofs.CallLemmas.{call_with, ended_with}}
 use Rattle.broker_core.specs.{Contents.{HasSoundContents}, Change.{Transition}, Machine.{IsCallerOfToken, is_step}, State.{State as Broker}, Text.{Text}}
 use Rattle.broker_core.specs.{declared.answer.Answer.{Answer}, declared.command.Command.{Command}, declared.policy.Caller.{Caller}, SoundNames.{AreNames}}
 use Rattle.broker_core.proofs.StepLemmas.{step_answers}
 use Rattle.broker_tables.specs.{Calm.{Serves, FailsOnlyBy, HasFailedOrMemory, CalmQueriesBetween, FailsFromBetween}, Room.{HasRoomFor, enough}}
 use Rattle.broker_tables.proofs.FailLemmas.{fails_after}
-use Rattle.command_facts.specs.Performs.{PerformsBetween, FailsToChangeBetween, IsStepOf, CallersStep, TokensStep, IsToChange, IsMisnamed}
-use Rattle.command_facts.specs.Primitives.{broker_primitives}
-use Rattle.broker_service.specs.Transacted.{IsNoFailure}
+use Rattle.command_facts.specs.Performs.{PerformsBetween, CarriesBetween, FailsBetween, IsStepOf, CallersStep, TokensStep, IsToChange, IsMisnamed}
+use Rattle.command_facts.{specs.Primitives.{broker_primitives}, proofs.{CarryLemmas.{everywhere}, PerformLemmas.{always_steps}}}
+use Rattle.broker_service.specs.{Transacted.{IsNoFailure}, Does.{DoesBetween}}
 use Rattle.broker_core.specs.declared.answer.Answer.TheVariants as answers
 
 module _ (old new : State) (r : Result Answer StoreFault) (caller : Caller) (given command : Command) (same : given ≡ command) where
@@ -25,7 +26,7 @@ module _ (old new : State) (r : Result Answer StoreFault) (caller : Caller) (giv
   told s fault (inr change) = inr (changes s change.0, λ room. ended_with old new fault (λ long named. long (subst AreNames same named)) (change.1 room))
 
   -- a command that may change something
-  pub change_may_fail : FailsToChangeBetween old new (IsMisnamed command) (IsStepOf caller command) r → FailsFromBetween old new r (IsMisnamed given) (HasSoundContents broker_primitives) (IsToChange (CallersStep caller given))
+  pub change_may_fail : FailsBetween true old new r (IsMisnamed command) (λ _. ⊤) (IsStepOf caller command) → FailsFromBetween old new r (IsMisnamed given) (HasSoundContents broker_primitives) (IsToChange (CallersStep caller given))
   change_may_fail why clean s here sound = IfErr-weaker r _ _ (told s) (why clean s here tt)
 
   -- one that does so only where each stored pact can be read again
@@ -68,3 +69,13 @@ is_no_failure old new answer token command it clean s here sound =
       | inl step ↦ step_is_none answer (step_answers broker_primitives s token command _ step)
       | inr pattern ↦ pattern_is_none answer (ap (λ out. out.answer) pattern.0)
     ]
+
+-- ---- a command in the arm that follows it
+
+follows_calm : (changes : Bool) (old new : State) (r : Result Answer StoreFault) (caller : Caller) (given command : Command) → given ≡ command → FailsBetween changes old new r (IsMisnamed command) (λ _. ⊤) (IsStepOf caller command)
+    → FailsFromBetween old new r (IsMisnamed given) (HasSoundContents broker_primitives) (IsToChange (CallersStep caller given))
+follows_calm true old new r caller given command same why = change_may_fail old new r caller given command same why
+follows_calm false old new r caller given command same why = never_by_change _ old new r _ _ (λ clean s here. why clean s here tt)
+
+pub follows : {changes : Bool} {old new : State} {r : Result Answer StoreFault} {given command : Command} (caller : Caller) → given ≡ command → CarriesBetween changes old new (λ _. ⊤) (λ _. ⊤) (IsMisnamed command) (IsStepOf caller command) r → DoesBetween old new (IsMisnamed given) (CallersStep caller given) r
+follows {changes} {old} {new} {r} {given} {command} caller same it = record { answers = always_steps old new r caller given command same (everywhere it); calm = follows_calm changes old new r caller given command same it.calm }

@@ -1,1 +1,2 @@
 pub mod Transacted
+pub mod Does

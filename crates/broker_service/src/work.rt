@@ -5,9 +5,10 @@ ghost use Rattle.broker_core.specs.Contents.{HasSoundContents};
 ghost use Rattle.broker_core.specs.Laws.{IsDone};
 ghost use Rattle.broker_core.specs.declared.answer.Answer.TheVariants.{BadForm};
 ghost use Rattle.caller_facts.specs.Callers.{token_of};
-ghost use Rattle.command_facts.specs.Performs.{Performs, FailsToChangeFrom, IsMisnamed, CallersStep, TokensStep};
+ghost use Rattle.command_facts.specs.Performs.{Performs, FailsToChangeFrom, IsMisnamed, TokensStep};
 ghost use Rattle.command_facts.specs.Primitives.{broker_primitives};
 ghost use Rattle.broker_service.specs.Transacted.{IsNoFailure, Transacted};
+ghost use Rattle.broker_service.specs.Does.{Does};
 
 use answer_texts::Answer;
 use broker_core::answer::Answer as Outcome;
@@ -54,9 +55,7 @@ fn follow<S: Alter>(
     caller: &Caller,
     command: &Command,
 ) -> Result<Outcome, StoreFault>
-    ensures answers { Performs S.Store conn.old conn.new result (CallersStep caller.now command.now) }
-    ensures calm { FailsToChangeFrom S.Store conn.old conn.new result (IsMisnamed command.now)
-        (HasSoundContents broker_primitives) (CallersStep caller.now command.now) }
+    ensures { Does S.Store conn.old conn.new result caller.now command.now }
 {
     match command {
         Command::PutTeam { team, token } => put_team(alloc, conn, caller, team, token),

@@ -5,5 +5,5 @@ mod DigestExamples
 pub mod ReadableTexts
 pub mod ShortTexts
 pub mod CallerSteps
-pub mod FailLemmas
 pub mod PerformLemmas
+pub mod CarryLemmas

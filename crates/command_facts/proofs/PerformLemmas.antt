@@ -11,7 +11,7 @@ use Rattle.command_facts.specs.{Performs.{PerformsBetween, PerformsWhereBetween,
 -- ---- the state that is held
 
 -- where the database is as it was
-held_on : (old new : State) (s : Broker) → new.now ≡ old.now → Holds old.now s → HoldsAfter enough old new s
+pub held_on : (old new : State) (s : Broker) → new.now ≡ old.now → Holds old.now s → HoldsAfter enough old new s
 held_on old new s same held = (stays_held old new s same held, takes_none enough old.now new.now same)
 
 -- after a query
@@ -39,26 +39,9 @@ refused c answer Q f = idle c answer _ (λ s held. (s, f s, held_on c c s refl h
 pub answered_then : {A : Type 0} {any : Bool} (old new : State) (x : A) (answer : Answer) (P : A → Broker → Type 0) (Q : Broker → Transition → Type 0) → ((s : Broker) → P x s → Q s (unchanged_with s answer)) → QueriesBetween any old new (Ok x) P → PerformsBetween old new Q (Ok answer)
 answered_then old new x answer P Q f it = then_ok old new x answer _ _ (λ h s held. (s, f s (h s held).0, held_on old new s (h s held).1 held)) it
 
--- a query, and changes
-pub changed_taking : {A : Type 0} {any : Bool} (taken : ℕ) → taken ≤ enough → (old mid new : State) (x : A) (u : Unit {0}) (answer : Answer) (P : A → Broker → Type 0) (Next : Broker → Broker → Type 0) (Q : Broker → Transition → Type 0)
-    → ((s : Broker) → P x s → (t : Broker) × Next s t × Q s (record { answer = answer; state = t })) → QueriesBetween any old mid (Ok x) P → ChangesTakingBetween taken mid new (Ok u) Next → PerformsBetween old new Q (Ok answer)
-changed_taking taken few old mid new x u answer P Next Q f one two =
-    then_ok old new u answer (λ _. (s : Broker) → Holds old.now s → (t : Broker) × Q s (record { answer = answer; state = t }) × HoldsAfter enough old new t) _ (λ h. h)
-    (seq old mid new x (Ok u) _ _ _ (λ p b q s held. let first = p s held in let next = f s first.0 in (next.0, next.2, changed_on taken few old mid new next.0 first.1 (q s (stays_held old mid s first.1 held) next.0 next.1))) one two)
-
--- a query, and a change
-pub changed_then : {A : Type 0} {any : Bool} (old mid new : State) (x : A) (u : Unit {0}) (answer : Answer) (P : A → Broker → Type 0) (Next : Broker → Broker → Type 0) (Q : Broker → Transition → Type 0)
-    → ((s : Broker) → P x s → (t : Broker) × Next s t × Q s (record { answer = answer; state = t })) → QueriesBetween any old mid (Ok x) P → ChangesBetween mid new (Ok u) Next → PerformsBetween old new Q (Ok answer)
-changed_then = changed_taking 2 (omega arith)
-
 -- a query, and then a command
 pub performs_then : {A : Type 0} {any : Bool} (old mid new : State) (x : A) (r : Result Answer StoreFault) (P : A → Broker → Type 0) (Q R : Broker → Transition → Type 0) → ((s : Broker) → P x s → (out : Transition) → Q s out → R s out) → QueriesBetween any old mid (Ok x) P → PerformsBetween mid new Q r → PerformsBetween old new R r
 performs_then old mid new x r P Q R f one two = seq old mid new x r _ _ _ (λ p b q s held. let first = p s held in let next = q s (stays_held old mid s first.1 held) in (next.0, f s first.0 _ next.1, after_read enough old mid new next.0 first.1 next.2)) one two
-
--- a query, and then a listing
-pub shown_then : {A : Type 0} {any : Bool} (old mid new : State) (x : A) (r : Result Answer StoreFault) (P : A → Broker → Type 0) (Q : Answer → Broker → Type 0) (R : Broker → Transition → Type 0)
-    → ((s : Broker) → P x s → (answer : Answer) → Q answer s → R s (unchanged_with s answer)) → QueriesBetween any old mid (Ok x) P → QueriesBetween true mid new r Q → PerformsBetween old new R r
-shown_then old mid new x r P Q R f one two = seq old mid new x r _ _ _ (λ p b q s held. let first = p s held in let second = q s (stays_held old mid s first.1 held) in (s, f s first.0 b second.0, held_on old new s (second.1 ∙ first.1) held)) one two
 
 -- a command that is always a step
 pub always_steps : (old new : State) (r : Result Answer StoreFault) (caller : Caller) (given command : Command) → given ≡ command
@@ -86,12 +69,12 @@ pub where_answered : {A : Type 0} {any : Bool} (old new : State) (x : A) (answer
     → ((s : Broker) → Allows s → P x s → Q s (unchanged_with s answer)) → QueriesBetween any old new (Ok x) P → PerformsWhereBetween old new Allows Q (Ok answer)
 where_answered old new x answer Allows P Q f it = then_ok old new x answer _ _ (λ h s held allowed. (s, f s allowed (h s held).0, held_on old new s (h s held).1 held)) it
 
--- a query, and a change
-pub where_changed : {A : Type 0} {any : Bool} (old mid new : State) (x : A) (u : Unit {0}) (answer : Answer) (Allows : Broker → Type 0) (P : A → Broker → Type 0) (Next : Broker → Broker → Type 0) (Q : Broker → Transition → Type 0)
-    → ((s : Broker) → Allows s → P x s → (t : Broker) × Next s t × Q s (record { answer = answer; state = t })) → QueriesBetween any old mid (Ok x) P → ChangesBetween mid new (Ok u) Next → PerformsWhereBetween old new Allows Q (Ok answer)
-where_changed old mid new x u answer Allows P Next Q f one two =
+-- a query, and changes
+pub where_changing : {A : Type 0} {any : Bool} (taken : ℕ) → taken ≤ enough → (old mid new : State) (x : A) (u : Unit {0}) (answer : Answer) (Allows : Broker → Type 0) (P : A → Broker → Type 0) (Next : Broker → Broker → Type 0) (Q : Broker → Transition → Type 0)
+    → ((s : Broker) → Allows s → P x s → (t : Broker) × Next s t × Q s (record { answer = answer; state = t })) → QueriesBetween any old mid (Ok x) P → ChangesTakingBetween taken mid new (Ok u) Next → PerformsWhereBetween old new Allows Q (Ok answer)
+where_changing taken few old mid new x u answer Allows P Next Q f one two =
     then_ok old new u answer (λ _. (s : Broker) → Holds old.now s → Allows s → (t : Broker) × Q s (record { answer = answer; state = t }) × HoldsAfter enough old new t) _ (λ h. h)
-    (seq old mid new x (Ok u) _ _ _ (λ p b q s held allowed. let first = p s held in let next = f s allowed first.0 in (next.0, next.2, changed_on 2 (omega arith) old mid new next.0 first.1 (q s (stays_held old mid s first.1 held) next.0 next.1))) one two)
+    (seq old mid new x (Ok u) _ _ _ (λ p b q s held allowed. let first = p s held in let next = f s allowed first.0 in (next.0, next.2, changed_on taken few old mid new next.0 first.1 (q s (stays_held old mid s first.1 held) next.0 next.1))) one two)
 
 -- changes that answer
 pub where_told : {A : Type 0} (taken : ℕ) → taken ≤ enough → (old new : State) (x : A) (answer : Answer) (Allows Takes : Broker → Type 0) (Next : A → Broker → Broker → Type 0) (Q : Broker → Transition → Type 0)

@@ -1,5 +1,5 @@
 -- what a command does to the tables, inside its transaction
-use Rattle.std.specs.Prelude.{◌⊎◌, ⊤, Result, Option}
+use Rattle.std.specs.Prelude.{◌⊎◌, ⊤, Result, Ok, Err, Option, Bool, true, false}
 use Rattle.sqlite.specs.Held.{Held, state}
 use Rattle.sqlite.specs.State.{State}
 use Rattle.sqlite_trees.specs.declared.store.Store.{Ghosts}
@@ -11,12 +11,13 @@ use Rattle.broker_core.specs.Change.{Transition}
 use Rattle.broker_core.specs.declared.answer.Answer.{Answer}
 use Rattle.broker_core.specs.declared.answer.Answer.TheVariants.{Done}
 use Rattle.broker_core.specs.declared.answer.Detail.{Detail}
+use Rattle.broker_core.specs.declared.answer.Detail.TheVariants.{Plain}
 use Rattle.broker_core.specs.declared.command.Command.{Command}
 use Rattle.broker_core.specs.declared.policy.Caller.{Caller}
 use Rattle.broker_core.specs.Machine.{StepOfCaller, Step}
 use Rattle.broker_core.specs.SoundNames.{AreNames}
 use Rattle.broker_core.specs.Text.{Text}
-use Rattle.broker_tables.specs.Calm.{FailsFromBetween}
+use Rattle.broker_tables.specs.Calm.{FailsFromBetween, IsCalmFromBetween}
 use Rattle.broker_tables.specs.Holds.{Holds, HoldsAfter}
 use Rattle.broker_tables.specs.Room.{enough}
 use Rattle.command_facts.specs.Primitives.{broker_primitives}
@@ -63,14 +64,30 @@ IsToChange P s = (detail : Detail) × (t : Broker) × P s (record { answer = Don
 abbrev pub FailsOnlyAtBetween : {A : Type 0} → State → State → Type 0 → (Broker → Type 0) → Result A StoreFault → Type 0
 FailsOnlyAtBetween old new TooBig At r = FailsFromBetween old new r TooBig (λ _. ⊤) At
 
--- why a command fails: only of one that was to change something the change may be refused
-abbrev pub FailsToChangeBetween : State → State → Type 0 → (Broker → Transition → Type 0) → Result Answer StoreFault
-    → Type 0
-FailsToChangeBetween old new TooBig P r = FailsOnlyAtBetween old new TooBig (IsToChange P) r
-
 -- a name of the command is none, as no name of a request is
 abbrev pub IsMisnamed : Command → Type 0
 IsMisnamed command = ¬ AreNames command
+
+-- ---- both in one
+
+-- why a command fails from states that allow it: also since its change was refused, or never for that
+abbrev pub FailsBetween : Bool → State → State → Result Answer StoreFault → Type 0 → (Broker → Type 0)
+    → (Broker → Transition → Type 0) → Type 0
+FailsBetween true old new r TooBig Allows P = FailsFromBetween old new r TooBig Allows (IsToChange P)
+FailsBetween false old new r TooBig Allows P = IsCalmFromBetween old new r Allows
+
+-- a command; `changes` is true if its change may be refused
+pub record CarriesBetween (changes : Bool) (old new : State) (Allows Open : Broker → Type 0) (TooBig : Type 0)
+    (P : Broker → Transition → Type 0) (r : Result Answer StoreFault) : Type 0 where
+  -- what it answers from a state that allows it, and what the database holds afterwards
+  pub answers : PerformsWhereBetween old new Allows P r
+  -- why it fails from a state that is open to it
+  pub calm : FailsBetween changes old new r TooBig Open P
+
+-- what a command answers by its change
+abbrev pub told_done : Result (Unit {0}) StoreFault → Result Answer StoreFault
+told_done (Ok u) = Ok (Done Plain)
+told_done (Err e) = Err e
 
 -- ---- the same of a connection over this store
 
@@ -81,21 +98,39 @@ module _ {X : Type 0} (store : Ghosts X) (old new : Held X) where
   abbrev pub PerformsWhere : Result Answer StoreFault → (Broker → Type 0) → (Broker → Transition → Type 0) → Type 0
   PerformsWhere r Allows P = PerformsWhereBetween (state store old) (state store new) Allows P r
 
-  abbrev pub FailsToChange : Result Answer StoreFault → Type 0 → (Broker → Transition → Type 0) → Type 0
-  FailsToChange r TooBig P = FailsToChangeBetween (state store old) (state store new) TooBig P r
-
-  -- of a known caller's command, whose rows are never too big
-  abbrev pub FailsToDo : Result Answer StoreFault → Caller → Command → Type 0
-  FailsToDo r caller command = FailsToChange r (IsMisnamed command) (IsStepOf caller command)
-
   abbrev pub FailsOnlyAt : {A : Type 0} → Result A StoreFault → Type 0 → (Broker → Type 0) → Type 0
   FailsOnlyAt r TooBig At = FailsOnlyAtBetween (state store old) (state store new) TooBig At r
 
-  -- and from states that allow the command
+  -- why a command fails from states that allow it: only of one that was to change something the change may be refused
   abbrev pub FailsToChangeFrom : Result Answer StoreFault → Type 0 → (Broker → Type 0) → (Broker → Transition → Type 0)
       → Type 0
   FailsToChangeFrom r TooBig Allows P =
       FailsFromBetween (state store old) (state store new) r TooBig Allows (IsToChange P)
 
+  -- of a known caller's command, whose rows are never too big
   abbrev pub FailsToDoFrom : Result Answer StoreFault → (Broker → Type 0) → Caller → Command → Type 0
   FailsToDoFrom r Allows caller command = FailsToChangeFrom r (IsMisnamed command) Allows (IsStepOf caller command)
+
+  -- a command that may be refused its change
+  abbrev pub CarriesFrom : Result Answer StoreFault → (Allows Open : Broker → Type 0) → Type 0
+      → (Broker → Transition → Type 0) → Type 0
+  CarriesFrom r Allows Open TooBig P = CarriesBetween true (state store old) (state store new) Allows Open TooBig P r
+
+  -- where the states that allow it are those that are open to it
+  abbrev pub CarriesWhere : Result Answer StoreFault → (Broker → Type 0) → Type 0 → (Broker → Transition → Type 0)
+      → Type 0
+  CarriesWhere r Allows TooBig P = CarriesFrom r Allows Allows TooBig P
+
+  -- and from any state
+  abbrev pub CarriesTo : Result Answer StoreFault → Type 0 → (Broker → Transition → Type 0) → Type 0
+  CarriesTo r TooBig P = CarriesWhere r (λ _. ⊤) TooBig P
+
+  -- a known caller's command, whose rows are never too big
+  abbrev pub Carries : Result Answer StoreFault → Caller → Command → Type 0
+  Carries r caller command = CarriesTo r (IsMisnamed command) (IsStepOf caller command)
+
+  -- and one whose change is never refused
+  abbrev pub CarriesCalmly : Result Answer StoreFault → Caller → Command → Type 0
+  CarriesCalmly r caller command =
+      CarriesBetween false (state store old) (state store new) (λ _. ⊤) (λ _. ⊤) (IsMisnamed command)
+      (IsStepOf caller command) r

@@ -1,6 +1,7 @@
 //! How a command is stated, and what the written machine takes from pact files and recorded replies.
 #![tactic(auto)]
 
+pub mod change;
 mod checking;
 pub mod laws;
 mod reading;

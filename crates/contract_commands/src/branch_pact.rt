@@ -2,10 +2,10 @@
 ghost use Rattle.std.specs.Prelude.{◌≡◌, ◌+◌, ◌<◌, IfOk, IfSome, length};
 ghost use Rattle.broker_core.specs.declared.command.Command.TheVariants.{GetBranchPact};
 ghost use Rattle.broker_core.specs.declared.policy.Rule.TheVariants.{A5};
-ghost use Rattle.broker_tables.specs.Calm.{CalmQueries, CalmQueriesInPlace, IsCalm};
+ghost use Rattle.broker_tables.specs.Calm.{CalmQueries, CalmQueriesInPlace};
 ghost use Rattle.contract_commands.specs.BranchPact.{IsNextBelow, IsBranchContent, IsContentBelow, ReachesBranch};
 ghost use Rattle.contract_commands.specs.Pacts.{missing_of_branch, Admits};
-ghost use Rattle.command_facts.specs.Performs.{Performs, IsStepOf};
+ghost use Rattle.command_facts.specs.Performs.{CarriesCalmly};
 
 use crate::pacts::show_pact;
 use crate::sides::{Sides, read_sides_to_show};
@@ -141,9 +141,8 @@ pub fn get_branch_pact<S: Alter>(
     consumer: &Name,
     branch: &Name,
 ) -> Result<Answer, StoreFault>
-    ensures answers { Performs S.Store conn.old conn.new result
-        (IsStepOf caller.now (GetBranchPact provider.now consumer.now branch.now)) }
-    ensures calm { IsCalm S.Store conn.old conn.new result }
+    ensures { CarriesCalmly S.Store conn.old conn.new result caller.now
+        (GetBranchPact provider.now consumer.now branch.now) }
 {
     let place = done!(read_branch_to_show(alloc, conn, caller, provider, consumer, branch));
     show_pact(conn, place)

@@ -6,8 +6,8 @@ ghost use Rattle.broker_core.specs.declared.command.Command.TheVariants.{GetPact
 ghost use Rattle.broker_core.specs.declared.answer.Answer.TheVariants as told;
 ghost use Rattle.broker_core.specs.declared.answer.Shown.TheVariants as shown;
 ghost use Rattle.broker_tables.specs.Holds.{Queries};
-ghost use Rattle.broker_tables.specs.Calm.{IsCalm, IsCalmFrom};
-ghost use Rattle.command_facts.specs.Performs.{Performs, IsStepOf};
+ghost use Rattle.broker_tables.specs.Calm.{IsCalmFrom};
+ghost use Rattle.command_facts.specs.Performs.{CarriesCalmly};
 
 use crate::sides::{read_contract_to_show, read_text};
 use broker_core::answer::{Answer, Shown};
@@ -49,9 +49,7 @@ pub fn get_pact<S: Alter>(
     caller: &Caller,
     path: &PactPath,
 ) -> Result<Answer, StoreFault>
-    ensures answers { Performs S.Store conn.old conn.new result
-        (IsStepOf caller.now (GetPact path.now)) }
-    ensures calm { IsCalm S.Store conn.old conn.new result }
+    ensures { CarriesCalmly S.Store conn.old conn.new result caller.now (GetPact path.now) }
 {
     let place = done!(read_contract_to_show(alloc, conn, caller, path));
     show_pact(conn, place)

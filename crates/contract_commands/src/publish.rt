@@ -12,7 +12,7 @@ ghost use Rattle.broker_tables.specs.Calm.{IsCalmFrom};
 ghost use Rattle.broker_tables.specs.Refusals.{AreShort, IsCalmTaking};
 ghost use Rattle.command_facts.specs.declared.reading.ReadFault.TheVariants.{Form};
 ghost use Rattle.command_facts.specs.Primitives.{broker_primitives};
-ghost use Rattle.command_facts.specs.Performs.{Performs, PerformsWhere, FailsOnlyAt, FailsToChange, FailsToChangeFrom, FailsToDo, IsStepOf};
+ghost use Rattle.command_facts.specs.Performs.{Carries, CarriesTo, CarriesWhere, PerformsWhere, FailsOnlyAt, FailsToChangeFrom};
 ghost use Rattle.content_store.specs.Contents.{CanBeAdded, StoresIfRoom};
 ghost use Rattle.contract_commands.specs.Pacts.{names_in, HasContent, HasSides, HasNoContract, CanPublish, CanRecord, RecordsContract, PutsPact, Publishes, answer_to};
 
@@ -132,10 +132,8 @@ fn publish_first<S: Alter>(
     text: &Text,
     number: Option<u32>,
 ) -> Result<Answer, StoreFault>
-    ensures answers { PerformsWhere S.Store conn.old conn.new result
-        (HasNoContract path.now number) (PutsPact path.now text.now) }
-    ensures calm { FailsToChangeFrom S.Store conn.old conn.new result (¬ AreShort (text.now ∷ names_in path.now))
-        (HasNoContract path.now number) (PutsPact path.now text.now) }
+    ensures { CarriesWhere S.Store conn.old conn.new result (HasNoContract path.now number)
+        (¬ AreShort (text.now ∷ names_in path.now)) (PutsPact path.now text.now) }
 {
     match done!(number_version(conn, number)) {
         Some(version) => publish_numbered(conn, path, text, version),
@@ -149,10 +147,8 @@ fn publish_between<S: Alter>(
     path: &PactPath,
     text: &Text,
 ) -> Result<Answer, StoreFault>
-    ensures answers { PerformsWhere S.Store conn.old conn.new result (λ s. HasSides s path.now)
-        (PutsPact path.now text.now) }
-    ensures calm { FailsToChangeFrom S.Store conn.old conn.new result (¬ AreShort (text.now ∷ names_in path.now))
-        (λ s. HasSides s path.now) (PutsPact path.now text.now) }
+    ensures { CarriesWhere S.Store conn.old conn.new result (λ s. HasSides s path.now)
+        (¬ AreShort (text.now ∷ names_in path.now)) (PutsPact path.now text.now) }
 {
     let contract = done!(read_contract(conn, &path.provider, &path.consumer, &path.version));
     match contract.content {
@@ -169,9 +165,7 @@ fn publish<S: Alter>(
     path: &PactPath,
     text: &Text,
 ) -> Result<Answer, StoreFault>
-    ensures answers { Performs S.Store conn.old conn.new result
-        (λ s out. Publishes s caller.now path.now text.now out) }
-    ensures calm { FailsToChange S.Store conn.old conn.new result (¬ AreShort (text.now ∷ names_in path.now))
+    ensures { CarriesTo S.Store conn.old conn.new result (¬ AreShort (text.now ∷ names_in path.now))
         (λ s out. Publishes s caller.now path.now text.now out) }
 {
     let sides = done!(read_sides_to_publish(alloc, conn, caller, &path.provider, &path.consumer));
@@ -199,9 +193,7 @@ pub fn put_pact<S: Alter>(
     path: &PactPath,
     file: &Body,
 ) -> Result<Answer, StoreFault>
-    ensures answers { Performs S.Store conn.old conn.new result
-        (IsStepOf caller.now (PutPact path.now file.now)) }
-    ensures calm { FailsToDo S.Store conn.old conn.new result caller.now (PutPact path.now file.now) }
+    ensures { Carries S.Store conn.old conn.new result caller.now (PutPact path.now file.now) }
 {
     match read_form(alloc, path, file) {
         Ok(pact) => publish(alloc, conn, caller, path, &pact.text),

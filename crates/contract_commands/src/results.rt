@@ -9,7 +9,7 @@ ghost use Rattle.broker_tables.specs.Holds.{AnswersTaking};
 ghost use Rattle.broker_tables.specs.Calm.{CalmQueriesInPlace, FailsFrom};
 ghost use Rattle.broker_tables.specs.Refusals.{IsCalmTaking};
 ghost use Rattle.contract_tables.specs.Verified.{told_of};
-ghost use Rattle.command_facts.specs.Performs.{Performs, PerformsWhere, FailsToChangeFrom, FailsToDo, IsStepOf};
+ghost use Rattle.command_facts.specs.Performs.{Carries, PerformsWhere, FailsToChangeFrom};
 ghost use Rattle.contract_commands.specs.Pacts.{HasContent};
 ghost use Rattle.contract_commands.specs.Results.{names_of, AreLong, HasPacticipant, CanReceive, IsToReport, told_as, Receives, Claims, told_row, TellsSame, TellsAgain, IsUnused, CanReport, CanRecordReport, AllowsReport, RecordsReport};
 
@@ -236,9 +236,7 @@ pub fn post_result<S: Alter>(
     report: &Report,
     success: bool,
 ) -> Result<Answer, StoreFault>
-    ensures answers { Performs S.Store conn.old conn.new result
-        (IsStepOf caller.now (PostResult path.now report.now success)) }
-    ensures calm { FailsToDo S.Store conn.old conn.new result caller.now (PostResult path.now report.now success) }
+    ensures { Carries S.Store conn.old conn.new result caller.now (PostResult path.now report.now success) }
 {
     match done!(read_contract_to_verify(alloc, conn, caller, path)) {
         Ok(content) => claim(conn, &path.provider, report, content, success),

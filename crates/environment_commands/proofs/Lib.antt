@@ -1,4 +1,3 @@
-pub mod FailLemmas
 pub mod FollowLemmas
 pub mod GateJudgement
 pub mod PlaceLemmas

@@ -1,10 +1,10 @@
 -- what the commands on a version and an environment show and change, for the clauses of private functions: no public
 -- clause cites it
 use Rattle.std.specs.Prelude.{◌≡◌, List, Some, Bool, IsTrue, Result}
-use Rattle.sqlite.specs.Held.{Held, state}
+use Rattle.sqlite.specs.Held.{Held}
 use Rattle.sqlite_trees.specs.declared.store.Store.{Ghosts}
 use Rattle.table_access.specs.declared.StoreFault.{StoreFault}
-use Rattle.broker_core.specs.Change.{Transition, unchanged_with}
+use Rattle.broker_core.specs.Change.{Transition, unchanged_with, deploy, release}
 use Rattle.broker_core.specs.Gate.{Judges}
 use Rattle.broker_core.specs.Listing.{Lists}
 use Rattle.broker_core.specs.Machine.{StepOfCaller, TakesEffect, deployed_cmp, version_cmp}
@@ -20,8 +20,7 @@ use Rattle.broker_core.specs.declared.command.Marks.{Marks}
 use Rattle.broker_core.specs.declared.command.Version.{Version}
 use Rattle.broker_core.specs.declared.need.PairFault.{PairFault}
 use Rattle.broker_core.specs.declared.policy.Caller.{Caller}
-use Rattle.broker_tables.specs.Calm.{FailsFromBetween}
-use Rattle.command_facts.specs.Performs.{IsMisnamed, IsToChange}
+use Rattle.command_facts.specs.Performs.{CarriesWhere, IsMisnamed}
 use Rattle.command_facts.specs.Primitives.{broker_primitives}
 use Rattle.environment_commands.specs.Places.{IsAdmitted}
 use Rattle.environment_commands.specs.declared.places.Admitted.{Admitted}
@@ -30,11 +29,18 @@ use Rattle.environment_commands.specs.declared.places.Admitted.{Admitted}
 abbrev pub Enacts : Command → Broker → Transition → Type 0
 Enacts command s out = TakesEffect broker_primitives s command out
 
--- why it fails, from the states that allow it
+-- the version is deployed there
+abbrev pub Deploys : Text → Version → Text → Broker → Transition → Type 0
+Deploys e v instance s out = out ≡ deploy s e v instance
+
+-- the version is released there
+abbrev pub Releases : Text → Version → Broker → Transition → Type 0
+Releases e v s out = out ≡ release s e v
+
+-- what it does from the states that allow it, over a connection of this store
 module _ {X : Type 0} (store : Ghosts X) (old new : Held X) where
-  abbrev pub FailsToEnact : Result Answer StoreFault → (Broker → Type 0) → Command → Type 0
-  FailsToEnact r Allows command =
-      FailsFromBetween (state store old) (state store new) r (IsMisnamed command) Allows (IsToChange (Enacts command))
+  abbrev pub CarriesOut : Result Answer StoreFault → (Broker → Type 0) → Command → Type 0
+  CarriesOut r Allows command = CarriesWhere store old new r Allows (IsMisnamed command) (Enacts command)
 
 -- what the gate says of a version and an environment that are there
 abbrev pub GateSays : Text → Version → Admitted → Bool → List PairFault → Broker → Type 0

@@ -2,8 +2,8 @@
 ghost use Rattle.std.specs.Prelude.{◌≡◌, Some, None, false, IfOk, IfErr};
 ghost use Rattle.broker_core.specs.declared.command.Command.TheVariants.{CanIDeploy};
 ghost use Rattle.broker_core.specs.declared.policy.Rule.TheVariants.{A6};
-ghost use Rattle.broker_tables.specs.Calm.{CalmQueries, IsCalm};
-ghost use Rattle.command_facts.specs.Performs.{Performs, IsStepOf};
+ghost use Rattle.broker_tables.specs.Calm.{CalmQueries};
+ghost use Rattle.command_facts.specs.Performs.{CarriesCalmly};
 ghost use Rattle.environment_commands.specs.Effects.{IsGateShown, shows_gate};
 ghost use Rattle.environment_commands.specs.Places.{IsVersionRead, GateHasRefusal};
 
@@ -99,9 +99,7 @@ pub fn can_i_deploy<S: Alter>(
     version: &Version,
     environment: &Name,
 ) -> Result<Answer, StoreFault>
-    ensures answers { Performs S.Store conn.old conn.new result
-        (IsStepOf caller.now (CanIDeploy version.now environment.now)) }
-    ensures calm { IsCalm S.Store conn.old conn.new result }
+    ensures { CarriesCalmly S.Store conn.old conn.new result caller.now (CanIDeploy version.now environment.now) }
 {
     let (facts, marks) = done!(read_gate_facts(alloc, conn, caller, version, environment));
     match admitted_to_ask(facts, marks) {

@@ -1,9 +1,7 @@
 //! Deployment of a version.
-ghost use Rattle.std.specs.Prelude.{◌≡◌};
-ghost use Rattle.broker_core.specs.Change.{deploy as deployment};
 ghost use Rattle.broker_core.specs.declared.command.Command.TheVariants.{Deploy};
-ghost use Rattle.command_facts.specs.Performs.{Performs, PerformsWhere, FailsToChangeFrom, FailsToDo, IsStepOf};
-ghost use Rattle.environment_commands.specs.Effects.{Enacts, FailsToEnact};
+ghost use Rattle.command_facts.specs.Performs.{Carries, CarriesFrom};
+ghost use Rattle.environment_commands.specs.Effects.{CarriesOut, Deploys};
 ghost use Rattle.environment_commands.specs.Places.{HasNumber, HasPlace, IsLongPlace, IsAdmitted};
 
 use crate::gate::judge;
@@ -12,6 +10,7 @@ use broker_core::answer::{Answer, Detail, Faults};
 use broker_core::command::Version;
 use broker_core::name::Name;
 use broker_core::policy::Caller;
+use command_facts::change::told;
 use deploy_tables::{is_deployed, record_deployed};
 use sqlite::{Alter, Connection};
 use std::alloc::Global;
@@ -25,11 +24,9 @@ fn record_deployment<S: Alter>(
     instance: &str,
     number: u32,
 ) -> Result<Answer, StoreFault>
-    ensures answers { PerformsWhere S.Store conn.old conn.new result
-        (HasNumber version.now number) (λ s out. out ≡ deployment s environment.now version.now instance.now) }
-    ensures calm { FailsToChangeFrom S.Store conn.old conn.new result
-        (IsLongPlace environment.now version.now instance.now) (HasPlace environment.now version.now number)
-        (λ s out. out ≡ deployment s environment.now version.now instance.now) }
+    ensures { CarriesFrom S.Store conn.old conn.new result (HasNumber version.now number)
+        (HasPlace environment.now version.now number) (IsLongPlace environment.now version.now instance.now)
+        (Deploys environment.now version.now instance.now) }
 {
     if done!(is_deployed(
         conn,
@@ -40,14 +37,13 @@ fn record_deployment<S: Alter>(
     )) {
         return Ok(Answer::Already(Detail::Plain));
     }
-    done!(record_deployed(
+    told(record_deployed(
         conn,
         environment.as_str(),
         version.pacticipant.as_str(),
         instance,
         number,
-    ));
-    Ok(Answer::Done(Detail::Plain))
+    ))
 }
 
 /// Asks the gate, and deploys the version if it is permitted.
@@ -59,10 +55,7 @@ fn deploy_judged<S: Alter>(
     instance: &Option<Name>,
     place: Admitted,
 ) -> Result<Answer, StoreFault>
-    ensures answers { PerformsWhere S.Store conn.old conn.new result
-        (IsAdmitted environment.now version.now place)
-        (Enacts (Deploy environment.now version.now instance.now)) }
-    ensures calm { FailsToEnact S.Store conn.old conn.new result (IsAdmitted environment.now version.now place)
+    ensures { CarriesOut S.Store conn.old conn.new result (IsAdmitted environment.now version.now place)
         (Deploy environment.now version.now instance.now) }
 {
     let (permitted, faults) = done!(judge(alloc, conn, environment, version, place));
@@ -88,9 +81,7 @@ pub fn deploy<S: Alter>(
     version: &Version,
     instance: &Option<Name>,
 ) -> Result<Answer, StoreFault>
-    ensures answers { Performs S.Store conn.old conn.new result
-        (IsStepOf caller.now (Deploy environment.now version.now instance.now)) }
-    ensures calm { FailsToDo S.Store conn.old conn.new result caller.now
+    ensures { Carries S.Store conn.old conn.new result caller.now
         (Deploy environment.now version.now instance.now) }
 {
     match done!(read_admitted(alloc, conn, caller, environment, version)) {

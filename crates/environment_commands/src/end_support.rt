@@ -3,7 +3,7 @@ ghost use Rattle.std.specs.Prelude.{◌≡◌};
 ghost use Rattle.broker_core.specs.Change.{end_support as unsupported};
 ghost use Rattle.broker_core.specs.declared.command.Command.TheVariants.{EndSupport};
 ghost use Rattle.broker_tables.specs.Calm.{IsCalm};
-ghost use Rattle.command_facts.specs.Performs.{Performs, PerformsWhere, IsStepOf};
+ghost use Rattle.command_facts.specs.Performs.{CarriesCalmly, PerformsWhere};
 ghost use Rattle.environment_commands.specs.Places.{HasNumber};
 
 use crate::places::read_admitted;
@@ -41,9 +41,7 @@ pub fn end_support<S: Alter>(
     environment: &Name,
     version: &Version,
 ) -> Result<Answer, StoreFault>
-    ensures answers { Performs S.Store conn.old conn.new result
-        (IsStepOf caller.now (EndSupport environment.now version.now)) }
-    ensures calm { IsCalm S.Store conn.old conn.new result }
+    ensures { CarriesCalmly S.Store conn.old conn.new result caller.now (EndSupport environment.now version.now) }
 {
     match done!(read_admitted(alloc, conn, caller, environment, version)) {
         Ok(place) => remove_release(conn, environment, version, place.number),

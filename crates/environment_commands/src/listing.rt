@@ -1,8 +1,8 @@
 //! The listing of an environment.
 ghost use Rattle.std.specs.Prelude.{◌≡◌, IfOk, IfErr};
 ghost use Rattle.broker_core.specs.declared.command.Command.TheVariants.{GetEnvironment};
-ghost use Rattle.broker_tables.specs.Calm.{CalmQueries, IsCalm};
-ghost use Rattle.command_facts.specs.Performs.{Performs, IsStepOf};
+ghost use Rattle.broker_tables.specs.Calm.{CalmQueries};
+ghost use Rattle.command_facts.specs.Performs.{CarriesCalmly};
 ghost use Rattle.environment_commands.specs.Effects.{ListsAll, IsEnvironmentShown, shows};
 
 use broker_core::answer::{Answer, DeployedItem, DeployedItems, Missing, Shown, Versions};
@@ -70,9 +70,7 @@ pub fn get_environment<S: Alter>(
     caller: &Caller,
     environment: &Name,
 ) -> Result<Answer, StoreFault>
-    ensures answers { Performs S.Store conn.old conn.new result
-        (IsStepOf caller.now (GetEnvironment environment.now)) }
-    ensures calm { IsCalm S.Store conn.old conn.new result }
+    ensures { CarriesCalmly S.Store conn.old conn.new result caller.now (GetEnvironment environment.now) }
 {
     match done!(marks_of(conn, environment.as_str())) {
         Some(marks) => list_environment(alloc, conn, environment, marks),

@@ -1,8 +1,8 @@
 //! The matrix of a version.
 ghost use Rattle.std.specs.Prelude.{Some, None, IfOk, IfErr};
 ghost use Rattle.broker_core.specs.declared.command.Command.TheVariants.{GetMatrix};
-ghost use Rattle.broker_tables.specs.Calm.{CalmQueries, IsCalm};
-ghost use Rattle.command_facts.specs.Performs.{Performs, IsStepOf};
+ghost use Rattle.broker_tables.specs.Calm.{CalmQueries};
+ghost use Rattle.command_facts.specs.Performs.{CarriesCalmly};
 ghost use Rattle.environment_commands.specs.Effects.{IsMatrixShown};
 ghost use Rattle.environment_commands.specs.Places.{MatrixHasRefusal};
 
@@ -49,9 +49,7 @@ pub fn get_matrix<S: Alter>(
     caller: &Caller,
     version: &Version,
 ) -> Result<Answer, StoreFault>
-    ensures answers { Performs S.Store conn.old conn.new result
-        (IsStepOf caller.now (GetMatrix version.now)) }
-    ensures calm { IsCalm S.Store conn.old conn.new result }
+    ensures { CarriesCalmly S.Store conn.old conn.new result caller.now (GetMatrix version.now) }
 {
     let facts = done!(read_version(alloc, conn, caller, Rule::A6, version, false));
     match admitted_to_matrix(facts) {

@@ -1,10 +1,9 @@
 //! Release of a version.
-ghost use Rattle.std.specs.Prelude.{◌≡◌, [], ◌∷◌};
-ghost use Rattle.broker_core.specs.Change.{release as released};
+ghost use Rattle.std.specs.Prelude.{[], ◌∷◌};
 ghost use Rattle.broker_core.specs.declared.command.Command.TheVariants.{Release};
 ghost use Rattle.broker_tables.specs.Refusals.{AreShort};
-ghost use Rattle.command_facts.specs.Performs.{Performs, PerformsWhere, FailsToChangeFrom, FailsToDo, IsStepOf};
-ghost use Rattle.environment_commands.specs.Effects.{Enacts, FailsToEnact};
+ghost use Rattle.command_facts.specs.Performs.{Carries, CarriesFrom};
+ghost use Rattle.environment_commands.specs.Effects.{CarriesOut, Releases};
 ghost use Rattle.environment_commands.specs.Places.{HasNumber, HasPlace, IsAdmitted};
 
 use crate::gate::judge;
@@ -13,6 +12,7 @@ use broker_core::answer::{Answer, Detail, Faults};
 use broker_core::command::Version;
 use broker_core::name::Name;
 use broker_core::policy::Caller;
+use command_facts::change::told;
 use deploy_tables::{is_released, record_released};
 use sqlite::{Alter, Connection};
 use std::alloc::Global;
@@ -25,17 +25,14 @@ fn record_release<S: Alter>(
     version: &Version,
     number: u32,
 ) -> Result<Answer, StoreFault>
-    ensures answers { PerformsWhere S.Store conn.old conn.new result
-        (HasNumber version.now number) (λ s out. out ≡ released s environment.now version.now) }
-    ensures calm { FailsToChangeFrom S.Store conn.old conn.new result (¬ AreShort (environment.now ∷ []))
-        (HasPlace environment.now version.now number)
-        (λ s out. out ≡ released s environment.now version.now) }
+    ensures { CarriesFrom S.Store conn.old conn.new result (HasNumber version.now number)
+        (HasPlace environment.now version.now number) (¬ AreShort (environment.now ∷ []))
+        (Releases environment.now version.now) }
 {
     if done!(is_released(conn, environment.as_str(), number)) {
         return Ok(Answer::Already(Detail::Plain));
     }
-    done!(record_released(conn, environment.as_str(), number));
-    Ok(Answer::Done(Detail::Plain))
+    told(record_released(conn, environment.as_str(), number))
 }
 
 /// Asks the gate, and releases the version if it is permitted.
@@ -46,10 +43,7 @@ fn release_judged<S: Alter>(
     version: &Version,
     place: Admitted,
 ) -> Result<Answer, StoreFault>
-    ensures answers { PerformsWhere S.Store conn.old conn.new result
-        (IsAdmitted environment.now version.now place)
-        (Enacts (Release environment.now version.now)) }
-    ensures calm { FailsToEnact S.Store conn.old conn.new result (IsAdmitted environment.now version.now place)
+    ensures { CarriesOut S.Store conn.old conn.new result (IsAdmitted environment.now version.now place)
         (Release environment.now version.now) }
 {
     let (permitted, faults) = done!(judge(alloc, conn, environment, version, place));
@@ -68,9 +62,7 @@ pub fn release<S: Alter>(
     environment: &Name,
     version: &Version,
 ) -> Result<Answer, StoreFault>
-    ensures answers { Performs S.Store conn.old conn.new result
-        (IsStepOf caller.now (Release environment.now version.now)) }
-    ensures calm { FailsToDo S.Store conn.old conn.new result caller.now (Release environment.now version.now) }
+    ensures { Carries S.Store conn.old conn.new result caller.now (Release environment.now version.now) }
 {
     match done!(read_admitted(alloc, conn, caller, environment, version)) {
         Ok(place) => release_judged(alloc, conn, environment, version, place),

@@ -3,7 +3,7 @@ ghost use Rattle.std.specs.Prelude.{◌≡◌};
 ghost use Rattle.broker_core.specs.Change.{undeploy as undeployment};
 ghost use Rattle.broker_core.specs.declared.command.Command.TheVariants.{Undeploy};
 ghost use Rattle.broker_tables.specs.Calm.{IsCalm};
-ghost use Rattle.command_facts.specs.Performs.{Performs, PerformsWhere, IsStepOf};
+ghost use Rattle.command_facts.specs.Performs.{CarriesCalmly, PerformsWhere};
 ghost use Rattle.environment_commands.specs.Places.{HasNumber};
 
 use crate::places::{instance_text, read_admitted};
@@ -50,9 +50,8 @@ pub fn undeploy<S: Alter>(
     version: &Version,
     instance: &Option<Name>,
 ) -> Result<Answer, StoreFault>
-    ensures answers { Performs S.Store conn.old conn.new result
-        (IsStepOf caller.now (Undeploy environment.now version.now instance.now)) }
-    ensures calm { IsCalm S.Store conn.old conn.new result }
+    ensures { CarriesCalmly S.Store conn.old conn.new result caller.now
+        (Undeploy environment.now version.now instance.now) }
 {
     match done!(read_admitted(alloc, conn, caller, environment, version)) {
         Ok(place) => remove_deployment(

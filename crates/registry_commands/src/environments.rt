@@ -2,7 +2,7 @@
 ghost use Rattle.std.specs.Prelude.{◌≡◌, None, IfOk, IfErr, IfSome, IfNone};
 ghost use Rattle.broker_core.specs.Machine.{fault_of_marks};
 ghost use Rattle.broker_core.specs.declared.command.Command.TheVariants.{PutEnvironment};
-ghost use Rattle.command_facts.specs.Performs.{Performs, FailsToDo, IsStepOf};
+ghost use Rattle.command_facts.specs.Performs.{Carries};
 ghost use Rattle.registry_commands.specs.Facts.{RefusesMarks, AnswersPutEnvironment, AddsNewEnvironment};
 
 use broker_core::answer::{Answer, Clash, Detail};
@@ -10,6 +10,7 @@ use broker_core::command::{FormFault, Marks};
 use broker_core::name::{Name, Text};
 use broker_core::policy::{Caller, Rule};
 use caller_facts::rules::is_office;
+use command_facts::change::told;
 use registry_tables::{add_environment, marks_of};
 use sqlite::{Alter, Connection};
 use std::alloc::Global;
@@ -62,17 +63,12 @@ fn put_marks<S: Alter>(
     marks: Marks,
 ) -> Result<Answer, StoreFault>
     requires { fault_of_marks marks ≡ None }
-    ensures answers { Performs S.Store conn.old conn.new result
-        (IsStepOf caller.now (PutEnvironment environment.now marks)) }
-    ensures calm { FailsToDo S.Store conn.old conn.new result caller.now (PutEnvironment environment.now marks) }
+    ensures { Carries S.Store conn.old conn.new result caller.now (PutEnvironment environment.now marks) }
 {
     let old = done!(marks_of(conn, environment.as_str()));
     match decide_put_environment(alloc, caller, old, marks) {
         Some(answer) => Ok(answer),
-        None => {
-            done!(add_environment(conn, environment.as_str(), marks.gated, marks.strict));
-            Ok(Answer::Done(Detail::Plain))
-        }
+        None => told(add_environment(conn, environment.as_str(), marks.gated, marks.strict)),
     }
 }
 
@@ -88,9 +84,7 @@ pub fn put_environment<S: Alter>(
     environment: &Name,
     marks: Marks,
 ) -> Result<Answer, StoreFault>
-    ensures answers { Performs S.Store conn.old conn.new result
-        (IsStepOf caller.now (PutEnvironment environment.now marks)) }
-    ensures calm { FailsToDo S.Store conn.old conn.new result caller.now (PutEnvironment environment.now marks) }
+    ensures { Carries S.Store conn.old conn.new result caller.now (PutEnvironment environment.now marks) }
 {
     match done!(form_of_marks(alloc, marks)) {
         Some(answer) => Ok(answer),

@@ -1,14 +1,15 @@
 //! PUT and DELETE of a grant.
 ghost use Rattle.std.specs.Prelude.{IfSome, IfNone};
 ghost use Rattle.broker_core.specs.declared.command.Command.TheVariants.{PutGrant, DeleteGrant};
-ghost use Rattle.broker_tables.specs.Calm.{CalmQueriesInPlace, IsCalm};
-ghost use Rattle.command_facts.specs.Performs.{Performs, FailsToDo, IsStepOf};
+ghost use Rattle.broker_tables.specs.Calm.{CalmQueriesInPlace};
+ghost use Rattle.command_facts.specs.Performs.{Carries, CarriesCalmly};
 ghost use Rattle.registry_commands.specs.Facts.{IsGrantRead, AnswersPutGrant, AddsNewGrant, AnswersDeleteGrant, TakesGrant};
 
 use broker_core::answer::{Answer, Detail, Missing};
 use broker_core::name::Name;
 use broker_core::policy::{Caller, Rule};
 use caller_facts::rules::is_office;
+use command_facts::change::told;
 use registry_tables::{add_grant, gated, granted, has_team, remove_grant};
 use sqlite::{Alter, Connection};
 use std::alloc::Global;
@@ -96,17 +97,12 @@ pub fn put_grant<S: Alter>(
     team: &Name,
     environment: &Name,
 ) -> Result<Answer, StoreFault>
-    ensures answers { Performs S.Store conn.old conn.new result
-        (IsStepOf caller.now (PutGrant team.now environment.now)) }
-    ensures calm { FailsToDo S.Store conn.old conn.new result caller.now (PutGrant team.now environment.now) }
+    ensures { Carries S.Store conn.old conn.new result caller.now (PutGrant team.now environment.now) }
 {
     let facts = done!(read_grant_facts(conn, team, environment));
     match decide_put_grant(alloc, caller, facts) {
         Some(answer) => Ok(answer),
-        None => {
-            done!(add_grant(conn, team.as_str(), environment.as_str()));
-            Ok(Answer::Done(Detail::Plain))
-        }
+        None => told(add_grant(conn, team.as_str(), environment.as_str())),
     }
 }
 
@@ -123,16 +119,11 @@ pub fn delete_grant<S: Alter>(
     team: &Name,
     environment: &Name,
 ) -> Result<Answer, StoreFault>
-    ensures answers { Performs S.Store conn.old conn.new result
-        (IsStepOf caller.now (DeleteGrant team.now environment.now)) }
-    ensures calm { IsCalm S.Store conn.old conn.new result }
+    ensures { CarriesCalmly S.Store conn.old conn.new result caller.now (DeleteGrant team.now environment.now) }
 {
     let facts = done!(read_grant_facts(conn, team, environment));
     match decide_delete_grant(alloc, caller, facts) {
         Some(answer) => Ok(answer),
-        None => {
-            done!(remove_grant(conn, team.as_str(), environment.as_str()));
-            Ok(Answer::Done(Detail::Plain))
-        }
+        None => told(remove_grant(conn, team.as_str(), environment.as_str())),
     }
 }

@@ -2,7 +2,7 @@
 
 ghost use Rattle.std.specs.Prelude.{IfSome, IfNone};
 ghost use Rattle.broker_tables.specs.Calm.{CalmQueries};
-ghost use Rattle.command_facts.specs.Performs.{Performs, FailsToDo, IsStepOf};
+ghost use Rattle.command_facts.specs.Performs.{Carries};
 ghost use Rattle.registry_commands.specs.Facts.{IsPacticipantRead, AnswersPutPacticipant, AddsNewPacticipant};
 ghost use Rattle.broker_core.specs.declared.command.Command.TheVariants.{PutPacticipant};
 
@@ -10,6 +10,7 @@ use broker_core::answer::{Answer, Clash, Detail, Missing};
 use broker_core::name::Name;
 use broker_core::policy::{Caller, Rule};
 use caller_facts::rules::is_office;
+use command_facts::change::told;
 use registry_tables::{add_pacticipant, has_team, owner_of};
 use sqlite::{Alter, Connection};
 use std::alloc::Global;
@@ -76,16 +77,11 @@ pub fn put_pacticipant<S: Alter>(
     pacticipant: &Name,
     team: &Name,
 ) -> Result<Answer, StoreFault>
-    ensures answers { Performs S.Store conn.old conn.new result
-        (IsStepOf caller.now (PutPacticipant pacticipant.now team.now)) }
-    ensures calm { FailsToDo S.Store conn.old conn.new result caller.now (PutPacticipant pacticipant.now team.now) }
+    ensures { Carries S.Store conn.old conn.new result caller.now (PutPacticipant pacticipant.now team.now) }
 {
     let facts = done!(read_pacticipant_facts(conn, pacticipant, team));
     match decide_put_pacticipant(alloc, caller, &facts, team) {
         Some(answer) => Ok(answer),
-        None => {
-            done!(add_pacticipant(conn, pacticipant.as_str(), team.as_str()));
-            Ok(Answer::Done(Detail::Plain))
-        }
+        None => told(add_pacticipant(conn, pacticipant.as_str(), team.as_str())),
     }
 }

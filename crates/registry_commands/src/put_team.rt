@@ -5,7 +5,7 @@ ghost use Rattle.broker_core.specs.State.{State as BrokerState};
 ghost use Rattle.broker_core.specs.Machine.{IsCallerOfDigest};
 ghost use Rattle.broker_tables.specs.Calm.{CalmQueries};
 ghost use Rattle.broker_tables.specs.Refusals.{AreShort};
-ghost use Rattle.command_facts.specs.Performs.{Performs, FailsToChange, FailsToDo, IsStepOf};
+ghost use Rattle.command_facts.specs.Performs.{Carries, CarriesTo};
 ghost use Rattle.registry_commands.specs.Facts.{IsTeamRead, PutsTeam, AnswersPutTeam, AddsNewTeam};
 ghost use Rattle.broker_core.specs.declared.command.Command.TheVariants.{PutTeam};
 
@@ -14,6 +14,7 @@ use broker_core::name::{Name, Token};
 use broker_core::policy::{Caller, Rule};
 use caller_facts::callers::{digest_of, holder_of};
 use caller_facts::rules::is_office;
+use command_facts::change::told;
 use registry_tables::add_team;
 use sqlite::{Alter, Connection};
 use std::alloc::Global;
@@ -81,18 +82,13 @@ fn put_digest<S: Alter>(
     team: &Name,
     digest: &str,
 ) -> Result<Answer, StoreFault>
-    ensures answers { Performs S.Store conn.old conn.new result
-        (λ s out. PutsTeam s caller.now team.now digest.now out) }
-    ensures calm { FailsToChange S.Store conn.old conn.new result (¬ AreShort (team.now ∷ digest.now ∷ []))
+    ensures { CarriesTo S.Store conn.old conn.new result (¬ AreShort (team.now ∷ digest.now ∷ []))
         (λ s out. PutsTeam s caller.now team.now digest.now out) }
 {
     let facts = done!(read_team_facts(alloc, conn, team, digest));
     match decide_put_team(alloc, caller, &facts, digest) {
         Some(answer) => Ok(answer),
-        None => {
-            done!(add_team(conn, team.as_str(), digest));
-            Ok(Answer::Done(Detail::Plain))
-        }
+        None => told(add_team(conn, team.as_str(), digest)),
     }
 }
 
@@ -108,8 +104,7 @@ pub fn put_team<S: Alter>(
     team: &Name,
     token: &Token,
 ) -> Result<Answer, StoreFault>
-    ensures answers { Performs S.Store conn.old conn.new result (IsStepOf caller.now (PutTeam team.now token.now)) }
-    ensures calm { FailsToDo S.Store conn.old conn.new result caller.now (PutTeam team.now token.now) }
+    ensures { Carries S.Store conn.old conn.new result caller.now (PutTeam team.now token.now) }
 {
     let digest = done!(digest_of(alloc, token.as_str()));
     put_digest(alloc, conn, caller, team, digest.as_str())

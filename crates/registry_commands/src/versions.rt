@@ -8,7 +8,7 @@ ghost use Rattle.broker_tables.specs.Holds.{Changes, ChangesTaking, ChangesAndAn
 ghost use Rattle.broker_tables.specs.Refusals.{IsCalmStoring, IsCalmChange, IsCalmTaking};
 ghost use Rattle.broker_tables.specs.Numbers.{number_of};
 ghost use Rattle.registry_tables.specs.Registry.{AllowsVersion, AddsVersion};
-ghost use Rattle.command_facts.specs.Performs.{Performs, FailsToDo, IsStepOf};
+ghost use Rattle.command_facts.specs.Performs.{Carries};
 ghost use Rattle.registry_commands.specs.Facts.{texts_of, IsNumberRead, IsRoomRead, IsNamingRead, CanJoin, AnswersPutVersion, NamesOrJoins, IsNamedApart, JoinsBranch, RecordsVersion};
 
 use broker_core::answer::{Answer, Detail, Missing};
@@ -18,6 +18,7 @@ use broker_core::name::Name;
 use broker_core::policy::{Caller, Rule};
 use broker_tables::next_number;
 use caller_facts::rules::{OwnerFacts, read_owner};
+use command_facts::change::told;
 use registry_tables::{add_branch, add_version_as, on_branch, version_count, version_of};
 use sqlite::{Alter, Connection};
 use std::alloc::Global;
@@ -229,22 +230,17 @@ pub fn put_version<S: Alter>(
     version: &Version,
     branch: &Option<Name>,
 ) -> Result<Answer, StoreFault>
-    ensures answers { Performs S.Store conn.old conn.new result
-        (IsStepOf caller.now (PutVersion version.now branch.now)) }
-    ensures calm { FailsToDo S.Store conn.old conn.new result caller.now (PutVersion version.now branch.now) }
+    ensures { Carries S.Store conn.old conn.new result caller.now (PutVersion version.now branch.now) }
 {
     let facts = done!(read_naming_facts(alloc, conn, caller, version, branch));
     match decide_put_version(facts) {
         Some(answer) => Ok(answer),
-        None => {
-            done!(record_version(
-                conn,
-                version,
-                branch,
-                facts.version.number,
-                facts.versions.count,
-            ));
-            Ok(Answer::Done(Detail::Plain))
-        }
+        None => told(record_version(
+            conn,
+            version,
+            branch,
+            facts.version.number,
+            facts.versions.count,
+        )),
     }
 }

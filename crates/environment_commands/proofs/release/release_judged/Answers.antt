@@ -1,11 +1,9 @@
 use Rattle.std.{specs.Prelude.{if◌then◌else◌}, proofs.Common.{◌≡◌, Some, Bool, true, List, sym, ap, ◌∙◌}}
-use Rattle.sqlite.specs.Held.{state}
-use Rattle.broker_core.specs.{Change.{Transition, release as released, unchanged_with}, Gate.{Judges}, Machine.{TakesEffect}, State.{State}, Text.{Text}}
+use Rattle.broker_core.specs.{Change.{Transition, release as released, unchanged_with}, Gate.{Judges}, State.{State}, Text.{Text}}
 use Rattle.broker_core.specs.{declared.answer.Answer.TheVariants.{NotPermitted}, declared.command.Command.TheVariants.{Release}}
 use Rattle.broker_core.specs.{declared.command.Version.{Version}, declared.need.PairFault.{PairFault}}
-use Rattle.broker_tables.{specs.Numbers.{number_of}, proofs.FailLemmas.{fails_more}}
-use Rattle.environment_commands.{specs.{Effects.{Enacts}, Places.{HasPlace, IsAdmitted}}, proofs.{FailLemmas.{fails_next}, PlaceLemmas.{has_place}}}
-use Rattle.command_facts.{specs.Primitives.{broker_primitives}, proofs.{PerformLemmas.{where_then, where_answered}, ShortTexts.{name_short}}}
+use Rattle.environment_commands.{specs.Effects.{Enacts}, proofs.PlaceLemmas.{has_place}}
+use Rattle.command_facts.proofs.{CarryLemmas.{carries_from, carries_more, tells}, ShortTexts.{name_short}}
 use Rattle.environment_commands.proofs.release.release_judged.Goals as goal
 
 -- what the gate permits is done
@@ -18,35 +16,18 @@ permitted_releases s e v permitted faults may judged out is = (
   is ∙ sym (ap (λ (b : Bool). if b then released s e v else unchanged_with s (NotPermitted faults)) may),
 )
 
-pub returns-then-permitted-clause-answers : goal.returns-then-permitted-clause-answers
-returns-then-permitted-clause-answers g c =
-    let e = c.args.environment.now in
-    let v = c.args.version.now in
-    let judged = c.in-Ok.value in
-    where_then (state g.S.Store c.args.conn.now) (state g.S.Store c.judge.new.conn) (state g.S.Store c.record_release.new.conn) judged c.record_release.result
-    (IsAdmitted e v c.args.place) _ (λ s. number_of s.versions v ≡ Some c.args.place.number) _ (Enacts (Release e v))
-    (λ s admitted says. (admitted.1, permitted_releases s e v judged.0 judged.1.items c.if-permitted.true (says admitted)))
-    c.in-Ok.ensures.call c.record_release.ensures.answers
+pub returns-then-permitted : goal.returns-then-permitted
+returns-then-permitted g c =
+    carries_more (λ s out it. it) (λ long named. long (name_short _ named.0, tt))
+    (carries_from (λ s admitted says. (admitted.1, permitted_releases s _ _ _ _ c.if-permitted.true (says admitted)))
+    (λ s held admitted says. (has_place s _ _ _ admitted, permitted_releases s _ _ _ _ c.if-permitted.true (says admitted))) c.in-Ok.ensures c.record_release.ensures)
 
-pub returns-then-permitted-clause-calm : goal.returns-then-permitted-clause-calm
-returns-then-permitted-clause-calm g c =
-    let e = c.args.environment.now in
-    let v = c.args.version.now in
-    let judged = c.in-Ok.value in
-    fails_more _ _ _ _ c.record_release.result _ _ (λ long named. long (name_short _ named.0, tt))
-    (fails_next _ (state g.S.Store c.args.conn.now) (state g.S.Store c.judge.new.conn) (state g.S.Store c.record_release.new.conn) judged c.record_release.result _ _ c.in-Ok.ensures.call c.record_release.ensures.answers
-    (IsAdmitted e v c.args.place) (HasPlace e v c.args.place.number) _ (Enacts (Release e v))
-    (λ s admitted says. (has_place s e v c.args.place admitted, permitted_releases s e v judged.0 judged.1.items c.if-permitted.true (says admitted)))
-    c.record_release.ensures.calm)
-
-pub returns-else-permitted-clause-answers : goal.returns-else-permitted-clause-answers
-returns-else-permitted-clause-answers g c =
-    where_answered (state g.S.Store c.args.conn.now) (state g.S.Store c.judge.new.conn) c.in-Ok.value (NotPermitted c.new.result)
-    (IsAdmitted c.args.environment.now c.args.version.now c.args.place) _ (λ s out. TakesEffect broker_primitives s (Release c.args.environment.now c.args.version.now) out)
-    (λ s admitted judged. (
+pub returns-else-permitted : goal.returns-else-permitted
+returns-else-permitted g c =
+    tells (λ s admitted judged. (
       c.in-Ok.value.0,
       c.in-Ok.value.1.items,
       judged admitted,
       ap (λ (faults : List PairFault). unchanged_with s (NotPermitted faults)) c.new.ensures
           ∙ sym (ap (λ (b : Bool). if b then released s c.args.environment.now c.args.version.now else unchanged_with s (NotPermitted c.in-Ok.value.1.items)) c.if-permitted.false),
-    )) c.in-Ok.ensures.call
+    )) c.in-Ok.ensures

@@ -1,18 +1,14 @@
 use Rattle.std.proofs.Common.{inl, inr, refl, ap, ◌∙◌}
-use Rattle.sqlite.specs.Held.{state}
 use Rattle.broker_core.specs.{Change.{undeploy as undeployment}, Text.{Text}, declared.command.Command.TheVariants.{Undeploy}}
-use Rattle.environment_commands.proofs.{FailLemmas.{calm_next}, PlaceLemmas.{refused_then, admitted_then}}
+use Rattle.command_facts.proofs.{CallerSteps.{acts, refuses}, CarryLemmas.{carries_calmly, tells}}
 use Rattle.environment_commands.proofs.undeploy.undeploy.Goals as goal
 
-pub returns-in-Ok-2-clause-answers : goal.returns-in-Ok-2-clause-answers
-returns-in-Ok-2-clause-answers g c =
-    admitted_then (state g.S.Store c.args.conn.now) (state g.S.Store c.read_admitted.new.conn) c.args.caller.now c.args.environment.now c.args.version.now (Undeploy c.args.environment.now c.args.version.now c.args.instance.now) (inr (inl (c.args.instance.now, refl))) refl (state g.S.Store c.remove_deployment.new.conn) c.in-Ok-2.place c.remove_deployment.result
-    _ _ (λ s h. h.1) (λ s out done. done ∙ ap (λ (i : Text). undeployment s c.args.environment.now c.args.version.now i) c.instance_text.ensures) (rw c.in-Ok-2.is at c.in-Ok.ensures.call) c.remove_deployment.ensures.answers
+pub returns-in-Ok-2 : goal.returns-in-Ok-2
+returns-in-Ok-2 g c =
+    let command = Undeploy c.args.environment.now c.args.version.now c.args.instance.now in
+    carries_calmly (λ s all h. (h.0.1, λ out done. acts s c.args.caller.now command refl out (h.1 command (inr (inl (c.args.instance.now, refl)))) (done ∙ ap (λ (i : Text). undeployment s c.args.environment.now c.args.version.now i) c.instance_text.ensures))) (rw c.in-Ok-2.is at c.in-Ok.ensures) c.remove_deployment.ensures.answers c.remove_deployment.ensures.calm
 
-pub returns-in-Err-2-clause-answers : goal.returns-in-Err-2-clause-answers
-returns-in-Err-2-clause-answers g c =
-    refused_then (state g.S.Store c.args.conn.now) (state g.S.Store c.read_admitted.new.conn) c.args.caller.now c.args.environment.now c.args.version.now (Undeploy c.args.environment.now c.args.version.now c.args.instance.now) (inr (inl (c.args.instance.now, refl))) refl c.in-Err-2.answer (rw c.in-Err-2.is at c.in-Ok.ensures.call)
-
-pub returns-in-Ok-2-clause-calm : goal.returns-in-Ok-2-clause-calm
-returns-in-Ok-2-clause-calm g c =
-    calm_next (state g.S.Store c.args.conn.now) (state g.S.Store c.read_admitted.new.conn) (state g.S.Store c.remove_deployment.new.conn) c.in-Ok.value c.remove_deployment.result _ _ c.in-Ok.ensures.call c.remove_deployment.ensures.answers c.remove_deployment.ensures.calm
+pub returns-in-Err-2 : goal.returns-in-Err-2
+returns-in-Err-2 g c =
+    let command = Undeploy c.args.environment.now c.args.version.now c.args.instance.now in
+    tells (λ s all h. refuses s c.args.caller.now command refl c.in-Err-2.answer (h command (inr (inl (c.args.instance.now, refl))))) (rw c.in-Err-2.is at c.in-Ok.ensures)

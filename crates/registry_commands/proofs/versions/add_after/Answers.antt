@@ -12,7 +12,7 @@ returns-clause-changes g c =
     let new = state g.S.Store c.add_version_as.new.conn in
     let number = c.in-Some.number in
     let same : version_named c.as_str.result.now c.as_str-2.result.now ≡ c.args.version.now = λ i. version_named (c.as_str.ensures i) (c.as_str-2.ensures i) in
-    then_ok old new c.in-Ok.value number _ _ (λ adds s held h.
+    then_ok _ _ _ number _ _ (λ adds s held h.
     subst (λ (v : Version). AllowsVersionAs number v s → (t : State) × AddsVersion v number s t × HoldsAfter 2 old new t) same (adds s held)
     (h.0, c.in-Some.ensures.some ∙ ap (λ k. k + 1) h.1)) c.in-Ok.ensures.changes
 

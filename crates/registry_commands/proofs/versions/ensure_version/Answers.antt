@@ -1,5 +1,4 @@
 use Rattle.std.{specs.Prelude.{is_some, if◌then◌else◌}, proofs.Common.{◌≡◌, ◌++◌, ◌∷◌, [], Bool, true, false, sym, ap, ◌∙◌}}
-use Rattle.sqlite.specs.Held.{state}
 use Rattle.table_access.proofs.CallLemmas.{call_with}
 use Rattle.broker_core.specs.{Change.{on_branch}, Request.{is_known}}
 use Rattle.command_facts.proofs.PerformLemmas.{unchanged}
@@ -8,7 +7,7 @@ use Rattle.registry_commands.proofs.versions.ensure_version.Goals as goal
 pub returns-in-Some-clause-changes : goal.returns-in-Some-clause-changes
 returns-in-Some-clause-changes g c =
     let v = c.args.version.now in
-    unchanged (state g.S.Store c.args.conn.now) c.in-Some.number _ _ (λ s can.
+    unchanged _ _ _ _ (λ s can.
     let some : is_some c.args.number ≡ true = ap is_some c.in-Some.is in (
       sym (ap (λ (b : Bool). if b then s else record s { versions = s.versions ++ v ∷ [] }) (can.known_is ∙ some)),
       can.number_is ∙ c.in-Some.is,
@@ -18,7 +17,7 @@ returns-in-Some-clause-changes g c =
 pub returns-in-None-clause-changes : goal.returns-in-None-clause-changes
 returns-in-None-clause-changes g c =
     let v = c.args.version.now in
-    call_with (state g.S.Store c.args.conn.now) (state g.S.Store c.add_after.new.conn) c.add_after.result _ _ (λ number adds s held can.
+    call_with _ _ _ _ _ (λ number adds s held can.
     let none : is_some c.args.number ≡ false = ap is_some c.in-None.is in
     let unknown : is_known s v ≡ false = can.known_is ∙ none in
     let it = adds s held ((unknown, can.owned, can.room none), can.count_is) in

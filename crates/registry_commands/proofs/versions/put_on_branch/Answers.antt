@@ -11,7 +11,7 @@ held_as now s t is held = (subst (Holds now.now) (sym is) held, takes_none 2 now
 pub returns-in-Some-clause-changes : goal.returns-in-Some-clause-changes
 returns-in-Some-clause-changes g c =
     let is_branch : c.args.branch.now ≡ Some c.as_str.result.now = c.in-Some.is ∙ ap Some (sym c.as_str.ensures) in
-    call_with (state g.S.Store c.args.conn.now) (state g.S.Store c.add_branch.new.conn) c.add_branch.result _ _
+    call_with _ _ _ _ _
     (λ u h s held t next. h s held t (next.0, next.1, next.2 c.as_str.result.now is_branch, next.3 ∙ ap (λ (o : Option Text). joined s next.0 o) is_branch)) c.add_branch.ensures.changes
 
 pub returns-in-Some-clause-calm : goal.returns-in-Some-clause-calm

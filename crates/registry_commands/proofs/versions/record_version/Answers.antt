@@ -20,11 +20,8 @@ returns-clause-changes g c =
 
 pub returns-clause-calm : goal.returns-clause-calm
 returns-clause-calm g c =
-    let old = state g.S.Store c.args.conn.now in
-    let mid = state g.S.Store c.ensure_version.new.conn in
-    let new = state g.S.Store c.put_on_branch.new.conn in
-    taking_then _ old mid new c.in-Ok.value c.put_on_branch.result 2 1 _ _ _ _ (λ s can t next. (joined t c.args.version.now c.args.branch.now, (c.args.version.now, next.1, next.2, refl)))
-    c.in-Ok.ensures.changes c.put_on_branch.ensures.changes (taking _ mid new c.put_on_branch.result (codes "branches" ∷ []) (refl, tt) 1 (omega arith) _ (calm_with _ _ mid new c.put_on_branch.result (codes "branches" ∷ []) _ (λ long are. long are.1.1) c.put_on_branch.ensures.calm))
+    taking_then _ _ _ _ _ _ 2 1 _ _ _ _ (λ s can t next. (joined t c.args.version.now c.args.branch.now, (c.args.version.now, next.1, next.2, refl)))
+    c.in-Ok.ensures.changes c.put_on_branch.ensures.changes (taking _ _ _ _ (codes "branches" ∷ []) (refl, tt) 1 (omega arith) _ (calm_with _ _ _ _ _ (codes "branches" ∷ []) _ (λ long are. long are.1.1) c.put_on_branch.ensures.calm))
 
 pub returns-in-Err-clause-calm : goal.returns-in-Err-clause-calm
 returns-in-Err-clause-calm g c clean s here may room = ended_with _ _ _ (λ long are. long (are.0, (are.1.0, (omega arith, tt)))) (c.in-Err.ensures.calm clean s here may tt)

@@ -1,0 +1,165 @@
+-- How a command is put together from calls on the tables, with why it fails: one lemma a return. The states, what a query
+-- tells and what a command does are found from the records that the calls are stated by.
+use Rattle.std.specs.{Prelude.{⊤}, List.{AllByRecursion}}
+use Rattle.std.proofs.{Common.{Bool, true, false, ◌≡◌, ◌≤◌, ℕ, List, Ok, Err, Result, inl, inr, refl, sym, subst, ◌∙◌, arith}, lemmas.Result.{IfErr-weaker}}
+use Rattle.sqlite.specs.State.{State}
+use Rattle.table_access.{specs.{Calls.{HasFailed}, declared.StoreFault.{StoreFault}}, proofs.CallLemmas.{call_with, failed_then, idle, seq, then_err, may_take}}
+use Rattle.broker_core.specs.{State.{State as Broker}, Change.{Transition, unchanged_with, done}, declared.answer.Answer.{Answer}}
+use Rattle.broker_core.specs.{declared.answer.Answer.TheVariants.{Done}, declared.answer.Detail.TheVariants.{Plain}}
+use Rattle.broker_tables.specs.Calm.{CalmQueriesBetween, FailsOnlyBy, HasFailedOrMemory, IsCalmFromBetween}
+use Rattle.broker_tables.specs.{Holds.{Holds, ChangesTakingBetween, ChangesBetween, QueriesBetween}, Refusals.{IsCalmTakingBetween, IsCalmUnlessBetween}}
+use Rattle.broker_tables.{specs.Room.{enough}, proofs.FailLemmas.{calm_after, calm_fails, fails_after, fails_more, fails_changing, taking}}
+use Rattle.broker_tables.proofs.{QueryLemmas.{stays_held}, RoomLemmas.{is_counted}}
+use Rattle.command_facts.specs.Performs.{PerformsBetween, PerformsWhereBetween, FailsBetween, CarriesBetween, IsToChange, told_done}
+use Rattle.command_facts.proofs.PerformLemmas.{held_on, where_answered, where_changing, where_then}
+
+-- ---- why a command fails
+
+-- one that is calm may also be one that changes something
+only_calm : (changes : Bool) (old new : State) (r : Result Answer StoreFault) (TooBig : Type 0) (Open : Broker → Type 0) (Q : Broker → Transition → Type 0) → IsCalmFromBetween old new r Open → FailsBetween changes old new r TooBig Open Q
+only_calm true old new r TooBig Open Q why = calm_fails TooBig old new r Open (IsToChange Q) why
+only_calm false old new r TooBig Open Q why = why
+
+-- one that answers fails for nothing
+no_failure : (changes : Bool) (old new : State) (answer : Answer) (TooBig : Type 0) (Open : Broker → Type 0) (Q : Broker → Transition → Type 0) → FailsBetween changes old new (Ok answer) TooBig Open Q
+no_failure changes old new answer TooBig Open Q = only_calm changes old new (Ok answer) TooBig Open Q (λ clean s here may. tt)
+
+-- after a query a command fails as it does
+fails_on : {A : Type 0} {any : Bool} (changes : Bool) (old mid new : State) (x : A) (r : Result Answer StoreFault) (TooBig : Type 0) (P : A → Broker → Type 0) (Next Open Then : Broker → Type 0) (Q R : Broker → Transition → Type 0)
+    → ((s : Broker) → Holds old.now s → Open s → P x s → Then s × ((out : Transition) → Q s out → R s out)) → QueriesBetween any old mid (Ok x) P → PerformsWhereBetween mid new Next Q r → FailsBetween changes mid new r TooBig Then Q → FailsBetween changes old new r TooBig Open R
+fails_on true old mid new x r TooBig P Next Open Then Q R more one two why =
+    fails_after TooBig old mid new x r P _ Open Then (IsToChange R) (IsToChange Q) (λ s held may told. let go = more s held may told in (go.0, λ made. (made.0, made.1, go.1 _ made.2))) one two why
+fails_on false old mid new x r TooBig P Next Open Then Q R more one two why =
+    calm_after old mid new x r P _ Open Then (λ s held may told. (more s held may told).0) one two why
+
+-- ---- one call after another
+
+-- nothing is called
+pub says : {changes : Bool} {c : State} {answer : Answer} {TooBig : Type 0} {Allows Open : Broker → Type 0} {Q : Broker → Transition → Type 0} → ((s : Broker) → Allows s → Q s (unchanged_with s answer)) → CarriesBetween changes c c Allows Open TooBig Q (Ok answer)
+says {changes} {c} {answer} {TooBig} {Allows} {Open} {Q} f = record {
+  answers = idle c answer _ (λ s held may. (s, f s may, held_on c c s refl held));
+  calm = no_failure changes c c answer TooBig Open Q;
+}
+
+-- a query, and an answer
+pub tells : {A : Type 0} {any changes : Bool} {old new : State} {x : A} {answer : Answer} {TooBig : Type 0} {P : A → Broker → Type 0} {Allows Open : Broker → Type 0} {Q : Broker → Transition → Type 0}
+    → ((s : Broker) → Allows s → P x s → Q s (unchanged_with s answer)) → CalmQueriesBetween any old new (Ok x) P → CarriesBetween changes old new Allows Open TooBig Q (Ok answer)
+tells {A} {any} {changes} {old} {new} {x} {answer} {TooBig} {P} {Allows} {Open} {Q} f it = record { answers = where_answered old new x answer Allows P Q f it.call; calm = no_failure changes old new answer TooBig Open Q }
+
+-- a command that says more
+more_fails : (changes : Bool) (old new : State) (r : Result Answer StoreFault) (Long TooBig : Type 0) (Allows : Broker → Type 0) (Q R : Broker → Transition → Type 0)
+    → (Long → TooBig) → ((s : Broker) (out : Transition) → Q s out → R s out) → FailsBetween changes old new r Long Allows Q → FailsBetween changes old new r TooBig Allows R
+more_fails true old new r Long TooBig Allows Q R long more why = fails_more Long TooBig old new r Allows (IsToChange R) long
+    (λ clean s here may. IfErr-weaker r _ _ (λ e is. elim is [ inl calm ↦ inl calm | inr made ↦ inr ((made.0.0, made.0.1, more s _ made.0.2), made.1) ]) (why clean s here may))
+more_fails false old new r Long TooBig Allows Q R long more why = why
+
+pub carries_more : {changes : Bool} {old new : State} {r : Result Answer StoreFault} {Long TooBig : Type 0} {Allows Open : Broker → Type 0} {Q R : Broker → Transition → Type 0}
+    → ((s : Broker) (out : Transition) → Q s out → R s out) → (Long → TooBig) → CarriesBetween changes old new Allows Open Long Q r → CarriesBetween changes old new Allows Open TooBig R r
+carries_more {changes} {old} {new} {r} {Long} {TooBig} {Allows} {Open} {Q} {R} more long it = record {
+  answers = call_with old new r _ _ (λ a h s held may. let next = h s held may in (next.0, more s _ next.1, next.2)) it.answers;
+  calm = more_fails changes old new r Long TooBig Open Q R long more it.calm;
+}
+
+-- a query, and then a command; from other states that are open to it than those that allow it
+pub carries_from : {A : Type 0} {any changes : Bool} {old mid new : State} {x : A} {r : Result Answer StoreFault} {TooBig : Type 0} {P : A → Broker → Type 0} {Allows Next Open Then : Broker → Type 0} {Q R : Broker → Transition → Type 0}
+    → ((s : Broker) → Allows s → P x s → Next s × ((out : Transition) → Q s out → R s out)) → ((s : Broker) → Holds old.now s → Open s → P x s → Then s × ((out : Transition) → Q s out → R s out))
+    → CalmQueriesBetween any old mid (Ok x) P → CarriesBetween changes mid new Next Then TooBig Q r → CarriesBetween changes old new Allows Open TooBig R r
+carries_from {A} {any} {changes} {old} {mid} {new} {x} {r} {TooBig} {P} {Allows} {Next} {Open} {Then} {Q} {R} more open one two = record {
+  answers = where_then old mid new x r Allows P Next Q R more one.call two.answers;
+  calm = fails_on changes old mid new x r TooBig P Next Open Then Q R open one.call two.answers two.calm;
+}
+
+-- and from the same
+pub carries : {A : Type 0} {any changes : Bool} {old mid new : State} {x : A} {r : Result Answer StoreFault} {TooBig : Type 0} {P : A → Broker → Type 0} {Allows Next : Broker → Type 0} {Q R : Broker → Transition → Type 0}
+    → ((s : Broker) → Allows s → P x s → Next s × ((out : Transition) → Q s out → R s out)) → CalmQueriesBetween any old mid (Ok x) P → CarriesBetween changes mid new Next Next TooBig Q r → CarriesBetween changes old new Allows Allows TooBig R r
+carries more one two = carries_from more (λ s held may told. more s may told) one two
+
+-- a query, and then one whose change is never refused, whatever the state
+pub carries_calmly : {A : Type 0} {any : Bool} {old mid new : State} {x : A} {r : Result Answer StoreFault} {TooBig : Type 0} {P : A → Broker → Type 0} {Allows Next : Broker → Type 0} {Q R : Broker → Transition → Type 0}
+    → ((s : Broker) → Allows s → P x s → Next s × ((out : Transition) → Q s out → R s out)) → CalmQueriesBetween any old mid (Ok x) P → PerformsWhereBetween mid new Next Q r → FailsOnlyBy mid new r (HasFailedOrMemory mid new) → CarriesBetween false old new Allows (λ _. ⊤) TooBig R r
+carries_calmly {A} {any} {old} {mid} {new} {x} {r} {TooBig} {P} {Allows} {Next} {Q} {R} more one two why = record {
+  answers = where_then old mid new x r Allows P Next Q R more one.call two;
+  calm = calm_after old mid new x r P _ (λ _. ⊤) (λ _. ⊤) (λ s held may told. tt) one.call two (λ clean s here free. why clean s here);
+}
+
+-- a query, and then a listing that is calm where the query found what it did
+pub shows_found : {A : Type 0} {any changes : Bool} {old mid new : State} {x : A} {r : Result Answer StoreFault} {TooBig : Type 0} {P : A → Broker → Type 0} {Allows Open Then : Broker → Type 0} {Q : Answer → Broker → Type 0} {R : Broker → Transition → Type 0}
+    → ((s : Broker) → Allows s → P x s → (answer : Answer) → Q answer s → R s (unchanged_with s answer)) → ((s : Broker) → Holds old.now s → P x s → Then s)
+    → CalmQueriesBetween any old mid (Ok x) P → QueriesBetween true mid new r Q → IsCalmFromBetween mid new r Then → CarriesBetween changes old new Allows Open TooBig R r
+shows_found {A} {any} {changes} {old} {mid} {new} {x} {r} {TooBig} {P} {Allows} {Open} {Then} {Q} {R} more found one two why = record {
+  answers = seq old mid new x r _ _ _ (λ p b q s held may. let first = p s held in let second = q s (stays_held old mid s first.1 held) in (s, more s may first.0 b second.0, held_on old new s (second.1 ∙ first.1) held)) one.call two;
+  calm = only_calm changes old new r TooBig Open R (calm_after old mid new x r P _ Open Then (λ s held may told. found s held told) one.call two why);
+}
+
+-- and one that is calm everywhere
+pub shows : {A : Type 0} {any changes : Bool} {old mid new : State} {x : A} {r : Result Answer StoreFault} {TooBig : Type 0} {P : A → Broker → Type 0} {Allows Open : Broker → Type 0} {Q : Answer → Broker → Type 0} {R : Broker → Transition → Type 0}
+    → ((s : Broker) → Allows s → P x s → (answer : Answer) → Q answer s → R s (unchanged_with s answer)) → CalmQueriesBetween any old mid (Ok x) P → CalmQueriesBetween true mid new r Q → CarriesBetween changes old new Allows Open TooBig R r
+shows more one two = shows_found {Then = λ _. ⊤} more (λ s held told. tt) one two.call (λ clean s here free. two.calm clean s here)
+
+-- ---- a query, and then changes
+
+makes_answer : {A : Type 0} {any : Bool} (taken : ℕ) → taken ≤ enough → (old mid new : State) (x : A) (r : Result (Unit {0}) StoreFault) (P : A → Broker → Type 0) (Allows : Broker → Type 0) (Next : Broker → Broker → Type 0) (Q : Broker → Transition → Type 0)
+    → ((s : Broker) → Allows s → P x s → (t : Broker) × Next s t × Q s (done t)) → QueriesBetween any old mid (Ok x) P → ChangesTakingBetween taken mid new r Next → PerformsWhereBetween old new Allows Q (told_done r)
+makes_answer taken few old mid new x (Ok u) P Allows Next Q more one two = where_changing taken few old mid new x u (Done Plain) Allows P Next Q more one two
+makes_answer taken few old mid new x (Err e) P Allows Next Q more one two = failed_then old mid new x e _ _ _ one (may_take mid new (Err e) _ two)
+
+makes_failure : {A : Type 0} {any : Bool} (taken numbers : ℕ) → numbers ≤ enough → (old mid new : State) (x : A) (r : Result (Unit {0}) StoreFault) (P : A → Broker → Type 0) (Open Made : Broker → Type 0) (Next : Broker → Broker → Type 0) (Q : Broker → Transition → Type 0) (Long TooBig : Type 0) → (Long → TooBig)
+    → ((s : Broker) → Open s → P x s → Made s × IsToChange Q s) → QueriesBetween any old mid (Ok x) P → ChangesTakingBetween taken mid new r Next → IsCalmTakingBetween numbers mid new r Long Made → FailsBetween true old new (told_done r) TooBig Open Q
+makes_failure taken numbers few old mid new x (Ok u) P Open Made Next Q Long TooBig long more one two why = λ clean s here may. tt
+makes_failure taken numbers few old mid new x (Err e) P Open Made Next Q Long TooBig long more one two why =
+    fails_more {A = Unit {0}} Long TooBig old new (Err e) Open (IsToChange Q) long
+    (fails_changing Long old mid new x (Err e) P _ numbers few Made Open (IsToChange Q) (λ s held may told. more s may told) one two why)
+
+takes_failure : {A : Type 0} {any : Bool} (old mid new : State) (x : A) (r : Result (Unit {0}) StoreFault) (P : A → Broker → Type 0) (Allows : Broker → Type 0) (Next : Broker → Broker → Type 0) (Q : Broker → Transition → Type 0) (TooBig : Type 0)
+    → QueriesBetween any old mid (Ok x) P → ChangesBetween mid new r Next → FailsOnlyBy mid new r (HasFailed mid new) → FailsBetween false old new (told_done r) TooBig Allows Q
+takes_failure old mid new x (Ok u) P Allows Next Q TooBig one two why = λ clean s here may. tt
+takes_failure old mid new x (Err e) P Allows Next Q TooBig one two why =
+    calm_after {B = Unit {0}} old mid new x (Err e) P _ Allows (λ _. ⊤) (λ s held may told. tt) one two (λ clean s here free. inl (why clean s here))
+
+-- changes that take so many numbers of a table, and fail for want of so many
+pub makes_taking_from : {A : Type 0} {any : Bool} {old mid new : State} {x : A} {r : Result (Unit {0}) StoreFault} {answer : Result Answer StoreFault} {Long TooBig : Type 0} {P : A → Broker → Type 0} {Allows Open Made : Broker → Type 0} {Next : Broker → Broker → Type 0} {Q : Broker → Transition → Type 0}
+    → (taken numbers : ℕ) → taken ≤ enough → numbers ≤ enough → ((s : Broker) → Allows s → P x s → (t : Broker) × Next s t × Q s (done t)) → ((s : Broker) → Open s → P x s → Made s × IsToChange Q s) → (Long → TooBig)
+    → answer ≡ told_done r → CalmQueriesBetween any old mid (Ok x) P → ChangesTakingBetween taken mid new r Next → IsCalmTakingBetween numbers mid new r Long Made → CarriesBetween true old new Allows Open TooBig Q answer
+makes_taking_from {A} {any} {old} {mid} {new} {x} {r} {answer} {Long} {TooBig} {P} {Allows} {Open} {Made} {Next} {Q} taken numbers few some more open long is one two why =
+    subst (λ (a : Result Answer StoreFault). CarriesBetween true old new Allows Open TooBig Q a) (sym is) (record {
+      answers = makes_answer taken few old mid new x r P Allows Next Q more one.call two;
+      calm = makes_failure taken numbers some old mid new x r P Open Made Next Q Long TooBig long open one.call two why;
+    })
+
+pub makes_taking : {A : Type 0} {any : Bool} {old mid new : State} {x : A} {r : Result (Unit {0}) StoreFault} {answer : Result Answer StoreFault} {Long TooBig : Type 0} {P : A → Broker → Type 0} {Allows Made : Broker → Type 0} {Next : Broker → Broker → Type 0} {Q : Broker → Transition → Type 0}
+    → (taken numbers : ℕ) → taken ≤ enough → numbers ≤ enough → ((s : Broker) → Allows s → P x s → Made s × ((t : Broker) × Next s t × Q s (done t))) → (Long → TooBig)
+    → answer ≡ told_done r → CalmQueriesBetween any old mid (Ok x) P → ChangesTakingBetween taken mid new r Next → IsCalmTakingBetween numbers mid new r Long Made → CarriesBetween true old new Allows Allows TooBig Q answer
+makes_taking taken numbers few some more long is one two why =
+    makes_taking_from taken numbers few some (λ s may told. (more s may told).1) (λ s may told. let it = more s may told in (it.0, (Plain, it.1.0, it.1.2))) long is one two why
+
+-- one change, of these tables
+pub makes_from : {A : Type 0} {any : Bool} {old mid new : State} {x : A} {r : Result (Unit {0}) StoreFault} {answer : Result Answer StoreFault} {Long TooBig : Type 0} {P : A → Broker → Type 0} {Allows Open Made : Broker → Type 0} {Next : Broker → Broker → Type 0} {Q : Broker → Transition → Type 0}
+    → (tables : List (List ℕ)) → AllByRecursion (λ name. is_counted name ≡ true) tables → ((s : Broker) → Allows s → P x s → (t : Broker) × Next s t × Q s (done t)) → ((s : Broker) → Open s → P x s → Made s × IsToChange Q s) → (Long → TooBig)
+    → answer ≡ told_done r → CalmQueriesBetween any old mid (Ok x) P → ChangesBetween mid new r Next → IsCalmUnlessBetween mid new r tables Long Made → CarriesBetween true old new Allows Open TooBig Q answer
+makes_from tables counted more open long is one two why = makes_taking_from 2 1 (omega arith) (omega arith) more open long is one two (taking _ _ _ _ tables counted 1 (omega arith) _ why)
+
+-- where it is allowed if it leads to another state
+pub makes : {A : Type 0} {any : Bool} {old mid new : State} {x : A} {r : Result (Unit {0}) StoreFault} {answer : Result Answer StoreFault} {Long TooBig : Type 0} {P : A → Broker → Type 0} {Allows : Broker → Type 0} {Next : Broker → Broker → Type 0} {Q : Broker → Transition → Type 0}
+    → (tables : List (List ℕ)) → AllByRecursion (λ name. is_counted name ≡ true) tables → ((s : Broker) → Allows s → P x s → (t : Broker) × Next s t × Q s (done t)) → (Long → TooBig)
+    → answer ≡ told_done r → CalmQueriesBetween any old mid (Ok x) P → ChangesBetween mid new r Next → IsCalmUnlessBetween mid new r tables Long (λ s. (t : Broker) × Next s t) → CarriesBetween true old new Allows Allows TooBig Q answer
+makes tables counted more long is one two why =
+    makes_from tables counted more (λ s may told. let it = more s may told in ((it.0, it.1), (Plain, it.0, it.2))) long is one two why
+
+-- one that takes a row away, which is never refused
+pub takes : {A : Type 0} {any : Bool} {old mid new : State} {x : A} {r : Result (Unit {0}) StoreFault} {answer : Result Answer StoreFault} {TooBig : Type 0} {P : A → Broker → Type 0} {Allows Open : Broker → Type 0} {Next : Broker → Broker → Type 0} {Q : Broker → Transition → Type 0}
+    → ((s : Broker) → Allows s → P x s → (t : Broker) × Next s t × Q s (done t)) → answer ≡ told_done r → CalmQueriesBetween any old mid (Ok x) P → ChangesBetween mid new r Next → FailsOnlyBy mid new r (HasFailed mid new) → CarriesBetween false old new Allows Open TooBig Q answer
+takes {A} {any} {old} {mid} {new} {x} {r} {answer} {TooBig} {P} {Allows} {Open} {Next} {Q} more is one two why =
+    subst (λ (a : Result Answer StoreFault). CarriesBetween false old new Allows Open TooBig Q a) (sym is) (record {
+      answers = makes_answer 2 (omega arith) old mid new x r P Allows Next Q more one.call two;
+      calm = takes_failure old mid new x r P Open Next Q TooBig one.call two why;
+    })
+
+-- ---- for what is stated in two clauses
+
+-- from any state
+pub everywhere : {changes : Bool} {old new : State} {r : Result Answer StoreFault} {TooBig : Type 0} {Q : Broker → Transition → Type 0} → CarriesBetween changes old new (λ _. ⊤) (λ _. ⊤) TooBig Q r → PerformsBetween old new Q r
+everywhere {changes} {old} {new} {r} {TooBig} {Q} it = call_with old new r _ _ (λ a h s held. h s held tt) it.answers
+
+-- what it does from any state it does from those that allow it
+pub anywhere : {old new : State} {r : Result Answer StoreFault} {Allows : Broker → Type 0} {Q : Broker → Transition → Type 0} → PerformsBetween old new Q r → PerformsWhereBetween old new Allows Q r
+anywhere {old} {new} {r} {Allows} {Q} it = call_with old new r _ _ (λ a h s held may. h s held) it
