@@ -64,9 +64,9 @@ carries_more {changes} {old} {new} {r} {Long} {TooBig} {Allows} {Open} {Q} {R} m
 pub carries_from : {A : Type 0} {any changes : Bool} {old mid new : State} {x : A} {r : Result Answer StoreFault} {TooBig : Type 0} {P : A → Broker → Type 0} {Allows Next Open Then : Broker → Type 0} {Q R : Broker → Transition → Type 0}
     → ((s : Broker) → Allows s → P x s → Next s × ((out : Transition) → Q s out → R s out)) → ((s : Broker) → Holds old.now s → Open s → P x s → Then s × ((out : Transition) → Q s out → R s out))
     → CalmQueriesBetween any old mid (Ok x) P → CarriesBetween changes mid new Next Then TooBig Q r → CarriesBetween changes old new Allows Open TooBig R r
-carries_from {A} {any} {changes} {old} {mid} {new} {x} {r} {TooBig} {P} {Allows} {Next} {Open} {Then} {Q} {R} more open one two = record {
+carries_from {A} {any} {changes} {old} {mid} {new} {x} {r} {TooBig} {P} {Allows} {Next} {Open} {Then} {Q} {R} more fails one two = record {
   answers = where_then old mid new x r Allows P Next Q R more one.call two.answers;
-  calm = fails_on changes old mid new x r TooBig P Next Open Then Q R open one.call two.answers two.calm;
+  calm = fails_on changes old mid new x r TooBig P Next Open Then Q R fails one.call two.answers two.calm;
 }
 
 -- and from the same
@@ -120,10 +120,10 @@ takes_failure old mid new x (Err e) P Allows Next Q TooBig one two why =
 pub makes_taking_from : {A : Type 0} {any : Bool} {old mid new : State} {x : A} {r : Result (Unit {0}) StoreFault} {answer : Result Answer StoreFault} {Long TooBig : Type 0} {P : A → Broker → Type 0} {Allows Open Made : Broker → Type 0} {Next : Broker → Broker → Type 0} {Q : Broker → Transition → Type 0}
     → (taken numbers : ℕ) → taken ≤ enough → numbers ≤ enough → ((s : Broker) → Allows s → P x s → (t : Broker) × Next s t × Q s (done t)) → ((s : Broker) → Open s → P x s → Made s × IsToChange Q s) → (Long → TooBig)
     → answer ≡ told_done r → CalmQueriesBetween any old mid (Ok x) P → ChangesTakingBetween taken mid new r Next → IsCalmTakingBetween numbers mid new r Long Made → CarriesBetween true old new Allows Open TooBig Q answer
-makes_taking_from {A} {any} {old} {mid} {new} {x} {r} {answer} {Long} {TooBig} {P} {Allows} {Open} {Made} {Next} {Q} taken numbers few some more open long is one two why =
+makes_taking_from {A} {any} {old} {mid} {new} {x} {r} {answer} {Long} {TooBig} {P} {Allows} {Open} {Made} {Next} {Q} taken numbers few some more fails long is one two why =
     subst (λ (a : Result Answer StoreFault). CarriesBetween true old new Allows Open TooBig Q a) (sym is) (record {
       answers = makes_answer taken few old mid new x r P Allows Next Q more one.call two;
-      calm = makes_failure taken numbers some old mid new x r P Open Made Next Q Long TooBig long open one.call two why;
+      calm = makes_failure taken numbers some old mid new x r P Open Made Next Q Long TooBig long fails one.call two why;
     })
 
 pub makes_taking : {A : Type 0} {any : Bool} {old mid new : State} {x : A} {r : Result (Unit {0}) StoreFault} {answer : Result Answer StoreFault} {Long TooBig : Type 0} {P : A → Broker → Type 0} {Allows Made : Broker → Type 0} {Next : Broker → Broker → Type 0} {Q : Broker → Transition → Type 0}
@@ -136,7 +136,7 @@ makes_taking taken numbers few some more long is one two why =
 pub makes_from : {A : Type 0} {any : Bool} {old mid new : State} {x : A} {r : Result (Unit {0}) StoreFault} {answer : Result Answer StoreFault} {Long TooBig : Type 0} {P : A → Broker → Type 0} {Allows Open Made : Broker → Type 0} {Next : Broker → Broker → Type 0} {Q : Broker → Transition → Type 0}
     → (tables : List (List ℕ)) → AllByRecursion (λ name. is_counted name ≡ true) tables → ((s : Broker) → Allows s → P x s → (t : Broker) × Next s t × Q s (done t)) → ((s : Broker) → Open s → P x s → Made s × IsToChange Q s) → (Long → TooBig)
     → answer ≡ told_done r → CalmQueriesBetween any old mid (Ok x) P → ChangesBetween mid new r Next → IsCalmUnlessBetween mid new r tables Long Made → CarriesBetween true old new Allows Open TooBig Q answer
-makes_from tables counted more open long is one two why = makes_taking_from 2 1 (omega arith) (omega arith) more open long is one two (taking _ _ _ _ tables counted 1 (omega arith) _ why)
+makes_from tables counted more fails long is one two why = makes_taking_from 2 1 (omega arith) (omega arith) more fails long is one two (taking _ _ _ _ tables counted 1 (omega arith) _ why)
 
 -- where it is allowed if it leads to another state
 pub makes : {A : Type 0} {any : Bool} {old mid new : State} {x : A} {r : Result (Unit {0}) StoreFault} {answer : Result Answer StoreFault} {Long TooBig : Type 0} {P : A → Broker → Type 0} {Allows : Broker → Type 0} {Next : Broker → Broker → Type 0} {Q : Broker → Transition → Type 0}
@@ -161,5 +161,5 @@ pub everywhere : {changes : Bool} {old new : State} {r : Result Answer StoreFaul
 everywhere {changes} {old} {new} {r} {TooBig} {Q} it = call_with old new r _ _ (λ a h s held. h s held tt) it.answers
 
 -- what it does from any state it does from those that allow it
-pub anywhere : {old new : State} {r : Result Answer StoreFault} {Allows : Broker → Type 0} {Q : Broker → Transition → Type 0} → PerformsBetween old new Q r → PerformsWhereBetween old new Allows Q r
-anywhere {old} {new} {r} {Allows} {Q} it = call_with old new r _ _ (λ a h s held may. h s held) it
+pub anywhere : (old new : State) (r : Result Answer StoreFault) (Allows : Broker → Type 0) (Q : Broker → Transition → Type 0) → PerformsBetween old new Q r → PerformsWhereBetween old new Allows Q r
+anywhere old new r Allows Q it = call_with old new r _ _ (λ a h s held may. h s held) it

@@ -10,7 +10,7 @@ returns-in-Err g c =
     let here = state g.S.Store c.args.conn.now in
     let steps = IsStepOf c.args.caller.now (PutPact c.args.path.now c.args.file.now) in
     record {
-      answers = anywhere (unread here c.in-Err.fault c.tell_unread.result steps c.tell_unread.ensures (λ found is s. form_fault s c.args.caller.now c.args.path.now c.args.file.now found (c.in-Err.ensures.fault found is)));
+      answers = anywhere here here c.tell_unread.result (λ _. ⊤) steps (unread here c.in-Err.fault c.tell_unread.result steps c.tell_unread.ensures (λ found is s. form_fault s c.args.caller.now c.args.path.now c.args.file.now found (c.in-Err.ensures.fault found is)));
       calm = unread_fails _ here c.in-Err.fault c.tell_unread.result (λ s. ⊤) (IsToChange steps) c.tell_unread.ensures;
     }
 

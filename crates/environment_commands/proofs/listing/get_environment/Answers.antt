@@ -1,4 +1,4 @@
-use Rattle.std.proofs.Common.{None, Option, refl, sym, ap, ◌∙◌}
+use Rattle.std.proofs.Common.{true, None, Option, refl, sym, ap, ◌∙◌}
 use Rattle.broker_core.specs.{Request.{refused}, declared.answer.Answer.TheVariants.{Unknown}, declared.answer.Missing.{Missing}}
 use Rattle.broker_core.specs.declared.command.Command.TheVariants.{GetEnvironment}
 use Rattle.command_facts.proofs.{CallerSteps.{refuses}, CarryLemmas.{shows, tells}}
