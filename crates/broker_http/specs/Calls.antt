@@ -53,9 +53,9 @@ module _ {X : Type 0} (shown : Held X → State) (s t : BrokerView X) (before af
     pub holds : IsInMode shown last.mode t
     -- each answer is the machine's, or it is no step; so too those to the messages before a fault
     pub serves : ServesStream ByMachine (blank mode) last before after old new result
-    -- if one of these answers stopped the broker, the disk failed, or there was no memory to commit a command that was
-    -- to be done, as long as its tables have numbers for rows; so no request stops a broker whose disk works and whose
-    -- memory suffices at COMMIT
+    -- if one of these answers stopped the broker, the disk failed, or the command was to be done, and its change was
+    -- made whole and undone, as by a COMMIT that lacked memory, as long as its tables have numbers for rows; so no
+    -- request that changes nothing stops a broker whose disk works
     pub calm : StopsOnlyBy shown mode s.connection t.connection (length last.steps) last.mode
 
   -- what serving a stream promises
