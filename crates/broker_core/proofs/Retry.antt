@@ -1,8 +1,8 @@
 -- a command that comes twice changes what it changes once
 use Rattle.std.specs.{Prelude.{Option, Some, None, is_some, IsSome, filter}, List.{last_or, enumerate_from, list_any}}
-use Rattle.std.proofs.Common.{◌≡◌, ◌≢◌, ◌∷◌, [], ◌++◌, ◌+◌, ℕ, List, refl, sym, ◌∙◌, ap, Bool, true, false, ◌&&◌, if◌then◌else◌}
+use Rattle.std.proofs.Common.{◌≡◌, ◌≢◌, ◌⊎◌, inl, inr, ◌∷◌, [], ◌++◌, ◌+◌, ℕ, List, refl, sym, ◌∙◌, ap, Bool, true, false, ◌&&◌, if◌then◌else◌}
 use Rattle.std.proofs.lemmas.List.Elements.{Contains-push}
-use Rattle.broker_core.specs.{declared.command.Command.{Command}, declared.command.Version.{Version}, declared.answer.Answer.{Answer}}
+use Rattle.broker_core.specs.{declared.command.Command.{Command}, declared.command.Version.{Version}}
 use Rattle.broker_core.specs.{Text.{Text, same_text, same_version, same_pair, same_place, put_at}, State.{State, Verification}}
 use Rattle.broker_core.specs.{Request.{is_known, consumer_version}, Change.{Transition, on_branch, result_of_run, is_text, instance_of, content_number}}
 use Rattle.broker_core.specs.{Machine.{Primitives, Step}, Laws.{IsRepeatable, Retry}}
@@ -92,16 +92,12 @@ change_once parts s _ _ _ _ (end_of_support e v stood) (end_of_support _ _ there
 
 -- the law, in every state
 pub retry : (parts : Primitives) → Retry parts (λ s. Unit {0})
-retry parts s token c a b _ repeatable x y = by_first a (effect_of parts s token c a x) x y
+retry parts s token c a b _ repeatable x y = by_first a (effect_of parts s token c a x) y
   where
-    Twice : State → Type 0
-    Twice last = (answer : Answer) × Step parts s token c (record { answer = answer; state = last })
+    by_second : (t : State) → Change parts s c t → (o : Transition) → Effect parts t c o → o.state ≡ t
+    by_second t change _ (told answer is) = refl
+    by_second t change _ (changed u detail more) = absurd (change_once parts s c t u repeatable change more)
 
-    by_second : (t : State) (first : Answer) → Step parts s token c (record { answer = first; state = t }) → Change parts s c t → (o : Transition)
-        → Effect parts t c o → Twice o.state
-    by_second t first step change _ (told answer is) = (first, step)
-    by_second t first step change _ (changed u detail more) = absurd (change_once parts s c t u repeatable change more)
-
-    by_first : (o : Transition) → Effect parts s c o → Step parts s token c o → Step parts o.state token c b → Twice b.state
-    by_first _ (told answer is) first second = (b.answer, second)
-    by_first _ (changed t detail change) first second = by_second t _ first change b (effect_of parts t token c b second)
+    by_first : (o : Transition) → Effect parts s c o → Step parts o.state token c b → (b.state ≡ o.state) ⊎ ((o.state ≡ s) × Step parts s token c b)
+    by_first _ (told answer is) second = inr (refl, second)
+    by_first _ (changed t detail change) second = inl (by_second t change b (effect_of parts t token c b second))

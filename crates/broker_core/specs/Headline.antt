@@ -32,28 +32,24 @@ pub record IsBetween (s : State) (v : Version) (e : Text) (consumer provider : V
   pub partner : ((consumer ≡ v) × Stands s e provider)
       ⊎ ((provider ≡ v) × Stands s e consumer × (consumer.pacticipant ≢ v.pacticipant))
 
--- the latest verification of the contract's content by the provider's version is a success, and one that the broker
--- checked where e is strict
+-- the latest verification of the content by the provider's version is a success, checked by the broker if e is strict
 abbrev pub IsVerified : State → Text → Version → ℕ → Type 0
 IsVerified s e provider content = IsSomeAnd (latest s content provider)
     (λ latest. IsTrue latest.pass × (IsTrue (is_strict s e) → IsTrue latest.checked))
 
 -- every contract between v and the partners that stand in e is verified
 abbrev pub AreVerified : State → Version → Text → Type 0
-AreVerified s v e =
-    (consumer provider : Version) (content : ℕ) → IsBetween s v e consumer provider content
-    → IsVerified s e provider content
+AreVerified s v e = (consumer provider : Version) (content : ℕ)
+    → IsBetween s v e consumer provider content → IsVerified s e provider content
 
 -- no provider with which v has a contract is without a version that stands in e
 abbrev pub NoneIsAbsent : State → Version → Text → Type 0
-NoneIsAbsent s v e =
-    (provider : Text) (content : ℕ) → s.contracts (v, provider) ≡ Some content
+NoneIsAbsent s v e = (provider : Text) (content : ℕ) → s.contracts (v, provider) ≡ Some content
     → ¬ ((name : Text) → ¬ (Stands s e (version provider name)))
 
 -- what is permitted in a gated environment; in another all is
 abbrev pub PermitsVerified : Type 0
-PermitsVerified =
-    (s : State) (v : Version) (e : Text)
+PermitsVerified = (s : State) (v : Version) (e : Text)
     → IsPermitted s v e ↔ (IsTrue (is_gated s e) → AreVerified s v e × NoneIsAbsent s v e)
 
 -- ---- what is recorded, and what is refused

@@ -81,12 +81,13 @@ IsRepeatable (PostResult path report success) = IsSome report.run
 IsRepeatable (PostReplies path report replies) = IsSome report.run
 IsRepeatable _ = Unit {0}
 
--- a step taken twice leaves a state of a step taken once
+-- Of a command that comes twice one step counts, with its answer: the first, and the second changes nothing; or the
+-- second, which is a step from the same state, since the first changed nothing.
 abbrev pub Retry : Primitives → (State → Type 0) → Type 0
 Retry parts IsAllowed =
     (s : State) (token : Option Text) (command : Command) (a b : Transition) → IsAllowed s → IsRepeatable command
     → Step parts s token command a → Step parts a.state token command b
-    → (answer : Answer) × Step parts s token command (record { answer = answer; state = b.state })
+    → (b.state ≡ a.state) ⊎ ((a.state ≡ s) × Step parts s token command b)
 
 -- the requests of a session that were answered by a step, and at most one more that was cut
 pub record Session : Type 0 where

@@ -65,7 +65,8 @@ pub fn gate_locality<M: Machine>()
     ensures one_answer { GateAnswersOnce M.primitives }
 {}
 
-/// A command that comes twice leaves what it leaves once, except a result without a run, which is counted each time.
+/// A command that comes twice leaves what it leaves once: one of the two steps counts, with its answer, and the other
+/// one changes nothing. Excepted is a result without a run, which is counted each time.
 pub fn retry<M: Machine>()
     ensures { Retry M.primitives (λ s. Unit {0}) }
 {}

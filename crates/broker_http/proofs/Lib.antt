@@ -4,3 +4,7 @@ mod OneReading
 mod StreamHeadline
 mod ResponsesLemmas
 mod RefusalExample
+mod PlainRequests
+mod DeploymentPact
+mod DeploymentRequests
+mod DeploymentExample

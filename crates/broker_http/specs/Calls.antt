@@ -1,5 +1,6 @@
 -- What the public call promises: how a broker answers a stream, and that the machine answers it so.
-use Rattle.std.specs.Prelude.{◌≤◌, ℕ, Bool, List, length, Contains, Option, Result, IfOk}
+use Rattle.std.specs.Io.KnownBytes.{Consumes}
+use Rattle.std.specs.Prelude.{◌≡◌, ◌≤◌, ℕ, Bool, List, length, Contains, Option, Result, IfOk, IfErr}
 use Rattle.sqlite.specs.Tree.{Trees}
 use Rattle.sqlite.specs.Held.{Held}
 use Rattle.sqlite.specs.State.{State, HasCleanDisk, Survives}
@@ -12,6 +13,7 @@ use Rattle.http_responses.specs.declared.writing.WriteFault.{WriteFault}
 use Rattle.broker_http.specs.Exchange.{Exchange, Responds}
 use Rattle.broker_http.specs.Journal.{Journal, JournalStep, IsRunFrom, blank}
 use Rattle.broker_http.specs.Serving.{Mode, IsInMode, StopsOnlyBy, ServesStream}
+use Rattle.broker_http.specs.Stream.{Responses}
 use Rattle.broker_http.specs.declared.served.ServeFault.{ServeFault}
 use Rattle.broker_http.specs.declared.served.Served.{Served}
 
@@ -37,6 +39,12 @@ module _ {X : Type 0} (shown : Held X → State) (s t : BrokerView X) (before af
   abbrev pub IsAnsweredByBroker : Result Served ServeFault → Type 0
   IsAnsweredByBroker result = ServesStream (ByBroker shown) s t before after old new result
 
+  -- so many messages at the front of what was read are answered by the broker, one after another
+  abbrev pub HasAnswered : ℕ → Type 0
+  HasAnswered answered =
+      (stream : List ℕ) × (responses : List Response) × (rest : List ℕ) × Consumes before after stream
+      × Responses (ByBroker shown) s stream responses t rest × (answered ≡ length responses)
+
   -- The machine answers it, from this mode to the last.
   pub record IsAnsweredByMachine (mode : Mode) (result : Result Served ServeFault) : Type 0 where
     pub last : Journal
@@ -45,9 +53,9 @@ module _ {X : Type 0} (shown : Held X → State) (s t : BrokerView X) (before af
     pub holds : IsInMode shown last.mode t
     -- each answer is the machine's, or it is no step; so too those to the messages before a fault
     pub serves : ServesStream ByMachine (blank mode) last before after old new result
-    -- if one of these answers stopped the broker, the disk failed, or there was no memory to commit a command that was
-    -- to be done, as long as its tables have numbers for rows; so no request stops a broker whose disk works and whose
-    -- memory suffices at COMMIT
+    -- if one of these answers stopped the broker, the disk failed, or the command was to be done, and its change was
+    -- made whole and undone, as by a COMMIT that lacked memory, as long as its tables have numbers for rows; so no
+    -- request that changes nothing stops a broker whose disk works
     pub calm : StopsOnlyBy shown mode s.connection t.connection (length last.steps) last.mode
 
   -- what serving a stream promises
@@ -58,6 +66,9 @@ module _ {X : Type 0} (shown : Held X → State) (s t : BrokerView X) (before af
     pub machine : HasCleanDisk (shown t.connection) → (mode : Mode) → IsInMode shown mode s
         → IsAnsweredByMachine mode result
     -- what the store promises of the connection: it is shut by a fault of the disk alone, its step limit stays, and
-    -- what a crash may leave it could leave before, or it is one of these commits, at most one a message
+    -- what a crash may leave it could leave before, or it is one of these, at most one a message
     pub survives : (commits : List Trees) × Survives (shown s.connection) (shown t.connection) (Contains commits)
         × IfOk result (λ served. length commits ≤ served.answered)
+    -- so too where a device or memory failed: at most one for each message that was answered until then
+    pub survives_fault : IfErr result (λ _. (answered : ℕ) × HasAnswered answered × ((commits : List Trees)
+        × Survives (shown s.connection) (shown t.connection) (Contains commits) × (length commits ≤ answered)))

@@ -1,5 +1,5 @@
 -- which commands may be answered Pattern: whether a pattern is built isn't wholly known beforehand
-use Rattle.std.specs.Prelude.{◌≡◌, Option, Some, None}
+use Rattle.std.specs.Prelude.{◌≡◌, List, Option, Some, None, Ok}
 use Rattle.broker_core.specs.Text.{Text}
 use Rattle.broker_core.specs.State.{State}
 use Rattle.broker_core.specs.Change.{Transition, unchanged_with}
@@ -10,13 +10,17 @@ use Rattle.broker_core.specs.declared.command.Command.{Command}
 use Rattle.broker_core.specs.declared.command.Command.TheVariants.{PostReplies}
 use Rattle.broker_core.specs.declared.policy.Caller.{Caller}
 use Rattle.command_facts.specs.Primitives.{broker_primitives}
-use Rattle.command_facts.specs.Readings.{PactHasPattern}
+use Rattle.command_facts.specs.Readings.{IsPatternAsked}
+use Rattle.reply_check.specs.Recorded.{Reply}
+use Rattle.reply_check.specs.Replies.{RepliesRead}
 
--- replies that nothing refuses are compared with a stored pact that has a pattern
+-- Well formed replies that nothing refuses are compared with the stored pact, and a pattern is asked: of the pact as it
+-- is read again, or of an interaction that has a reply, where each reply belongs to one.
 abbrev pub ComparesPattern : State → Caller → Command → Type 0
-ComparesPattern s caller (PostReplies path report replies) =
-    broker_primitives.ReadsReplies replies None × (refusal s caller (PostReplies path report replies) ≡ None)
-    × ((text : Text) × (pact_text s (consumer_version path) path.provider ≡ Some text) × PactHasPattern text)
+ComparesPattern s caller (PostReplies path report body) =
+    (refusal s caller (PostReplies path report body) ≡ None)
+    × ((text : Text) × (pact_text s (consumer_version path) path.provider ≡ Some text)
+    × ((replies : List Reply) × RepliesRead body (Ok replies) × IsPatternAsked text replies))
 ComparesPattern s caller _ = ⊥
 
 -- and the token is a known caller's

@@ -75,10 +75,6 @@ IsNoPact text = (p : Pact) → ¬ (Normal text (Ok p))
 abbrev pub TellsRefusal : PactFault → Type 0
 TellsRefusal found = (i : ℕ) × (found ≡ Rules i rule_fault.Pattern)
 
--- the text is read as a pact, and one of its interactions has a pattern
-abbrev pub PactHasPattern : Text → Type 0
-PactHasPattern text = (p : Pact) × Normal text (Ok p) × OneOf InteractionHasPattern p.interactions
-
 -- if the text is read as a pact, it has a pattern
 abbrev pub HasPatternIfPact : Text → Type 0
 HasPatternIfPact text = (p : Pact) → Normal text (Ok p) → OneOf InteractionHasPattern p.interactions

@@ -9,18 +9,11 @@ use Rattle.broker_core.specs.{declared.command.PactPath.{PactPath}, declared.com
 use Rattle.broker_core.specs.{declared.answer.Answer.TheVariants.{BadForm, Done}, declared.answer.Detail.{Detail}}
 use Rattle.pact_file.specs.{Normal.{Normal}, Pact.{Pact}, declared.fault.PactFault.{PactFault}}
 use Rattle.reply_check.specs.{Recorded.{Reply}, Replies.{RepliesRead}}
-use Rattle.command_facts.specs.{Readings.{PactHasPattern, HasPatternIfPact, Tells, reading_of}, declared.checking.Comparison.{Comparison}}
+use Rattle.command_facts.specs.{Readings.{Tells, reading_of}, declared.checking.Comparison.{Comparison}}
 use Rattle.command_facts.specs.{declared.checking.Comparison.TheVariants.{Failing, UnknownReply, Pattern, NoPact}, Performs.{CallersStep}}
 use Rattle.command_facts.{specs.Primitives.{broker_primitives}, proofs.CallerSteps.{acts, refuses}}
 use Rattle.contract_commands.specs.Checks.{Leads, Checks}
 use Rattle.broker_core.specs.declared.answer.Answer.TheVariants as answer
-
--- a stored text is read as a pact, so it has the pattern that it would have
-stored_pattern : (s : State) (content : ℕ) (text : Text) → HasSoundContents broker_primitives s → text_of s content ≡ Some text → HasPatternIfPact text → PactHasPattern text
-stored_pattern s content text sound has would = let it = sound.normal content text has in by_answer it.0 it.1 it.2.0 it.2.1 it.2.2 where
-  by_answer : (consumer provider : Text) (answer : Result Pact PactFault) → Normal text answer → IsPact consumer provider text ≡ reading_of answer → PactHasPattern text
-  by_answer consumer provider (Ok p) reads is = (p, reads, would p reads)
-  by_answer consumer provider (Err found) reads is = absurd cc
 
 module _ (s : State) (caller : Caller) (path : PactPath) (r : Report) (body : Text) where
   -- the form of the replies is at fault
@@ -39,7 +32,7 @@ module _ (s : State) (caller : Caller) (path : PactPath) (r : Report) (body : Te
         → Tells text replies told → Leads s path.provider r content told out → CallersStep caller (PostReplies path r body) s out
     by_told out content text (Failing places) is none has tells leads = λ sound. inl (acts s caller (PostReplies path r body) well_formed out none (content, is, (text, has, (Some places, (replies, reads, tells), leads))))
     by_told out content text UnknownReply is none has tells leads = λ sound. inl (acts s caller (PostReplies path r body) well_formed out none (content, is, (text, has, (None, (replies, reads, tells), leads))))
-    by_told out content text Pattern is none has tells leads = λ sound. inr (leads, (well_formed, none, (text, ap (option_and_then (text_of s)) is ∙ has, stored_pattern s content text sound has tells.0)))
+    by_told out content text Pattern is none has tells leads = λ sound. inr (leads, (none, (text, ap (option_and_then (text_of s)) is ∙ has, (replies, reads, tells.1))))
     by_told out content text NoPact is none has tells leads = absurd leads
 
     -- they are compared with the contract

@@ -10,7 +10,6 @@ use Rattle.broker_core.specs.declared.command.Version.{Version}
 use Rattle.http_messages.specs.{Fields.{values_named}, Heads.{Judgement, fields_of, served_method, is_last_head}, Message.{Message}}
 use Rattle.http_messages.{specs.declared.head.Refusal.{Refusal}, proofs.MessagesLemmas.{IsJudged-unique}}
 use Rattle.http_routes.specs.{Routes.{resource_of, segment}, declared.Resource.{Resource}, declared.Operation.{Operation}}
-use Rattle.http_routes.specs.declared.places.TheConstants.{OWN_NAME, VERSION, GRANTED_TEAM, GRANTED_ENVIRONMENT, PROVIDER, CONSUMER, PACT_VERSION, PACT_BRANCH}
 use Rattle.http_requests.specs.{Names.{IsNamed, IsPathName, name_or}, Queries.{IsOnce, IsQueryName, values_at}}
 use Rattle.http_requests.specs.Bodies.{IsData, only_object, or_empty, non_null, IsTextNamed, IsNameField, IsGivenName, IsOptionalName, some_or, IsTokenText, IsTokenField}
 use Rattle.http_requests.specs.Tokens.{IsTokenOf}
@@ -125,10 +124,10 @@ two_names_one first second path =
 
 pact_names_one : (third : ℕ) (path : Text) → IsOne (IsPactNames third path)
 pact_names_one third path =
-    then_one _ _ (two_names_one PROVIDER CONSUMER path) (λ of. then_one _ _ (path_name_one third path) (λ last. made_one (of.0, of.1, last)))
+    then_one _ _ (two_names_one 3 5 path) (λ of. then_one _ _ (path_name_one third path) (λ last. made_one (of.0, of.1, last)))
 
 pact_path_one : (path : Text) → IsOne (IsPactPath path)
-pact_path_one path = then_one _ _ (pact_names_one PACT_VERSION path) (λ names. made_one (pact_path names.0 names.1 names.2))
+pact_path_one path = then_one _ _ (pact_names_one 7 path) (λ names. made_one (pact_path names.0 names.1 names.2))
 
 version_fields_one : (fields : Option Data) → IsOne (IsVersionFields fields)
 version_fields_one fields =
@@ -143,11 +142,11 @@ version_query_one query =
     made_one (version pacticipant v)))
 
 grant_one : (make : Text → Text → Command) (path : Text) → IsOne (IsGrant make path)
-grant_one make path = then_one _ _ (two_names_one GRANTED_TEAM GRANTED_ENVIRONMENT path) (λ names. made_one (make names.0 names.1))
+grant_one make path = then_one _ _ (two_names_one 3 5 path) (λ names. made_one (make names.0 names.1))
 
 move_one : (make : Text → Version → Option Text → Command) (path body : Text) → IsOne (IsMove make path body)
 move_one make path body =
-    then_one _ _ (path_name_one OWN_NAME path) (λ environment.
+    then_one _ _ (path_name_one 2 path) (λ environment.
     then_one _ _ (fields_one body _ (λ fields.
     then_one _ _ (version_fields_one fields) (λ v.
     then_one _ _ (optional_name_one (codes "instance") fields) (λ instance.
@@ -156,15 +155,15 @@ move_one make path body =
 
 support_one : (make : Text → Version → Command) (path body : Text) → IsOne (IsSupport make path body)
 support_one make path body =
-    then_one _ _ (path_name_one OWN_NAME path) (λ environment. then_one _ _ (fields_one body _ version_fields_one) (λ v. made_one (make environment v)))
+    then_one _ _ (path_name_one 2 path) (λ environment. then_one _ _ (fields_one body _ version_fields_one) (λ v. made_one (make environment v)))
 
 parsed_one : (asked : Operation) (path query body : Text) → IsOne (IsParsed asked path query body)
 parsed_one operation.PutTeam path query body =
-    then_one _ _ (path_name_one OWN_NAME path) (λ team. then_one _ _ (fields_one body _ token_field_one) (λ token. made_one (command.PutTeam team token)))
+    then_one _ _ (path_name_one 2 path) (λ team. then_one _ _ (fields_one body _ token_field_one) (λ token. made_one (command.PutTeam team token)))
 parsed_one operation.PutPacticipant path query body =
-    then_one _ _ (path_name_one OWN_NAME path) (λ pacticipant. then_one _ _ (fields_one body _ (name_field_one (codes "team"))) (λ team. made_one (command.PutPacticipant pacticipant team)))
+    then_one _ _ (path_name_one 2 path) (λ pacticipant. then_one _ _ (fields_one body _ (name_field_one (codes "team"))) (λ team. made_one (command.PutPacticipant pacticipant team)))
 parsed_one operation.PutEnvironment path query body =
-    then_one _ _ (path_name_one OWN_NAME path) (λ environment.
+    then_one _ _ (path_name_one 2 path) (λ environment.
     then_one _ _ (fields_one body _ (λ fields.
     then_one _ _ (truth_one (codes "gated") fields) (λ gated.
     then_one _ _ (optional_truth_one (codes "strict") fields) (λ strict.
@@ -173,13 +172,13 @@ parsed_one operation.PutEnvironment path query body =
 parsed_one operation.PutGrant path query body = grant_one command.PutGrant path
 parsed_one operation.DeleteGrant path query body = grant_one command.DeleteGrant path
 parsed_one operation.PutVersion path query body =
-    then_one _ _ (two_names_one OWN_NAME VERSION path) (λ names.
+    then_one _ _ (two_names_one 2 4 path) (λ names.
     then_one _ _ (fields_one (or_empty body) _ (optional_name_one (codes "branch"))) (λ branch.
     made_one (command.PutVersion (version names.0 names.1) branch)))
 parsed_one operation.PutPact path query body = then_one _ _ (pact_path_one path) (λ of. made_one (command.PutPact of body))
 parsed_one operation.GetPact path query body = then_one _ _ (pact_path_one path) (λ of. made_one (command.GetPact of))
 parsed_one operation.GetBranchPact path query body =
-    then_one _ _ (pact_names_one PACT_BRANCH path) (λ names. made_one (command.GetBranchPact names.0 names.1 names.2))
+    then_one _ _ (pact_names_one 7 path) (λ names. made_one (command.GetBranchPact names.0 names.1 names.2))
 parsed_one operation.PostResult path query body =
     then_one _ _ (pact_path_one path) (λ of.
     then_one _ _ (fields_one body _ (λ fields.
@@ -199,7 +198,7 @@ parsed_one operation.Deploy path query body = move_one command.Deploy path body
 parsed_one operation.Undeploy path query body = move_one command.Undeploy path body
 parsed_one operation.Release path query body = support_one command.Release path body
 parsed_one operation.EndSupport path query body = support_one command.EndSupport path body
-parsed_one operation.GetEnvironment path query body = then_one _ _ (path_name_one OWN_NAME path) (λ environment. made_one (command.GetEnvironment environment))
+parsed_one operation.GetEnvironment path query body = then_one _ _ (path_name_one 2 path) (λ environment. made_one (command.GetEnvironment environment))
 parsed_one operation.CanIDeploy path query body =
     then_one _ _ (version_query_one query) (λ v. then_one _ _ (query_name_one (codes "environment") query) (λ environment. made_one (command.CanIDeploy v environment)))
 parsed_one operation.GetMatrix path query body = then_one _ _ (version_query_one query) (λ v. made_one (command.GetMatrix v))

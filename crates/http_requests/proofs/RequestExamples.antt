@@ -10,7 +10,7 @@ use Rattle.broker_core.specs.{Name.{IsName, is_name, is_token_byte as is_callers
 use Rattle.http_messages.specs.Fields.{same_name, values_named}
 use Rattle.http_messages.specs.Heads.{IsHeadText, IsJudged, IsBodyLength, judge_head, judge, body_length, served_method, fields_of}
 use Rattle.http_messages.specs.{Message.{Message, message}, Messages.{BeginsWithMessage}}
-use Rattle.http_routes.specs.{Routes.{fits, is_on, resource_of, segment}, declared.places.TheConstants.{OWN_NAME}}
+use Rattle.http_routes.specs.Routes.{fits, is_on, resource_of, segment}
 use Rattle.http_requests.specs.{Bodies.{IsObject}, Commands.{IsVersionFields, IsCommand}, Names.{IsNamed, IsPathName}, Requests.{IsRequest, path_of, query_of}}
 use Rattle.http_requests.specs.{Tokens.{IsTokenOf}, declared.requests.Request.TheVariants.{Asks}}
 use Rattle.http_routes.specs.declared.Operation.TheVariants as operation
@@ -92,7 +92,7 @@ named text low name = (refl, in_ascii text low, name)
 abbrev body_fields : Data
 body_fields = object (member (codes "pacticipant") (string (codes "shop")) (member (codes "version") (string (codes "1")) no_members))
 
-environment_named : IsPathName OWN_NAME (path_of parsed.target) (Ok (codes "prod"))
+environment_named : IsPathName 2 (path_of parsed.target) (Ok (codes "prod"))
 unfolding segment percent_encoding_on_literals is_name
 environment_named = (Some (codes "prod"), named (codes "prod") refl refl, refl)
 

@@ -13,7 +13,6 @@ use Rattle.broker_core.specs.declared.command.Report.{Report}
 use Rattle.broker_core.specs.declared.command.Version.{Version}
 use Rattle.http_routes.specs.declared.Operation.{Operation}
 use Rattle.http_routes.specs.declared.Operation.TheVariants as operation
-use Rattle.http_routes.specs.declared.places.TheConstants.{OWN_NAME, VERSION, GRANTED_TEAM, GRANTED_ENVIRONMENT, PROVIDER, CONSUMER, PACT_VERSION, PACT_BRANCH}
 use Rattle.http_requests.specs.Names.{IsPathName}
 use Rattle.http_requests.specs.Queries.{IsQueryName}
 use Rattle.http_requests.specs.Bodies.{IsObject, or_empty, IsNameField, IsOptionalName, IsTokenField, truth_field, optional_truth}
@@ -53,7 +52,8 @@ marks gated strict = record { gated = gated; strict = strict }
 abbrev pub report_on : Text → Option Text → Report
 report_on version run = record { provider_version = version; run = run }
 
--- two names of the path
+-- two names of the path. A name's place is its segment, counted from 0 by the slashes: in
+-- `/pacts/provider/{provider}/consumer/{consumer}/version/{version}` the provider is 3, the consumer 5, the version 7
 abbrev pub IsTwoNames : ℕ → ℕ → Text → Result (Text × Text) FormFault → Type 0
 IsTwoNames first second path =
     AndThen (IsPathName first path) (λ a.
@@ -63,13 +63,13 @@ IsTwoNames first second path =
 -- the provider, the consumer and a third name
 abbrev pub IsPactNames : ℕ → Text → Result (Text × Text × Text) FormFault → Type 0
 IsPactNames third path =
-    AndThen (IsTwoNames PROVIDER CONSUMER path) (λ of.
+    AndThen (IsTwoNames 3 5 path) (λ of.
     AndThen (IsPathName third path) (λ last.
     IsMade (of.0, of.1, last)))
 
 -- the contract that the path names: provider, consumer, version
 abbrev pub IsPactPath : Text → Result PactPath FormFault → Type 0
-IsPactPath path = AndThen (IsPactNames PACT_VERSION path) (λ names. IsMade (pact_path names.0 names.1 names.2))
+IsPactPath path = AndThen (IsPactNames 7 path) (λ names. IsMade (pact_path names.0 names.1 names.2))
 
 -- the version that the body's fields name
 abbrev pub IsVersionFields : Option Data → Result Version FormFault → Type 0
@@ -87,13 +87,13 @@ IsVersionQuery query =
 
 abbrev pub IsPutTeam : Text → Text → Result Command FormFault → Type 0
 IsPutTeam path body =
-    AndThen (IsPathName OWN_NAME path) (λ team.
+    AndThen (IsPathName 2 path) (λ team.
     AndThen (WithFields body IsTokenField) (λ token.
     IsMade (command.PutTeam team token)))
 
 abbrev pub IsPutPacticipant : Text → Text → Result Command FormFault → Type 0
 IsPutPacticipant path body =
-    AndThen (IsPathName OWN_NAME path) (λ pacticipant.
+    AndThen (IsPathName 2 path) (λ pacticipant.
     AndThen (WithFields body (IsNameField (codes "team"))) (λ team.
     IsMade (command.PutPacticipant pacticipant team)))
 
@@ -105,17 +105,17 @@ IsMarksFields fields =
 
 abbrev pub IsPutEnvironment : Text → Text → Result Command FormFault → Type 0
 IsPutEnvironment path body =
-    AndThen (IsPathName OWN_NAME path) (λ environment.
+    AndThen (IsPathName 2 path) (λ environment.
     AndThen (WithFields body IsMarksFields) (λ marked.
     IsMade (command.PutEnvironment environment marked)))
 
 -- a grant that is given or taken
 abbrev pub IsGrant : (Text → Text → Command) → Text → Result Command FormFault → Type 0
-IsGrant make path = AndThen (IsTwoNames GRANTED_TEAM GRANTED_ENVIRONMENT path) (λ names. IsMade (make names.0 names.1))
+IsGrant make path = AndThen (IsTwoNames 3 5 path) (λ names. IsMade (make names.0 names.1))
 
 abbrev pub IsPutVersion : Text → Text → Result Command FormFault → Type 0
 IsPutVersion path body =
-    AndThen (IsTwoNames OWN_NAME VERSION path) (λ names.
+    AndThen (IsTwoNames 2 4 path) (λ names.
     AndThen (WithFields (or_empty body) (IsOptionalName (codes "branch"))) (λ branch.
     IsMade (command.PutVersion (version names.0 names.1) branch)))
 
@@ -127,7 +127,7 @@ IsGetPact path = AndThen (IsPactPath path) (λ of. IsMade (command.GetPact of))
 
 abbrev pub IsGetBranchPact : Text → Result Command FormFault → Type 0
 IsGetBranchPact path =
-    AndThen (IsPactNames PACT_BRANCH path) (λ names. IsMade (command.GetBranchPact names.0 names.1 names.2))
+    AndThen (IsPactNames 7 path) (λ names. IsMade (command.GetBranchPact names.0 names.1 names.2))
 
 -- how a version of a provider did in a run
 abbrev pub IsResultFields : Option Data → Result (Report × Bool) FormFault → Type 0
@@ -166,19 +166,19 @@ IsMoveFields fields =
 -- what a version does in an environment's instance
 abbrev pub IsMove : (Text → Version → Option Text → Command) → Text → Text → Result Command FormFault → Type 0
 IsMove make path body =
-    AndThen (IsPathName OWN_NAME path) (λ environment.
+    AndThen (IsPathName 2 path) (λ environment.
     AndThen (WithFields body IsMoveFields) (λ moved.
     IsMade (make environment moved.0 moved.1)))
 
 -- what is said of a version in an environment
 abbrev pub IsSupport : (Text → Version → Command) → Text → Text → Result Command FormFault → Type 0
 IsSupport make path body =
-    AndThen (IsPathName OWN_NAME path) (λ environment.
+    AndThen (IsPathName 2 path) (λ environment.
     AndThen (WithFields body IsVersionFields) (λ v.
     IsMade (make environment v)))
 
 abbrev pub IsGetEnvironment : Text → Result Command FormFault → Type 0
-IsGetEnvironment path = AndThen (IsPathName OWN_NAME path) (λ environment. IsMade (command.GetEnvironment environment))
+IsGetEnvironment path = AndThen (IsPathName 2 path) (λ environment. IsMade (command.GetEnvironment environment))
 
 abbrev pub IsCanIDeploy : Text → Result Command FormFault → Type 0
 IsCanIDeploy query =

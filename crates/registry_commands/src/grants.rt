@@ -107,7 +107,7 @@ pub fn put_grant<S: Alter>(
 }
 
 /// Takes a grant away, for the office; or answers why not, and nothing changes. In a state that can be read back only a
-/// failure of the store keeps it from either.
+/// failure of the store, or `Memory`, keeps it from either.
 ///
 /// # Errors
 /// `StoreFault::Memory` if the database is out of memory; `StoreFault::Store` if it refused a statement, or a row

@@ -1,7 +1,7 @@
-use Rattle.std.{specs.Prelude.{length, Contains}, proofs.Common.{◌≤◌, Result, Ok, Err, IfOk, Option, List, ℕ, subst, sym}}
+use Rattle.std.{specs.Prelude.{length, Contains}, proofs.Common.{◌≡◌, ◌≤◌, refl, Result, Ok, Err, IfOk, IfErr, Option, List, ℕ, subst, sym}}
 use Rattle.sqlite.specs.{Tree.{Trees}, Held.{Held}, State.{State, HasCleanDisk, Survives}}
 use Rattle.broker_database.specs.BrokerView.{BrokerView}
-use Rattle.broker_http.specs.{Calls.{ByBroker, IsAnsweredByMachine}, Journal.{blank}, Serving.{Mode, IsInMode, ServesStream}}
+use Rattle.broker_http.specs.{Calls.{ByBroker, HasAnswered, IsAnsweredByMachine}, Journal.{blank}, Serving.{Mode, IsInMode, ServesStream}}
 use Rattle.broker_http.{specs.{declared.served.ServeFault.{ServeFault}, declared.served.Served.{Served}}, proofs.JournalLemmas.{runs}}
 use Rattle.broker_http.proofs.ModeLemmas.{starts, machine, stops_so, all_survive}
 use Rattle.broker_http.proofs.serving.serve.Goals as goal
@@ -17,6 +17,14 @@ module _ {X : Type 0} (shown : Held X → State) (s t : BrokerView X) (before af
       let p = answers.fault in
       let all = all_survive shown s p.0 p.1 t p.2 p.5 in
       (all.0, all.1, tt)
+
+  survives_fault : (result : Result Served ServeFault) → ServesStream (ByBroker shown) s t before after old new result
+      → IfErr result (λ _. (answered : ℕ) × HasAnswered shown s t before after old new answered
+      × ((commits : List Trees) × Survives (shown s.connection) (shown t.connection) (Contains commits) × (length commits ≤ answered)))
+  survives_fault (Ok served) answers = tt
+  survives_fault (Err fault) answers =
+      let p = answers.fault in
+      (length p.1, (p.0, p.1, p.2, p.4, p.5, refl), all_survive shown s p.0 p.1 t p.2 p.5)
 
   -- the machine answers from the mode that the broker is in
   machines : (result : Result Served ServeFault) → ServesStream (ByBroker shown) s t before after old new result
@@ -47,4 +55,5 @@ returns g c = record {
   answers = c.serve_all.ensures;
   machine = machines (g.B.Service.shown) _ _ _ _ _ _ c.serve_all.result c.serve_all.ensures;
   survives = survives (g.B.Service.shown) _ _ _ _ _ _ c.serve_all.result c.serve_all.ensures;
+  survives_fault = survives_fault (g.B.Service.shown) _ _ _ _ _ _ c.serve_all.result c.serve_all.ensures;
 }

@@ -1,0 +1,115 @@
+-- The pact file of the worked deployment, read from its bytes to its normal form.
+use Rattle.std.specs.{Fmt.{digits}, Prelude.{codes, length, Result as Outcome, Ok, Err, is_some, nat_le}, Option.{ok_or}, Str.{is_utf8}}
+use Rattle.std.proofs.{Common.{◌≡◌, ap, sym, [], ◌∷◌, true, refl, inl, inr, if◌then◌else◌}, lemmas.Str.{is_utf8-from_IsUtf8}}
+use Rattle.serde_json.specs.{Data.{Data, string, number, unsigned, array, object, item, no_items, member, no_members}, Read.{read}, Find.{as_object}}
+use Rattle.serde_json.proofs.OnLiterals.{serde_json_on_literals}
+use Rattle.broker_core.specs.{Name.{is_name}, Text.{Text}, Machine.Reading.{IsPact}}
+use Rattle.pact_file.specs.File.{most_bytes, as_file_fault, file_of, side_of, sides_of, items_of, is_version_3, has_no_messages}
+use Rattle.pact_file.specs.{Objects.{json_of, object_of, tree_or_fault, with_fault}, Interactions.{parts_at}}
+use Rattle.pact_file.specs.{Parts.{states_in, all_of, status_in, headers_found}, Headers.{HasHeaders}, Rules.{RulesRead}, Pact.{Pact, Interaction, normal_text}}
+use Rattle.pact_file.specs.{Normal.{Normal, InteractionRead, InteractionsRead, InOrder, if_short}, declared.fault.PactFault.TheVariants.{TooLong}}
+use Rattle.pact_file.specs.{declared.object.FileFault.{FileFault}, declared.object.FileFault.TheVariants.{NotJson, NotObject}}
+use Rattle.pact_rules.specs.{Outcome.{◌>>=◌, guard}, Reading.{EachRead}, Rules.{no_rules}, TreeReading.{tree_in}}
+use Rattle.command_facts.specs.Primitives.{broker_primitives}
+use Rattle.broker_http.proofs.PlainRequests.{in_ascii}
+
+abbrev pub shop : Text
+shop = codes "shop"
+
+abbrev pub stock : Text
+stock = codes "stock"
+
+-- the pact of shop 1 with stock as its build sends it, and its normal form
+abbrev pub pact_file : Text
+pact_file = codes "{\"consumer\":{\"name\":\"shop\"},\"provider\":{\"name\":\"stock\"},\"interactions\":[{\"description\":\"the shelf\",\"request\":{\"method\":\"GET\",\"path\":\"/shelf\"},\"response\":{\"status\":200}}]}"
+
+abbrev pub normal_form : Text
+normal_form = codes "{\"consumer\":{\"name\":\"shop\"},\"interactions\":[{\"description\":\"the shelf\",\"providerStates\":[],\"request\":{\"method\":\"GET\",\"path\":\"/shelf\"},\"response\":{\"status\":200}}],\"provider\":{\"name\":\"stock\"}}"
+
+-- an object of one text
+abbrev pub with_text : Text → Text → Data
+with_text key text = object (member key (string text) no_members)
+
+abbrev request_data : Data
+request_data = object (member (codes "method") (string (codes "GET")) (member (codes "path") (string (codes "/shelf")) no_members))
+
+abbrev response_data : Data
+response_data = object (member (codes "status") (number (unsigned 200)) no_members)
+
+abbrev interaction : Data
+interaction = object (member (codes "description") (string (codes "the shelf")) (member (codes "request") request_data (member (codes "response") response_data no_members)))
+
+abbrev file_data : Data
+file_data = object (member (codes "consumer") (with_text (codes "name") shop) (member (codes "interactions") (array (item interaction no_items)) (member (codes "provider") (with_text (codes "name") stock) no_members)))
+
+abbrev shelf : Interaction
+shelf = record { description = codes "the shelf"; states = []; request = request_data; response = response_data }
+
+abbrev pact : Pact
+pact = record { consumer = shop; provider = stock; interactions = shelf ∷ [] }
+
+in_utf8 : is_utf8 pact_file ≡ true
+in_utf8 = is_utf8-from_IsUtf8 pact_file (in_ascii pact_file refl)
+
+json_read : json_of pact_file ≡ Ok file_data
+unfolding json_of serde_json_on_literals
+json_read = ap (λ b. if b then ok_or (read pact_file) NotJson else Err NotJson) in_utf8
+
+object_read : object_of pact_file ≡ Ok file_data
+unfolding object_of serde_json_on_literals
+object_read =
+    ap (λ (r : Outcome Data FileFault). r >>= (λ whole. tree_or_fault (tree_in whole) >>= (λ tree. guard (is_some (as_object whole)) NotObject >>= (λ is. Ok whole)))) json_read
+
+file_read : file_of pact_file ≡ Ok file_data
+unfolding file_of
+file_read = ap (λ (r : Outcome Data FileFault). guard (nat_le (length pact_file) most_bytes) TooLong >>= (λ short. with_fault as_file_fault r)) object_read
+
+sides_read : sides_of file_data ≡ Ok (shop, stock)
+unfolding sides_of side_of is_version_3 has_no_messages is_name serde_json_on_literals
+sides_read = refl
+
+items_read : items_of file_data ≡ Ok (interaction ∷ [])
+unfolding items_of serde_json_on_literals
+items_read = refl
+
+parts_read : parts_at 0 interaction ≡ Ok shelf
+unfolding parts_at states_in all_of status_in serde_json_on_literals
+parts_read = refl
+
+no_headers : HasHeaders response_data []
+unfolding headers_found serde_json_on_literals
+no_headers = record { found = []; read = refl; apart = λ h. h; ordered = record { rising = tt; kept = λ x i. i; known = λ x i. i } }
+
+none_matches : RulesRead 0 response_data (Ok no_rules)
+unfolding RulesRead serde_json_on_literals
+none_matches = (Ok no_rules, refl, refl)
+
+in_order : InOrder (shelf ∷ []) (Ok (shelf ∷ []))
+in_order = (
+  λ clash. elim clash [ inl one ↦ one | inr more ↦ more ],
+  record { rising = (tt, tt); kept = λ x i. i; known = λ x i. i },
+)
+
+interactions_read : InteractionsRead file_data (Ok (shelf ∷ []))
+unfolding InteractionsRead InteractionRead EachRead
+interactions_read = (
+  Ok (interaction ∷ []),
+  items_read,
+  (
+    Ok (shelf ∷ []),
+    (Ok shelf, (Ok shelf, parts_read, (Ok [], no_headers, (Ok no_rules, none_matches, refl))), (Ok [], refl, refl)),
+    in_order,
+  ),
+)
+
+is_short : if_short pact ≡ Ok pact
+unfolding serde_json_on_literals digits
+is_short = refl
+
+normal_form_is : normal_text pact ≡ normal_form
+unfolding serde_json_on_literals digits
+normal_form_is = refl
+
+pub file_is_read : broker_primitives.Reads pact_file (IsPact shop stock normal_form)
+unfolding Normal
+file_is_read = (Ok pact, (Ok file_data, file_read, (Ok (shop, stock), sides_read, (Ok (shelf ∷ []), interactions_read, is_short))), ap (λ text. IsPact shop stock text) (sym normal_form_is))
