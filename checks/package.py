@@ -68,7 +68,10 @@ grep -E '^(Uid|CapEff|NoNewPrivs|Seccomp|Umask):' "/proc/$(number)/status" | sed
 stat -c '%n %U %a' /var/lib/broker/*
 cut -d, -f1 before
 kill -9 "$(number)"
-until [ "$(systemctl show -P NRestarts broker)" = 1 ]; do sleep 0.1; done
+for _ in $(seq 100); do
+  if [ "$(systemctl show -P NRestarts broker)" = 1 ]; then break; fi
+  sleep 0.1
+done
 await
 listing | cmp - before
 
