@@ -17,7 +17,7 @@ installed."""
 import sys
 
 sys.dont_write_bytecode = True
-import http.client, os, re, signal, socket, ssl, subprocess, tempfile, time
+import http.client, json, os, re, signal, socket, ssl, subprocess, tempfile, time
 from collections.abc import Callable
 from concurrent.futures import ThreadPoolExecutor
 from hub import BLUE, DONE, OFFICE, RED, TOP, Caller, Server, Wrong
@@ -406,6 +406,11 @@ def recorded(front: Front, _: Server) -> None:
     await_that(lambda: len(who(front, "--since", since)) >= len(SINCE), "the log has each request")
     same("holzhebo who --since", who(front, "--since", since), SINCE)
     same("holzhebo who of the environment", who(front, "a/b"), IN_ENVIRONMENT)
+    counted = json.loads(run([CLIENT, "metrics", "--log", f"{front.room}/log", "--json"]))
+    requests = front.log("log").splitlines()
+    same("holzhebo metrics", counted["buckets"]['le="+Inf"'], len(requests))
+    refused = sum('"status":403' in it for it in requests)
+    same("those that were denied", counted["requests"]['method="POST",status="403"'], refused)
 
 
 def leaked_again(front: Front, broker: Server) -> None:
