@@ -7,13 +7,13 @@ Each command with what it prints and its status is in checks/client/desk.lines; 
 one that breaks it in each way; the faults that `explain` finds beside those of `broker normalise`, on the pact files of
 checks/cases and on each with a key or a byte changed; a broker that ends all the time under builds; the lines of each
 build; and that no token is where others see it. Python reports its warnings as errors. Prints a line for each, and ends
-with 1 if one is otherwise than it has to be. Needs mypy, openssl, zsh, mandoc and Debian's python3-yaml. The tests of
+with 1 if one is otherwise than it has to be. Needs openssl, zsh, mandoc and Debian's python3-yaml. The tests of
 pact files, of providers and of builds are in client_files.py, client_verify.py and client_builds.py."""
 import sys
 
 sys.dont_write_bytecode = True
-import concurrent.futures, contextlib, glob, hashlib, http.server, json, os, re, shlex, ssl, subprocess, tempfile
-import threading, time
+import concurrent.futures, contextlib, glob, hashlib, http.server, json, os, re, shlex, shutil, ssl, subprocess
+import tempfile, threading, time
 from typing import Any, Callable, Iterator, List, NamedTuple, Tuple
 import client_builds  # its tests, and those of the modules after it
 from client_files import explain
@@ -22,24 +22,12 @@ from client_verify import KEPT, book_pact
 from hub import OFFICE, PROGRAM, RED, TOP, Server, Wrong, free_port, new_file, pact, register, run, same, verify
 
 
-@test("types")
-def types(room: str) -> None:
-    """Each of its Python files, as mypy reads them for the oldest Python that is promised."""
-    words = ["mypy", "--strict", "--python-version", "3.9", "--scripts-are-modules", "--cache-dir", f"{room}/cache"]
-    for file in "client/holzhebo", "client/pages.py":
-        run([*words, file])
-
-
 # The commands
 
 
 def digest_of(description: str) -> str:
     """The name by which a contract of hub.py is fetched: of its normal text, by docs/API.md."""
-    text = (
-        pact(description)
-        .replace('"request"', '"providerStates":[],"request"')
-        .replace('"method":"GET",', '"method":"GET",')
-    )
+    text = pact(description).replace('"request"', '"providerStates":[],"request"')
     normal = json.dumps(json.loads(text), sort_keys=True, separators=(",", ":"))
     return hashlib.sha256(normal.encode()).hexdigest()[:16]
 
@@ -98,14 +86,38 @@ def desk(room: str) -> None:
             it.write(text)
     with fleet(room) as (server, client):
         server.do(OFFICE, "PUT /pacticipants/shop%20%26%20caf%C3%A9", '{"team":"red"}')
-        for it in commands(f"{TOP}/checks/client/desk.lines"):
-            done = client.run(it.caller, *it.words)
-            wanted = Done(
-                it.status, "".join(f"{line}\n" for line in it.output), "".join(f"{line}\n" for line in it.errors)
-            )
-            same(f"desk.lines:{it.line}: {' '.join(it.words)}", done, wanted)
+        shutil.copy(f"{TOP}/checks/client/proxy.log", room)
+        for name in "teams", "tokens":
+            with open(f"{room}/{name}", "w", encoding="utf-8") as it:
+                it.write(f"# {name}\n")
+            os.chmod(f"{room}/{name}", 0o640)
+        for command in commands(f"{TOP}/checks/client/desk.lines"):
+            output, errors = ("".join(f"{line}\n" for line in lines) for lines in (command.output, command.errors))
+            wanted = Done(command.status, output, errors)
+            name = f"desk.lines:{command.line}: {' '.join(command.words)}"
+            same(name, client.run(command.caller, *command.words), wanted)
         branch = "/pacts/provider/stock/consumer/shop%20%26%20caf%C3%A9/branch/feat%2F%221%22%5C"
         same("the contract of a branch", server.ask(RED, f"GET {branch}")[0], 200)
+    tokens_in_files(room)
+
+
+def tokens_in_files(room: str) -> None:
+    """What the commands on tokens wrote: each new one for its owner only, and what the proxy takes in its place."""
+    made = {}
+    for name in "green", "red-2", "red-3":
+        with open(f"{room}/{name}.token", encoding="ascii") as it:
+            made[name] = it.read().replace("authorization: Bearer ", "").rstrip("\n")
+        same(f"the form of {name}.token", bool(re.fullmatch("[0-9a-f]{48}", made[name])), True)
+        same(f"the mode of {name}.token", os.stat(f"{room}/{name}.token").st_mode & 0o777, 0o600)
+    same("different ones", len({*made.values()}), 3)
+    refused = [it for it in ("other", "violet", "red-4") if os.path.exists(f"{room}/{it}.token")]
+    same("files of what was refused", refused, [])
+    places = {"teams": {made["green"]: "green"}, "tokens": {RED: "", made["red-3"]: RED, made["red-2"]: ""}}
+    for name, lines in places.items():
+        with open(f"{room}/{name}", encoding="ascii") as it:
+            wanted = "".join(f'"~^\\Q{token}\\E$" "{place}";\n' for token, place in lines.items())
+            same(name, it.read(), f"# {name}\n{wanted}")
+        same(f"the mode of {name}", os.stat(f"{room}/{name}").st_mode & 0o777, 0o640)
 
 
 @test("help and usage")

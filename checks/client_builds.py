@@ -65,21 +65,15 @@ class Build:
         """Runs a workflow as GitHub does: each step by bash, with what an earlier one wrote for the next, until one
         fails."""
         workflow = yaml_of(f"{BUILDS}/github/{name}")
-        given, kept = {
-            "secrets.HOLZHEBO_TOKEN": token,
-            "secrets.PROVIDER_BUILDS": "-",
-            **given,
-        }, f"{self.room}/{name}.env"
+        given = {"secrets.HOLZHEBO_TOKEN": token, "secrets.PROVIDER_BUILDS": "-", **given}
+        kept = f"{self.room}/{name}.env"
         for step in [it for job in workflow["jobs"].values() for it in job["steps"] if "run" in it]:
             env = {**workflow["env"], **step.get("env", {}), "GITHUB_ENV": kept, **given}
             if os.path.exists(kept):
                 with open(kept, encoding="utf-8") as file:
-                    env.update(line.rstrip("\n").split("=", 1) for line in file)
-            env = {
-                key: re.sub(r"\$\{\{ (\S+) \}\}", lambda it: given[it[1]], str(it))
-                for key, it in env.items()
-                if "." not in key
-            }
+                    env.update(re.findall(r"(?m)^(.*?)=(.*)$", file.read()))
+            own = {key: str(it) for key, it in env.items() if "." not in key}
+            env = {key: re.sub(r"\$\{\{ (\S+) \}\}", lambda it: given[str(it[1])], text) for key, text in own.items()}
             status = self.lines(["bash", "-e", "-o", "pipefail"], step["run"], env)
             if status:
                 return status
@@ -133,7 +127,7 @@ def github(room: str) -> None:
         same("a rollout that fails", build.github("release.yml", RED, {"inputs.version": "1", "ROLLOUT": "1"}), 1)
         same("what is live then", in_live(server), ["shop c0ffee", "stock 1"])
         same("a release that isn't permitted", build.github("release.yml", RED, {"inputs.version": "2"}), 1)
-        own = {"GITHUB_SHA": "f00d", "GITHUB_RUN_ID": "8", "GITHUB_RUN_ATTEMPT": "1"}
+        own = {"GITHUB_SHA": "f00d", "GITHUB_REF_NAME": "main", "GITHUB_RUN_ID": "8", "GITHUB_RUN_ATTEMPT": "1"}
         same("the provider's build", build.github("provider.yml", BLUE, own), 0)
         stock.answers["GET /"] = Reply(500)
         same(
@@ -164,8 +158,11 @@ def gitlab(room: str) -> None:
             (build.gitlab("release", RED, VERSION="1", ROLLOUT="1"), in_live(server)),
             (1, ["shop c0ffee", "stock 1"]),
         )
-        same("the provider's", build.gitlab("provider", BLUE, CI_COMMIT_SHA="f00d", CI_JOB_ID="2"), 0)
-        same("Jenkins", build.jenkins(BLUE, GIT_COMMIT="j1", BUILD_TAG="jenkins-1"), [0, 0, 0])
-        same("Jenkins, a failure", build.jenkins(BLUE, GIT_COMMIT="j2", BUILD_TAG="jenkins-2", VERIFIER="1"), [0, 1, 1])
+        commit = {"CI_COMMIT_SHA": "f00d", "CI_COMMIT_BRANCH": "main", "CI_JOB_ID": "2"}
+        same("the provider's", build.gitlab("provider", BLUE, **commit), 0)
+        given = {"GIT_BRANCH": "main", "GIT_COMMIT": "j1", "BUILD_TAG": "jenkins-1"}
+        same("Jenkins", build.jenkins(BLUE, **given), [0, 0, 0, 0])
+        given.update(GIT_COMMIT="j2", BUILD_TAG="jenkins-2")
+        same("Jenkins, a failure", build.jenkins(BLUE, **given, VERIFIER="1"), [0, 0, 1, 1])
         rows = json.loads(server.ask(BLUE, "GET /matrix?pacticipant=stock&version=j2")[1])["rows"]
         same("the failure is stored", [(it["consumerVersion"], it["success"]) for it in rows], [("c0ffee", False)])

@@ -242,8 +242,8 @@ def patterns(room: str) -> None:
     file["interactions"][0]["response"]["matchingRules"]["status"] = {}
     with open(f"{room}/both.json", "w", encoding="utf-8") as it:
         it.write(json.dumps(file))
-    together, status = "pact 7.7 interactions[0]", "pact 7.5 interactions[0] status"
-    for name, wanted in ("file.json", [together]), ("both.json", [together, status]):
+    two = ["pact 7.7 interactions[0]", "pact 7.5 interactions[0] status"]
+    for name, wanted in ("file.json", two[:1]), ("both.json", two):
         done = client.run("none", "explain", name, "--json", "--program", f"{room}/stub")
         lines = [it["line"] for it in json.loads(done.output)[name]["faults"]]
         same("patterns that are too large together", (done.status, lines), (1, wanted))

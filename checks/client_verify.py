@@ -1,6 +1,6 @@
 """Tries `holzhebo verify`: a provider that keeps its contract, one that breaks it in each way, what can't be played."""
 import concurrent.futures, glob, json, subprocess, xml.etree.ElementTree
-from typing import Any, List
+from typing import Any, Dict, List
 from client_tools import BOOK, HANGS, Client, Reply, Stock, fleet, test
 from hub import BLUE, PROGRAM, RED, Server, pact, same
 
@@ -15,9 +15,9 @@ def interaction(description: str, request: Any, response: Any, states: Any = ())
 def book_pact(*more: Any) -> Any:
     """A contract of shop with stock, with requests of each form."""
     json_type = {"Content-Type": "application/json"}
-    text_type, new_book = {"Content-Type": "text/plain"}, {"body": {"title": "Ada & Co"}}
+    text_type, headers = {"Content-Type": "text/plain"}, {"X-Shop": ["a", "b"], "Content-Type": "application/json"}
     response = {"body": BOOK, "headers": json_type, "matchingRules": RULES}
-    new_book.update(method="POST", path="/books", headers={**json_type, "X-Shop": ["a", "b"]})
+    new_book = {"method": "POST", "path": "/books", "headers": headers, "body": {"title": "Ada & Co"}}
     note = {"method": "put", "path": "/a b/%2F/é", "query": {"q": ["1 & 2", "ü"], "r": ["x"]}, "headers": text_type}
     moved = {"status": 301, "headers": {"Location": "/new"}}
     interactions = [
@@ -233,7 +233,7 @@ def verify_asked(room: str) -> None:
         )
 
 
-UNPLAYABLE = {
+UNPLAYABLE: Dict[str, Any] = {
     "its request has generators": {"generators": {"path": {"type": "RandomInt"}}},
     "its request has generators and values injected from states": {
         "generators": {"path": {"type": "ProviderState", "expression": "/${id}"}}

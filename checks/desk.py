@@ -188,22 +188,20 @@ def lines_over_a_copy(world: World) -> None:
     same("consumers with an older contract", run(["bash", "-c", query[1].replace("COPY", copy)]), OLDER)
 
 
-def lines_of_curl(world: World) -> None:
-    """The lines of curl of docs/DESK.md, in their order: each is answered 200."""
-    blocks = re.findall(r"(?m)^```\n(b=.*?)^```$", text_of("docs/DESK.md"), re.S)
+def lines_of_the_client(world: World) -> None:
+    """The lines of the client in docs/DESK.md, in their order: each ends with 0."""
+    blocks = re.findall(r"(?m)^```\n((?:#|holzhebo ).*?)^```$", text_of("docs/DESK.md"), re.S)
+    lines = [it for block in blocks for it in block.splitlines() if not it.startswith("#")]
+    same("lines", (len(blocks), len(lines), {it.split()[0] for it in lines}), (3, 7, {"holzhebo"}))
     folder = tempfile.mkdtemp(dir=world.room)
     for caller, token in ("office", OFFICE), ("red", RED):
         write(f"{folder}/{caller}.token", f"authorization: Bearer {token}\n")
-    wrapped = f"cd {folder}\ncurl() {{ command curl -sS -o answer -w '%{{http_code}}\\n' \"$@\"; }}\n"
-    lines = "".join(blocks).replace("http://127.0.0.1:9292", world.server.url)
-    same("lines", (len(blocks), len(re.findall(r"(?m)^(?:.* \| )?curl ", lines))), (3, 11))
-    same("statuses", run(["bash", "-euo", "pipefail", "-c", wrapped + lines]).split(), ["200"] * 11)
+    env = {"HOLZHEBO_BROKER": world.server.url, "HOLZHEBO_TOKEN_FILE": "red.token"}
+    own = f"cd {folder}\nholzhebo() {{ {TOP}/client/holzhebo \"$@\"; }}\n"
+    run(["bash", "-euo", "pipefail", "-c", own + "\n".join(lines)], env=env)
     listing = json.loads(world.server.ask(OFFICE, "GET /environments/live")[1])
     told = {key: [(it["pacticipant"], it["version"], it.get("instance", "")) for it in listing[key]] for key in AFTER}
     same("what is in live afterwards", told, AFTER)
-    with open(f"{folder}/green.token", encoding="utf-8") as it:
-        same("the form of a new token", bool(re.fullmatch("authorization: Bearer [0-9a-f]{48}", it.read())), True)
-    same("its rights", os.stat(f"{folder}/green.token").st_mode & 0o777, 0o600)
 
 
 def readme(world: World) -> None:
@@ -242,7 +240,7 @@ def main() -> int:
         caddy_recipe,
         wrong_pages,
         lines_over_a_copy,
-        lines_of_curl,
+        lines_of_the_client,
         readme,
     ]
     wrong = 0

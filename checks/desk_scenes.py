@@ -70,6 +70,9 @@ def board(page: Browser, world: World) -> None:
 
 
 def questions(page: Browser, world: World) -> None:
+    for view in "ask", "ask/shop/1.4", "matrix", "matrix/shop", "environment":
+        shows(page, view)
+        same(f"an answer's time in the form {view}", texts(page, ".when"), [])
     shows(page, "ask")
     same("the environments to choose from", texts(page, "option"), ["dev", "staging", "live"])
     for question, (verdict, why, reasons, callers, called) in ASKED.items():

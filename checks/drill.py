@@ -13,8 +13,8 @@ import sys
 
 sys.dont_write_bytecode = True
 import os, re, shutil, signal, socket, stat, subprocess, tempfile, time
-from hub import BLUE, PROGRAM, RED, Server, Wrong
-from hub import free_port, new_file, register, run, same, verify
+from hub import BLUE, PROGRAM, RED, Caller, Server, Wrong
+from hub import each, end_with, free_port, needs, new_file, register, run, same, verify
 
 SUMS_AT, SUMS = 20, 8
 NOBODY = 65534
@@ -34,12 +34,13 @@ esac
 """
 
 
-class Service:
+Answer = tuple[int, str]
+
+
+class Service(Caller):
     """The broker as a service over its file, which has a folder of its own."""
 
-    ask, do = Server.ask, Server.do
-
-    def __init__(self, room):
+    def __init__(self, room: str) -> None:
         self.room, self.folder, self.port = room, f"{room}/lib", free_port()
         for folder in self.folder, f"{room}/bin", f"{room}/backup":
             os.mkdir(folder, 0o700)
@@ -54,10 +55,10 @@ class Service:
             it.write("0")
         self.env = {"PATH": f"{room}/bin:{os.environ['PATH']}"}
 
-    def systemctl(self, word):
+    def systemctl(self, word: str) -> None:
         subprocess.run([f"{self.room}/bin/systemctl", word, "broker"], check=True)
 
-    def start(self):
+    def start(self) -> None:
         self.systemctl("start")
         for _ in range(300):
             try:
@@ -67,28 +68,28 @@ class Service:
                 time.sleep(0.05)
         raise Wrong(f"the service doesn't start: {read(f'{self.room}/said')}")
 
-    def lose_power(self):
+    def lose_power(self) -> None:
         """Ends the program in the middle, so that its rows stay in the log."""
         os.kill(int(read(f"{self.room}/pid")), signal.SIGKILL)
         self.systemctl("stop")
 
-    def answers(self):
+    def answers(self) -> list[Answer]:
         asks = ["GET /environments/live", "GET /environments/vault", "GET /matrix?pacticipant=shop&version=1"]
         asks += [f"GET /can-i-deploy?pacticipant=shop&version={it}&environment=vault" for it in "123"]
         return [self.ask(RED, it) for it in asks] + [self.ask(BLUE, "GET /environments/open")]
 
-    def backup(self, name, program=PROGRAM):
+    def backup(self, name: str, program: str = PROGRAM) -> str:
         copy = f"{self.room}/backup/{name}"
         said = run(["examples/backup.sh", program, self.file, copy, "broker"], env=self.env)
         if not re.fullmatch(rf"{copy} holds format 2 with 3 contracts, and the broker was paused for \d+ ms\n", said):
             raise Wrong(f"backup.sh says {said}")
         return copy
 
-    def restore(self, copy, status=0):
+    def restore(self, copy: str, status: int = 0) -> str:
         words = ["examples/restore.sh", PROGRAM, copy, self.file, "broker", f"http://127.0.0.1:{self.port}"]
         return run(words, status, self.env)
 
-    def kept(self):
+    def kept(self) -> list[str]:
         """The files that were there before a restore, oldest first; each is taken away from there."""
         names = sorted(it for it in os.listdir(self.folder) if ".before-" in it)
         for name in names:
@@ -96,21 +97,21 @@ class Service:
         return [re.sub(r"\.before-[0-9T:-]{19}", ".before", it) for it in names]
 
 
-def read(file):
+def read(file: str) -> str:
     with open(file, encoding="utf-8", errors="replace") as it:
         return it.read()
 
 
-def content(folder):
+def content(folder: str) -> dict[str, bytes]:
     """What each file of a folder has."""
-    found = {}
+    found: dict[str, bytes] = {}
     for name in sorted(os.listdir(folder)):
         with open(f"{folder}/{name}", "rb") as it:
             found[name] = it.read()
     return found
 
 
-def flip(file):
+def flip(file: str) -> None:
     """One bit in the middle of the file."""
     at = os.path.getsize(file) // 2 + 100
     with open(file, "r+b") as it:
@@ -123,7 +124,7 @@ def flip(file):
 # What is tried, in this order: each goes on with the service and the copy.
 
 
-def one_file(service, copy, before):
+def one_file(service: Service, copy: str, before: list[Answer]) -> None:
     """All rows were in the log; the copy alone has them."""
     if not os.path.getsize(f"{service.file}-wal"):
         raise Wrong("the log was empty as the file was copied")
@@ -144,7 +145,7 @@ exec {program} "$@"
 """
 
 
-def refusing(service, line, then):
+def refusing(service: Service, line: str, then: str) -> str:
     """A program whose `serve` is refused with this line, and what it does then."""
     for name, text in ("refusal", line), ("program", SERVES.format(room=service.room, program=PROGRAM, then=then)):
         with open(f"{service.room}/{name}", "w", encoding="utf-8") as it:
@@ -153,7 +154,7 @@ def refusing(service, line, then):
     return f"{service.room}/program"
 
 
-def refused(service, copy, _):
+def refused(service: Service, copy: str, _: list[Answer]) -> None:
     """A port that is in use is replaced by another one; a copy that isn't served is none."""
     other = service.backup("other.db", refusing(service, "listen", f"rm {service.room}/refusal"))
     same("the refusal", os.path.exists(f"{service.room}/refusal"), False)
@@ -163,7 +164,7 @@ def refused(service, copy, _):
     same("the files of the backups", os.listdir(os.path.dirname(copy)), [os.path.basename(copy)])
 
 
-def lost(service, copy, before):
+def lost(service: Service, copy: str, before: list[Answer]) -> None:
     """What was done after the backup is lost with the file; all before it is there again."""
     service.do(RED, "POST /environments/live/deployments", '{"pacticipant":"shop","version":"1"}')
     service.lose_power()
@@ -178,7 +179,7 @@ def lost(service, copy, before):
     same("the mode", stat.S_IMODE(now.st_mode), 0o600)
 
 
-def damaged(service, copy, before):
+def damaged(service: Service, copy: str, before: list[Answer]) -> None:
     """A bit flips in the file while it isn't served: the broker refuses it, and it is kept."""
     service.systemctl("stop")
     flip(service.file)
@@ -189,7 +190,7 @@ def damaged(service, copy, before):
     same("what was kept", service.kept()[:1], ["broker.db.before"])
 
 
-def bad_copy(service, copy, before):
+def bad_copy(service: Service, copy: str, before: list[Answer]) -> None:
     """Nothing is changed by a copy that is damaged, or by one for a file in use."""
     bad = shutil.copy(copy, f"{service.room}/bad.db")
     flip(bad)
@@ -202,7 +203,7 @@ def bad_copy(service, copy, before):
     same("the answers", service.answers(), before)
 
 
-def two_files(service, copy, before):
+def two_files(service: Service, copy: str, before: list[Answer]) -> None:
     """A copy with its log, as a snapshot of a disk has it, is restored with both."""
     service.do(RED, "POST /environments/live/deployments", '{"pacticipant":"shop","version":"1"}')
     after = service.answers()
@@ -225,11 +226,8 @@ TRIALS = {
 }
 
 
-def main():
-    for tool in "curl", "sqlite3":
-        if not shutil.which(tool):
-            print(f"not run: {tool} isn't installed")
-            return 77
+def main() -> int:
+    needs("curl", "sqlite3")
     with tempfile.TemporaryDirectory() as room:
         service = Service(room)
         service.start()
@@ -237,18 +235,11 @@ def main():
             register(service)
             verify(service)
             before, copy = service.answers(), service.backup("copy.db")
-            for name, trial in TRIALS.items():
-                began = time.monotonic()
-                trial(service, copy, before)
-                print(f"ok     {name}: {time.monotonic() - began:.1f} s", flush=True)
+            each(TRIALS, service, copy, before)
         finally:
             service.systemctl("stop")
     return 0
 
 
 if __name__ == "__main__":
-    try:
-        sys.exit(main())
-    except (Wrong, OSError, subprocess.SubprocessError) as why:
-        print(f"WRONG  {str(why) or repr(why)}")
-        sys.exit(1)
+    end_with(main)

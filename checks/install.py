@@ -3,56 +3,50 @@
 
     checks/install.py PROGRAM     PROGRAM is the path of `broker`
 
-The lines of the section Install are run as they are, in a root of their own: that of this machine with a layer over
-it, which takes what they write, and a network of its own. There systemd is played by a few lines, which start the
-program by the user, the umask, the environment and the words of the unit. Then systemd-analyze reads the unit, and
-rates it at most 2.0; and the program, while it makes and serves a file, asks of the system only what the unit allows.
+The lines of the section Install are run as they are, on a machine of their own (own_machine.py), where systemd starts
+the service. Then systemd-analyze reads the unit, and rates it at most 2.0; and the program, while it makes and serves a
+file, asks of the system only what the unit allows.
 
 Needs Linux and the Debian packages curl, iproute2, openssl, strace and systemd. Prints a line for each, and ends with 1
-if one is otherwise than it has to be, or with 77 if a tool isn't installed or there may be no such root here."""
+if one is otherwise than it has to be, or with 77 if a tool isn't installed or there may be no such machine here."""
 import sys
 
 sys.dont_write_bytecode = True
-import os, re, shutil, subprocess, tempfile, time
-from hub import PROGRAM, RED, TOP, NotRun, Server, Wrong
-from hub import new_file, register, run, same, verify
-from own_root import in_own_root
+import os, re, tempfile
+from hub import PROGRAM, RED, TOP, Server, Wrong
+from hub import each, end_with, needs, new_file, register, run, same, verify
+from own_machine import in_own_machine
 
 UNIT = f"{TOP}/examples/broker.service"
 # The most that systemd-analyze may say, of 10.
 MOST = 2.0
-SYSTEMCTL = """#!/bin/sh
-value() { sed -n "s/^$1=//p" /etc/systemd/system/broker.service; }
-case "$*" in
-  daemon-reload) ;;
-  "enable --now broker")
-    cd /
-    umask "$(value UMask)"
-    setsid runuser -u "$(value User)" -- env "$(value Environment)" $(value ExecStart) > /dev/null 2>&1 &
-    ;;
-  *) exit 1 ;;
-esac
-"""
-# Run after the lines: whose is what they made, who may read it, and what they left to be read by others.
+# What is looked for after the lines: whose is what they made, who may read it, and whether it is served.
 MADE = """
 echo
 cd /var/lib/broker
-stat -c '%n %U %G %a' . broker.db /usr/local/bin/broker /root/office-token /root/office /root/red-token
+stat -c '%n %U %G %a' . broker.db /usr/local/bin/broker /root/office-token /root/red.token
 getent passwd broker | cut -d: -f6-
 systemd-analyze verify /etc/systemd/system/broker.service 2>&1
+systemctl is-enabled broker
+systemctl is-active broker
 """
-PRINTED = """{"answer":"no route"}{"answer":"done"}
+PRINTED = """{"answer":"no route"}new  environment live
+new  team red
+new  pacticipant shop
+new  grant for live
+
 . broker broker 700
 broker.db broker broker 600
 /usr/local/bin/broker root root 755
 /root/office-token root root 600
-/root/office root root 600
-/root/red-token root root 600
+/root/red.token root root 600
 /var/lib/broker:/usr/sbin/nologin
+enabled
+active
 """
 
 
-def lines():
+def lines() -> str:
     """The lines of the section Install, with the program that is tried in the place of the one in the repository."""
     with open(f"{TOP}/docs/OPERATING.md", encoding="utf-8") as it:
         section = re.search(r"(?ms)^## Install\n(.*?)^## ", it.read())
@@ -61,18 +55,19 @@ def lines():
     return "\n".join(blocks).replace("crates/broker/out/broker", PROGRAM)
 
 
-def installed(_):
-    stub = f"cat > /usr/local/bin/systemctl <<'END'\n{SYSTEMCTL}END\nchmod 755 /usr/local/bin/systemctl\n"
-    done = in_own_root("sh", f"cd {TOP}\n{stub}{lines()}{MADE}", [TOP, os.path.dirname(PROGRAM)], 120)
-    if done.returncode:
-        raise Wrong(f"the lines end with {done.returncode}: {done.stdout}{done.stderr}")
-    same("what the lines print", done.stdout, PRINTED)
+def installed(_: str) -> None:
+    clean = "userdel broker 2> /dev/null || true\nrm -rf /var/lib/broker /usr/local/bin/broker\n"
+    text = f"export HOME=/root\ncd {TOP}\n{clean}{lines()}{MADE}"
+    status, output, errors = in_own_machine(text, [TOP, os.path.dirname(PROGRAM)], 120)
+    if status:
+        raise Wrong(f"the lines end with {status}: {output}{errors}")
+    same("what the lines print", output, PRINTED)
 
 
 # The unit
 
 
-def rated(_):
+def rated(_: str) -> None:
     text = run(["systemd-analyze", "security", "--no-pager", "--offline=true", UNIT])
     said = re.search(r"Overall exposure level for broker.service: ([0-9.]+)", text)
     if not said or float(said[1]) > MOST:
@@ -82,14 +77,14 @@ def rated(_):
     same("the rating that the section says", stated, [said[1]])
 
 
-def setting(key):
+def setting(key: str) -> list[str]:
     with open(UNIT, encoding="utf-8") as it:
         return re.findall(rf"(?m)^{key}=(.*)$", it.read())
 
 
-def groups():
+def groups() -> dict[str, list[str]]:
     """The names in each group of calls, as systemd has them."""
-    found = {}
+    found: dict[str, list[str]] = {}
     for line in run(["systemd-analyze", "syscall-filter", "--no-pager"]).split("\n"):
         if line.startswith("@"):
             names = found.setdefault(line, [])
@@ -98,21 +93,20 @@ def groups():
     return found
 
 
-def calls_of(name, known):
+def calls_of(name: str, known: dict[str, list[str]]) -> set[str]:
     """The calls that a name of a filter means."""
     return {name} if not name.startswith("@") else {it for part in known[name] for it in calls_of(part, known)}
 
 
-def allowed():
+def allowed() -> set[str]:
     """The calls that the unit allows: those of its first line without those of the second."""
     known, (first, second) = groups(), setting("SystemCallFilter")
     same("the first letter of the second filter", second[0], "~")
-    more = [calls_of(it, known) for it in first.split()]
-    less = [calls_of(it, known) for it in second[1:].split()]
-    return set.union(calls_of("@default", known), *more) - set.union(*less)
+    more = {call for it in ["@default", *first.split()] for call in calls_of(it, known)}
+    return more - {call for it in second[1:].split() for call in calls_of(it, known)}
 
 
-def within(room):
+def within(room: str) -> None:
     """The fleet is made and asked of a program whose calls are written down."""
     folder = f"{room}/lib"
     os.mkdir(folder)
@@ -146,24 +140,10 @@ TRIALS = {
 }
 
 
-def main():
-    for tool in "curl", "ip", "openssl", "strace", "systemd-analyze", "unshare":
-        if not shutil.which(tool):
-            print(f"not run: {tool} isn't installed")
-            return 77
-    for name, trial in TRIALS.items():
-        began = time.monotonic()
-        with tempfile.TemporaryDirectory() as room:
-            trial(room)
-        print(f"ok     {name}: {time.monotonic() - began:.1f} s", flush=True)
-    return 0
+def main() -> int:
+    needs("curl", "ip", "openssl", "strace", "systemd-analyze", "unshare")
+    with tempfile.TemporaryDirectory() as room:
+        return each(TRIALS, room)
 
 
-try:
-    sys.exit(main())
-except NotRun as why:
-    print(f"not run: {why}")
-    sys.exit(77)
-except (Wrong, OSError, subprocess.SubprocessError) as why:
-    print(f"WRONG  {str(why) or repr(why)}")
-    sys.exit(1)
+end_with(main)

@@ -1,5 +1,5 @@
-"""What checks/stories.py, checks/stops.py and checks/cases.py share: the lines of a file, and the bytes of the requests and
-answers that the first two say."""
+"""What checks/stories.py, checks/stops.py and checks/cases.py share: the lines of a file, and the bytes of the requests
+and answers that the first two say."""
 import os
 
 PHRASES = {
@@ -19,10 +19,10 @@ PHRASES = {
 }
 
 
-def numbered_in(file):
+def numbered_in(file: str) -> list[tuple[int, str]]:
     """The lines of a file, each with its number. One that begins with two spaces goes on where the line before it
     ended."""
-    lines = []
+    lines: list[tuple[int, str]] = []
     with open(file, encoding="utf-8", newline="\n") as it:
         for number, line in enumerate(it.read().removesuffix("\n").split("\n"), 1):
             if line.startswith("  ") and lines:
@@ -32,25 +32,25 @@ def numbered_in(file):
     return lines
 
 
-def lines_in(file):
+def lines_in(file: str) -> list[tuple[str, str]]:
     """The same, each with its place."""
     return [(f"{os.path.basename(file)}:{number}", line) for number, line in numbered_in(file)]
 
 
-def request(token, text, cut=None):
+def request(token: str | None, text: str, cut: int | None = None) -> bytes:
     """The bytes of a request by this token, if there is one: a method, a path, and all the rest, its body, or so much
     of it."""
-    method, path, body = (text.split(" ", 2) + ["", ""])[:3]
-    body = body.encode()[:cut]
+    method, path, rest = (text.split(" ", 2) + ["", ""])[:3]
+    body = rest.encode()[:cut]
     field = f"authorization: Bearer {token}\r\n" if token is not None else ""
     return f"{method} {path} HTTP/1.1\r\nhost: b\r\n{field}content-length: {len(body)}\r\n\r\n".encode() + body
 
 
-def answer(text):
+def answer(text: str) -> bytes:
     """The bytes of an answer: a status, fields between bars, and a body, which begins with the first brace after a
     space."""
-    head, brace, body = text.partition(" {")
-    body = (brace.strip() + body).encode()
+    head, brace, rest = text.partition(" {")
+    body = (brace.strip() + rest).encode()
     status, _, fields = head.partition(" ")
     lines = [f"HTTP/1.1 {status} {PHRASES[status]}", "content-type: application/json", f"content-length: {len(body)}"]
     lines += ["www-authenticate: Bearer"] if status == "401" else []

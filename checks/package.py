@@ -1,21 +1,21 @@
 #!/usr/bin/env python3
-"""Tries the package of packaging/deb: made, read by lintian, installed, upgraded, removed and purged, as root.
+"""Tries the package of packaging/deb: made, read by lintian, installed, served, upgraded, removed and purged, as root.
 `.ci/program` runs it.
 
     checks/package.py PROGRAM     PROGRAM is the path of `broker`
 
-dpkg works in a root of its own: that of this machine with a layer over it, which takes what is written, and a network
-of its own. There systemctl only writes down how it is called, and the service is the command line of the package's
-unit.
+dpkg and systemd work on a machine of their own (own_machine.py): the service is started by systemd as its unit says,
+started again after it is killed and after an upgrade, backed up by the timer and restored, and it is gone once the
+package is removed.
 
-Needs Linux and the Debian packages curl, dpkg-dev, lintian and systemd. Prints a line for each, and ends with 1 if one
-is otherwise than it has to be, or with 77 if there may be no such root here."""
+Needs Linux and the Debian packages curl, dpkg-dev, iproute2, lintian, sqlite3 and systemd. Prints a line for each, and
+ends with 1 if one is otherwise than it has to be, or with 77 if there may be no such machine here."""
 import sys
 
 sys.dont_write_bytecode = True
 import hashlib, os, re, subprocess, tempfile
-from hub import PROGRAM, TOP, NotRun, Wrong, run, same
-from own_root import in_own_root
+from hub import PROGRAM, TOP, Wrong, end_with, run, same
+from own_machine import in_own_machine
 
 # What is done there, in the folder of the packages. Each line that begins with `== ` is followed by what is compared.
 LINES = r"""
@@ -24,58 +24,90 @@ export PATH=/usr/local/bin:/usr/sbin:/usr/bin:/sbin:/bin
 rm -rf /var/lib/broker /etc/holzhebo
 userdel broker 2> /dev/null || true
 groupdel broker 2> /dev/null || true
-mkdir -p /run/systemd/system
 rm -f /usr/sbin/policy-rc.d
-printf '#!/bin/sh\necho "$*" >> @ROOM@/asked\n' > /usr/local/bin/systemctl
-chmod 755 /usr/local/bin/systemctl
 token=office-token-0001
+tools=/usr/share/holzhebo
 
-serve() {
-  words=$(sed -n 's/^ExecStart=//p' /lib/systemd/system/broker.service)
-  runuser -u broker -- $words & broker=$!
-  until curl -s http://127.0.0.1:9292/ > /dev/null; do sleep 0.1; done
+state() { systemctl is-enabled broker || true; systemctl is-active broker || true; }
+number() { systemctl show -P MainPID broker; }
+await() {
+  for _ in $(seq 600); do
+    if curl -s http://127.0.0.1:9292/ > /dev/null; then return; fi
+    sleep 0.05
+  done
+  journalctl --no-pager -n 20 -u broker
+  exit 1
 }
-stop() { pkill -u broker; wait $broker || true; }
 listing() { printf 'authorization: Bearer %s\n' $token | curl -s -H @- http://127.0.0.1:9292/environments/live; echo; }
-sums() { sha256sum /var/lib/broker/broker.db* | cut -c1-64; }
 
 dpkg --no-triggers -i old.deb < /dev/null > said 2>&1 || { cat said; exit 1; }
 echo "== installed"
 getent passwd broker | cut -d: -f1,6,7
 stat -c '%n %U %G %a' /var/lib/broker
 ls -A /var/lib/broker
-find /etc/systemd/system -name 'broker.service*'
-pgrep -x broker || true
-cat asked
+state
+systemctl start broker
+systemctl show -P ConditionResult broker
+state
 systemd-analyze verify /lib/systemd/system/broker.service 2>&1
 broker --version
 holzhebo --help | head -c 40 > /dev/null
 dpkg -L holzhebo | grep -E '/(man1|completions|vendor-completions)/' | sort
-grep -rl /usr/local/ /usr/share/holzhebo /lib/systemd/system/broker.service || true
-cmp /usr/share/holzhebo/desk/desk.json /usr/share/holzhebo/desk.json
+grep -rl /usr/local/ $tools /lib/systemd/system/broker.service || true
+cmp $tools/desk/desk.json $tools/desk.json
 
 printf %s $token > token
 runuser -u broker -- sh -c 'umask 077; broker init --file /var/lib/broker/broker.db --office-token "$(cat)"' < token
-serve
-/usr/share/holzhebo/examples/demo.sh http://127.0.0.1:9292 > said 2>&1 || { cat said; exit 1; }
+systemctl enable --now broker 2> /dev/null
+await
+$tools/examples/demo.sh http://127.0.0.1:9292 > said 2>&1 || { cat said; exit 1; }
 listing > before
-stop
-sums > sums-before
+echo "== served"
+state
+grep -E '^(Uid|CapEff|NoNewPrivs|Seccomp|Umask):' "/proc/$(number)/status" | sed "s/$(id -u broker)/broker/g" | tr '\t' ' '
+stat -c '%n %U %a' /var/lib/broker/*
+cut -d, -f1 before
+kill -9 "$(number)"
+for _ in $(seq 100); do
+  if [ "$(systemctl show -P NRestarts broker)" = 1 ]; then break; fi
+  sleep 0.1
+done
+await
+listing | cmp - before
+
+install -m 644 $tools/examples/broker-*.service $tools/examples/broker-*.timer /etc/systemd/system/
+install -d -m 700 /backup /backup/nightly
+systemctl daemon-reload
+echo "== backed up and restored"
+systemctl enable --now broker-backup.timer broker-nightly.timer 2> /dev/null
+systemctl is-active broker-backup.timer broker-nightly.timer
+systemctl disable --now broker-backup.timer broker-nightly.timer 2> /dev/null
+for unit in broker-backup broker-nightly broker-nightly; do
+  systemctl start $unit.service || journalctl --no-pager -u $unit
+  sleep 1
+done
+find /backup -type f -printf '%P %m\n' | sed 's/-[0-9TZ:-]*/-TIME/' | sort
+grep -o '<h2>[A-Za-z ]*[a-z]' /backup/report.html | tail -n 2
+holzhebo environment lost --broker http://127.0.0.1:9292 --token-file token
+$tools/examples/restore.sh /usr/bin/broker /backup/broker-*.db /var/lib/broker/broker.db broker > said 2>&1 || { cat said; exit 1; }
+listing | cmp - before
+holzhebo environment lost --broker http://127.0.0.1:9292 --token-file token
+rm /var/lib/broker/*.before-*
+
 echo '{"environments":["mine"]}' > /etc/holzhebo/desk.json
-rm asked
+earlier=$(number)
 dpkg --no-triggers -i new.deb < /dev/null > said 2>&1 || { cat said; exit 1; }
 echo "== upgraded"
-sums | cmp - sums-before
-cat asked /usr/share/holzhebo/desk/desk.json
-serve
+await
+[ "$(number)" != "$earlier" ]
+state
+cat $tools/desk/desk.json
 listing | cmp - before
-cut -d, -f1 before
-stop
 
-rm asked
 dpkg --no-triggers -r holzhebo < /dev/null > said 2>&1 || { cat said; exit 1; }
 echo "== removed"
-cat asked
+systemctl is-active broker || true
+pgrep -u broker || true
 ls /usr/bin/broker /usr/bin/holzhebo /lib/systemd/system/broker.service 2>&1 | grep -c 'No such file'
 ls /var/lib/broker /etc/holzhebo
 
@@ -84,6 +116,7 @@ echo "== purged"
 grep 'stays' said
 ls /var/lib/broker
 ls -d /etc/holzhebo 2>&1 | grep -c 'No such file'
+find /etc/systemd -name 'broker.service*'
 
 dpkg --no-triggers -i new.deb < /dev/null > said 2>&1 || { cat said; exit 1; }
 rm /var/lib/broker/broker.db*
@@ -94,8 +127,11 @@ ls -d /var/lib/broker 2>&1 | grep -c 'No such file'
 WANTED = {
     "installed": """broker:/var/lib/broker:/usr/sbin/nologin
 /var/lib/broker broker broker 700
---system daemon-reload
-try-restart broker.service
+disabled
+inactive
+no
+disabled
+inactive
 broker @VERSION@
 /usr/share/bash-completion/completions/broker
 /usr/share/bash-completion/completions/holzhebo
@@ -104,13 +140,33 @@ broker @VERSION@
 /usr/share/zsh/vendor-completions/_broker
 /usr/share/zsh/vendor-completions/_holzhebo
 """,
-    "upgraded": """--system daemon-reload
-try-restart broker.service
-{"environments":["mine"]}
+    "served": """enabled
+active
+Umask: 0077
+Uid: broker broker broker broker
+CapEff: 0000000000000000
+NoNewPrivs: 1
+Seccomp: 2
+/var/lib/broker/broker.db broker 600
+/var/lib/broker/broker.db-wal broker 600
 {"answer":"shown"
 """,
-    "removed": """stop broker.service
---system daemon-reload
+    "backed up and restored": """active
+active
+broker-TIME.db 600
+nightly/broker-TIME.db 600
+nightly/broker-TIME.db 600
+report.html 600
+<h2>Since the copy of
+<h2>Rows and bytes
+new  environment lost
+new  environment lost
+""",
+    "upgraded": """enabled
+active
+{"environments":["mine"]}
+""",
+    "removed": """inactive
 3
 /etc/holzhebo:
 desk.json
@@ -128,7 +184,7 @@ broker.db-wal
 }
 
 
-def made(room):
+def made(room: str) -> str:
     """The package, which is the same file if it is made again, and has the program byte for byte. Its version."""
     digests = []
     for folder in "one", "two":
@@ -147,13 +203,13 @@ def made(room):
     return version
 
 
-def read_by_lintian(room):
+def read_by_lintian(room: str) -> None:
     said = subprocess.run(["lintian", "--allow-root", f"{room}/new.deb"], capture_output=True, text=True, check=False)
     faults = [it for it in said.stdout.split("\n") if it.startswith(("E:", "W:"))]
     same("what lintian says", (said.returncode, faults), (0, []))
 
 
-def age(room):
+def age(room: str) -> None:
     """A package of an earlier version, with the same files."""
     with open(f"{room}/tree/DEBIAN/control", encoding="utf-8") as it:
         text = it.read()
@@ -162,19 +218,19 @@ def age(room):
     run(["dpkg-deb", "--root-owner-group", "--build", f"{room}/tree", f"{room}/old.deb"])
 
 
-def lived(room, version):
+def lived(room: str, version: str) -> None:
     """What is there after each step of the package's life."""
-    done = in_own_root("bash", LINES.replace("@ROOM@", room), [room], 300)
-    parts = re.split(r"(?m)^== (.*)\n", done.stdout)
+    status, output, errors = in_own_machine(LINES.replace("@ROOM@", room), [room], 300)
+    parts = re.split(r"(?m)^== (.*)\n", output)
     found = dict(zip(parts[1::2], parts[2::2]))
     for name, wanted in WANTED.items():
         if name not in found:
-            raise Wrong(f"it isn't {name}: {done.stdout}{done.stderr}")
+            raise Wrong(f"it isn't {name}: {output}{errors}")
         same(name, found[name], wanted.replace("@VERSION@", version))
-    same("how it ends", done.returncode, 0)
+    same("how it ends", (status, errors), (0, ""))
 
 
-def main():
+def main() -> int:
     with tempfile.TemporaryDirectory() as room:
         version = made(room)
         size = os.path.getsize(f"{room}/new.deb") / 1e6
@@ -183,15 +239,8 @@ def main():
         print("lintian: no error and no warning", flush=True)
         age(room)
         lived(room, version)
-        print("installed, upgraded over a file, removed and purged", flush=True)
+        print("installed, served, restored, upgraded, removed and purged, under systemd", flush=True)
     return 0
 
 
-try:
-    sys.exit(main())
-except NotRun as why:
-    print(f"not run: {why}")
-    sys.exit(77)
-except (Wrong, OSError, subprocess.SubprocessError) as why:
-    print(f"WRONG  {str(why) or repr(why)}")
-    sys.exit(1)
+end_with(main)

@@ -9,18 +9,21 @@ Through each proxy: ordinary requests are answered as by the broker itself, name
 limit passes and a larger one doesn't, slow clients hold up nobody, and a broker that isn't there is 502 until it is
 there again. Then a token leaks: with the lines of docs/OPERATING.md, and this token and a new one in the place of
 theirs, no spelling lets it in, the new one is answered, and so is each token that is like the leaked one. Last, through
-nginx, more requests at once than the limit allows; and who changed what, by the log and examples/who.py. No line of any
-log has a token.
+nginx, more requests at once than the limit allows; and who changed what, by the log and `holzhebo who`. Then the new
+token leaks too, and `holzhebo replace-token` writes the lines. No line of any log has a token.
 
 Prints a line for each, and ends with 1 if one is otherwise than it has to be, or with 77 if a proxy or openssl isn't
 installed."""
 import sys
 
 sys.dont_write_bytecode = True
-import http.client, os, re, shutil, signal, socket, ssl, subprocess, tempfile, time
+import http.client, json, os, re, signal, socket, ssl, subprocess, tempfile, time
+from collections.abc import Callable
 from concurrent.futures import ThreadPoolExecutor
-from hub import BLUE, DONE, OFFICE, RED, TOP, Server, Wrong
-from hub import free_port, new_file, pact, register, run, same, verify
+from hub import BLUE, DONE, OFFICE, RED, TOP, Caller, Server, Wrong
+from hub import end_with, free_port, needs, new_file, pact, register, run, same, verify
+
+Answer = tuple[int, str]
 
 NAME = "broker.example.org"
 LEAKED, NEW, LATEST = "red.team+token/1=", "new~token.of+red=", "token-of-the-last-1"
@@ -65,29 +68,44 @@ DENIED = (401, '{"answer":"denied","rule":"A1"}')
 LIMIT, RATE, WAITING = 1_048_576, 50, 100
 # How many seconds an answer or an end may take.
 WAIT = 60
+CLIENT = f"{TOP}/client/holzhebo"
 
 
-def written(spelling, token):
+def written(spelling: bytes, token: str) -> bytes:
     return spelling.replace(b"%s", token.encode())
 
 
-def among(what, answer, statuses):
+def among(what: str, answer: Answer, statuses: list[int]) -> None:
     if answer[0] not in statuses:
         raise Wrong(f"{what}: {answer} and none of {statuses}")
 
 
-class Front:
-    """A proxy before a broker."""
+class Front(Caller):
+    """A proxy before a broker: what it is called, how a line of its files of tokens ends, and its answers to a body that
+    is too large and to one in chunks."""
 
-    do = Server.do
+    title: str
+    tool: str
+    end: str
+    too_large: list[int]
+    in_chunks: list[int]
+    newest = ""
 
-    def __init__(self, room, broker):
+    def __init__(self, room: str, broker: int) -> None:
         self.room, self.port = room, free_port()
         self.home = {"HOME": room, "XDG_DATA_HOME": room}
         self.words = self.installed(f"127.0.0.1:{broker}")
         self.trust = ssl.create_default_context(cafile=f"{room}/cert.pem")
 
-    def place(self, example, changes):
+    def installed(self, broker: str) -> list[str]:
+        """Its files in the room, for a broker at this address; the words that start it."""
+        raise NotImplementedError
+
+    def reload(self) -> None:
+        """Lets it read its files again."""
+        raise NotImplementedError
+
+    def place(self, example: str, changes: dict[str, str]) -> None:
         """The example in the room, with these texts replaced, each of which it has to have."""
         with open(f"{TOP}/examples/{example}", encoding="utf-8") as it:
             text = "".join(line for line in it if not line.startswith("#"))
@@ -98,12 +116,12 @@ class Front:
         with open(f"{self.room}/{example}", "w", encoding="utf-8") as it:
             it.write(text)
 
-    def leak(self, lines):
+    def leak(self, lines: list[str]) -> None:
         """What the file of the tokens that leaked says."""
         with open(f"{self.room}/tokens", "w", encoding="utf-8") as it:
             it.write("# tokens that leaked\n" + "".join(f"{line}\n" for line in lines))
 
-    def __enter__(self):
+    def __enter__(self) -> "Front":
         self.leak([])
         with open(f"{self.room}/teams", "w", encoding="utf-8") as it:
             for token, team in TEAMS.items():
@@ -113,7 +131,7 @@ class Front:
         self.await_start()
         return self
 
-    def await_start(self):
+    def await_start(self) -> None:
         for _ in range(300):
             if self.process.poll() is not None:
                 raise Wrong(f"it ends with {self.process.returncode}: {self.log('errors')}")
@@ -124,54 +142,53 @@ class Front:
                 time.sleep(0.05)
         raise Wrong(f"it doesn't serve: {self.log('errors')}")
 
-    def __exit__(self, *_):
+    def __exit__(self, *_: object) -> None:
         self.process.terminate()
         self.process.wait(WAIT)
 
-    def log(self, name):
+    def log(self, name: str) -> str:
         path = f"{self.room}/{name}"
         if not os.path.exists(path):
             return ""
         with open(path, encoding="utf-8", errors="replace") as it:
             return it.read()
 
-    def open(self, source="127.0.0.1"):
+    def open(self, source: str = "127.0.0.1") -> ssl.SSLSocket:
         """A connection from this address, by the proxy's own name."""
         peer = socket.create_connection(("127.0.0.1", self.port), WAIT, (source, 0))
         return self.trust.wrap_socket(peer, server_hostname=NAME)
 
-    def message(self, field, ask, body=b""):
+    def message(self, field: bytes, ask: str, body: bytes = b"") -> bytes:
         """A request with this field, or these, for its caller."""
         head = f"{ask} HTTP/1.1\r\nhost: {NAME}:{self.port}\r\nconnection: close\r\ncontent-length: {len(body)}\r\n"
         return head.encode() + field + b"\r\n\r\n" + body
 
-    def exchange(self, message, source="127.0.0.1"):
+    def exchange(self, message: bytes, source: str = "127.0.0.1") -> Answer:
         with self.open(source) as peer:
             peer.sendall(message)
             return answered(peer)
 
-    def ask(self, token, ask, body=""):
+    def ask(self, token: str, ask: str, body: str = "") -> Answer:
         """The answer to a request on a connection of its own, as hub.Server gives it."""
         return self.exchange(self.message(f"authorization: Bearer {token}".encode(), ask, body.encode()))
 
-    def answers(self, what, token, wanted):
+    def answers(self, what: str, token: str, wanted: Answer) -> None:
         """Asks with the token in each spelling that the broker reads: the answer has to be this one."""
         for spelling in READ:
             message = self.message(written(spelling, token), "GET /environments/live")
-            same(f"{what} as {spelling}", self.exchange(message), wanted)
+            same(f"{what} as {spelling!r}", self.exchange(message), wanted)
 
-
-    def refuses(self, token, spellings):
+    def refuses(self, token: str, spellings: list[bytes]) -> None:
         """Asks with the token in each of these spellings: no answer is one to a team."""
         for spelling in spellings:
             answer = self.exchange(self.message(written(spelling, token), "GET /environments/live"))
-            among(f"the token {token} as {spelling}", answer, [400, 401])
+            among(f"the token {token} as {spelling!r}", answer, [400, 401])
 
 
 class Nginx(Front):
     title, tool, end, too_large, in_chunks = "nginx", "nginx", ";", [413], [200]
 
-    def installed(self, broker):
+    def installed(self, broker: str) -> list[str]:
         changes = {"listen 443 ssl": f"listen 127.0.0.1:{self.port} ssl", "127.0.0.1:9292": broker}
         changes["/etc/ssl/certs/broker.pem"] = f"{self.room}/cert.pem"
         changes["/etc/ssl/private/broker.key"] = f"{self.room}/key.pem"
@@ -186,7 +203,7 @@ class Nginx(Front):
             it.write(f"http {{ {temporary} access_log {self.room}/access; include {self.room}/nginx.conf; }}\n")
         return ["nginx", "-p", self.room, "-e", f"{self.room}/errors", "-c", f"{self.room}/main.conf"]
 
-    def reload(self):
+    def reload(self) -> None:
         """Also waits for the end of the workers that have the former lines."""
         before = workers(self.process.pid)
         self.process.send_signal(signal.SIGHUP)
@@ -196,7 +213,7 @@ class Nginx(Front):
 class Caddy(Front):
     title, tool, end, too_large, in_chunks = "Caddy", "caddy", "", [413, 502], [501, 502]
 
-    def installed(self, broker):
+    def installed(self, broker: str) -> list[str]:
         site = f"https://{NAME}:{self.port} {{\n\tbind 127.0.0.1\n\ttls {self.room}/cert.pem {self.room}/key.pem"
         changes = {f"{NAME} {{": site, "127.0.0.1:9292": broker, "/etc/caddy/broker-tokens": f"{self.room}/tokens"}
         changes["/etc/caddy/broker-teams"] = f"{self.room}/teams"
@@ -205,18 +222,18 @@ class Caddy(Front):
         self.place("Caddyfile", {**changes, "unix//var/lib/caddy/admin.sock": admin})
         return ["caddy", "run", "--config", f"{self.room}/Caddyfile", "--adapter", "caddyfile"]
 
-    def reload(self):
+    def reload(self) -> None:
         words = ["caddy", "reload", "--config", f"{self.room}/Caddyfile", "--adapter", "caddyfile", "--force"]
         run(words, env=self.home)
 
 
-def workers(process):
+def workers(process: int) -> set[str]:
     """The processes that nginx has started."""
     with open(f"/proc/{process}/task/{process}/children", encoding="ascii") as it:
         return set(it.read().split())
 
 
-def await_that(holds, what):
+def await_that(holds: Callable[[], bool], what: str) -> None:
     for _ in range(400):
         if holds():
             return
@@ -224,7 +241,7 @@ def await_that(holds, what):
     raise Wrong(f"it doesn't come to this: {what}")
 
 
-def answered(peer):
+def answered(peer: ssl.SSLSocket) -> Answer:
     """The status and the body of an answer."""
     answer = http.client.HTTPResponse(peer)
     answer.begin()
@@ -234,7 +251,7 @@ def answered(peer):
 # What is tried through each proxy
 
 
-def ordinary(front, broker):
+def ordinary(front: Front, broker: Server) -> None:
     """The fleet is made through the proxy, and what is asked then is answered as by the broker itself."""
     register(front)
     verify(front)
@@ -246,20 +263,20 @@ def ordinary(front, broker):
     same("without a token", front.exchange(front.message(b"accept: */*", "GET /environments/live")), DENIED)
 
 
-def names(front, broker):
+def names(front: Front, broker: Server) -> None:
     for name in NAMES:
         ask = f"PUT /pacticipants/shop/versions/{name}"
         same(f"{ask} through it", front.ask(RED, ask), (200, DONE))
         same(f"{ask} to the broker", broker.ask(RED, ask), (200, '{"answer":"already"}'))
 
 
-def sized(size):
+def sized(size: int) -> str:
     """A pact file of so many bytes."""
     text = pact("a size")
     return text + " " * (size - len(text))
 
 
-def bodies(front, _):
+def bodies(front: Front, _: Server) -> None:
     path = "PUT /pacts/provider/stock/consumer/shop/version/size"
     same("a body of the limit", front.ask(RED, path, sized(LIMIT)), (200, '{"answer":"done","content":4}'))
     among("a body over the limit", front.ask(RED, path, sized(LIMIT + 1)), front.too_large)
@@ -271,7 +288,7 @@ def bodies(front, _):
     among("a body in chunks", front.exchange(head + b"%x\r\n%s\r\n0\r\n\r\n" % (len(text), text)), front.in_chunks)
 
 
-def slow(front, _):
+def slow(front: Front, _: Server) -> None:
     """Clients that stop in the middle of a head or of a body hold up nobody."""
     message = front.message(b"authorization: Bearer x", "PUT /pacticipants/shop/versions/slow", b'{"branch":"main"}')
     peers = [front.open() for _ in range(10)]
@@ -287,7 +304,7 @@ def slow(front, _):
         raise Wrong(f"another client waits {took:.1f} s")
 
 
-def restart(front, broker):
+def restart(front: Front, broker: Server) -> None:
     before = front.ask(RED, "GET /environments/live")
     broker.__exit__()
     same("without a broker", front.ask(RED, "GET /environments/live")[0], 502)
@@ -295,7 +312,7 @@ def restart(front, broker):
     same("with it again", front.ask(RED, "GET /environments/live"), before)
 
 
-def lines_for(front):
+def lines_for(front: Front) -> list[str]:
     """The lines of docs/OPERATING.md for a token that leaks, with the tokens of this check."""
     with open(f"{TOP}/docs/OPERATING.md", encoding="utf-8") as it:
         section = re.search(r"(?ms)^## A token leaks\n(.*?)^## ", it.read())
@@ -305,7 +322,7 @@ def lines_for(front):
     return [it.replace("NEW-TOKEN-OF-THE-TEAM", NEW).replace("shop-team-token-1", LEAKED) for it in lines]
 
 
-def leaked(front, broker):
+def leaked(front: Front, broker: Server) -> None:
     for number, token in enumerate([LEAKED, *ALIKE]):
         front.do(OFFICE, f"PUT /teams/team-{number}", '{"token":"%s"}' % token)
     shown = broker.ask(RED, "GET /environments/live")
@@ -321,7 +338,7 @@ def leaked(front, broker):
         front.answers(f"the token {token}", token, shown)
 
 
-def limited(front, _):
+def limited(front: Front, _: Server) -> None:
     """At once more requests from one address than may wait: the rest is 429. Another address isn't limited by it."""
     message = front.message(f"authorization: Bearer {RED}".encode(), "GET /environments/live")
     peers = [front.open() for _ in range(WAITING + 150)]
@@ -341,9 +358,9 @@ def limited(front, _):
         raise Wrong(f"{said}, and another address after {other:.1f} s")
 
 
-def unlogged(front, _):
+def unlogged(front: Front, _: Server) -> None:
     for name in "errors", "access", "log":
-        for token in OFFICE, RED, BLUE, LEAKED, NEW, LATEST, *ALIKE:
+        for token in OFFICE, RED, BLUE, LEAKED, NEW, LATEST, front.newest, *ALIKE:
             if token in front.log(name):
                 raise Wrong(f"a token, {token}, is in {name}")
 
@@ -361,12 +378,12 @@ CHANGES = [
     (NEW, "PUT /pacticipants/cart/versions/1", "", 200),
     (RED, "POST /environments/a%2Fb/undeployments", '{"pacticipant":"shop","version":"2"}', 200),
 ]
-IN_ENVIRONMENT = ["red deployments shop 1 \\u202e", "red deployments shop 2", "red undeployments shop 2"]
+IN_ENVIRONMENT = ["red deployments shop 1 \\u{202e}", "red deployments shop 2", "red undeployments shop 2"]
 SINCE = [
     "office PUT /teams/last",
     'office PUT /environments/a%2Fb {"gated":false}',
     "office PUT /grants/team/red/environment/a%2Fb",
-    'red POST /environments/a%2Fb/deployments {"pacticipant":"shop","version":"1","instance":"\\u202e"}',
+    'red POST /environments/a%2Fb/deployments {"pacticipant":"shop","version":"1","instance":"\\u{202e}"}',
     'red POST /environments/a%2fb/deployments {"pacticipant":"shop","version":"2"}',
     "office PUT /pacticipants/cart",
     "leaky PUT /pacticipants/cart/versions/1",
@@ -374,21 +391,43 @@ SINCE = [
 ]
 
 
-def who(front, *words):
-    """What examples/who.py says, without the times."""
-    lines = run([sys.executable, "examples/who.py", *words, f"{front.room}/log"]).splitlines()
+def who(front: Front, *words: str) -> list[str]:
+    """What `holzhebo who` says, without the times."""
+    lines = run([CLIENT, "who", *words, "--log", f"{front.room}/log"]).splitlines()
     return [it.split(" ", 1)[1] for it in lines]
 
 
-def recorded(front, _):
+def recorded(front: Front, _: Server) -> None:
     """Who changed what, by the log: the new token is that of the leaked one's team."""
     time.sleep(1)
     since = time.strftime("%Y-%m-%dT%H:%M:%S")
     for token, ask, body, status in CHANGES:
         same(ask, front.ask(token, ask, body)[0], status)
     await_that(lambda: len(who(front, "--since", since)) >= len(SINCE), "the log has each request")
-    same("who.py --since", who(front, "--since", since), SINCE)
-    same("who.py of the environment", who(front, "a/b"), IN_ENVIRONMENT)
+    same("holzhebo who --since", who(front, "--since", since), SINCE)
+    same("holzhebo who of the environment", who(front, "a/b"), IN_ENVIRONMENT)
+    counted = json.loads(run([CLIENT, "metrics", "--log", f"{front.room}/log", "--json"]))
+    requests = front.log("log").splitlines()
+    same("holzhebo metrics", counted["buckets"]['le="+Inf"'], len(requests))
+    refused = sum('"status":403' in it for it in requests)
+    same("those that were denied", counted["requests"]['method="POST",status="403"'], refused)
+
+
+def leaked_again(front: Front, broker: Server) -> None:
+    """The new token leaks too: the client blocks it, and makes one that takes its place."""
+    shown, newest = broker.ask(RED, "GET /environments/live"), f"{front.room}/newest"
+    with open(f"{front.room}/new", "w", encoding="utf-8") as it:
+        it.write(NEW)
+    words = [CLIENT, "replace-token", f"{front.room}/new", "--new-token-file", newest, "--into", f"{front.room}/tokens"]
+    run([*words, *(["--caddy"] if not front.end else [])])
+    front.reload()
+    with open(newest, encoding="utf-8") as it:
+        front.newest = it.read().split()[-1]
+    for token in LEAKED, NEW:
+        front.answers(f"the token {token}", token, DENIED)
+    front.answers("the newest token", front.newest, shown)
+    for token in ALIKE:
+        front.answers(f"the token {token}", token, shown)
 
 
 TRIALS = {
@@ -400,18 +439,19 @@ TRIALS = {
     "a token that leaked": leaked,
     "more requests than the limit": limited,
     "who changed what": recorded,
+    "the new token leaks too": leaked_again,
     "tokens in the logs": unlogged,
 }
 
 
-def certificate(room):
+def certificate(room: str) -> None:
     """One for the name, signed by itself."""
     subject = ["-subj", f"/CN={NAME}", "-addext", f"subjectAltName=DNS:{NAME}", "-days", "2"]
     key = ["-newkey", "ec", "-pkeyopt", "ec_paramgen_curve:prime256v1", "-nodes", "-keyout", f"{room}/key.pem"]
     run(["openssl", "req", "-x509", *key, "-out", f"{room}/cert.pem", *subject])
 
 
-def tried(kind):
+def tried(kind: type[Front]) -> int:
     """How many of the trials through this proxy go wrong."""
     faults = 0
     with tempfile.TemporaryDirectory() as room:
@@ -430,18 +470,11 @@ def tried(kind):
     return faults
 
 
-def main():
+def main() -> int:
     kinds = [it for it in (Nginx, Caddy) if sys.argv[2:] in ([], [it.tool])]
-    for tool in ["openssl", *(it.tool for it in kinds)]:
-        if not shutil.which(tool):
-            print(f"not run: {tool} isn't installed")
-            return 77
+    needs("openssl", *(it.tool for it in kinds))
     with ThreadPoolExecutor(len(kinds)) as workers:
         return 1 if sum(workers.map(tried, kinds)) else 0
 
 
-try:
-    sys.exit(main())
-except (Wrong, OSError, subprocess.SubprocessError) as why:
-    print(f"WRONG  {str(why) or repr(why)}")
-    sys.exit(1)
+end_with(main)

@@ -9,50 +9,60 @@
 - The page: its lines for a list of requests between two copies, written by hand.
 - Names that look like markup, or that can't be seen: only the report's own elements are in the page.
 - No token and no digest of one is in it; what it refuses, by its status.
-- 40,000 contracts within ten seconds of processor time; its types, by mypy.
+- 40,000 contracts within ten seconds of processor time.
+- Each of these pages in Chromium (report_shown.py): its picture is drawn, its texts can be read, and it asks for
+  nothing and runs nothing; a page without the picture, or with something from elsewhere, is noticed.
 
 Prints a line for each, and ends with 1 if one is otherwise."""
 import sys
 
 sys.dont_write_bytecode = True
 import collections, hashlib, html.parser, json, os, random, re, resource, shutil, sqlite3, subprocess, tempfile
+from collections.abc import Callable
 from concurrent.futures import ThreadPoolExecutor
 from importlib.machinery import SourceFileLoader
+from typing import Any
 from urllib.parse import quote
 from hub import BLUE, OFFICE, PROGRAM, RED, TOP, Server, Wrong, new_file, pact, register, run, same, verify
-import stories
+from browser import Browser, Unseen
+from report_shown import Picture, looked_at
+import plays, stories
 
 SEED = int(sys.argv[2]) if sys.argv[2:] else 1
 HISTORIES, STEPS = 6, 160
 TOOL = f"{TOP}/tools/report"
-report = SourceFileLoader("report", TOOL).load_module()
+report: Any = SourceFileLoader("report", TOOL).load_module()
+Kinds = collections.Counter[str]
 GREEN = "green-team-token-1"
+# The pages of the tests, for the browser.
+PAGES: dict[str, str] = {}
 
 
-def copied(file, to):
+def copied(file: str, to: str) -> str:
     """The copy of a stopped broker's file, with its log."""
     stories.place_copy(file, to)
     return to
 
 
-def page_of(*copies):
-    return run([TOOL, *copies])
+def page_of(*copies: str) -> str:
+    return run([sys.executable, "-W", "error", TOOL, *copies])
 
 
 # The gate
 
 
-def in_answer(it):
+def in_answer(it: dict[str, str]) -> tuple[str, ...]:
     return it["consumer"], it["consumerVersion"], it["provider"], it["providerVersion"], it["kind"]
 
 
-def compare_environment(server, office, copy, there):
+def compare_environment(server: Server, office: str, copy: Any, there: Any) -> Kinds:
     """What the program and the report say of an environment: the kinds of all faults, by their number."""
     place = quote(there.name, safe="")
     listing = json.loads(server.ask(office, f"GET /environments/{place}")[1])
     said = {(it["pacticipant"], it["version"]) for it in listing["deployed"] + listing["released"]}
     same("what is there", {copy.version(it) for them in there.there.values() for it in them}, said)
-    kinds, refused = collections.Counter(), set()
+    kinds: Kinds = collections.Counter()
+    refused: set[tuple[str, str]] = set()
     for number, in copy.rows("SELECT number FROM versions ORDER BY 1"):
         names = copy.version(number)
         ask = f"GET /can-i-deploy?pacticipant={quote(names[0], safe='')}&version={quote(names[1], safe='')}&environment={place}"
@@ -67,9 +77,9 @@ def compare_environment(server, office, copy, there):
     return kinds
 
 
-def compare(file, office, room):
+def compare(file: str, office: str, room: str) -> Kinds:
     """The same of all environments of a file that nobody serves."""
-    kinds = collections.Counter()
+    kinds: Kinds = collections.Counter()
     with Server(copied(file, f"{room}/served.db")) as server:
         copy = report.Copy(copied(file, f"{room}/read.db"), room)
         for there in copy.environments:
@@ -78,7 +88,7 @@ def compare(file, office, room):
     return kinds
 
 
-def try_story(name):
+def try_story(name: str) -> Kinds | None:
     """A story, if it changes nothing by a statement."""
     story = stories.Story(name)
     if any(it.strip() for stream in story.streams for it in stream.statements):
@@ -91,13 +101,13 @@ def try_story(name):
             raise Wrong(f"{name}: {it}") from None
 
 
-def try_stories():
+def try_stories() -> str:
     names = sorted(it.removesuffix(".story") for it in os.listdir(f"{TOP}/checks/stories") if it.endswith(".story"))
     with ThreadPoolExecutor(len(os.sched_getaffinity(0))) as pool:
         found = [it for it in pool.map(try_story, names) if it is not None]
     if len(found) * 2 < len(names):
         raise Wrong(f"only {len(found)} of {len(names)} stories leave a sound file")
-    kinds = sum(found, collections.Counter())
+    kinds: Kinds = sum(found, collections.Counter())
     return f"{len(found)} of {len(names)} stories, {kinds.total() - kinds['asked']} faults in {kinds['asked']} questions"
 
 
@@ -105,7 +115,7 @@ SERVICES = {"a": RED, "b": RED, "c": BLUE, "d": BLUE}
 PLACES = "open", "live", "vault"
 
 
-def begin_history(server):
+def begin_history(server: Server) -> None:
     for team, token in ("red", RED), ("blue", BLUE):
         server.do(OFFICE, f"PUT /teams/{team}", json.dumps({"token": token}))
     for service, token in SERVICES.items():
@@ -116,7 +126,7 @@ def begin_history(server):
             server.do(OFFICE, f"PUT /grants/team/{team}/environment/{place}")
 
 
-def step(chance):
+def step(chance: random.Random) -> tuple[str, str, str]:
     """A random request: the token, the request, the body."""
     one, other = chance.sample([*SERVICES], 2)
     number, there, text = chance.choice("123"), chance.choice("123"), chance.choice(["a cup", "a pen"])
@@ -138,7 +148,7 @@ def step(chance):
     return SERVICES[service], ask, json.dumps(body)
 
 
-def try_history(seed):
+def try_history(seed: int) -> Kinds:
     chance = random.Random(seed)
     with tempfile.TemporaryDirectory() as room:
         file = new_file(room)
@@ -155,9 +165,9 @@ def try_history(seed):
             raise Wrong(f"history {seed}: {it}") from None
 
 
-def try_histories():
+def try_histories() -> str:
     with ThreadPoolExecutor(len(os.sched_getaffinity(0))) as pool:
-        kinds = sum(pool.map(try_history, range(SEED, SEED + HISTORIES)), collections.Counter())
+        kinds: Kinds = sum(pool.map(try_history, range(SEED, SEED + HISTORIES)), collections.Counter())
     if lost := [it for it in ("absent", "missing", "failed", "claimed") if not kinds[it]]:
         raise Wrong(f"no fault is {' or '.join(lost)}: take another seed")
     return f"{HISTORIES} histories, {kinds.total() - kinds['asked']} faults in {kinds['asked']} questions"
@@ -169,21 +179,25 @@ def try_histories():
 class Page(html.parser.HTMLParser):
     """What a page has: its elements with their fields, and under each heading the text of its lines."""
 
-    def __init__(self, text):
+    def __init__(self, text: str) -> None:
         super().__init__()
-        self.elements, self.fields, self.sections, self.lines, self.text = set(), [], {}, [], []
+        self.elements: set[str] = set()
+        self.fields: list[tuple[str, str, str | None]] = []
+        self.sections: dict[str, list[str]] = {}
+        self.lines: list[str] = []
+        self.text: list[str] = []
         self.feed(text)
 
-    def handle_starttag(self, tag, attrs):
+    def handle_starttag(self, tag: str, attrs: list[tuple[str, str | None]]) -> None:
         self.elements.add(tag)
         self.fields += [(tag, *it) for it in attrs]
         if tag in ("tr", "li", "p", "h2", "h3"):
             self.text = []
 
-    def handle_data(self, data):
+    def handle_data(self, data: str) -> None:
         self.text.append(data)
 
-    def handle_endtag(self, tag):
+    def handle_endtag(self, tag: str) -> None:
         if tag in ("td", "th"):
             self.text.append("|")
         if tag == "div":
@@ -243,7 +257,7 @@ ROWS = ["teams|3|+1", "pacticipants|3|+1", "versions|5|+1", "branches|1|+1", "en
 ROWS += ["contents|4|+1", "contracts|4|+1", "results|4|+2", "latest|3|+1", "deployed|3|+0", "released|2|+2"]
 
 
-def change(server):
+def change(server: Server) -> None:
     """The list of requests between the two copies."""
     path = "/pacts/provider/stock/consumer/shop/version"
     server.do(OFFICE, "PUT /teams/green", json.dumps({"token": GREEN}))
@@ -261,7 +275,7 @@ def change(server):
     server.do(BLUE, f"POST {path}/3/results", '{"providerApplicationVersion":"1","success":false}')
 
 
-def two_copies(room):
+def two_copies(room: str) -> tuple[str, str]:
     """A file before these requests and after them."""
     file = new_file(room)
     with Server(file) as server:
@@ -273,17 +287,17 @@ def two_copies(room):
     return earlier, copied(file, f"{room}/now.db")
 
 
-def refused(*copies):
+def refused(*copies: str) -> int:
     """The status of a report that isn't made, which writes nothing."""
     done = subprocess.run([TOOL, *copies], capture_output=True)
     same(f"the page of {' '.join(copies)}", done.stdout, b"")
     return done.returncode
 
 
-def try_page():
+def try_page() -> str:
     with tempfile.TemporaryDirectory() as room:
         earlier, now = two_copies(room)
-        text = page_of(now, earlier)
+        text = PAGES["page"] = page_of(now, earlier)
         found = Page(text).sections
         for title, lines in WANTED.items():
             same(title, found.get(title), lines)
@@ -298,7 +312,7 @@ def try_page():
     return f"{sum(map(len, WANTED.values())) + len(SINCE) + len(ROWS)} lines as written"
 
 
-def try_refusals():
+def try_refusals() -> str:
     """What isn't a copy of a broker's file is refused."""
     with tempfile.TemporaryDirectory() as room:
         file, other = new_file(room), f"{room}/other.db"
@@ -315,7 +329,7 @@ def try_refusals():
         same("no word, three words", [refused(), refused("a", "b", "c")], [2, 2])
         breaks = "UPDATE latest SET result = 1", "DELETE FROM latest", "DELETE FROM versions WHERE pacticipant = 'stock'"
         for at, statement in enumerate(breaks):
-            stories.statements(copied(file, f"{room}/{at}.db"), statement)
+            plays.statements(copied(file, f"{room}/{at}.db"), statement)
             same(statement, refused(f"{room}/{at}.db"), 1)
     return f"{8 + len(breaks)} refused"
 
@@ -327,7 +341,7 @@ FIELDS = {"charset", "http-equiv", "content", "lang", "class", "scope", "id", "r
 FIELDS |= {"viewbox", "refx", "refy", "markerwidth", "markerheight", "orient", "marker-end"}
 
 
-def name_everything(server, name, token):
+def name_everything(server: Server, name: str, token: str) -> None:
     place = quote(name, safe="")
     server.do(OFFICE, f"PUT /teams/{place}", json.dumps({"token": token}))
     server.do(OFFICE, f"PUT /pacticipants/{place}", json.dumps({"team": name}))
@@ -335,7 +349,7 @@ def name_everything(server, name, token):
     server.do(OFFICE, f"PUT /grants/team/{place}/environment/{place}")
 
 
-def use_everywhere(server, name, provider, token):
+def use_everywhere(server: Server, name: str, provider: str, token: str) -> None:
     place, other = quote(name, safe=""), quote(provider, safe="")
     body = {"consumer": {"name": name}, "provider": {"name": provider}, "interactions": []}
     server.do(token, f"PUT /pacts/provider/{other}/consumer/{place}/version/{place}", json.dumps(body))
@@ -344,7 +358,7 @@ def use_everywhere(server, name, provider, token):
     server.do(token, f"POST /environments/{place}/deployments", json.dumps(there))
 
 
-def try_names():
+def try_names() -> str:
     """Each hostile name is a team's, a service's, a version's, an environment's, a branch's and an instance's."""
     with tempfile.TemporaryDirectory() as room:
         file = new_file(room)
@@ -354,7 +368,7 @@ def try_names():
                 name_everything(server, name, f"hostile-token-{at:04}")
             for at, name in enumerate(HOSTILE):
                 use_everywhere(server, name, HOSTILE[at - 1], f"hostile-token-{at:04}")
-        text = page_of(file, earlier)
+        text = PAGES["names"] = page_of(file, earlier)
         found = Page(text)
         same("elements that aren't the report's", sorted(found.elements - {*OWN.split()}), [])
         same("fields that aren't the report's", [it for it in found.fields if it[1] not in FIELDS], [])
@@ -366,7 +380,7 @@ def try_names():
     return f"{len(HOSTILE)} names are text"
 
 
-def seen(name):
+def seen(name: str) -> str:
     return name.replace("\u202e", "[U+202E]").replace("\u2066", "[U+2066]")
 
 
@@ -388,14 +402,14 @@ INSERT INTO deployed SELECT name, pacticipant, 'canary', min(number) FROM versio
 """
 
 
-def try_large():
+def try_large() -> str:
     with tempfile.TemporaryDirectory() as room:
         file = new_file(room)
         with sqlite3.connect(file) as base:
             base.executescript(LARGE)
         base.close()
         began = resource.getrusage(resource.RUSAGE_CHILDREN)
-        text = page_of(file)
+        text = PAGES["large"] = page_of(file)
         ended = resource.getrusage(resource.RUSAGE_CHILDREN)
         size = os.path.getsize(file)
     took = ended.ru_utime - began.ru_utime + ended.ru_stime - began.ru_stime
@@ -408,18 +422,58 @@ def try_large():
     return f"{size / 1e6:.0f} MB in {took:.1f} s, a page of {len(text) / 1e6:.1f} MB"
 
 
-def try_types():
-    return run(["mypy", "--strict", "--cache-dir", "/dev/null", TOOL]).strip()
+# In a browser
 
 
-def main():
+FIRST = ["What is where", "Who consumes whom", "Consumers with another contract than their newest", "Owners and grants"]
+FIRST += ["Names that nothing uses", "Claimed and checked"]
+TITLES, SINCE_TITLES = [*FIRST, "Rows and bytes"], [*FIRST, "Since the copy of ..", "Rows and bytes"]
+SHOWN = {
+    "page": (SINCE_TITLES, Picture(2, 1, {("shop", "stock")})),
+    "names": (SINCE_TITLES, Picture(len(HOSTILE), len(HOSTILE), {(seen(it), seen(HOSTILE[at - 1])) for at, it in enumerate(HOSTILE)})),
+    "large": (TITLES, Picture(800, 400, None)),
+}
+# What has to be noticed of a page: a text and another one in its place, and what is said then.
+OTHERWISE = [
+    (r"(?s)<svg.*</svg>", "", "there is no picture"),
+    (r"(?s)<path d=.M\d+ \d+C.*?</path>", "", "boxes and arrows"),
+    ("fill: var\\(--ink\\)", "fill: #999", "contrast"),
+    ("<h1>", "<h1><img src='http://127.0.0.1:1/a.png'>", "what the browser reports"),
+    ("<h1>", "<h1><script>1</script>", "what the browser reports"),
+    ("<style>", "<style>body { min-width: 600px }", "how much wider than 360"),
+    ("default-src 'none'", "default-src 'unsafe-inline'", "whether a script"),
+]
+
+
+def try_browser() -> str:
+    with tempfile.TemporaryDirectory() as room, Browser(room) as page:
+
+        def look(text: str, name: str) -> None:
+            with open(f"{room}/report.html", "w", encoding="utf-8") as it:
+                it.write(text)
+            looked_at(page, f"{room}/report.html", *SHOWN[name])
+
+        for name in SHOWN:
+            look(PAGES[name], name)
+        for old, new, finding in OTHERWISE:
+            try:
+                look(re.sub(old, new, PAGES["page"], count=1), "page")
+            except Wrong as it:
+                if finding not in str(it):
+                    raise Wrong(f"{old} is found as {it}") from it
+            else:
+                raise Wrong(f"{old} isn't noticed")
+    return f"{len(SHOWN)} pages, {len(OTHERWISE)} faults noticed"
+
+
+def main() -> int:
     tests = {"the gate of stories": try_stories, "the gate of random histories": try_histories, "the page": try_page}
-    tests |= {"refusals": try_refusals, "hostile names": try_names, "40,000 contracts": try_large, "types": try_types}
+    tests |= {"refusals": try_refusals, "hostile names": try_names, "40,000 contracts": try_large, "in a browser": try_browser}
     wrong = 0
     for name, function in tests.items():
         try:
             print(f"{name}: {function()}", flush=True)
-        except (Wrong, stories.Wrong, OSError, sqlite3.Error, subprocess.SubprocessError) as it:
+        except (Wrong, plays.Wrong, Unseen, LookupError, OSError, sqlite3.Error, subprocess.SubprocessError) as it:
             wrong += 1
             print(f"WRONG  {name}: {it or repr(it)}", flush=True)
     return 1 if wrong else 0

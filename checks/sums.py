@@ -4,13 +4,13 @@ import os, struct
 PAGE, SUM = 4096, 8
 
 
-def has_sums(file):
+def has_sums(file: str) -> bool:
     """Whether each page ends in a sum: then eight bytes of it are reserved, by the file's header."""
     with open(file, "rb") as it:
         return it.read(21)[20:] == bytes([SUM])
 
 
-def seal(file):
+def seal(file: str) -> None:
     """Gives the pages their sums again, if the file has them."""
     if not has_sums(file):
         return

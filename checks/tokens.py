@@ -1,6 +1,6 @@
 #!/usr/bin/env python3
-"""Tokens in the words of command lines, which others on a machine can read: the scripts of examples/ have none. Takes a
-second.
+"""Tokens in the words of command lines, which others on a machine can read: the scripts of examples/ have none. Takes
+some seconds.
 
     checks/tokens.py PROGRAM     PROGRAM is the path of `broker`
 
@@ -10,44 +10,35 @@ otherwise than it has to be, or with 77 if curl or strace isn't installed."""
 import sys
 
 sys.dont_write_bytecode = True
-import re, shutil, subprocess, tempfile
-from hub import OFFICE, PROGRAM, Server, Wrong
-from hub import new_file, run, same
+import re, tempfile
+from hub import PROGRAM, Server, end_with, needs, new_file, run, same
 
-TEAM = "shop-team-token-1"
-# Each script, its words, with `URL` in the place of a broker's address, and a program that it has to start.
-SCRIPTS = [("one-deployment.sh", ["URL"], shutil.which("curl")), ("replay.sh", [PROGRAM], PROGRAM)]
+# Each script, its words, with `URL` in the place of a broker's address, and the end of a program that it has to start.
+SCRIPTS = [("one-deployment.sh", ["URL"], "/curl"), ("demo.sh", ["URL"], "/curl"), ("replay.sh", [PROGRAM], PROGRAM)]
 
 
-def started(words, trace):
+def started(words: list[str], trace: str) -> list[tuple[str, str]]:
     """The command lines that these words start, each with the path of its program first."""
     run(["strace", "-f", "-qq", "-s", "100000", "-e", "trace=execve", "-o", trace, *words])
     with open(trace, encoding="utf-8") as it:
         return re.findall(r'(?m)^\d+ +execve\("([^"]*)", \[(.*?)\], 0x.* = 0$', it.read())
 
 
-def tried(script, words, tool):
+def tried(script: str, words: list[str], tool: str) -> None:
     with tempfile.TemporaryDirectory() as room, Server(new_file(room)) as server:
         words = [f"examples/{script}", *(server.url if it == "URL" else it for it in words)]
         lines = started(words, f"{room}/trace")
-    same(f"whether {tool} is among what {script} starts", tool in [path for path, _ in lines], True)
-    shown = [line for path, line in lines if path != PROGRAM and (OFFICE in line or TEAM in line)]
+    same(f"whether {script} starts {tool}", any(path.endswith(tool) for path, _ in lines), True)
+    shown = [line for path, line in lines if path != PROGRAM and re.search(r"-token-0*1", line)]
     same(f"command lines of {script} with a token", shown, [])
 
 
-def main():
-    for tool in "curl", "strace":
-        if not shutil.which(tool):
-            print(f"not run: {tool} isn't installed")
-            return 77
+def main() -> int:
+    needs("curl", "strace")
     for script, words, tool in SCRIPTS:
         tried(script, words, tool)
         print(f"ok     examples/{script}", flush=True)
     return 0
 
 
-try:
-    sys.exit(main())
-except (Wrong, OSError, subprocess.SubprocessError) as why:
-    print(f"WRONG  {str(why) or repr(why)}")
-    sys.exit(1)
+end_with(main)

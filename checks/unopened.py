@@ -10,14 +10,14 @@ root."""
 import sys
 
 sys.dont_write_bytecode = True
-import os, pwd, re, shutil, subprocess, tempfile
-from hub import OFFICE, PROGRAM, TOP, Server, Wrong
-from hub import free_port, run, same
+import os, pwd, re, subprocess, tempfile
+from hub import OFFICE, PROGRAM, TOP, NotRun, Server, Wrong
+from hub import end_with, free_port, needs, run, same
 
 NOBODY = pwd.getpwnam("nobody")
 
 
-def lines():
+def lines() -> str:
     """The lines of the page, without the first, which says the file and the user."""
     with open(f"{TOP}/docs/OPERATING.md", encoding="utf-8") as it:
         block = re.search(r"(?ms)^```\n(f=\S+ user=\S+)\n(.*?)^```$", it.read())
@@ -26,11 +26,11 @@ def lines():
     return block[2]
 
 
-def as_nobody(*words):
+def as_nobody(*words: str) -> list[str]:
     return ["runuser", "-u", "nobody", "--", *words]
 
 
-def broker_file(folder):
+def broker_file(folder: str) -> str:
     """A broker's file in a folder of its own, both nobody's."""
     os.mkdir(folder, 0o700)
     os.chown(folder, NOBODY.pw_uid, NOBODY.pw_gid)
@@ -39,7 +39,7 @@ def broker_file(folder):
     return file
 
 
-def refused(file):
+def refused(file: str) -> None:
     """The program, as nobody, doesn't open it."""
     listen = f"127.0.0.1:{free_port()}"
     words = as_nobody("timeout", "60", PROGRAM, "serve", "--file", file, "--listen", listen, "--connections", "1")
@@ -47,21 +47,21 @@ def refused(file):
     same(f"serve of {file}", (it.returncode, it.stderr), (3, "file\n"))
 
 
-def named(file, wanted):
-    """The last line that the lines of the page print for it."""
+def named(file: str, wanted: str) -> list[str]:
+    """The last line that the lines of the page print for it has to be this one. What they print before it."""
     said = run(["bash", "-c", f"f={file} user=nobody\n{lines()}"]).rstrip("\n").split("\n")
     same(f"what {os.path.basename(os.path.dirname(file))} is called", said[-1], wanted)
     return said[:-1]
 
 
-def missing(folder):
+def missing(folder: str) -> None:
     file = broker_file(folder)
     os.rename(file, f"{folder}/elsewhere.db")
     refused(file)
     named(file, "missing")
 
 
-def in_use(folder):
+def in_use(folder: str) -> None:
     file = broker_file(folder)
     with Server(file) as server:
         refused(file)
@@ -69,14 +69,14 @@ def in_use(folder):
         same("the processes", {it.split("/")[2] for it in before}, {str(server.process.pid)})
 
 
-def forbidden_file(folder):
+def forbidden_file(folder: str) -> None:
     file = broker_file(folder)
     os.chown(file, 0, 0)
     refused(file)
     named(file, "forbidden")
 
 
-def forbidden_log(folder):
+def forbidden_log(folder: str) -> None:
     """As it is after root copied both files there."""
     file = broker_file(folder)
     with open(f"{file}-wal", "w", encoding="ascii"):
@@ -86,7 +86,7 @@ def forbidden_log(folder):
     named(file, "forbidden")
 
 
-def forbidden_folder(folder):
+def forbidden_folder(folder: str) -> None:
     file = broker_file(folder)
     if os.path.exists(f"{file}-wal"):
         os.remove(f"{file}-wal")
@@ -96,7 +96,7 @@ def forbidden_folder(folder):
     named(file, "forbidden")
 
 
-def foreign(folder):
+def foreign(folder: str) -> None:
     file = broker_file(folder)
     with open(file, "w", encoding="ascii") as it:
         it.write("a list of things to buy\n" * 100)
@@ -104,7 +104,7 @@ def foreign(folder):
     named(file, "foreign")
 
 
-def damaged(folder):
+def damaged(folder: str) -> None:
     file = broker_file(folder)
     with open(file, "r+b") as it:
         it.seek(5000)
@@ -115,10 +115,10 @@ def damaged(folder):
     named(file, "damaged")
 
 
-def main():
-    if os.geteuid() != 0 or not shutil.which("runuser"):
-        print("not run: it has to be run as root, with runuser")
-        return 77
+def main() -> int:
+    if os.geteuid() != 0:
+        raise NotRun("it has to be run as root")
+    needs("runuser")
     with tempfile.TemporaryDirectory() as room:
         os.chmod(room, 0o755)
         for trial in missing, in_use, forbidden_file, forbidden_log, forbidden_folder, foreign, damaged:
@@ -127,8 +127,4 @@ def main():
     return 0
 
 
-try:
-    sys.exit(main())
-except (Wrong, OSError, subprocess.SubprocessError) as why:
-    print(f"WRONG  {str(why) or repr(why)}")
-    sys.exit(1)
+end_with(main)

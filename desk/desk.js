@@ -357,11 +357,12 @@ async function environment(name) {
 
 // The page
 
+// Of each view its title, and how many words a question of it has: without them it is a form, and nothing is asked.
 const VIEWS = {
-  board: ['Board', board],
-  ask: ['Can it go?', question],
-  matrix: ['Matrix', matrix],
-  environment: ['Environments', environment],
+  board: ['Board', board, 0],
+  ask: ['Can it go?', question, 3],
+  matrix: ['Matrix', matrix, 2],
+  environment: ['Environments', environment, 1],
 };
 
 function signIn(sentence) {
@@ -399,7 +400,8 @@ async function seen() {
   const [name, ...rest] = words();
   if (!token) return signIn();
   if (!Object.hasOwn(VIEWS, name)) throw new Failure(say`This address isn’t one of this page.`);
-  const nodes = await VIEWS[name][1](...rest);
+  const [, view, needed] = VIEWS[name], nodes = await view(...rest);
+  if (rest.slice(0, needed).filter(Boolean).length < needed) return nodes;
   return [nodes, el('p', { class: 'when' }, `As the broker answered at ${new Date().toTimeString().slice(0, 8)}.`)];
 }
 
