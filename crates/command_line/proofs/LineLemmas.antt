@@ -1,10 +1,11 @@
 -- the values of a line, from the matches of its command, and the command that words name
 use Rattle.std.specs.{Prelude.{MatchOption, find, option_map, bytes_eq}, Option.{option_map_or}}
-use Rattle.std.proofs.Common.{◌≡◌, ◌∙◌, ◌+◌, ◌<◌, ℕ, List, [], ◌∷◌, Bool, true, false, Option, Some, None, cond, refl, ap, sym, subst, unwrap_or, inl, inr, drop, get_or, length, map}
+use Rattle.std.proofs.Common.{◌≡◌, ◌∙◌, ◌&&◌, not, ◌+◌, ◌<◌, ℕ, List, [], ◌∷◌, Bool, true, false, Option, Some, None, cond, refl, ap, sym, subst, unwrap_or, inl, inr, drop, get_or, length, map}
 use Rattle.std.proofs.{lemmas.List.{at_drop_more}, lemmas.Slice.Eq.{bytes_eq-Decides}}
 use Rattle.clap.specs.Words.{App, HasKind, HasMatchesOf, Kinds, Row, Text, fault_of, found_of, is_simple, is_simple_and_free, kind_of, matches_of, rows_of}
-use Rattle.clap.specs.{declared.error.Error.{Error}, declared.error.kind.ErrorKind.TheVariants.{OutOfMemory}, declared.parser.matches.ArgMatches.{ArgMatches}}
-use Rattle.command_line.specs.Lines.{BeginsWithName, HasOptions, HasValues, command_among, command_at, command_named, command_of, commands, has_none, is_command, is_line, is_taken}
+use Rattle.clap.specs.{Kinds.{or_else}, declared.error.Error.{Error}, declared.error.kind.ErrorKind.{ErrorKind}}
+use Rattle.clap.specs.{declared.error.kind.ErrorKind.TheVariants.{OutOfMemory}, declared.parser.matches.ArgMatches.{ArgMatches}}
+use Rattle.command_line.specs.Lines.{BeginsWithName, HasOptions, HasValues, command_among, command_at, command_named, command_of, commands, has_none, is_command, is_line, is_taken, mistakes, named_in, unnamed_mistakes, whole_program}
 use Rattle.command_line.specs.{declared.line.Line.{Line}, declared.names.CommandName.{CommandName}}
 use Rattle.command_line.specs.declared.names.CommandName.TheVariants as names
 
@@ -47,21 +48,26 @@ found p (y ∷ ys) x e = first (p y) refl (found p ys x) e
     first false is later e = later e
 
 pub begins : (word : Text) (rest : List Text) (name : Option CommandName) → option_map command_named name ≡ command_at word
-    → MatchOption name (is_command (word ∷ rest) ≡ false) (BeginsWithName (word ∷ rest))
-begins word rest None e = subst (λ (o : Option App). option_map_or (λ command. is_taken command (word ∷ rest)) o false ≡ false) e refl
+    → MatchOption name (named_in (word ∷ rest) ≡ None) (BeginsWithName (word ∷ rest))
+begins word rest None e = sym e
 begins word rest (Some name) e =
     let same : word ≡ (command_named name).top.name = (bytes_eq-Decides word (command_named name).top.name).0 (found (λ command. bytes_eq word command.top.name) commands (command_named name) e) in
-    (rest, ap (λ w. w ∷ rest) same, subst (λ (o : Option App). option_map_or (λ command. is_taken command (word ∷ rest)) o false ≡ is_taken (command_named name) (word ∷ rest)) e refl)
+    (rest, ap (λ w. w ∷ rest) same, sym e)
+
+-- what the words are, by what they name
+command_is : (words : List Text) (o : Option App) → named_in words ≡ o → is_command words ≡ option_map_or (λ command. is_taken command words) o false
+command_is words o e = ap (λ (named : Option App). option_map_or (λ command. is_taken command words) named false) e
 
 pub taken : (words : List Text) (program : Text) (rest : List Text) (name : CommandName) → words ≡ program ∷ rest → BeginsWithName rest name
     → is_line words ≡ true → is_taken (command_named name) rest ≡ true
 unfolding is_line
-taken words program rest name is begins line = sym begins.2 ∙ subst (λ (ws : List Text). is_line ws ≡ true) is line
+taken words program rest name is begins line =
+    sym (command_is rest (Some (command_named name)) begins.2) ∙ subst (λ (ws : List Text). is_line ws ≡ true) is line
 
-pub unnamed : (words : List Text) (program : Text) (rest : List Text) → words ≡ program ∷ rest → is_command rest ≡ false → is_line words ≡ true → ⊥
+pub unnamed : (words : List Text) (program : Text) (rest : List Text) → words ≡ program ∷ rest → named_in rest ≡ None → is_line words ≡ true → ⊥
 unfolding is_line
 unnamed words program rest is none line =
-    let bad : true ≡ false = sym (subst (λ (ws : List Text). is_line ws ≡ true) is line) ∙ none in
+    let bad : true ≡ false = sym (subst (λ (ws : List Text). is_line ws ≡ true) is line) ∙ command_is rest None none in
     cc
 
 pub wordless : (words : List Text) → words ≡ [] → is_line words ≡ true → ⊥
@@ -75,7 +81,51 @@ pub line_taken : (words : List Text) (program : Text) (rest : List Text) (name :
     → (command_of line ≡ command_named name) × HasOptions rest line → is_line words ≡ true
 unfolding is_line
 line_taken words program rest name line is begins read =
-    subst (λ (ws : List Text). is_line ws ≡ true) (sym is) (begins.2 ∙ ap (λ (k : App). is_taken k rest) (sym read.0) ∙ read.1.0)
+    subst (λ (ws : List Text). is_line ws ≡ true) (sym is)
+    (command_is rest (Some (command_named name)) begins.2 ∙ ap (λ (k : App). is_taken k rest) (sym read.0) ∙ read.1.0)
+
+-- what clap finds in the words, by what they name
+mistakes_are : (words : List Text) (program : Text) (rest : List Text) (o : Option App) → words ≡ program ∷ rest → named_in rest ≡ o
+    → mistakes words ≡ option_map_or (λ command. fault_of command rest) o (unnamed_mistakes (program ∷ rest))
+unfolding mistakes
+mistakes_are words program rest o is e =
+    ap mistakes is ∙ ap (λ (named : Option App). option_map_or (λ command. fault_of command rest) named (unnamed_mistakes (program ∷ rest))) e
+
+pub named_kind : (words : List Text) (program : Text) (rest : List Text) (name : CommandName) (e : Error) → words ≡ program ∷ rest → BeginsWithName rest name
+    → HasKind (fault_of (command_named name) rest) e → HasKind (mistakes words) e
+named_kind words program rest name e is begins kind =
+    subst (λ (ks : Kinds). HasKind ks e) (sym (mistakes_are words program rest (Some (command_named name)) is begins.2)) kind
+
+pub unnamed_are : (words : List Text) (program : Text) (rest : List Text) → words ≡ program ∷ rest → named_in rest ≡ None → mistakes words ≡ unnamed_mistakes words
+unnamed_are words program rest is none = mistakes_are words program rest None is none ∙ ap unnamed_mistakes (sym is)
+
+pub wordless_are : (words : List Text) → words ≡ [] → mistakes words ≡ unnamed_mistakes words
+unfolding mistakes
+wordless_are words is = ap mistakes is ∙ ap unnamed_mistakes (sym is)
+
+-- an error of the whole program is one of words that name no command
+pub keeps_kind : (kinds next : Kinds) (e : Error) → HasKind kinds e → HasKind (or_else kinds next) e
+keeps_kind [] next e (inl memory) = inl memory
+keeps_kind [] next e (inr wrong) = absurd wrong
+keeps_kind (kind ∷ kinds) next e has = has
+
+-- and so is one of the first kind where clap found none
+pub first_kind : (kinds : Kinds) (kind : ErrorKind) (e : Error) → kinds ≡ [] → kind_of e ≡ kind → HasKind (or_else kinds (kind ∷ [])) e
+first_kind kinds kind e none is = subst (λ (ks : Kinds). HasKind (or_else ks (kind ∷ [])) e) (sym none) (inr (inl is))
+
+-- a command without groups that takes no other one has no global option
+pub no_globals : (a b c d : Bool) → (a && (not b && (not c && d))) ≡ true → c ≡ false
+no_globals true false false d e = refl
+no_globals true false true d e = absurd (let bad : false ≡ true = e in cc)
+no_globals true true c d e = absurd (let bad : false ≡ true = e in cc)
+no_globals false b c d e = absurd (let bad : false ≡ true = e in cc)
+
+pub named_is_plain : (name : CommandName) → (command_named name).top.is_plain ≡ true
+named_is_plain names.Replay = refl
+named_is_plain _ = refl
+
+pub program_is_free : is_simple_and_free whole_program ≡ true
+program_is_free = refl
 
 -- the first of the commands that are left, or one after it
 pub among_step : (word : Text) (names : List CommandName) (i : ℕ) (d : CommandName) → i < length names → (same : Bool) → same ≡ bytes_eq word (command_named (get_or names i d)).top.name

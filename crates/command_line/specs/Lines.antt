@@ -1,11 +1,15 @@
 -- the program's command lines: a word that names a command, and the command's options, each with a value and
 -- each required (this project's own choice)
-use Rattle.std.specs.Prelude.{◌≡◌, ◌≤◌, ⊤, ℕ, List, [], ◌∷◌, Bool, true, false, Option, Some}
+use Rattle.std.specs.Prelude.{◌≡◌, ◌≢◌, ◌⊎◌, ◌≤◌, ⊤, ℕ, List, [], ◌∷◌, Bool, true, false, Option, Some, None}
 use Rattle.std.specs.Prelude.{codes, bytes_eq, find, fold, map, pos}
 use Rattle.std.specs.Borrow.{Bor}
 use Rattle.std.specs.Option.{option_map_or}
 use Rattle.std.specs.Str.Parse.{digits_value, without_leading_plus}
-use Rattle.clap.specs.Words.{App, Kinds, Row, Rule, Text, fault_of, first_of, matches_of, new_app, new_rule, one_of, with_rule}
+use Rattle.clap.specs.Kinds.{or_else}
+use Rattle.clap.specs.Words.{App, Kinds, Row, Rule, Text, fault_of, first_of, matches_of, new_app}
+use Rattle.clap.specs.Words.{IsAmong, new_rule, one_of, with_rule, with_subcommand}
+use Rattle.clap.specs.declared.error.kind.ErrorKind.{ErrorKind}
+use Rattle.clap.specs.declared.error.kind.ErrorKind.TheVariants.{DisplayHelp, DisplayVersion, InvalidSubcommand}
 use Rattle.clap.specs.declared.builder.value_parser.ValueParser.TheVariants.{Signed}
 use Rattle.command_line.specs.declared.descriptions.CommandOption.{CommandOption}
 use Rattle.command_line.specs.declared.descriptions.CommandOption.TheVariants as options
@@ -131,15 +135,56 @@ command_among word commands = find (λ command. bytes_eq word command.top.name) 
 abbrev pub command_at : Text → Option App
 command_at word = command_among word commands
 
+-- the command that the first of the words names
+abbrev pub named_in : List Text → Option App
+named_in [] = None
+named_in (name ∷ rest) = command_at name
+
 -- the words begin with a command's name, and the command takes them
 abbrev pub is_command : List Text → Bool
-is_command [] = false
-is_command (name ∷ rest) = option_map_or (λ command. is_taken command (name ∷ rest)) (command_at name) false
+is_command words = option_map_or (λ command. is_taken command words) (named_in words) false
 
 -- the words are a command line of the program: its own name, a command and the command's options
 unfoldable pub is_line : List Text → Bool
 is_line [] = false
 is_line (program ∷ rest) = is_command rest
+
+-- ---- what is told of words that are no command line
+
+-- the program before it has commands: one of them is required, and `--version` is answered
+abbrev pub bare_program : App
+bare_program =
+    let plain = new_app (codes "broker") in
+    record plain { top = record plain.top { has_version = true; subcommand_required = true } }
+
+-- the whole program, with all its commands
+abbrev pub with_command : App → App → App
+with_command program command = with_subcommand program command.top
+
+abbrev pub whole_program : App
+whole_program = fold with_command bare_program commands
+
+-- what clap finds in words that name no command: by the whole program, and else that none is named
+abbrev pub unnamed_mistakes : List Text → Kinds
+unnamed_mistakes words = or_else (fault_of whole_program words) (InvalidSubcommand ∷ [])
+
+-- what clap finds in the words: by the command that they name, if they name one
+unfoldable pub mistakes : List Text → Kinds
+mistakes [] = unnamed_mistakes []
+mistakes (program ∷ rest) =
+    option_map_or (λ command. fault_of command rest) (named_in rest) (unnamed_mistakes (program ∷ rest))
+
+-- one of these kinds is a request for the help or the version
+abbrev pub AsksForText : (ErrorKind → Type 0) → Type 0
+AsksForText Has = Has DisplayHelp ⊎ Has DisplayVersion
+
+-- one of them is a mistake
+abbrev pub IsMistaken : (ErrorKind → Type 0) → Type 0
+IsMistaken Has = (kind : ErrorKind) × Has kind × (kind ≢ DisplayHelp) × (kind ≢ DisplayVersion)
+
+-- clap finds this in the words
+abbrev pub IsFoundIn : List Text → ErrorKind → Type 0
+IsFoundIn words kind = IsAmong kind (mistakes words)
 
 -- the command of a name
 abbrev pub command_named : CommandName → App
@@ -151,11 +196,10 @@ command_named names.Normalise = normalise
 command_named names.Check = check
 command_named names.CanIDeploy = can_i_deploy
 
--- the words begin with the name, and are a command where its command takes them
+-- the words begin with the name
 abbrev pub BeginsWithName : List Text → CommandName → Type 0
 BeginsWithName words name =
-    (rest : List Text) × (words ≡ (command_named name).top.name ∷ rest)
-    × (is_command words ≡ is_taken (command_named name) words)
+    (rest : List Text) × (words ≡ (command_named name).top.name ∷ rest) × (named_in words ≡ Some (command_named name))
 
 -- for private clauses: an option and a command, as the program describes them
 abbrev pub option_rule : CommandOption → Rule

@@ -1,7 +1,8 @@
 //! The commands of the program, as `clap` reads them.
-ghost use Rattle.std.specs.Prelude.{◌≡◌, IfOk, false, fold};
+ghost use Rattle.std.specs.Prelude.{◌≡◌, IfOk, false, fold, map};
 ghost use Rattle.clap.specs.Words.{app_of, new_app, rule_of};
-ghost use Rattle.command_line.specs.Lines.{command_named, option as option_of, option_rule, with_option};
+ghost use Rattle.command_line.specs.Lines.{bare_program, command_named, option as option_of, option_rule};
+ghost use Rattle.command_line.specs.Lines.{whole_program, with_command, with_option};
 
 use crate::descriptions::{CommandOption, description};
 use crate::help;
@@ -71,20 +72,36 @@ pub(crate) fn command_named<'a>(alloc: Global, name: CommandName) -> Result<Comm
     with_options(alloc, plain, text.options)
 }
 
-/// All commands.
-fn commands<'a>(alloc: Global) -> Result<Vec<Command<'a>>, AllocError> {
-    let mut commands = Vec::new(alloc);
-    for name in &COMMANDS {
-        commands.push(command_named(alloc, *name)?)?;
+/// The program without its commands, of which one is required.
+fn bare_program<'a>(alloc: Global) -> Result<Command<'a>, AllocError>
+    ensures { IfOk result (λ program. app_of program ≡ bare_program) }
+{
+    let program = bare(alloc, "broker", "broker", help::ABOUT, help::AFTER)?
+        .version(help::VERSION)
+        .subcommand_required(true);
+    Ok(program)
+}
+
+/// The program with these commands, one after the other.
+fn with_commands<'a>(
+    alloc: Global,
+    plain: Command<'a>,
+    commands: &[CommandName],
+) -> Result<Command<'a>, AllocError>
+    ensures { IfOk result (λ program.
+        app_of program ≡ fold with_command (app_of plain.entry) (map command_named commands.now)) }
+{
+    let mut program = plain;
+    for name in commands {
+        program = program.subcommand(command_named(alloc, *name)?)?;
     }
-    Ok(commands)
+    Ok(program)
 }
 
 /// The whole program, which explains its commands and says what is wrong with words that name none.
-pub(crate) fn program<'a>(alloc: Global) -> Result<Command<'a>, AllocError> {
-    let commands = commands(alloc)?;
-    bare(alloc, "broker", "broker", help::ABOUT, help::AFTER)?
-        .version(help::VERSION)
-        .subcommand_required(true)
-        .subcommands(commands)
+pub(crate) fn program<'a>(alloc: Global) -> Result<Command<'a>, AllocError>
+    ensures { IfOk result (λ program. app_of program ≡ whole_program) }
+{
+    let plain = bare_program(alloc)?;
+    with_commands(alloc, plain, &COMMANDS)
 }

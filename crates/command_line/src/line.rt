@@ -1,7 +1,8 @@
 //! Reading the words of the command line.
 ghost use Rattle.std.specs.Prelude.{◌≡◌, IfErr, IfOk, true};
-ghost use Rattle.clap.specs.Words.{kind_of};
-ghost use Rattle.command_line.specs.Lines.{HasOptions, Says, command_named, command_of, is_line, is_taken, texts_of};
+ghost use Rattle.clap.specs.Words.{HasKind, fault_of, kind_of};
+ghost use Rattle.command_line.specs.Lines.{HasOptions, Says, command_named, command_of, is_line, is_taken, mistakes};
+ghost use Rattle.command_line.specs.Lines.{texts_of, unnamed_mistakes};
 
 use crate::commands::{command_named, program};
 use crate::names::{CommandName, named};
@@ -65,12 +66,13 @@ pub enum Line<'a> {
 
 /// The command that the words name: the program's own name, a command and its options. An error is one
 /// of `clap`, with its text and its exit status. It comes exactly if the words are no command line of the
-/// program, or if there is no memory.
+/// program, or if there is no memory; its kind is then one of those that `clap` finds in the words.
 pub fn read_line<'a>(alloc: Global, words: &'a [&'a str]) -> Result<Line<'a>, Error>
     ensures ok { IfOk result (Says (texts_of words.entry.now)) }
     ensures only { IfOk result (λ _. is_line (texts_of words.entry.now) ≡ true) }
     ensures err { IfErr result (λ e. is_line (texts_of words.entry.now) ≡ true
         → kind_of e ≡ ErrorKind.OutOfMemory) }
+    ensures kind { IfErr result (HasKind (mistakes (texts_of words.entry.now))) }
 {
     match words.split_first() {
         Some((_, rest)) => match named(rest) {
@@ -91,6 +93,7 @@ fn read_command<'a>(
         × HasOptions (texts_of words.entry.now) line) }
     ensures err { IfErr result (λ e. is_taken (command_named name) (texts_of words.entry.now) ≡ true
         → kind_of e ≡ ErrorKind.OutOfMemory) }
+    ensures kind { IfErr result (HasKind (fault_of (command_named name) (texts_of words.entry.now))) }
 {
     match command_named(alloc, name)?.try_get_matches_from(words) {
         Ok(matches) => line_in(name, &matches),
@@ -99,7 +102,9 @@ fn read_command<'a>(
 }
 
 /// What `clap` says of words that name no command.
-fn no_command<'a>(alloc: Global, words: &'a [&'a str]) -> Result<Error, AllocError> {
+fn no_command<'a>(alloc: Global, words: &'a [&'a str]) -> Result<Error, AllocError>
+    ensures { IfOk result (HasKind (unnamed_mistakes (texts_of words.entry.now))) }
+{
     let mut program = program(alloc)?;
     match program.try_get_matches_from_mut(words) {
         Ok(_) => program.error(ErrorKind::InvalidSubcommand, "no command is named"),

@@ -1,6 +1,6 @@
 //! The names of the commands.
-ghost use Rattle.std.specs.Prelude.{◌≡◌, MatchOption, false, map, option_map};
-ghost use Rattle.command_line.specs.Lines.{BeginsWithName, command_among, command_named, is_command, texts_of};
+ghost use Rattle.std.specs.Prelude.{◌≡◌, MatchOption, None, map, option_map};
+ghost use Rattle.command_line.specs.Lines.{BeginsWithName, command_among, command_named, named_in, texts_of};
 
 use crate::descriptions::description;
 
@@ -41,8 +41,7 @@ fn named_by(word: &str, commands: &[CommandName]) -> Option<CommandName>
 
 /// The command that the first of the words names.
 pub(crate) fn named(words: &[&str]) -> Option<CommandName>
-    ensures { MatchOption result (is_command (texts_of words.now) ≡ false)
-        (BeginsWithName (texts_of words.now)) }
+    ensures { MatchOption result (named_in (texts_of words.now) ≡ None) (BeginsWithName (texts_of words.now)) }
 {
     match words.split_first() {
         Some((word, _)) => named_by(word, &COMMANDS),

@@ -5,10 +5,11 @@ ghost use Rattle.std.specs.Io.KnownBytes.{Appends};
 use std::io::Write;
 use thiserror::Error;
 
-/// The writer failed, or took none of the bytes that were left. A beginning of them is out, but not the whole.
+/// The writer failed, or took none of the bytes that were left. A beginning of them is out, but not the whole. Only
+/// `write_whole` makes one, so that who hands one on has tried to write.
 #[derive(Clone, Copy, Debug, PartialEq, Eq, Error)]
 #[error("the writer failed")]
-pub struct WriteFault;
+pub struct WriteFault(());
 
 /// Writes all of the bytes, or fails before the last is out.
 pub fn write_whole<W: Write>(writer: &mut W, bytes: &[u8]) -> Result<(), WriteFault>
@@ -19,9 +20,9 @@ pub fn write_whole<W: Write>(writer: &mut W, bytes: &[u8]) -> Result<(), WriteFa
     let mut done = 0;
     while done < bytes.len() {
         match writer.write(&bytes[done..]) {
-            Ok(0) => return Err(WriteFault),
+            Ok(0) => return Err(WriteFault(())),
             Ok(count) => done += count,
-            Err(_) => return Err(WriteFault),
+            Err(_) => return Err(WriteFault(())),
         }
     }
     Ok(())

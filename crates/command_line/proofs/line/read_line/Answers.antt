@@ -1,5 +1,5 @@
 use Rattle.std.proofs.{Common.{ap, map}, lemmas.Result.{IfErr-weaker, IfOk-weaker}, lemmas.List.{nil_from_length}}
-use Rattle.command_line.proofs.LineLemmas.{line_taken, taken, unnamed, wordless}
+use Rattle.command_line.proofs.LineLemmas.{line_taken, named_kind, taken, unnamed, unnamed_are, wordless, wordless_are}
 use Rattle.command_line.proofs.line.read_line.Goals as goal
 
 pub returns-in-Some-named-clause-only : goal.returns-in-Some-named-clause-only
@@ -20,3 +20,17 @@ returns-in_ok-no_command-in-None-named-clause-err c =
 
 pub returns-in_ok-no_command-in-None-clause-err : goal.returns-in_ok-no_command-in-None-clause-err
 returns-in_ok-no_command-in-None-clause-err c = λ line. absurd (wordless _ (ap (map (λ word. word.now)) (nil_from_length c.args.words.now c.in-None.ensures.cases)) line)
+
+pub returns-in-Some-named-clause-kind : goal.returns-in-Some-named-clause-kind
+returns-in-Some-named-clause-kind c =
+    IfErr-weaker c.read_command.result _ _
+    (λ e kind. named_kind _ _ _ c.in-Some-named.name e (ap (map (λ word. word.now)) c.in-Some.ensures.cases.0) c.in-Some-named.ensures kind)
+    c.read_command.ensures.kind
+
+pub returns-in_ok-no_command-in-None-named-clause-kind : goal.returns-in_ok-no_command-in-None-named-clause-kind
+returns-in_ok-no_command-in-None-named-clause-kind c =
+    rw (unnamed_are _ _ _ (ap (map (λ word. word.now)) c.in-Some.ensures.cases.0) c.in-None-named.ensures) c.in_ok-no_command-in-None-named.ensures
+
+pub returns-in_ok-no_command-in-None-clause-kind : goal.returns-in_ok-no_command-in-None-clause-kind
+returns-in_ok-no_command-in-None-clause-kind c =
+    rw (wordless_are _ (ap (map (λ word. word.now)) (nil_from_length c.args.words.now c.in-None.ensures.cases))) c.in_ok-no_command-in-None.ensures
