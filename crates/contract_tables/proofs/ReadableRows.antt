@@ -1,6 +1,5 @@
 -- The rows of each query of these tables can be read, if the state that the database holds can; and there is none for a
 -- number that no version has.
-use Rattle.std.specs.Prelude.{option_map, IsSomeAnd}
 use Rattle.std.proofs.Common.{◌≡◌, ◌∙◌, ◌<◌, ◌≤◌, inl, inr, ℕ, pos, List, [], ◌∷◌, Option, Some, None, true, refl, sym, ap, subst, slice_get, arith}
 use Rattle.sqlite.specs.{declared.types.Value.TheVariants.{Int}, Order.{Row, column}, Edit.{id_in}, Term.{col, eval_all}, Effect.{Database}}
 use Rattle.sqlite.specs.Collation.TheVariants.{Binary}
@@ -17,10 +16,10 @@ use Rattle.broker_tables.proofs.{VersionRows.{owners, names, whole_test}, Asked.
 use Rattle.contract_tables.specs.{Listings.{ReadsAsMarked, ReadsAsNames}, VersionResults.{ReadsAsLatest}, Verified.{ReadsAsResult}}
 use Rattle.contract_tables.proofs.ContractRows.{numbers, contents, providers, content, project, own, users_project, users}
 use Rattle.contract_tables.proofs.ResultRows.{contents as latest_contents, versions, numbers as latest_numbers}
-use Rattle.contract_tables.proofs.VerifiedList.{project as verified_project, verifiers, newest, told_as}
+use Rattle.contract_tables.proofs.VerifiedList.{project as verified_project, verifiers}
 use Rattle.contract_tables.proofs.ToldResults.{told_passes, told_marks, told_marks_project}
 use Rattle.contract_tables.proofs.VersionResults.{passes_project, passes, marks_project, marks, join, of_its_pair}
-use Rattle.contract_tables.proofs.ResultLookups.{numbered_rows, count, pass, run_project, run}
+use Rattle.contract_tables.proofs.ResultLookups.{numbered_rows, count, run_project, run}
 
 -- ---- the columns of the tables
 
@@ -85,9 +84,6 @@ users_reads n p db s held readable = of_both (users n p) db _ (λ c v hc hv kept
 
 -- ---- the latest results
 
-pub newest_reads : (c n : ℕ) (db : Database) → EachReads (newest c n) db IsNumberRow
-newest_reads c n db s held readable = number_reads (newest c n) db (latest_result db s held readable)
-
 -- a latest result with what it is said to be of, each joined row reads
 module _ (db : Database) (s : Broker) (held : Holds db s) (readable : IsReadable s) where
   pair_reads : (l r : Row) → Has (db.trees in_latest.tree) l → Has (db.trees in_results.tree) r
@@ -143,21 +139,6 @@ told_marks_reads c db s held readable = of_both (told_marks c) db _ (λ l r hl h
 pub count_reads : (db : Database) → EachReads count db IsNumberRow
 count_reads db s held readable = of_first count db _ (λ r has kept. let it = result_number db s held readable r has in number_cell (shows (col 1 0 ∷ []) [] r) 0 (whole_at 0 r) (omega arith) it.0 it.1)
 
--- whether it is a pass can be read as a number
-pub pass_reads : (n : ℕ) (db : Database) → EachReads (pass n) db IsNumberRow
-pass_reads n db s held readable =
-    number_reads (pass n) db (λ r has. let it = result_pass db s held readable r has in (it.0, (it.1.0, it.1.1, omega (arith, it.1.2))))
-
--- and as a truth value
-pub pass_true : (n : ℕ) (db : Database) (rows : List Row) (s : Broker) (found : Option ℕ) → Holds db s → IsReadable s → IsShown (pass n) db rows
-    → option_map (λ k. Int (pos k)) found ≡ option_map (λ row. column row 0) (slice_get rows 0) → IsSomeAnd found (λ k. 1 < k) → ⊥
-pass_true n db rows s None held readable h read high = high
-pass_true n db rows s (Some m) held readable h read high =
-    let row = told_as (λ (row : Row). column row 0) (slice_get rows 0) (Int (pos m)) (sym read) in
-    let low = of_table (pass n) db (λ row. (k : ℕ) × (whole_at 0 row ≡ pos k) × (k ≤ 1)) (λ r has kept. (result_pass db s held readable r has).1) rows h row.0 (first_has rows row.0 row.1) in
-    let nats : m ≡ low.0 = ap whole (ap id_in (sym row.2) ∙ low.1) in
-    omega (arith, high, nats, low.2)
-
 pub run_reads : (p u : List ℕ) (db : Database) → EachReads (run p u) db ReadsAsResult
 run_reads p u db s held readable = of_table (run p u) db _ (λ r has kept.
     let number = result_number db s held readable r has in
@@ -186,9 +167,6 @@ content_none n p db s held none = of_table (content n p) db _ (λ r has kept. of
 
 pub own_none : (n : ℕ) (db : Database) → NoneFor (own n) db n
 own_none n db s held none = of_table (own n) db _ (λ r has kept. of_version db s held n none r has (first_of_both _ _ kept))
-
-pub newest_none : (c n : ℕ) (db : Database) → NoneFor (newest c n) db n
-newest_none c n db s held none = of_table (newest c n) db _ (λ r has kept. of_latest db s held n none r has (first_of_both _ _ (second_of_both _ _ kept)))
 
 pub join_none : (c n : ℕ) (db : Database) → NoneFor (join c n) db n
 join_none c n db s held none =

@@ -60,24 +60,6 @@ results_counted old new rows s found held h read =
     newest_result s.versions s.results (old.now.trees in_results.tree) (old.now.trees in_checked_results.tree) found held.results
     (newest_number count_sql old new in_results.tree _ (meant old.now held.broker count_sql count.means) (numbered_rows old.now held.broker) rows h found read)
 
--- ---- whether it is a pass
-
-pub pass : (n : ℕ) → Asked (codes "SELECT pass FROM results WHERE number = ?1")
-    (Int (pos n) ∷ []) (from_table in_results.tree (is_param 0 0 ∷ []) (col 1 in_results.pass ∷ []) [])
-unfolding understood everything
-pass n = record { names = _; means = record { is = refl; plain = (refl, refl); unlisted = refl }; runs = record { whole = refl; typed = refl; sumless = refl } }
-
-pub pass_found : (n : ℕ) (db : Database) (rows : List Row) (s : Broker) (found : Option ℕ) → Holds db s → IsShown (pass n) db rows
-    → option_map (λ n. Int (pos n)) found ≡ option_map (λ row. column row 0) (slice_get rows 0) → option_map (λ n. n == 1) found ≡ option_map (λ (r : Verification). r.pass) (result_with s n)
-pass_found n db rows s found held h read =
-    let all = db.trees in_results.tree in
-    let rising = numbered_rows db held.broker in
-    let looked = looks_up_at int_cmp_total int_cmp-IsAntisymmetric (whole_at 0) (truth in_results.pass) _ (truth 0) (λ r. refl) (pos n) _ all rows (of_number all rising n) (numbers_once all rising)
-    (answered db _ in_results.tree _ _ _ rows h) in
-    sym (option_map_twice truth_in (λ n. Int (pos n)) found) ∙ ap (option_map truth_in) read ∙ option_map_twice truth_in (λ row. column row 0) (slice_get rows 0)
-    ∙ looked ∙ sym (value_map int_cmp (whole_at 0) (λ (r : ResultRow). r.pass) (result_in (db.trees in_checked_results.tree)) all (pos n))
-    ∙ ap (option_map (λ (r : ResultRow). r.pass)) (result_at db s n held) ∙ option_map_twice (λ (r : ResultRow). r.pass) (result_of s.versions) (result_with s n)
-
 -- ---- whether the broker checked it
 
 pub checked : (n : ℕ) → Asked (codes "SELECT result FROM checked_results WHERE result = ?1")

@@ -18,18 +18,6 @@ use Rattle.broker_tables.proofs.Orders.{exact_texts, numbers_total, exact_number
 use Rattle.contract_tables.specs.{declared.told_versions.NamedResult.{NamedResult}, ToldVersions.{named_cmp, IsNamedRow}, Verified.{latest_at}}
 use Rattle.contract_tables.proofs.{ItemLists.{and_tests, last_test, last_text, list_pairs}, ResultRows.{key, keys, contents, versions, latest_numbered}}
 
--- ---- the number of a latest result
-
-pub newest : (c n : ℕ) → Asked (codes "SELECT result FROM latest WHERE content = ?1 AND provider_version = ?2")
-    (Int (pos c) ∷ Int (pos n) ∷ []) (from_table in_latest.tree (by_two in_latest.content in_latest.provider_version) (col 1 in_latest.result ∷ []) [])
-unfolding understood everything
-newest c n = record { names = _; means = record { is = refl; plain = (refl, refl); unlisted = refl }; runs = record { whole = refl; typed = refl; sumless = refl } }
-
-by_key : (db : Database) → IsBroker db → (c v : ℕ) → (r : Row) → Has (db.trees in_latest.tree) r → keeps (by_two in_latest.content in_latest.provider_version) (Int (pos c) ∷ Int (pos v) ∷ []) r ≡ eq_by_cmp (by_both int_cmp int_cmp) (pos c, pos v) (key r)
-by_key db broker c v r has =
-    where_and int_cmp_total (db.trees in_latest.tree) in_latest.content (whole_at in_latest.content) (whole_part (db.trees in_latest.tree) in_latest.content (contents db broker)) int_cmp (whole_at in_latest.provider_version) (pos v) (is_param 2 1 ∷ []) (Int (pos c) ∷ Int (pos v) ∷ []) 0 (pos c) refl r has
-    (where_last int_cmp_total (db.trees in_latest.tree) in_latest.provider_version (whole_at in_latest.provider_version) (whole_part (db.trees in_latest.tree) in_latest.provider_version (versions db broker)) (Int (pos c) ∷ Int (pos v) ∷ []) 1 (pos v) refl r has)
-
 -- a result by what is told of it
 pub told_as : {A B : Type 0} (f : A → B) (o : Option A) (b : B) → option_map f o ≡ Some b → (e : A) × (o ≡ Some e) × (f e ≡ b)
 told_as f None b h = absurd cc
@@ -57,16 +45,6 @@ module _ (db : Database) (s : Broker) (held : Holds db s) (v : Version) (n : ℕ
       let value = held_latest content ∙ ap (option_map (λ (e : ℕ × Verification). pos e.0)) found in
       let l = find_has numbers_total exact_numbers key (whole_at in_latest.result) (pos content, pos n) (pos e.0) (db.trees in_latest.tree) value in
       (l.0, l.1, sym (ap (λ k. k.0) l.2), sym (ap (λ k. k.1) l.2), l.3)
-
-pub newest_found : (c n : ℕ) (db : Database) (s : Broker) (v : Version) → Holds db s → number_of s.versions v ≡ Some n → (rows : List Row) → IsShown (newest c n) db rows
-    → (found : Option ℕ) → option_map (λ n. Int (pos n)) found ≡ option_map (λ r. column r 0) (slice_get rows 0) → found ≡ option_map (λ e. e.0) (latest_result s c v)
-newest_found c n db s v held is rows h found read = same_numbers found (option_map (λ e. e.0) (latest_result s c v)) (
-    number_found found rows read
-    ∙ looks_up_at numbers_total exact_numbers key (whole_at in_latest.result) _ (whole_at 0) (λ r. refl) (pos c, pos n) _ (db.trees in_latest.tree) rows
-    (all_where (by_both int_cmp int_cmp) (db.trees in_latest.tree) key (pos c, pos n) (by_two in_latest.content in_latest.provider_version) (Int (pos c) ∷ Int (pos n) ∷ []) (by_key db held.broker c n)) (keys db held.broker)
-    (answered db _ in_latest.tree _ _ _ rows h)
-    ∙ held_latest db s held v n is c ∙ sym (option_map_twice pos (λ e. e.0) (latest_result s c v))
-    )
 
 -- ---- the versions of a provider
 

@@ -1,12 +1,13 @@
 -- What a contract and a result change of the state, and what is told of a result; and, for private clauses, what the
 -- columns of a row tell of one, and what the three statements that record a result make of the rows.
-use Rattle.std.specs.Prelude.{◌≡◌, ◌==◌, ◌+◌, ◌-◌, ◌≤◌, ℕ, ℤ, pos, Bool, ◌&&◌, ◌||◌, IsTrue, List, [], ◌∷◌, ◌++◌, length, Option, Some, None, is_some, cond, if◌then◌else◌, slice_get, codes, option_map, unwrap_or, false, Result, IfErr}
+use Rattle.std.specs.Prelude.{◌≡◌, ◌==◌, ◌+◌, ◌-◌, ◌≤◌, ℕ, ℤ, pos, Bool, ◌&&◌, ◌||◌, IsTrue, List, [], ◌∷◌, ◌++◌, length, Option, Some, None, is_some, cond, if◌then◌else◌, slice_get, codes, option_map, unwrap_or, true, false, Result, IfErr}
+use Rattle.std.specs.Borrow.{Bor}
 use Rattle.std.specs.Ordering.{eq_by_cmp, int_cmp}
 use Rattle.sqlite.specs.declared.types.Value.{Value}
 use Rattle.sqlite.specs.declared.types.Value.TheVariants as value
 use Rattle.sqlite.specs.Order.{Row, column}
 use Rattle.sqlite.specs.Effect.{Database}
-use Rattle.sqlite.specs.State.{State, Shown, HasCleanDisk}
+use Rattle.sqlite.specs.State.{State, HasCleanDisk}
 use Rattle.sqlite_rules.specs.Lists.{Has}
 use Rattle.table_access.specs.declared.StoreFault.{StoreFault}
 use Rattle.table_access.specs.Calls.{HasFailed}
@@ -16,12 +17,14 @@ use Rattle.broker_core.specs.declared.command.Version.{Version}
 use Rattle.broker_core.specs.Text.{Text, put_at, same_pair, same_text, same_version}
 use Rattle.broker_core.specs.State.{State as Broker, Verification}
 use Rattle.broker_core.specs.Change.{result_of_run}
+use Rattle.broker_core.specs.Limit.{has_room}
 use Rattle.table_access.specs.Reading.{IsNumberAt}
 use Rattle.broker_tables.specs.Schema.{in_versions, in_contents, in_results, in_latest, in_checked_results}
-use Rattle.broker_tables.specs.Rows.{value_at, stands_at, truth, IsTruthAt, mark_of}
+use Rattle.broker_tables.specs.Rows.{value_at, stands_at, truth, IsTruthAt}
 use Rattle.broker_tables.specs.Numbers.{number_of}
 use Rattle.broker_tables.specs.Holds.{IsBroker}
 use Rattle.broker_tables.specs.Room.{LeaveNumbers}
+use Rattle.broker_tables.specs.Readable.{IsReadable}
 use Rattle.broker_tables.specs.Refusals.{HaveNumbers}
 
 -- the version of this number has no contract with the provider, which is there, as the content is; now the
@@ -44,6 +47,10 @@ RecordsResult number content provider version_number pass checked run s t =
     × (number ≡ length s.results + 1)
     × (t ≡ record s { results = s.results ++ result_for content v pass checked run ∷ [] })
 
+-- the run that an argument names, if one
+abbrev pub run_of : Option (Bor Text) → Option Text
+run_of = option_map (λ text. text.now)
+
 -- the texts that are stored of a result
 abbrev pub texts_of : Text → Option Text → List Text
 texts_of provider run = provider ∷ unwrap_or run [] ∷ []
@@ -56,19 +63,21 @@ AllowsResult number content provider version_number run s =
     × (number ≡ length s.results + 1) × (1 ≤ content) × (content ≤ length s.contents)
     × (result_of_run s provider run ≡ None)
 
+-- it is allowed under the next number, and there is room for one more
+abbrev pub AllowsNextResult : ℕ → Text → ℕ → Option Text → Broker → Type 0
+AllowsNextResult content provider version_number run s =
+    AllowsResult (length s.results + 1) content provider version_number run s × (has_room s.results ≡ true)
+
+-- and how many there are can be read back
+abbrev pub CanAddResult : ℕ → Text → ℕ → Option Text → Broker → Type 0
+CanAddResult content provider version_number run s =
+    IsReadable s × AllowsNextResult content provider version_number run s
+
 -- the result with this number: they are numbered from 1
 abbrev pub result_with : Broker → ℕ → Option Verification
 result_with s number = if number == 0 then None else slice_get s.results (number - 1)
 
 -- ---- for private clauses: a result as the look-ups read it from a row, column by column
-
--- this is the mark in the row of the result, as it is there, in any database: 1 is a pass, 0 isn't, and there is no
--- third; none if there is no such row
-abbrev pub IsPassShown : ℕ → State → State → Option Bool → Type 0
-IsPassShown number old new pass =
-    (rows : List Row)
-    × Shown (codes "SELECT pass FROM results WHERE number = ?1") (value.Int (pos number) ∷ []) old new rows
-    × (option_map (λ p. value.Int (pos (mark_of p))) pass ≡ option_map (λ row. column row 0) (slice_get rows 0))
 
 -- the columns that tell of a result: its number, its content, the number of its version, and whether it is a pass
 abbrev pub Cells : Type 0

@@ -28,9 +28,9 @@ mod version_results;
 
 pub use contracts::{add_contract, contract_of};
 pub use listings::{Contract, consumers_of, contracts_of};
-pub use lookups::{ResultRow, latest_number, latest_of, result_count, result_of_run, result_said};
+pub use lookups::{ResultRow, latest_of, result_count, result_of_run};
 pub use making::{make_checked_results, make_indexes, make_tables};
 pub use migration::to_format_2;
-pub use results::record_result;
+pub use results::{add_result, record_result};
 pub use told_versions::verified_versions;
 pub use version_results::{LatestResult, latest_among, latest_results};

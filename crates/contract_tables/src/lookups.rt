@@ -1,20 +1,18 @@
 //! What the results say: the latest one for a content and a version of its provider, and each by its number.
 ghost use Rattle.std.specs.Prelude.{◌≡◌, option_map, Some, length, IfOk, IfErr, slice_get, None};
 ghost use Rattle.broker_core.specs.declared.command.Version.{Version as VersionModel};
-ghost use Rattle.broker_core.specs.State.{Verification, said_by, latest_result, latest};
+ghost use Rattle.broker_core.specs.State.{Verification, latest_result, latest};
 ghost use Rattle.broker_core.specs.Change.{result_of_run as run_result};
 ghost use Rattle.broker_tables.specs.Numbers.{number_of as number_in};
 ghost use Rattle.broker_tables.specs.Calm.{CalmQueriesInPlace, IfNoVersion};
 ghost use Rattle.broker_tables.specs.Rows.{IsTruthAt};
-ghost use Rattle.sqlite.specs.Held.{state};
-ghost use Rattle.sqlite.specs.State.{HasCleanDisk};
 ghost use Rattle.sqlite.specs.Order.{Row as SqlRow};
-ghost use Rattle.contract_tables.specs.Verified.{result_with, IsPassShown, cells, cells_of, ReadsAsResult, pass_cells, pass_of, passed_of, passed_as, by_numbers, numbers_are, told_of, told};
+ghost use Rattle.contract_tables.specs.Verified.{result_with, cells, cells_of, ReadsAsResult, pass_cells, pass_of, passed_of, passed_as, by_numbers, numbers_are, told_of, told};
 ghost use Rattle.contract_tables.specs.VersionResults.{IsOfItsPair, ReadsAsLatest};
 
 use crate::version_results::{ContentPass, read_latest};
 use broker_core::need::Latest;
-use broker_tables::{truth_at, truth_of};
+use broker_tables::truth_at;
 use sqlite::{Alter, Connection, Row, params};
 use table_access::{StoreFault, has_row, number_at, number_of, select};
 
@@ -34,43 +32,6 @@ pub fn result_count<S: Alter>(conn: &mut Connection<S>) -> Result<u64, StoreFaul
     Ok(newest.unwrap_or(0) as u64)
 }
 
-/// The number of the latest result for a content and the version of this number, or `None` if there is none.
-///
-/// # Errors
-/// `StoreFault::Memory` if the database is out of memory; `StoreFault::Store` if it refused the query or holds no
-/// number there.
-pub fn latest_number<S: Alter>(
-    conn: &mut Connection<S>,
-    content: u32,
-    version_number: u32,
-) -> Result<Option<u32>, StoreFault>
-    ensures answers { CalmQueriesInPlace S.Store conn.old conn.new result
-        (λ found s. (v : VersionModel) → number_in s.versions v ≡ Some version_number →
-        found ≡ option_map (λ e. e.0) (latest_result s content v)) }
-    ensures unknown { IfNoVersion S.Store conn.old conn.new result version_number (λ found. found ≡ None) }
-{
-    number_of(
-        conn,
-        "SELECT result FROM latest WHERE content = ?1 AND provider_version = ?2",
-        params![content, version_number],
-    )
-}
-
-/// Whether the result with this number is a pass, or `None` if there is no such result.
-fn passed<S: Alter>(conn: &mut Connection<S>, number: u32) -> Result<Option<bool>, StoreFault>
-    ensures answers { CalmQueriesInPlace S.Store conn.old conn.new result
-        (λ found s. found ≡ option_map (λ r. r.pass) (result_with s number)) }
-    ensures shown { HasCleanDisk (state S.Store conn.new) →
-        IfOk result (IsPassShown number (state S.Store conn.old) (state S.Store conn.new)) }
-{
-    let found = done!(number_of(
-        conn,
-        "SELECT pass FROM results WHERE number = ?1",
-        params![number],
-    ));
-    truth_of(found)
-}
-
 /// Whether the broker checked the result with this number, which is there.
 fn is_checked<S: Alter>(conn: &mut Connection<S>, number: u32) -> Result<bool, StoreFault>
     ensures { CalmQueriesInPlace S.Store conn.old conn.new result
@@ -81,27 +42,6 @@ fn is_checked<S: Alter>(conn: &mut Connection<S>, number: u32) -> Result<bool, S
         "SELECT result FROM checked_results WHERE result = ?1",
         params![number],
     )
-}
-
-/// What the result with this number says, or `None` if there is no such result.
-///
-/// # Errors
-/// `StoreFault::Memory` if the database is out of memory; `StoreFault::Store` if it refused a query or holds no truth
-/// value there.
-pub fn result_said<S: Alter>(
-    conn: &mut Connection<S>,
-    number: u32,
-) -> Result<Option<Latest>, StoreFault>
-    ensures { CalmQueriesInPlace S.Store conn.old conn.new result
-        (λ found s. found ≡ option_map said_by (result_with s number)) }
-{
-    match done!(passed(conn, number)) {
-        Some(pass) => {
-            let checked = done!(is_checked(conn, number));
-            Ok(Some(Latest { pass, checked }))
-        },
-        None => Ok(None),
-    }
 }
 
 /// The latest result in the first row, if there is a row. `StoreFault::Store` if that doesn't read, or has a result of

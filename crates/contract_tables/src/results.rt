@@ -3,12 +3,14 @@
 ghost use Rattle.std.specs.Prelude.{option_map, Some, None};
 ghost use Rattle.sqlite.specs.Held.{state};
 ghost use Rattle.table_access.specs.Calls.{CallsStore};
-ghost use Rattle.broker_tables.specs.Holds.{IsBroker, Changes};
+ghost use Rattle.broker_tables.specs.Holds.{IsBroker, Changes, ChangesAndAnswers};
 ghost use Rattle.broker_tables.specs.Refusals.{IsCalmStoring};
-ghost use Rattle.contract_tables.specs.Verified.{RecordsResult, texts_of, AllowsResult, PutsRow, result_row, Marks, Points, IsCalmOn, AllowsMark, AllowsPoint};
+ghost use Rattle.contract_tables.specs.Verified.{RecordsResult, run_of, texts_of, AllowsResult, AllowsNextResult, CanAddResult, PutsRow, result_row, Marks, Points, IsCalmOn, AllowsMark, AllowsPoint};
 ghost use Rattle.std.specs.Prelude.{pos, ◌∷◌, [], codes};
 ghost use Rattle.sqlite.specs.declared.types.Value.TheVariants.{Int, Null};
 
+use crate::lookups::result_count;
+use broker_tables::next_number;
 use sqlite::{Alter, Connection, params};
 use table_access::{StoreFault, change};
 
@@ -157,4 +159,34 @@ pub fn record_result<S: Alter>(
     done!(put_result(conn, number, content, provider, version_number, pass, run));
     done!(mark(conn, number, checked));
     point_latest(conn, content, version_number, number)
+}
+
+/// Adds the result of verifying a content with a version of its provider, and answers its number, which is the next one:
+/// it is the latest one for them.
+///
+/// # Errors
+/// `StoreFault::Memory` if the database is out of memory; `StoreFault::Store` if it refused the query or a row, or has
+/// no number left.
+pub fn add_result<S: Alter>(
+    conn: &mut Connection<S>,
+    content: u32,
+    provider: &str,
+    version_number: u32,
+    pass: bool,
+    checked: bool,
+    run: Option<&str>,
+) -> Result<u32, StoreFault>
+    ensures changes { ChangesAndAnswers S.Store conn.old conn.new result
+        (AllowsNextResult content provider.now version_number (run_of run.entry))
+        (λ number. RecordsResult number content provider.now version_number pass checked (run_of run.entry)) }
+    ensures calm { IsCalmStoring S.Store conn.old conn.new result (codes "latest" ∷ [])
+        (texts_of provider.now (run_of run.entry))
+        (CanAddResult content provider.now version_number (run_of run.entry)) }
+{
+    let count = done!(result_count(conn));
+    let Some(number) = next_number(count) else {
+        return Err(StoreFault::Store);
+    };
+    done!(record_result(conn, number, content, provider, version_number, pass, checked, run));
+    Ok(number)
 }
