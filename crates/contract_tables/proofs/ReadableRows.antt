@@ -16,8 +16,7 @@ use Rattle.broker_tables.proofs.{VersionRows.{owners, names, whole_test}, Asked.
 use Rattle.contract_tables.specs.{Listings.{ReadsAsMarked, ReadsAsNames}, VersionResults.{ReadsAsLatest}, Verified.{ReadsAsResult}}
 use Rattle.contract_tables.proofs.ContractRows.{numbers, contents, providers, content, project, own, users_project, users}
 use Rattle.contract_tables.proofs.ResultRows.{contents as latest_contents, versions, numbers as latest_numbers}
-use Rattle.contract_tables.proofs.VerifiedList.{project as verified_project, verifiers}
-use Rattle.contract_tables.proofs.ToldResults.{told_passes, told_marks, told_marks_project}
+use Rattle.contract_tables.proofs.{VerifiedList.{project as verified_project, verifiers}, ToldResults.{told_passes, told_marks, told_marks_project}}
 use Rattle.contract_tables.proofs.VersionResults.{passes_project, passes, marks_project, marks, join, of_its_pair}
 use Rattle.contract_tables.proofs.ResultLookups.{numbered_rows, count, run_project, run}
 
