@@ -14,7 +14,7 @@ import sys
 
 sys.dont_write_bytecode = True
 import hashlib, os, re, subprocess, tempfile
-from hub import PROGRAM, TOP, Wrong, end_with, run, same
+from hub import PROGRAM, Wrong, end_with, run, same
 from own_machine import in_own_machine
 
 # What is done there, in the folder of the packages. Each line that begins with `== ` is followed by what is compared.

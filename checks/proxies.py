@@ -22,7 +22,7 @@ import http.client, json, os, re, signal, socket, ssl, subprocess, tempfile, tim
 from collections.abc import Callable
 from concurrent.futures import ThreadPoolExecutor
 from hub import BLUE, DONE, OFFICE, RED, TOP, Caller, Server, Wrong
-from hub import end_with, free_port, needs, new_file, pact, register, run, same, verify
+from hub import await_port, end_with, free_port, needs, new_file, pact, register, run, same, verify
 
 Answer = tuple[int, str]
 
@@ -130,19 +130,8 @@ class Front(Caller):
                 it.write(f'"~^\\Q{token}\\E$" "{team}"{self.end}\n')
         with open(f"{self.room}/errors", "wb") as errors:
             self.process = subprocess.Popen(self.words, stderr=errors, env={**os.environ, **self.home})
-        self.await_start()
+        await_port(self.port, self.process, lambda: self.log("errors"))
         return self
-
-    def await_start(self) -> None:
-        for _ in range(300):
-            if self.process.poll() is not None:
-                raise Wrong(f"it ends with {self.process.returncode}: {self.log('errors')}")
-            try:
-                self.open().close()
-                return
-            except OSError:
-                time.sleep(0.05)
-        raise Wrong(f"it doesn't serve: {self.log('errors')}")
 
     def __exit__(self, *_: object) -> None:
         self.process.terminate()
