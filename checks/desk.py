@@ -14,8 +14,8 @@ sys.dont_write_bytecode = True
 from browser import Browser, Unseen
 from desk_scenes import FAILURES, GOOD, SCENES, cells, holders, hostile, is_report, shows, signs_in, tried, unknown
 from desk_shown import AFTER, BOARD, OLDER
-from desk_world import DENIED, READER, RED, Caddy, Proxy, World, listens, text_of, without, write
-from hub import OFFICE, PROGRAM, TOP, Wrong, free_port, run, same
+from desk_world import DENIED, READER, RED, Caddy, Proxy, World, text_of, without, write
+from hub import OFFICE, PROGRAM, TOP, Wrong, await_port, free_port, run, same
 
 PAGE = "index.html", "desk.js", "desk.css", "desk.json"
 POLICY = (
@@ -223,7 +223,7 @@ def readme(world: World) -> None:
     pipes: dict[str, Any] = {"stdout": subprocess.DEVNULL, "stderr": subprocess.DEVNULL, "start_new_session": True}
     pasted = subprocess.Popen(["bash", "-c", lines], cwd=TOP, env=env, **pipes)
     try:
-        listens(int(env["ADDRESS"].rsplit(":", 1)[1]), pasted)
+        await_port(int(env["ADDRESS"].rsplit(":", 1)[1]), pasted)
         with Browser(f"{world.room}/readme") as page:
             world.url = env["ADDRESS"] + "/desk/"
             signs_in(page, world, READER)

@@ -4,7 +4,7 @@ import json, os, re, shutil, time
 from collections.abc import Callable
 
 from browser import Answer, Browser, Unseen
-from desk_shown import ASKED, BOARD, FOREIGN, INSTEAD, LIVE, LONG, MARKUP, MATRIX, SLASH, STRICT, TODAY, TURNED
+from desk_shown import ASKED, BOARD, INSTEAD, LIVE, LONG, MARKUP, MATRIX, SLASH, STRICT, TODAY, TURNED
 from desk_shown import UNRESULTED, WITHOUT
 from desk_world import DENIED, READER, RED, World, stub, without, write
 from hub import OFFICE, TOP, Wrong, same

@@ -1,8 +1,8 @@
 """Where the page of desk/ is tried: the program with the demo, a proxy by a recipe of examples/, the page's files."""
-import contextlib, http.client, http.server, os, re, shutil, subprocess, threading, time
+import contextlib, http.server, os, re, shutil, subprocess, threading
 from collections.abc import Iterator
 
-from hub import OFFICE, TOP, Server, Wrong, free_port, new_file, run, same
+from hub import OFFICE, TOP, Server, Wrong, await_port, free_port, new_file, run, same
 
 RED, READER = "red-team-token-0001", "desk-token-000001"
 DENIED = '{"answer":"denied","rule":"A1"}'
@@ -18,17 +18,6 @@ def write(path: str, text: str) -> None:
         it.write(text)
 
 
-def listens(port: int, process: "subprocess.Popen[bytes]") -> None:
-    for _ in range(200):
-        if process.poll() is not None:
-            raise Wrong(f"the proxy ends with {process.returncode}")
-        with contextlib.suppress(OSError):
-            http.client.HTTPConnection("127.0.0.1", port, timeout=5).connect()
-            return
-        time.sleep(0.05)
-    raise Wrong("the proxy doesn't listen")
-
-
 class Proxy:
     """A proxy by a recipe of examples/, before the broker on this port, with the page of this folder."""
 
@@ -41,7 +30,7 @@ class Proxy:
     def start(self, words: list[str], env: dict[str, str]) -> None:
         with open(f"{self.room}/proxy.log", "ab") as log:
             self.process = subprocess.Popen(words, env={**os.environ, **env}, stdout=log, stderr=log)
-        listens(self.port, self.process)
+        await_port(self.port, self.process)
 
     def __exit__(self, *_: object) -> None:
         self.process.terminate()

@@ -12,9 +12,9 @@ with 77 if curl or sqlite3 isn't installed."""
 import sys
 
 sys.dont_write_bytecode = True
-import os, re, shutil, signal, socket, stat, subprocess, tempfile, time
+import os, re, shutil, signal, stat, subprocess, tempfile
 from hub import BLUE, PROGRAM, RED, Caller, Server, Wrong
-from hub import each, end_with, free_port, needs, new_file, register, run, same, verify
+from hub import await_port, each, end_with, free_port, needs, new_file, register, run, same, verify
 
 SUMS_AT, SUMS = 20, 8
 NOBODY = 65534
@@ -60,13 +60,7 @@ class Service(Caller):
 
     def start(self) -> None:
         self.systemctl("start")
-        for _ in range(300):
-            try:
-                socket.create_connection(("127.0.0.1", self.port), 5).close()
-                return
-            except OSError:
-                time.sleep(0.05)
-        raise Wrong(f"the service doesn't start: {read(f'{self.room}/said')}")
+        await_port(self.port)
 
     def lose_power(self) -> None:
         """Ends the program in the middle, so that its rows stay in the log."""

@@ -2,7 +2,7 @@
 broker that serves, its tokens, and a fleet of two services.
 
 A check takes the path of `broker` as its first word, crates/broker/out/broker if there is none, and imports this."""
-import http.client, os, re, shutil, signal, socket, subprocess, sys, time
+import contextlib, http.client, os, re, shutil, signal, socket, subprocess, sys, time
 from collections.abc import Callable, Mapping, Sequence
 from typing import Any, NoReturn
 
@@ -64,17 +64,15 @@ def request(ask: str, token: str = OFFICE, body: str = "") -> bytes:
     return f"{ask} HTTP/1.1\r\nhost: b\r\nauthorization: Bearer {token}\r\ncontent-length: {len(text)}\r\n\r\n".encode() + text
 
 
-def await_port(port: int, process: "subprocess.Popen[str]") -> None:
-    """Waits until somebody listens there."""
-    for _ in range(300):
-        if process.poll() is not None:
-            said = process.stderr.read() if process.stderr else ""
-            raise Wrong(f"serve ends with {process.returncode}: {said}")
-        try:
+def await_port(port: int, process: "subprocess.Popen[Any] | None" = None, said: Callable[[], str] = str) -> None:
+    """Waits until somebody listens there. If this process ends before, the fault has what it said."""
+    for _ in range(600):
+        if process and process.poll() is not None:
+            raise Wrong(f"who has to listen ends with {process.returncode}: {said()}")
+        with contextlib.suppress(OSError):
             socket.create_connection(("127.0.0.1", port), 5).close()
             return
-        except OSError:
-            time.sleep(0.1)
+        time.sleep(0.05)
     raise Wrong("nobody listens")
 
 
@@ -112,7 +110,7 @@ class Server(Caller):
 
     def __enter__(self) -> "Server":
         self.process = subprocess.Popen(self.words, stderr=subprocess.PIPE, text=True)
-        await_port(self.port, self.process)
+        await_port(self.port, self.process, lambda: self.process.stderr.read() if self.process.stderr else "")
         return self
 
     def __exit__(self, *_: object) -> None:

@@ -14,7 +14,7 @@ import sys
 
 sys.dont_write_bytecode = True
 import hashlib, os, re, subprocess, tempfile
-from hub import PROGRAM, TOP, Wrong, end_with, run, same
+from hub import PROGRAM, Wrong, end_with, run, same
 from own_machine import in_own_machine
 
 # What is done there, in the folder of the packages. Each line that begins with `== ` is followed by what is compared.
@@ -106,6 +106,8 @@ listing | cmp - before
 
 dpkg --no-triggers -r holzhebo < /dev/null > said 2>&1 || { cat said; exit 1; }
 echo "== removed"
+journalctl --no-pager | grep -c 'Started broker.service'
+journalctl --no-pager | grep -c 'token-0' || true
 systemctl is-active broker || true
 pgrep -u broker || true
 ls /usr/bin/broker /usr/bin/holzhebo /lib/systemd/system/broker.service 2>&1 | grep -c 'No such file'
@@ -166,7 +168,9 @@ new  environment lost
 active
 {"environments":["mine"]}
 """,
-    "removed": """inactive
+    "removed": """4
+0
+inactive
 3
 /etc/holzhebo:
 desk.json

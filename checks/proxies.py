@@ -8,9 +8,10 @@ seconds.
 Through each proxy: ordinary requests are answered as by the broker itself, names keep their escapes, a body of the
 limit passes and a larger one doesn't, slow clients hold up nobody, and a broker that isn't there is 502 until it is
 there again. Then a token leaks: with the lines of docs/OPERATING.md, and this token and a new one in the place of
-theirs, no spelling lets it in, the new one is answered, and so is each token that is like the leaked one. Last, through
-nginx, more requests at once than the limit allows; and who changed what, by the log and `holzhebo who`. Then the new
-token leaks too, and `holzhebo replace-token` writes the lines. No line of any log has a token.
+theirs, no spelling lets it in, the new one is answered, and so is each token that is like the leaked one. A token that
+only reads, by the line of docs/DESK.md, is the office's by GET and unknown otherwise. Through nginx there are more
+requests at once than the limit allows. Who changed what is said by the log and `holzhebo who`. Last, the new token
+leaks too, and `holzhebo replace-token` writes the lines. No line of any log has a token.
 
 Prints a line for each, and ends with 1 if one is otherwise than it has to be, or with 77 if a proxy or openssl isn't
 installed."""
@@ -21,12 +22,13 @@ import http.client, json, os, re, signal, socket, ssl, subprocess, tempfile, tim
 from collections.abc import Callable
 from concurrent.futures import ThreadPoolExecutor
 from hub import BLUE, DONE, OFFICE, RED, TOP, Caller, Server, Wrong
-from hub import end_with, free_port, needs, new_file, pact, register, run, same, verify
+from hub import await_port, end_with, free_port, needs, new_file, pact, register, run, same, verify
 
 Answer = tuple[int, str]
 
 NAME = "broker.example.org"
 LEAKED, NEW, LATEST = "red.team+token/1=", "new~token.of+red=", "token-of-the-last-1"
+READER = "one.that+only/reads="
 # Each is like the leaked token, and is another team's: it begins with it, ends with it, has other letters, or another
 # byte in the place of the point.
 ALIKE = [LEAKED + "0", "x" + LEAKED, LEAKED.upper(), LEAKED.replace(".", "x")]
@@ -128,19 +130,8 @@ class Front(Caller):
                 it.write(f'"~^\\Q{token}\\E$" "{team}"{self.end}\n')
         with open(f"{self.room}/errors", "wb") as errors:
             self.process = subprocess.Popen(self.words, stderr=errors, env={**os.environ, **self.home})
-        self.await_start()
+        await_port(self.port, self.process, lambda: self.log("errors"))
         return self
-
-    def await_start(self) -> None:
-        for _ in range(300):
-            if self.process.poll() is not None:
-                raise Wrong(f"it ends with {self.process.returncode}: {self.log('errors')}")
-            try:
-                self.open().close()
-                return
-            except OSError:
-                time.sleep(0.05)
-        raise Wrong(f"it doesn't serve: {self.log('errors')}")
 
     def __exit__(self, *_: object) -> None:
         self.process.terminate()
@@ -194,6 +185,7 @@ class Nginx(Front):
         changes["/etc/ssl/private/broker.key"] = f"{self.room}/key.pem"
         changes["/etc/nginx/broker-teams"] = f"{self.room}/teams"
         changes["/var/log/nginx/broker.log"] = f"{self.room}/log"
+        changes["/etc/nginx/broker-reader[s]"] = f"{self.room}/reader[s]"
         self.place("nginx.conf", {**changes, "/etc/nginx/broker-tokens": f"{self.room}/tokens"})
         whose = "user root; " if os.geteuid() == 0 else ""
         kinds = "client_body", "proxy", "fastcgi", "uwsgi", "scgi"
@@ -218,6 +210,7 @@ class Caddy(Front):
         changes = {f"{NAME} {{": site, "127.0.0.1:9292": broker, "/etc/caddy/broker-tokens": f"{self.room}/tokens"}
         changes["/etc/caddy/broker-teams"] = f"{self.room}/teams"
         changes["/var/log/caddy/broker.log"] = f"{self.room}/log"
+        changes["/etc/caddy/broker-reader?"] = f"{self.room}/reader?"
         admin = f"unix/{self.room}/admin.sock\n\tauto_https disable_redirects"
         self.place("Caddyfile", {**changes, "unix//var/lib/caddy/admin.sock": admin})
         return ["caddy", "run", "--config", f"{self.room}/Caddyfile", "--adapter", "caddyfile"]
@@ -338,6 +331,31 @@ def leaked(front: Front, broker: Server) -> None:
         front.answers(f"the token {token}", token, shown)
 
 
+WRITES = ["PUT /teams/green", "PUT /pacticipants/shop/versions/1", "POST /environments/live/deployments"]
+WRITES += ["DELETE /grants/team/red/environment/live"]
+
+
+def reading(front: Front, broker: Server) -> None:
+    """With the line of docs/DESK.md a token only reads: by GET it is the office's, and by nothing else; nor is one that
+    is like it."""
+    with open(f"{TOP}/docs/DESK.md", encoding="utf-8") as it:
+        lines = re.findall(r'(?m)^ +("~\^GET .*")(;?)$', it.read())
+    line, = (line + end for line, end in lines if end == front.end)
+    ask = "GET /matrix?pacticipant=shop&version=1"
+    same("a GET before", front.ask(READER, ask), DENIED)
+    with open(f"{front.room}/readers", "w", encoding="utf-8") as it:
+        it.write(line.replace("desk-token-000001", READER).replace("office-token-0001", OFFICE) + "\n")
+    front.reload()
+    same("a GET by it", front.ask(READER, ask), broker.ask(OFFICE, ask))
+    for change in WRITES:
+        same(f"{change} by it", front.ask(READER, change, "{}"), DENIED)
+    same("another method by it", front.ask(READER, "OPTIONS /environments/live")[0], 501)
+    for token in READER + "0", "x" + READER, READER.upper(), READER.replace(".", "x"), f"GET {READER}":
+        same(f"a GET by {token}", front.ask(token, ask), DENIED)
+    front.refuses(READER, UNREAD)
+    front.answers("a team's token", RED, broker.ask(RED, "GET /environments/live"))
+
+
 def limited(front: Front, _: Server) -> None:
     """At once more requests from one address than may wait: the rest is 429. Another address isn't limited by it."""
     message = front.message(f"authorization: Bearer {RED}".encode(), "GET /environments/live")
@@ -360,7 +378,7 @@ def limited(front: Front, _: Server) -> None:
 
 def unlogged(front: Front, _: Server) -> None:
     for name in "errors", "access", "log":
-        for token in OFFICE, RED, BLUE, LEAKED, NEW, LATEST, front.newest, *ALIKE:
+        for token in OFFICE, RED, BLUE, LEAKED, NEW, LATEST, READER, front.newest, *ALIKE:
             if token in front.log(name):
                 raise Wrong(f"a token, {token}, is in {name}")
 
@@ -437,6 +455,7 @@ TRIALS = {
     "slow clients": slow,
     "a broker that is started again": restart,
     "a token that leaked": leaked,
+    "a token that only reads": reading,
     "more requests than the limit": limited,
     "who changed what": recorded,
     "the new token leaks too": leaked_again,

@@ -17,8 +17,7 @@ Prints a line for each, and ends with 1 if one is otherwise."""
 import sys
 
 sys.dont_write_bytecode = True
-import collections, hashlib, html.parser, json, os, random, re, resource, shutil, sqlite3, subprocess, tempfile
-from collections.abc import Callable
+import collections, hashlib, html.parser, json, os, random, re, resource, sqlite3, subprocess, tempfile
 from concurrent.futures import ThreadPoolExecutor
 from importlib.machinery import SourceFileLoader
 from typing import Any
