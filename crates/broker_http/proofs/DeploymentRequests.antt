@@ -1,5 +1,5 @@
 -- The requests of the worked deployment, and what they ask, computed from their bytes.
-use Rattle.std.{specs.Prelude.{codes, length, Some, None, Ok}, proofs.Common.{◌≡◌, sym, arith, List, [], ◌∷◌, true, false, refl}}
+use Rattle.std.{specs.Prelude.{codes, Some, None, Ok}, proofs.Common.{◌≡◌, sym, arith, List, [], ◌∷◌, true, false, refl}}
 use Rattle.std.proofs.lemmas.List.Sums.{AllPass-from_list_all}
 use Rattle.serde_json.{specs.{Data.{Data, string, boolean, object, member, no_members}, Read.{read}}, proofs.OnLiterals.{serde_json_on_literals}}
 use Rattle.httparse.proofs.OnLiterals.{httparse_on_literals}

@@ -181,8 +181,7 @@ module _ (a : Asked) (it : IsComputed a) where
         let token = and_parts _ _ parts.1.1.1 in
         let rest = and_parts _ _ token.1 in
         let low = ltb-true 15 (length a.token) token.0 in
-        let high = ltb-true (length a.token) 129 rest.0 in
-        (
+        let high = ltb-true (length a.token) 129 rest.0 in (
           a.command,
           Some a.token,
           is,
@@ -200,7 +199,7 @@ module _ (a : Asked) (it : IsComputed a) where
       judge_head (parsed a),
       is_judged,
       subst (λ r. ByHead (message_of a) (judge_head (parsed a)).is_bodiless r says) (sym sized)
-      (parsed a, is_head_text, by_resource (resource_of (path_of a.target)) (ap (λ (f : Facts). f.5) it)),
+          (parsed a, is_head_text, by_resource (resource_of (path_of a.target)) (ap (λ (f : Facts). f.5) it)),
     )
 
 -- ---- a stream of such requests, each answered by a step

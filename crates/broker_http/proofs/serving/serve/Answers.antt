@@ -1,4 +1,4 @@
-use Rattle.std.{specs.Prelude.{length, Contains}, proofs.Common.{◌≡◌, ◌≤◌, refl, Result, Ok, Err, IfOk, IfErr, Option, List, ℕ, subst, sym}}
+use Rattle.std.{specs.Prelude.{length, Contains}, proofs.Common.{◌≤◌, refl, Result, Ok, Err, IfOk, IfErr, Option, List, ℕ, subst, sym}}
 use Rattle.sqlite.specs.{Tree.{Trees}, Held.{Held}, State.{State, HasCleanDisk, Survives}}
 use Rattle.broker_database.specs.BrokerView.{BrokerView}
 use Rattle.broker_http.specs.{Calls.{ByBroker, HasAnswered, IsAnsweredByMachine}, Journal.{blank}, Serving.{Mode, IsInMode, ServesStream}}
