@@ -2,7 +2,8 @@
    fails at one byte, or waits for seconds, is tried exactly and in no time. checks/devices.py builds it and gives it to
    the program by LD_PRELOAD, with PEERS, a folder. In it are, of each connection from 1 on, what the peer sends,
    N.sent, and how it does, N.plan; there N.taken is made, what the peer took, and N.report: when its connection was
-   closed, and how many bytes the last read asked for. With STREAMS the peer 1 is standard input and standard output.
+   closed, and how many bytes the last read asked for. With STREAMS the peer 1 is standard input and standard output. A
+   look at what a peer has sent (MSG_PEEK) takes no time, and isn't cut short.
 
    A plan is numbers, of times in milliseconds: when the peer comes; how many bytes a read gives at most; after how many
    bytes a read fails, and by which errno; how many bytes it takes, how many at once, how long apart, and by which errno
@@ -23,7 +24,7 @@
 #include <time.h>
 #include <unistd.h>
 
-enum { PEERS = 4, PIECES = 16, OPEN_FILES = 1024 };
+enum { PEERS = 8, PIECES = 16, OPEN_FILES = 1024 };
 enum { COMES, READS, FAILS, READ_ERROR, ROOM, AT_ONCE, APART, WRITE_ERROR, SIGNALS, STOPPED, COUNT, NUMBERS };
 
 struct peer {
@@ -134,6 +135,23 @@ static ssize_t receive(struct peer *it, void *text, size_t most) {
   return length;
 }
 
+/* What has come so far, which stays. */
+static ssize_t look(struct peer *it, void *text, size_t most) {
+  long length = 0;
+  int piece = it->piece;
+  if (it->read >= it->plan[FAILS])
+    return failed(it->plan[READ_ERROR]);
+  while (piece < it->plan[COUNT] && it->at[piece] <= now && it->length[piece] > 0)
+    length += it->length[piece++];
+  if (length == 0 && (piece >= it->plan[COUNT] || it->at[piece] > now))
+    return failed(EAGAIN);
+  if (length > (long)most)
+    length = most;
+  if (syscall(SYS_pread64, it->sent, text, length, it->read) != length)
+    abort();
+  return length;
+}
+
 static ssize_t take(struct peer *it, const void *text, size_t length) {
   if (is_cut_short(it))
     return failed(EINTR);
@@ -215,7 +233,10 @@ ssize_t read(int fd, void *text, size_t most) {
   return peer_at(fd) ? receive(peer_at(fd), text, most) : syscall(SYS_read, fd, text, most);
 }
 ssize_t recv(int fd, void *text, size_t most, int flags) {
-  return peer_at(fd) ? receive(peer_at(fd), text, most) : syscall(SYS_recvfrom, fd, text, most, flags, 0, 0);
+  struct peer *it = peer_at(fd);
+  if (!it)
+    return syscall(SYS_recvfrom, fd, text, most, flags, 0, 0);
+  return flags & MSG_PEEK ? look(it, text, most) : receive(it, text, most);
 }
 ssize_t write(int fd, const void *text, size_t length) {
   return peer_at(fd) ? take(peer_at(fd), text, length) : syscall(SYS_write, fd, text, length);

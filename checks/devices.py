@@ -236,9 +236,11 @@ def each_lack():
 
 # Peers that make the broker wait
 
-HALF = b"GET / HTTP/1.1\r\n"
+HALF, REST = b"GET / HTTP/1.1\r\n", b"host: b\r\n\r\n"
 HALF_BODY = request(None, "PUT / {}").replace(b": 2", b": 4")
 UNTAKEN = Peer(((0, ASKED),), signals=1)
+# One request after another, each begun as the one before it is answered.
+ENDLESS = Peer(((0, HALF), *((at, REST + HALF) for at in range(0, 4200, 300))), signals=1)
 # A peer, when another one comes, what the first takes, and when its connection is closed. A signal cuts each other wait
 # short, which changes nothing.
 WAITS = {
@@ -249,9 +251,17 @@ WAITS = {
     "a silent peer has a second more once another comes": (Peer((), signals=1), 500, b"", 1500),
     "a silent peer may stay for an hour": (
         Peer(((3_600_000, ASKED), (3_600_001, b"")), signals=1), MOST, TOLD, 3_600_001),
-    "an idle peer has five milliseconds if another waits": (Peer(((7, ASKED),), signals=1), 0, TOLD, 12),
-    "a message that has begun has its time, though another waits": (
-        Peer(((0, ASKED + b"GET / "), (9000, b"HTTP/1.1\r\nhost: b\r\n\r\n")), signals=1), 0, TOLD * 2, 9005),
+    "an idle peer has five milliseconds if another waits": (Peer(((7, ASKED),), signals=1), 1, TOLD, 12),
+    "half a head has two seconds more once another comes": (Peer(((0, HALF),), signals=1), 500, b"", 2500),
+    "half a body has two seconds more once another comes": (Peer(((0, HALF_BODY),), signals=1), 500, b"", 2500),
+    "half a head has no more than ten seconds, though another comes": (Peer(((0, HALF),), signals=1), 9000, b"", 10_000),
+    "a byte now and then has two seconds for all, if another waits": (
+        Peer(((0, b"G"), (600, b"E"), (1200, b"T"), (1800, b" "), (2400, b"/")), signals=1), 1, b"", 2020),
+    "a message that is late by less than two seconds is answered, though another waits": (
+        Peer(((0, HALF), (1900, REST)), signals=1), 1, TOLD, 1900),
+    "one request after another is answered for a second, if another waits": (ENDLESS, 0, TOLD * 5, 1200),
+    "one request after another is answered for a second more once another comes": (ENDLESS, 1000, TOLD * 8, 2100),
+    "one request after another is answered for as long as nobody waits": (ENDLESS, MOST, TOLD * 14, 13_900),
     "an answer that isn't taken has ten seconds": (UNTAKEN._replace(room=0), MOST, b"", 10_000),
     "an answer that is taken in part has ten seconds": (UNTAKEN._replace(room=50), MOST, TOLD[:50], 10_000),
     "an answer that is taken now and then has ten seconds for all": (
@@ -267,6 +277,49 @@ def waits(name):
     peer, other_comes, taken, closed = WAITS[name]
     found = served(peer, Peer(((0, b""),), comes=other_comes))
     same("what is taken, and when it is closed", (found.taken[0], found.closed[0]), (taken, closed))
+
+
+def order(others):
+    """A peer is idle until it is seen, after 20 milliseconds, that these others have come: when the connection of each
+    is closed."""
+    silent, begun = Peer(((9000, b""),), comes=1), Peer(((0, HALF),), comes=1)
+    whole, ended = Peer(((0, ASKED), (0, b"")), comes=2), Peer(((0, b""),), comes=2)
+    late = Peer(((0, HALF_BODY),), comes=1)
+    kinds = {"silent": silent, "begun": begun, "late": late, "whole": whole, "ended": ended}
+    found = served(Peer(((0, ASKED),)), *(kinds[it] for it in others.split()))
+    same("when each is closed", found.closed, [25, *ORDERS[others]])
+
+
+# The peers that wait as the idle one goes, in the order in which they came, and when each is closed. One that is silent
+# has a second, one whose message has begun two, but for the last one.
+ORDERS = {
+    "silent whole": [9000, 25],
+    "begun whole": [10_025, 25],
+    "late whole": [10_025, 25],
+    "silent begun ended whole": [1025, 11_025, 25, 25],
+    "begun silent whole": [2025, 9000, 25],
+    "late silent whole begun": [2025, 3025, 25, 13_025],
+}
+
+
+@case("which of those that wait comes next")
+def each_order():
+    return order, ORDERS
+
+
+def shared(count):
+    """The second of a peer that sends one request after another is shared among so many others."""
+    found = served(ENDLESS, *[Peer(((0, b""),))] * count)
+    same("what is taken", found.taken[0], TOLD * SHARES[count])
+
+
+# It is answered at 0, 300, 600 .., and each time it is seen whether its share is over.
+SHARES = {1: 5, 2: 3, 3: 3, 4: 2}
+
+
+@case("the second is shared among those that wait")
+def each_share():
+    return shared, SHARES
 
 
 for each in WAITS:

@@ -2,7 +2,7 @@
 ghost use Rattle.broker_http.specs.Calls.{IsServed};
 
 use crate::served::{ServeFault, Served};
-use crate::serving::serve;
+use crate::serving::{Turn, serve_for};
 use broker_database::Service;
 use http_messages::patience::{Door, Incoming, Limits, Outgoing, PeerReader, PeerWriter, Wait};
 use http_routes::RouteTable;
@@ -10,8 +10,18 @@ use std::alloc::Global;
 use std::cell::Cell;
 use std::time::Clock;
 
+/// As long as the limits say, if others wait.
+struct InTurn;
+
+impl<R: PeerReader, D: Door, C: Clock> Turn<Incoming<'_, '_, R, D, C>> for InTurn {
+    fn is_over(reader: &mut Incoming<'_, '_, R, D, C>) -> bool {
+        reader.is_over()
+    }
+}
+
 /// Answers what the peer asks, as `serve` does, and waits for it as the limits say. If one is over, the reader or the
-/// writer has failed to `serve`. It gives the peer's two sides back.
+/// writer has failed to `serve`; if the peer's turn is over while others wait, the reader has, between two messages. It
+/// gives the peer's two sides back.
 pub fn serve_peer<'a, B: Service, R: PeerReader + Drop, W: PeerWriter + Drop, D: Door, C: Clock>(
     alloc: Global,
     routes: &RouteTable,
@@ -32,6 +42,7 @@ pub fn serve_peer<'a, B: Service, R: PeerReader + Drop, W: PeerWriter + Drop, D:
         door,
         clock,
         limits,
+        wanted: None,
         wait: &wait,
     };
     let mut outgoing = Outgoing {
@@ -41,6 +52,6 @@ pub fn serve_peer<'a, B: Service, R: PeerReader + Drop, W: PeerWriter + Drop, D:
         look: limits.look,
         wait: &wait,
     };
-    let served = serve(alloc, routes, broker, &mut incoming, &mut outgoing);
+    let served = serve_for::<InTurn, _, _, _>(alloc, routes, broker, &mut incoming, &mut outgoing);
     (served, incoming.peer, outgoing.peer)
 }

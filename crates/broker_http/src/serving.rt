@@ -1,5 +1,6 @@
 //! Serving a stream.
 ghost use Rattle.std.specs.Prelude.{◌≡◌, ◌+◌, ◌≤◌, length, take, drop};
+ghost use Rattle.std.specs.Io.KnownBytes.{Keeps};
 ghost use Rattle.broker_http.specs.Calls.{IsAnsweredByBroker, IsServed};
 
 use crate::exchange::answer;
@@ -10,6 +11,22 @@ use http_messages::reading::{ReadOutcome, read_message};
 use http_routes::RouteTable;
 use std::alloc::Global;
 use std::io::{Read, Write};
+
+/// When a stream ends between two of its messages, though its reader goes on.
+pub(crate) trait Turn<R: Read> {
+    /// Whether it ends now. What the reader gives stays.
+    fn is_over(reader: &mut R) -> bool
+        ensures { Keeps (R.remaining reader.old) (R.remaining reader.new) };
+}
+
+/// It doesn't end so.
+struct Endless;
+
+impl<R: Read> Turn<R> for Endless {
+    fn is_over(_reader: &mut R) -> bool {
+        false
+    }
+}
 
 /// The head and the body of the message at the front.
 fn message_parts(bytes: &[u8], head_len: usize, body_len: usize) -> (&[u8], &[u8])
@@ -23,8 +40,8 @@ fn message_parts(bytes: &[u8], head_len: usize, body_len: usize) -> (&[u8], &[u8
 
 /// Answers the messages of a stream one after another, by what the broker promises of each command on any disk.
 ///
-/// It is apart from `serve`, whose clause on the machine follows from this one at once.
-fn serve_all<R: Read, W: Write, B: Service>(
+/// It is apart from `serve_for`, whose clause on the machine follows from this one at once.
+fn serve_all<T: Turn<R>, R: Read, W: Write, B: Service>(
     alloc: Global,
     routes: &RouteTable,
     broker: &mut B,
@@ -37,6 +54,9 @@ fn serve_all<R: Read, W: Write, B: Service>(
 {
     let mut buffer = Buffer::new(alloc);
     for answered in 0..u64::MAX {
+        if T::is_over(reader) {
+            return Err(ServeFault::Read);
+        }
         let (head_len, body_len, head) = match read_message(reader, &mut buffer)? {
             ReadOutcome::Message {
                 head_len,
@@ -64,6 +84,21 @@ fn serve_all<R: Read, W: Write, B: Service>(
     Err(ServeFault::Read)
 }
 
+/// Answers the requests of a stream as `serve` does, until its turn is over: then the reader has failed to it.
+pub(crate) fn serve_for<T: Turn<R>, R: Read, W: Write, B: Service>(
+    alloc: Global,
+    routes: &RouteTable,
+    broker: &mut B,
+    reader: &mut R,
+    writer: &mut W,
+) -> Result<Served, ServeFault>
+    ensures { IsServed B.shown (B.seen broker.old) (B.seen broker.new)
+        (R.remaining reader.old) (R.remaining reader.new)
+        (W.contents writer.old) (W.contents writer.new) result }
+{
+    serve_all::<T, R, W, B>(alloc, routes, broker, reader, writer)
+}
+
 /// Answers the requests of a stream by HTTP/1.1 (RFC 9112) one after another, each command in one transaction of the
 /// broker, until an answer closes the stream or the reader is at its end.
 ///
@@ -88,5 +123,5 @@ pub fn serve<R: Read, W: Write, B: Service>(
         (R.remaining reader.old) (R.remaining reader.new)
         (W.contents writer.old) (W.contents writer.new) result }
 {
-    serve_all(alloc, routes, broker, reader, writer)
+    serve_for::<Endless, R, W, B>(alloc, routes, broker, reader, writer)
 }

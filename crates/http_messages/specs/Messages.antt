@@ -27,6 +27,10 @@ pub record BeginsWithMessage (stream : List ℕ) (m : Message) (after : List ℕ
   pub head : IsHeadOf stream m.head
   pub body : IsBodyLength m.head (length m.body)
 
+-- a whole message is there
+abbrev pub HasMessage : List ℕ → Type 0
+HasMessage stream = (m : Message) × (after : List ℕ) × BeginsWithMessage stream m after
+
 -- no message is whole yet
 abbrev pub HasNoMessage : List ℕ → Type 0
 HasNoMessage stream = (m : Message) (after : List ℕ) → ¬ (BeginsWithMessage stream m after)

@@ -3,6 +3,21 @@ use Rattle.std.specs.Prelude.{◌≡◌, ◌⊎◌, ◌+◌, ◌*◌, ◌≤◌,
 use Rattle.std.specs.IoError.{error_kind}
 use Rattle.std.specs.declared.io.Error.{Error}
 use Rattle.std.specs.declared.io.ErrorKind.TheVariants.{WouldBlock}
+use Rattle.http_messages.specs.declared.patience.Limits.{Limits}
+
+-- How long `broker serve` waits for a peer, in milliseconds: ten seconds for a message and for an answer, two for the
+-- rest of a message while another peer waits; then a second for a peer's first bytes, five milliseconds for those of a
+-- later message, and a second for all its messages, which those that wait share.
+abbrev pub serve_limits : Limits
+serve_limits = record {
+  message = 10000;
+  late = 2000;
+  answer = 10000;
+  first = 1000;
+  next = 5;
+  turn = 1000;
+  look = 20;
+}
 
 -- milliseconds
 abbrev pub millis : ℕ → ℕ

@@ -5,6 +5,7 @@
 pub mod buffer;
 pub mod fields;
 pub mod head;
+pub mod laws;
 mod lines;
 pub mod messages;
 mod options;

@@ -1,9 +1,11 @@
 //! How long a peer is waited for.
 //!
 //! A server that serves one peer at a time lets each keep it only so long. A message that has begun has to be whole, and
-//! an answer to be taken, within a limit. A peer that has sent nothing of its next message has to go if another waits;
-//! by itself it may stay. Only the time that is spent waiting counts, not that of the server's own work.
-ghost use Rattle.std.specs.Prelude.{◌≡◌, ◌+◌, ◌-◌, ◌≤◌, min, max, ℕ, List, Option, None, IfOk, IfErr};
+//! an answer to be taken, within a limit; less is left for a message while another peer waits. A peer that has sent
+//! nothing of its next message has to go if another waits; by itself it may stay. Only the time that is spent waiting
+//! counts for these, not that of the server's own work. A peer that sends message after message has a turn, in which all
+//! counts: it is over once the peer has been served for so long while others wait.
+ghost use Rattle.std.specs.Prelude.{◌≡◌, ◌+◌, ◌-◌, ◌*◌, ◌≤◌, ◌⊎◌, ◌↔◌, true, min, max, ℕ, List, Option, None, IfOk, IfErr};
 ghost use Rattle.std.specs.Duration.{as_nanos, max_nanos};
 ghost use Rattle.std.specs.Io.{ReadsAtMost, WritesAtMost};
 ghost use Rattle.std.specs.Io.KnownBytes.{ReadConsumes, WriteAppends};
@@ -18,14 +20,18 @@ use std::time::{Clock, Duration, Instant};
 /// How long a peer is waited for, in milliseconds, each more than none.
 #[derive(Clone, Copy)]
 pub struct Limits {
-    /// For a message, from its first bytes to its last.
+    /// For a message, from its first bytes to its last,
     pub message: u64,
+    /// and of that while another peer waits.
+    pub late: u64,
     /// For an answer to be taken, with those that go out before it without a read between them.
     pub answer: u64,
     /// For the first bytes that a connection brings, if another peer waits.
     pub first: u64,
     /// For those of a later message, if another peer waits.
     pub next: u64,
+    /// For all messages of a peer that another one waits for. If several wait, it is shared among them.
+    pub turn: u64,
     /// At once, before it is looked again whether another peer waits, or whether a limit is over.
     pub look: u64,
 }
@@ -33,9 +39,11 @@ pub struct Limits {
 /// The limits of `broker serve`.
 pub const LIMITS: Limits = Limits {
     message: 10_000,
+    late: 2_000,
     answer: 10_000,
     first: 1_000,
     next: 5,
+    turn: 1_000,
     look: 20,
 };
 
@@ -85,8 +93,49 @@ impl PeerWriter for &TcpStream {
 
 /// Where peers come in.
 pub trait Door {
+    /// It is known that another peer waits. It does so until the one that is served has gone.
+    ghost IsWanted: { Self → Type 0 } = { λ _. ⊥ };
+
     /// Whether another peer waits to be served.
-    fn has_another(&mut self) -> bool;
+    fn has_another(&mut self) -> bool
+        ensures stays { IsWanted self.old → (result ≡ true) × IsWanted self.new };
+
+    /// How many other peers wait to be served, as far as that is known.
+    fn others(&mut self) -> u32 {
+        u32::from(self.has_another())
+    }
+}
+
+/// How long a peer was waited for, for the rest of one message.
+#[derive(Clone, Copy)]
+pub struct Spent {
+    /// In all,
+    pub all: Duration,
+    /// and of that while another peer waited.
+    pub wanted: Duration,
+}
+
+impl Spent {
+    /// None of it.
+    const NONE: Spent = Spent {
+        all: Duration::ZERO,
+        wanted: Duration::ZERO,
+    };
+
+    /// With a wait that counts so much.
+    fn and(self, counted: Duration, is_wanted: bool) -> Spent
+        ensures all { as_nanos result.all ≡ min (as_nanos self.all + as_nanos counted) max_nanos }
+        ensures wanted { is_wanted ≡ true →
+            as_nanos result.wanted ≡ min (as_nanos self.wanted + as_nanos counted) max_nanos }
+    {
+        let all = self.all.saturating_add(counted);
+        let wanted = if is_wanted {
+            self.wanted.saturating_add(counted)
+        } else {
+            self.wanted
+        };
+        Spent { all, wanted }
+    }
 }
 
 /// What a peer is waited for, and how long it was.
@@ -95,7 +144,7 @@ pub enum Wait {
     /// For the first bytes of all.
     First,
     /// For the rest of a message.
-    Message(Duration),
+    Message(Spent),
     /// To take the answer.
     Answer(Duration),
 }
@@ -127,6 +176,41 @@ fn next_look(limit: u64, look: u64, spent: Duration) -> io::Result<Duration>
     } else {
         Ok(shorter(left, Duration::from_millis(look)))
     }
+}
+
+/// How long to wait at once for more of a message, of which so much is spent. `TimedOut` if nothing is left.
+fn next_read(limits: Limits, is_wanted: bool, spent: Spent) -> io::Result<Duration>
+    ensures all { IfOk result (λ within. as_nanos spent.all + as_nanos within ≤ millis limits.message) }
+    ensures wanted { is_wanted ≡ true →
+        IfOk result (λ within. as_nanos spent.wanted + as_nanos within ≤ millis limits.late) }
+    ensures over { IfErr result (λ _. (millis limits.message ≤ as_nanos spent.all)
+        ⊎ ((is_wanted ≡ true) × (millis limits.late ≤ as_nanos spent.wanted))) }
+    ensures fits { (millis limits.message ≤ max_nanos) × (millis limits.late ≤ max_nanos) }
+{
+    let within = next_look(limits.message, limits.look, spent.all)?;
+    if is_wanted {
+        Ok(shorter(within, next_look(limits.late, limits.look, spent.wanted)?))
+    } else {
+        Ok(within)
+    }
+}
+
+/// Since when another peer waits, if one does now, and it was known to since then.
+fn since(known: Option<Instant>, is_wanted: bool, now: Instant) -> Option<Instant> {
+    if is_wanted {
+        Some(known.unwrap_or(now))
+    } else {
+        None
+    }
+}
+
+/// Whether the turn of a peer is over that was served for so long while so many others waited.
+fn is_turn_over(turn: u64, served: Duration, others: u32) -> bool
+    ensures { result ≡ true ↔ millis turn ≤ as_nanos served * others }
+{
+    Duration::from_millis(turn)
+        .saturating_sub(served.saturating_mul(others))
+        .is_zero()
 }
 
 /// How long a wait that began then counts, and ended so: as long as it took, but no longer than twice what it was to
@@ -164,25 +248,53 @@ pub struct Incoming<'a, 'w, R: PeerReader, D: Door, C: Clock> {
     pub door: &'a mut D,
     pub clock: &'a C,
     pub limits: Limits,
+    /// Since when another peer waits, as far as that was seen.
+    pub wanted: Option<Instant>,
     /// What is waited for, which the other side of the connection sets too.
     pub wait: &'w Cell<Wait>,
 }
 
 impl<R: PeerReader, D: Door, C: Clock> Incoming<'_, '_, R, D, C> {
-    /// Waits for more of a message, of whose limit so much is spent: in vain no longer than what is left.
-    fn read_on(&mut self, buf: &mut [u8], spent: Duration) -> io::Result<usize>
+    /// Whether the peer's turn is over, between two of its messages: it has been served for as long while others wait. If
+    /// the clock fails, it is.
+    pub fn is_over(&mut self) -> bool
+        ensures peer { self.new.peer ≡ self.old.peer }
+    {
+        let others = self.door.others();
+        if others == 0 {
+            self.wanted = None;
+            return false;
+        }
+        match self.wanted {
+            Some(since) => match since.elapsed(self.clock) {
+                Ok(served) => is_turn_over(self.limits.turn, served, others),
+                Err(_) => true,
+            },
+            None => {
+                self.wanted = Instant::now(self.clock).ok();
+                self.wanted.is_none()
+            }
+        }
+    }
+
+    /// Waits for more of a message, of whose limits so much is spent: in vain no longer than what is left.
+    fn read_on(&mut self, buf: &mut [u8], spent: Spent) -> io::Result<usize>
         ensures bound { ReadsAtMost result buf.new }
         ensures bytes { ReadConsumes (R.remaining self.old.peer) (R.remaining self.new.peer) result buf.new }
         ensures wait { R.waited self.new.peer
-            ≤ R.waited self.old.peer + (millis self.old.limits.message - as_nanos spent) }
+            ≤ R.waited self.old.peer + (millis self.old.limits.message - as_nanos spent.all) }
+        ensures late { D.IsWanted self.old.door.now → R.waited self.new.peer
+            ≤ R.waited self.old.peer + (millis self.old.limits.late - as_nanos spent.wanted) }
     {
         let limits = self.limits;
         let mut spent = spent;
         for _ in 0..u64::MAX {
-            let within = next_look(limits.message, limits.look, spent)?;
+            let is_wanted = self.door.has_another();
+            let within = next_read(limits, is_wanted, spent)?;
             let asked = Instant::now(self.clock)?;
+            self.wanted = since(self.wanted, is_wanted, asked);
             let received = self.peer.receive(buf, within);
-            spent = spent.saturating_add(counted(self.clock, asked, within, &received));
+            spent = spent.and(counted(self.clock, asked, within, &received), is_wanted);
             match received {
                 Ok(count) => {
                     self.wait.set(Wait::Message(spent));
@@ -208,7 +320,7 @@ impl<R: PeerReader, D: Door, C: Clock> Incoming<'_, '_, R, D, C> {
             let within = if is_wanted { grace } else { self.limits.look };
             match self.peer.receive(buf, Duration::from_millis(within)) {
                 Ok(count) => {
-                    self.wait.set(Wait::Message(Duration::ZERO));
+                    self.wait.set(Wait::Message(Spent::NONE));
                     return Ok(count);
                 }
                 Err(error) => match error.kind() {
@@ -232,7 +344,7 @@ impl<R: PeerReader, D: Door, C: Clock> Read for Incoming<'_, '_, R, D, C> {
         match self.wait.get() {
             Wait::First => self.begin(buf, self.limits.first),
             Wait::Answer(_) if buf.len() == HEAD_LIMIT => self.begin(buf, self.limits.next),
-            Wait::Answer(_) => self.read_on(buf, Duration::ZERO),
+            Wait::Answer(_) => self.read_on(buf, Spent::NONE),
             Wait::Message(spent) => self.read_on(buf, spent),
         }
     }

@@ -1,2 +1,3 @@
 pub mod ResultLemmas
+mod ListeningLemmas
 pub mod VerdictLemmas

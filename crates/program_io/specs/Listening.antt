@@ -1,9 +1,11 @@
--- where a broker listens (this project's own choice: an address of loopback, since it has no TLS)
-use Rattle.std.specs.Prelude.{ℕ, List}
+-- where a broker listens (this project's own choice: an address of loopback, since it has no TLS), and who comes next
+use Rattle.std.specs.Prelude.{◌≡◌, ◌⊎◌, ◌≤◌, ℕ, Bool, List, [], ◌∷◌, length, position, Option, Some, None, unwrap_or}
 use Rattle.std.specs.Net.Addr.{MatchIp, IsLoopbackV4, IsLoopbackV6}
 use Rattle.std.specs.Net.Socket.{socket_ip}
 use Rattle.std.specs.Net.Grammar.{IsSocketText}
 use Rattle.std.specs.declared.net.socket_addr.SocketAddr.{SocketAddr}
+use Rattle.http_messages.specs.Limits.{head_limit}
+use Rattle.http_messages.specs.Messages.{HasMessage}
 
 -- an address of 127.0.0.0/8 or ::1
 abbrev pub IsOfLoopback : SocketAddr → Type 0
@@ -16,3 +18,14 @@ IsLoopback text address = IsSocketText text address × IsOfLoopback address
 -- the text says such an address
 abbrev pub ListensOn : List ℕ → Type 0
 ListensOn text = (address : SocketAddr) × IsLoopback text address
+
+-- A peer that has sent these bytes so far is ready to be served: nothing more comes from it, or a message is whole, or as
+-- much is there as a head may have.
+abbrev pub IsReady : List ℕ → Type 0
+IsReady sent = (sent ≡ []) ⊎ HasMessage sent ⊎ (head_limit ≤ length sent)
+
+-- the place of the one that comes next of those that wait, in the order in which they came: the first that is ready, or
+-- else the first of all
+abbrev pub next_of : {A : Type 0} → (A → Bool) → List A → Option ℕ
+next_of is_ready [] = None
+next_of is_ready (first ∷ others) = Some (unwrap_or (position is_ready (first ∷ others)) 0)

@@ -1,5 +1,6 @@
 use Rattle.std.{specs.Io.KnownBytes.{Appends}, proofs.Common.{◌≢◌, ◌+◌, ◌++◌, length, drop, [], ◌∷◌, refl, sym, ◌∙◌, subst, arith, eqb-true, length-append}}
-use Rattle.std.proofs.{KnownBytes.{Consumes-nil, Consumes-trans, Appends-nil, Appends-trans}, lemmas.Result.{err_from_is_err_and}, lemmas.Bool.{eqb-false}}
+use Rattle.std.proofs.{KnownBytes.{Consumes-kept, Consumes-nil, Consumes-trans, Appends-nil, Appends-trans}, lemmas.Result.{err_from_is_err_and}}
+use Rattle.std.proofs.lemmas.Bool.{eqb-false}
 use Rattle.http_messages.specs.Reading.{IsOutcome}
 use Rattle.broker_http.specs.{Calls.{ByBroker}, Stream.{texts}}
 use Rattle.broker_http.proofs.ResponsesLemmas.{Responses-came, Responses-answered, Responses-broken, Responses-unread, AllOpen-then, texts-then, StreamEnds-at_end, StreamEnds-rest}
@@ -13,17 +14,19 @@ loop-answered-init g c =
 pub returns-in_err-head_len : goal.returns-in_err-head_len
 returns-in_err-head_len g c =
     let so_far = c.loop-answered.invariant in
+    let read = Consumes-kept _ _ _ so_far.0 so_far.2 c.is_over.ensures in
     let p = err_from_is_err_and c.from_residual.result c.from_residual.ensures.1 in
     rw (p.1, p.2) (record {
       ok = tt;
       end = tt;
       fault = Responses-unread (ByBroker g.B.Service.shown) _ so_far.0 so_far.1 _ c.loop-answered.buffer.items _ _ _ _ _ _ _
-          so_far.2 so_far.3 so_far.4 so_far.6 c.in_err-head_len.ensures.err.leaves;
+          read so_far.3 so_far.4 so_far.6 c.in_err-head_len.ensures.err.leaves;
     })
 
 pub returns-in-End : goal.returns-in-End
 returns-in-End g c =
     let so_far = c.loop-answered.invariant in
+    let read = Consumes-kept _ _ _ so_far.0 so_far.2 c.is_over.ensures in
     let came = c.in_ok-head_len.ensures.ok.gains in
     let bytes = c.read_message.new.buffer.items in
     let none = subst (IsOutcome bytes) c.in-End.is c.in_ok-head_len.ensures.ok.outcome in
@@ -32,7 +35,7 @@ returns-in-End g c =
         so_far.0 ++ came.0,
         so_far.1,
         bytes,
-        Consumes-trans _ _ _ so_far.0 came.0 so_far.2 came.1,
+        Consumes-trans _ _ _ so_far.0 came.0 read came.1,
         Responses-came (ByBroker g.B.Service.shown) _ so_far.0 so_far.1 _ c.loop-answered.buffer.items came.0 bytes so_far.3 came.2,
         elim c.if-is_empty.branch [
           | then-is_empty w ↦ StreamEnds-at_end _ so_far.1 bytes w.ended-is so_far.4 (eqb-true (length bytes) 0 (sym c.is_empty.ensures ∙ w.if-is_empty.true))
@@ -50,6 +53,7 @@ pub returns-in_err-answer : goal.returns-in_err-answer
 returns-in_err-answer g c =
     let exchange = ByBroker g.B.Service.shown in
     let so_far = c.loop-answered.invariant in
+    let read = Consumes-kept _ _ _ so_far.0 so_far.2 c.is_over.ensures in
     let came = c.in_ok-head_len.ensures.ok.gains in
     let bytes = c.read_message.new.buffer.items in
     let begins = subst (IsOutcome bytes) c.in-Message.is c.in_ok-head_len.ensures.ok.outcome in
@@ -66,7 +70,7 @@ returns-in_err-answer g c =
         broken.0,
         broken.1,
         broken.2,
-        Consumes-trans _ _ _ so_far.0 came.0 so_far.2 came.1,
+        Consumes-trans _ _ _ so_far.0 came.0 read came.1,
         broken.3,
         broken.4,
         broken.5,
@@ -77,6 +81,7 @@ pub returns-then-branch : goal.returns-then-branch
 returns-then-branch g c =
     let exchange = ByBroker g.B.Service.shown in
     let so_far = c.loop-answered.invariant in
+    let read = Consumes-kept _ _ _ so_far.0 so_far.2 c.is_over.ensures in
     let came = c.in_ok-head_len.ensures.ok.gains in
     let bytes = c.read_message.new.buffer.items in
     let answered = c.in_ok-answer.ensures.ok in
@@ -85,7 +90,7 @@ returns-then-branch g c =
         so_far.0 ++ came.0,
         so_far.1 ++ response ∷ [],
         drop (c.in-Message.head_len + c.in-Message.body_len) bytes,
-        Consumes-trans _ _ _ so_far.0 came.0 so_far.2 came.1,
+        Consumes-trans _ _ _ so_far.0 came.0 read came.1,
         Responses-answered exchange _ so_far.0 so_far.1 _ c.loop-answered.buffer.items came.0 bytes c.in_ok-head_len.field-0
             c.in-Message.head_len c.in-Message.body_len c.in-Message.head response _ so_far.3 came.2 c.in_ok-head_len.ensures.ok.outcome c.in-Message.is
             (rw (c.message_parts.ensures.head, c.message_parts.ensures.body, c.as_slice.ensures) at answered.1),
@@ -102,13 +107,14 @@ pub loop-answered-preserved : goal.loop-answered-preserved
 loop-answered-preserved g c =
     let exchange = ByBroker g.B.Service.shown in
     let so_far = c.loop-answered.invariant in
+    let read = Consumes-kept _ _ _ so_far.0 so_far.2 c.is_over.ensures in
     let came = c.in_ok-head_len.ensures.ok.gains in
     let bytes = c.read_message.new.buffer.items in
     let answered = c.in_ok-answer.ensures.ok in
     let response = answered.0 in (
       so_far.0 ++ came.0,
       so_far.1 ++ response ∷ [],
-      Consumes-trans _ _ _ so_far.0 came.0 so_far.2 came.1,
+      Consumes-trans _ _ _ so_far.0 came.0 read came.1,
       rw c.drop_front.ensures
           (Responses-answered exchange _ so_far.0 so_far.1 _ c.loop-answered.buffer.items came.0 bytes c.in_ok-head_len.field-0
           c.in-Message.head_len c.in-Message.body_len c.in-Message.head response _ so_far.3 came.2 c.in_ok-head_len.ensures.ok.outcome c.in-Message.is
@@ -118,6 +124,16 @@ loop-answered-preserved g c =
       subst (Appends _ _) (sym (texts-then so_far.1 response))
           (Appends-trans _ _ _ (texts so_far.1) response.text so_far.6 answered.3),
     )
+
+pub returns-then-is_over : goal.returns-then-is_over
+returns-then-is_over g c =
+    let so_far = c.loop-answered.invariant in
+    let read = Consumes-kept _ _ _ so_far.0 so_far.2 c.is_over.ensures in
+    record {
+      ok = tt;
+      end = tt;
+      fault = (so_far.0, so_far.1, _, texts so_far.1, read, so_far.3, (so_far.4, refl), so_far.6);
+    }
 
 pub returns : goal.returns
 returns g c =

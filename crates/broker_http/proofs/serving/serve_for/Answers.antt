@@ -4,7 +4,7 @@ use Rattle.broker_database.specs.BrokerView.{BrokerView}
 use Rattle.broker_http.specs.{Calls.{ByBroker, HasAnswered, IsAnsweredByMachine}, Journal.{blank}, Serving.{Mode, IsInMode, ServesStream}}
 use Rattle.broker_http.{specs.{declared.served.ServeFault.{ServeFault}, declared.served.Served.{Served}}, proofs.JournalLemmas.{runs}}
 use Rattle.broker_http.proofs.ModeLemmas.{starts, machine, stops_so, all_survive}
-use Rattle.broker_http.proofs.serving.serve.Goals as goal
+use Rattle.broker_http.proofs.serving.serve_for.Goals as goal
 
 module _ {X : Type 0} (shown : Held X → State) (s t : BrokerView X) (before after old new : Option (List ℕ)) where
   survives : (result : Result Served ServeFault) → ServesStream (ByBroker shown) s t before after old new result
