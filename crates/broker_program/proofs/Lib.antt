@@ -1,7 +1,10 @@
 pub mod ResultLemmas
 pub mod UnchangedLemmas
+pub mod CalmLemmas
+pub mod WordsLemmas
 pub mod RefusalLemmas
 pub mod ReopeningLemmas
 pub mod ServingLemmas
 mod CallLemmas
 pub mod PeriodLemmas
+pub mod ServiceCalm

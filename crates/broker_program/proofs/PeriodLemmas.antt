@@ -16,11 +16,11 @@ then_period old mid new (first ∷ life) period it leads = (it.0, it.1, then_per
 
 module _ {D : Type 0} (g : Ghosts D) (stays : (file : D) → g.may_leave file (g.seen file)) where
   -- what a crash leaves keeps what these lead to
-  abbrev Keeps : Kept → List Period → Image → Type 0
+  abbrev pub Keeps : Kept → List Period → Image → Type 0
   Keeps old life image = (new : Kept) × LifeLeads old life new × AreFilesOf g new image
 
   -- the connection was opened on files that keep it
-  abbrev Begins : Kept → List Period → Held (FileStore D g) → Type 0
+  abbrev pub Begins : Kept → List Period → Held (FileStore D g) → Type 0
   Begins old life conn = (held : Image) × Keeps old life held × IsOpened conn × FindsIn held (file_state conn)
 
   pub adds_period : (old : Kept) (life : List Period) (period : Period) (first last : Held (FileStore D g)) (rest : Leftover D g) (image : Image) → ∥ Begins old life first ∥₁

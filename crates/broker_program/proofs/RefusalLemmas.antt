@@ -5,15 +5,18 @@ use Rattle.sqlite_trees.specs.View.{doubt}
 use Rattle.sqlite.specs.{Files.{file_state}, FileStore.{view}, Held.{Held}, Recovery.{Image}, State.{HasCleanDisk}, View.{IsClean}}
 use Rattle.sqlite.specs.declared.FileStore.{FileStore}
 use Rattle.broker_database.specs.declared.opening.OpenFault.{OpenFault}
-use Rattle.broker_program.specs.{Files.{GivesUpAs, LeavesStore, OpensOn}, Refusals.{FailsThere, IsOfDatabase}, declared.left.Left.{Left}}
-use Rattle.broker_program.specs.declared.left.Left.TheVariants.{Closed, GivenUp, Nothing, Served}
-use Rattle.program_io.specs.declared.fault.RunFault.{RunFault}
+use Rattle.broker_program.specs.Files.{GivesUpAs, LeavesStore, OpensOn, StartsFrom}
+use Rattle.broker_program.specs.{Refusals.{EndsUnclosed, FailsThere, FailsToDisconnect, IsNotClosed, IsOfDatabase, IsUnclosed}, declared.left.Left.{Left}}
+use Rattle.broker_program.specs.declared.left.Left.TheVariants.{Closed, GivenUp, Nothing, Read, Served, Unopened}
+use Rattle.program_io.specs.{Reported.{IsFromOutside}, declared.fault.RunFault.{RunFault}}
 use Rattle.program_io.specs.declared.fault.RunFault.TheVariants as run_fault
 
 module _ {D : Type 0} {g : Ghosts D} where
   pub store_weaker : (P Q : FileStore D g → Type 0) (rest : Left D g) → ((store : FileStore D g) → P store → Q store) → LeavesStore P rest → LeavesStore Q rest
   store_weaker P Q (GivenUp store) f p = f store p
   store_weaker P Q Nothing f p = p
+  store_weaker P Q (Read read) f p = p
+  store_weaker P Q (Unopened rest) f p = p
   store_weaker P Q (Closed files) f p = p
   store_weaker P Q (Served service) f p = p
 
@@ -27,3 +30,24 @@ module _ {D : Type 0} {g : Ghosts D} where
       let early : HasCleanDisk (file_state old) = omega (arith, kept.0, later) in
       record { connection = old; end = new; starts = opens early; fails = fails; clean = kept.0; left = kept.1 }) gives in
       subst (λ (f : RunFault). IsOfDatabase held Fails f rest) (sym is) there
+
+  -- what was done in the database of a file that couldn't be closed
+  pub ends_unclosed : (held : Image) (Does : Held (FileStore D g) → Held (FileStore D g) → Type 0) (end : Held (FileStore D g)) (fault : RunFault) (rest : Left D g)
+      → (HasCleanDisk (file_state end) → (conn : Held (FileStore D g)) × StartsFrom held conn × Does conn end) → IsFromOutside fault → FailsToDisconnect end fault rest → EndsUnclosed held Does fault rest
+  ends_unclosed held Does end fault rest there outside fails = (
+    outside,
+    store_weaker (IsNotClosed end fault) (λ store. IsClean (view store) → IsUnclosed held Does fault store) rest (λ store it clean.
+        let early : HasCleanDisk (file_state end) = omega (arith, clean, it.closed.quiet.clean) in
+        let from = there early in
+        record {
+          connection = from.0;
+          end = end;
+          starts = from.1;
+          does = from.2;
+          clean = early;
+          closed = it.closed;
+          error = it.error;
+          told = it.told;
+          cause = it.cause clean;
+        }) fails,
+  )

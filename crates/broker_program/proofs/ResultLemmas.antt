@@ -1,5 +1,5 @@
--- a fact holds whatever a result is
-use Rattle.std.proofs.Common.{IfOk, OnErr, Result, Ok, Err}
+-- facts of a result
+use Rattle.std.proofs.Common.{◌≡◌, IfErr, IfOk, MatchResult, OnErr, Result, Ok, Err, subst, sym}
 
 pub if_ok : {T E P : Type 0} (r : Result T E) → P → IfOk r (λ _. P)
 if_ok (Ok x) p = p
@@ -8,3 +8,18 @@ if_ok (Err y) p = tt
 pub on_err : {T E P : Type 0} (r : Result T E) → P → OnErr r P
 on_err (Ok x) p = tt
 on_err (Err y) p = p
+
+-- what follows from two facts of the error
+pub if_err_both : {T E : Type 0} {P Q R : E → Type 0} (r : Result T E) → ((e : E) → P e → Q e → R e) → IfErr r P → IfErr r Q → IfErr r R
+if_err_both (Ok x) f p q = tt
+if_err_both (Err e) f p q = f e p q
+
+-- a result that is handed on, with another error
+module _ {T E F : Type 0} (f : E → F) where
+  pub handed_ok : (r : Result T E) (s : Result T F) (P : T → Type 0) → MatchResult r (λ x. s ≡ Ok x) (λ e. s ≡ Err (f e)) → IfOk r P → IfOk s P
+  handed_ok (Ok x) s P is p = subst (λ (t : Result T F). IfOk t P) (sym is) p
+  handed_ok (Err e) s P is p = subst (λ (t : Result T F). IfOk t P) (sym is) tt
+
+  pub handed_err : (r : Result T E) (s : Result T F) (Q : F → Type 0) → MatchResult r (λ x. s ≡ Ok x) (λ e. s ≡ Err (f e)) → IfErr r (λ e. Q (f e)) → IfErr s Q
+  handed_err (Ok x) s Q is q = subst (λ (t : Result T F). IfErr t Q) (sym is) tt
+  handed_err (Err e) s Q is q = subst (λ (t : Result T F). IfErr t Q) (sym is) q

@@ -5,7 +5,7 @@ use Rattle.sqlite_disk.specs.declared.Files.{Files}
 use Rattle.sqlite.specs.Closing.{IsCopied}
 use Rattle.sqlite.specs.FileStore.{view}
 use Rattle.sqlite.specs.Files.{IsBlankAs, IsOpened, file_state}
-use Rattle.sqlite.specs.Held.{Held}
+use Rattle.sqlite.specs.Held.{Held, IsNew}
 use Rattle.sqlite.specs.Recovery.{Image}
 use Rattle.sqlite.specs.Start.{FindsIn}
 use Rattle.sqlite.specs.State.{HasCleanDisk}
@@ -15,8 +15,9 @@ use Rattle.sqlite.specs.declared.FileStore.{FileStore}
 use Rattle.broker_database.specs.BrokerView.{BrokerView}
 use Rattle.broker_database.specs.Calls.{Opened}
 use Rattle.broker_database.specs.Life.{IsGivenBack}
+use Rattle.program_io.specs.declared.check.FilesRead.{FilesRead}
 use Rattle.broker_program.specs.declared.left.Left.{Left}
-use Rattle.broker_program.specs.declared.left.Left.TheVariants.{Closed, GivenUp, Served}
+use Rattle.broker_program.specs.declared.left.Left.TheVariants.{Closed, GivenUp, Read, Served}
 use Rattle.broker_program.specs.declared.left.Service.{Service}
 
 module _ {D : Type 0} {g : Ghosts D} where
@@ -28,6 +29,8 @@ module _ {D : Type 0} {g : Ghosts D} where
     pub found : FindsIn held (file_state conn)
     -- if there was none, each page of the new file has a sum
     pub sums : IsBlankAs true held → (view conn.store).has_sums ≡ true
+    -- no query on it has a limit of steps
+    pub fresh : IsNew conn
 
   -- For private clauses: the same, if the disk is clean.
   abbrev pub OpensOn : Image → Held (FileStore D g) → Type 0
@@ -50,6 +53,11 @@ module _ {D : Type 0} {g : Ghosts D} where
       → (conn : Held (FileStore D g)) × StartsFrom held conn × Opened file_state conn (Ok broker)
 
   -- ---- what is left of the file that a command worked on
+
+  -- files were read, such ones
+  abbrev pub LeavesRead : (FilesRead → Type 0) → Left D g → Type 0
+  LeavesRead P (Read read) = P read
+  LeavesRead P _ = ⊥
 
   -- it was closed, and its files are such
   abbrev pub LeavesClosed : (Files D → Type 0) → Left D g → Type 0

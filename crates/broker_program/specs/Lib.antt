@@ -4,7 +4,9 @@ pub mod Files
 pub mod Serving
 pub mod Reopening
 pub mod Making
+pub mod Words
 pub mod Running
 pub mod Life
+pub mod Calm
 pub mod Reasons
 pub mod Refusals

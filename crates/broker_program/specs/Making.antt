@@ -1,6 +1,6 @@
 -- what a command made of the database in a file: a new broker's, or today's of one of format 1 (this project's own
 -- choice)
-use Rattle.std.specs.Prelude.{Ok}
+use Rattle.std.specs.Prelude.{◌≡◌, Ok}
 use Rattle.sqlite_disk.specs.declared.Disk.{Ghosts}
 use Rattle.sqlite_disk.specs.declared.Files.{Files}
 use Rattle.sqlite.specs.Closing.{IsCopied}
@@ -15,6 +15,17 @@ use Rattle.command_facts.specs.Primitives.{broker_primitives}
 use Rattle.broker_database.specs.BrokerView.{BrokerView}
 use Rattle.broker_database.specs.Calls.{Created, Migrated}
 use Rattle.broker_program.specs.Files.{StartsFrom}
+
+module _ {D : Type 0} {g : Ghosts D} where
+  -- A new broker is made, whose office has this token; new is its connection.
+  abbrev pub MakesOn : Text → Held (FileStore D g) → Held (FileStore D g) → Type 0
+  MakesOn office old new =
+      (broker : BrokerView (FileStore D g)) × (new ≡ broker.connection)
+      × Created file_state old (broker_primitives.digest_of office) (Ok broker)
+
+  -- today's database is made of one of format 1
+  abbrev pub MigratesOn : Held (FileStore D g) → Held (FileStore D g) → Type 0
+  MigratesOn old new = Migrated file_state old new (Ok tt)
 
 -- Held is what the log and the database file held at first; the files are what is left of them.
 module _ {D : Type 0} (g : Ghosts D) (held : Image) where

@@ -14,8 +14,10 @@ use Rattle.program_io.specs.Listening.{ListensOn}
 use Rattle.program_io.specs.Reported.{FailsToCheck, FailsToNormalise, IsFromOutside, IsNoName, IsTokenFault}
 use Rattle.program_io.specs.declared.fault.RunFault.{RunFault}
 use Rattle.program_io.specs.declared.fault.RunFault.TheVariants as run_fault
-use Rattle.broker_program.specs.Files.{LeavesServed, LeavesStore}
-use Rattle.broker_program.specs.Refusals.{IsLeftUnserved, IsOfDatabase, MakesNone, MigratesNone, OpensNone}
+use Rattle.broker_program.specs.Files.{LeavesRead, LeavesServed, LeavesStore}
+use Rattle.broker_program.specs.Making.{MakesOn, MigratesOn}
+use Rattle.broker_program.specs.Refusals.{EndsUnclosed, FailsToConnect, IsLeftUnserved, IsOfDatabase}
+use Rattle.broker_program.specs.Refusals.{MakesNone, MigratesNone, OpensNone}
 use Rattle.broker_program.specs.Replays.{ReplaysUpTo}
 use Rattle.broker_program.specs.Serving.{ServedSome}
 use Rattle.broker_program.specs.Told.{AnswersQuestion, permission, question}
@@ -69,24 +71,27 @@ IsReopeningFault f = IsFromOutside f ⊎ IsOpeningFault f
 abbrev pub CutsService : {D : Type 0} {g : Ghosts D} → RunFault → Left D g → Type 0
 CutsService f rest = IsFromOutside f ⊎ (IsOpeningFault f × LeavesServed ServedSome rest)
 
--- Held is what the log and the database file held at first, and rest what the command left of them. That a file or a
--- stream failed, or that there was no memory, has no cause in these clauses: nothing says why a path isn't opened.
+-- Held is what the log and the database file held at first, and rest what the command left of them. Nothing says why a
+-- path isn't there or can't be taken.
 module _ {D : Type 0} {g : Ghosts D} (held : Image) where
   -- no broker is opened there: the fault is what the database there is found to be
   abbrev pub FailsToOpen : RunFault → Left D g → Type 0
-  FailsToOpen f rest = IsFromOutside f ⊎ IsOfDatabase held OpensNone f rest
+  FailsToOpen f rest = FailsToConnect held f rest ⊎ IsOfDatabase held OpensNone f rest
 
-  -- none is made there whose office has this token
+  -- none is made there whose office has this token; or one is, and the file couldn't be closed
   abbrev pub FailsToMakeIn : Text → RunFault → Left D g → Type 0
-  FailsToMakeIn office f rest = IsFromOutside f ⊎ IsOfDatabase held (MakesNone office) f rest
+  FailsToMakeIn office f rest =
+      FailsToConnect held f rest
+      ⊎ (IsOfDatabase held (MakesNone office) f rest ⊎ EndsUnclosed held (MakesOn office) f rest)
 
   -- the fault of `init`: the token is looked at first
   abbrev pub FailsToMake : Text → RunFault → Left D g → Type 0
   FailsToMake office f rest = IsTokenFault office f ⊎ (IsToken office × FailsToMakeIn office f rest)
 
-  -- the fault of `migrate`
+  -- the fault of `migrate`: the database isn't migrated; or it is, and the file couldn't be closed
   abbrev pub FailsToMigrate : RunFault → Left D g → Type 0
-  FailsToMigrate f rest = IsFromOutside f ⊎ IsOfDatabase held MigratesNone f rest
+  FailsToMigrate f rest =
+      FailsToConnect held f rest ⊎ (IsOfDatabase held MigratesNone f rest ⊎ EndsUnclosed held MigratesOn f rest)
 
   -- The fault of `can-i-deploy`: its texts are looked at first, then the file is opened, and the broker there asked.
   abbrev pub FailsToAnswer : Question → RunFault → Left D g → Type 0
@@ -114,7 +119,7 @@ module _ {D : Type 0} {g : Ghosts D} (held : Image) (before after old new : Opti
   abbrev pub IsFaultOf : Line → RunFault → Type 0
   IsFaultOf (Replay token) f = EndsReplay token.now before after old new f
   IsFaultOf Normalise f = FailsToNormalise before after f
-  IsFaultOf (Check pact replies) f = FailsToCheck f
+  IsFaultOf (Check pact replies) f = LeavesRead (λ read. FailsToCheck read f) rest
   IsFaultOf (Init file token) f = FailsToMake held token.now f rest
   IsFaultOf (Migrate file) f = FailsToMigrate held f rest
   IsFaultOf (Serve file listen connections) f = FailsToServe held listen.now f rest

@@ -1,7 +1,13 @@
 -- a call on the database in a file that failed, and what is left of the file (this project's own choice)
-use Rattle.std.specs.Prelude.{Ok, Err}
+use Rattle.std.specs.Prelude.{◌≡◌, Option, None, Some, Ok, Err}
 use Rattle.sqlite_disk.specs.declared.Disk.{Ghosts}
-use Rattle.sqlite.specs.Files.{file_state}
+use Rattle.sqlite_disk.specs.declared.Files.{Files}
+use Rattle.sqlite.specs.Files.{FailsToClose, FailsToOpenFiles, IsCleanLeft, IsClosed, LeavesFiles, file_state, image_of}
+use Rattle.sqlite.specs.WalFiles.{outcomes}
+use Rattle.sqlite.specs.declared.error.Error.{Error}
+use Rattle.sqlite.specs.declared.error.Error.TheVariants.{SqliteFailure}
+use Rattle.sqlite.specs.declared.error.ErrorCode.TheVariants.{OutOfMemory}
+use Rattle.sqlite.specs.declared.file.Leftover.{Leftover}
 use Rattle.sqlite.specs.FileStore.{view}
 use Rattle.sqlite.specs.Held.{Held}
 use Rattle.sqlite.specs.Recovery.{Image}
@@ -17,9 +23,31 @@ use Rattle.command_facts.specs.Primitives.{broker_primitives}
 use Rattle.broker_program.specs.Files.{LeavesStore, StartsFrom}
 use Rattle.program_io.specs.declared.fault.RunFault.{RunFault}
 use Rattle.program_io.specs.declared.fault.RunFault.TheVariants as run_fault
+use Rattle.program_io.specs.Reported.{IsFromOutside}
 use Rattle.broker_program.specs.declared.left.Left.{Left}
+use Rattle.broker_program.specs.declared.left.Left.TheVariants.{Nothing, Unopened}
+
+-- what is told of an error of the files: memory only if there was none
+abbrev pub told_of : Error → RunFault
+told_of (SqliteFailure OutOfMemory) = run_fault.Memory
+told_of _ = run_fault.File
 
 module _ {D : Type 0} {g : Ghosts D} where
+  -- For private clauses: what is left of files that weren't opened, if they were taken.
+  abbrev pub left_of : Option (Leftover D g) → Left D g
+  left_of None = Nothing
+  left_of (Some rest) = Unopened rest
+
+  -- For private clauses: the connection's files couldn't be closed, and the store is what is left of them.
+  pub record IsNotClosed (conn : Held (FileStore D g)) (fault : RunFault) (store : FileStore D g) : Type 0 where
+    pub closed : IsClosed conn store
+    pub error : Error
+    pub told : fault ≡ told_of error
+    pub cause : IsClean (view store) → FailsToClose conn store error
+
+  abbrev pub FailsToDisconnect : Held (FileStore D g) → RunFault → Left D g → Type 0
+  FailsToDisconnect conn fault rest = LeavesStore (IsNotClosed conn fault) rest
+
   -- ---- the calls that fail, from a connection to what they leave of it
 
   -- no broker is opened: `judges` of `Opened` says of which database each fault is told
@@ -37,6 +65,46 @@ module _ {D : Type 0} {g : Ghosts D} where
 
 -- Held is what the log and the database file held at first.
 module _ {D : Type 0} {g : Ghosts D} (held : Image) where
+  -- The files were taken and not opened, and rest is what is left of them.
+  pub record IsUnopened (fault : RunFault) (rest : Leftover D g) : Type 0 where
+    pub files : Files D
+    -- they held this, and a crash left nothing else
+    pub seen : image_of g files ≡ held
+    pub settled : (image : Image) → outcomes g files.log files.db image → image ≡ held
+    -- why, and memory is told only of that
+    pub error : Error
+    pub told : fault ≡ told_of error
+    pub cause : IsCleanLeft rest → FailsToOpenFiles files rest error
+    -- a crash leaves what was there; where there was no database, perhaps a beginning of one
+    pub left : IsCleanLeft rest → LeavesFiles files rest
+
+  -- no connection is opened: the file isn't there or couldn't be taken, or it isn't opened
+  abbrev pub FailsToConnect : RunFault → Left D g → Type 0
+  FailsToConnect fault Nothing = IsFromOutside fault
+  FailsToConnect fault (Unopened rest) = IsUnopened fault rest
+  FailsToConnect fault _ = ⊥
+
+  -- The database there was worked on so, from one connection to the other, and then the file couldn't be closed: it was
+  -- given up, and the store is what is left of it.
+  pub record IsUnclosed (Does : Held (FileStore D g) → Held (FileStore D g) → Type 0) (fault : RunFault)
+      (store : FileStore D g) : Type 0 where
+    pub connection : Held (FileStore D g)
+    pub end : Held (FileStore D g)
+    pub starts : StartsFrom held connection
+    pub does : Does connection end
+    pub clean : HasCleanDisk (file_state end)
+    -- a crash leaves what it might have left before it was to be closed
+    pub closed : IsClosed end store
+    -- why, and memory is told only of that
+    pub error : Error
+    pub told : fault ≡ told_of error
+    pub cause : FailsToClose end store error
+
+  -- the same, if the disk is clean to the end
+  abbrev pub EndsUnclosed : (Held (FileStore D g) → Held (FileStore D g) → Type 0) → RunFault → Left D g → Type 0
+  EndsUnclosed Does fault rest =
+      IsFromOutside fault × LeavesStore (λ store. IsClean (view store) → IsUnclosed Does fault store) rest
+
   -- Such a call on the database there failed with this fault, and the store is what is left of its file.
   pub record FailsThere (Fails : Held (FileStore D g) → Held (FileStore D g) → OpenFault → Type 0) (fault : OpenFault)
       (store : FileStore D g) : Type 0 where

@@ -5,7 +5,7 @@ use Rattle.sqlite_disk.specs.declared.Files.{Files}
 use Rattle.sqlite.specs.FileStore.{view}
 use Rattle.sqlite_store.specs.Calls.{IsQuietCall}
 use Rattle.sqlite.specs.Files.{file_state}
-use Rattle.sqlite.specs.Held.{Held}
+use Rattle.sqlite.specs.Held.{Held, IsNew}
 use Rattle.sqlite.specs.Recovery.{Image}
 use Rattle.sqlite.specs.State.{HasCleanDisk}
 use Rattle.sqlite.specs.View.{IsClean}
@@ -37,7 +37,7 @@ module _ {D : Type 0} {g : Ghosts D} where
   OpensFilesAgain store found =
       MatchOption found (LosesSync store) (λ conn.
       HasCleanDisk (file_state conn)
-      → (now : FileStore D g) × IsStillGiven store now × IsOpenedAfter g (left.Store now) conn)
+      → (now : FileStore D g) × IsStillGiven store now × IsOpenedAfter g (left.Store now) conn × IsNew conn)
 
   -- a stopped broker's files were given up and opened again, with the broker in them
   abbrev pub OpensBrokerAgain : BrokerView (FileStore D g) → Option (BrokerView (FileStore D g)) → Type 0

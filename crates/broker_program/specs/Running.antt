@@ -4,18 +4,22 @@ use Rattle.sqlite_disk.specs.declared.Disk.{Ghosts}
 use Rattle.sqlite.specs.Recovery.{Image}
 use Rattle.broker_core.specs.Name.{IsToken}
 use Rattle.clap.specs.Words.{Text}
-use Rattle.command_line.specs.Lines.{Says, is_line}
+use Rattle.std.specs.declared.io.ErrorKind.{ErrorKind}
+use Rattle.std.specs.declared.io.ErrorKind.TheVariants.{InvalidData}
+use Rattle.command_line.specs.Lines.{IsFoundIn, Says, is_line}
 use Rattle.broker_program.specs.Replays.{Replays, ReplaysUntil}
-use Rattle.broker_program.specs.Files.{LeavesClosed, LeavesServed}
+use Rattle.broker_program.specs.Files.{LeavesClosed, LeavesRead, LeavesServed}
 use Rattle.program_io.specs.Listening.{ListensOn}
 use Rattle.broker_program.specs.Making.{BrokerIsMade, FileIsMigrated}
 use Rattle.broker_program.specs.Reasons.{IsFaultOf}
-use Rattle.program_io.specs.Reported.{HasReport, IsReported}
+use Rattle.program_io.specs.Reported.{IsReported}
 use Rattle.broker_program.specs.Serving.{ServesFile}
 use Rattle.broker_program.specs.Told.{Asks, AsksUntil, question}
 use Rattle.program_io.specs.Written.{Checks, ChecksUntil, Normalises, NormalisesUntil}
 use Rattle.program_io.specs.declared.fault.RunFault.{RunFault}
 use Rattle.program_io.specs.declared.fault.RunFault.TheVariants as run_fault
+use Rattle.broker_program.specs.Words.{TellsOfWords}
+use Rattle.broker_program.specs.declared.left.Ended.{Ended}
 use Rattle.broker_program.specs.declared.left.Left.{Left}
 use Rattle.command_line.specs.declared.line.Line.{Line}
 use Rattle.command_line.specs.declared.line.Line.TheVariants.{CanIDeploy, Check, Init, Migrate, Normalise}
@@ -36,7 +40,8 @@ module _ {D : Type 0} {g : Ghosts D} (held : Image) (before after old new : Opti
   CommandEnds (Serve file listen connections) passes =
       (passes ≡ true) × IsSilent × ListensOn listen.now × LeavesServed (ServesFile g held connections) rest
   CommandEnds Normalise passes = (passes ≡ true) × Normalises before after old new
-  CommandEnds (Check pact replies) passes = (after ≡ before) × Checks old new passes
+  CommandEnds (Check pact replies) passes =
+      (after ≡ before) × LeavesRead (λ read. Checks old new read passes) rest
   CommandEnds (CanIDeploy file token pacticipant version environment) passes =
       (after ≡ before) × Asks held (question token pacticipant version environment) old new rest passes
 
@@ -47,7 +52,7 @@ module _ {D : Type 0} {g : Ghosts D} (held : Image) (before after old new : Opti
   CommandFails (Migrate file) = IsSilent
   CommandFails (Serve file listen connections) = IsSilent
   CommandFails Normalise = (new ≡ old) ⊎ NormalisesUntil before after old new
-  CommandFails (Check pact replies) = (after ≡ before) × ((new ≡ old) ⊎ ChecksUntil old new)
+  CommandFails (Check pact replies) = (after ≡ before) × ((new ≡ old) ⊎ LeavesRead (ChecksUntil old new) rest)
   CommandFails (CanIDeploy file token pacticipant version environment) =
       (after ≡ before)
       × ((new ≡ old) ⊎ AsksUntil held (question token pacticipant version environment) old new rest)
@@ -64,56 +69,62 @@ module _ {D I O : Type 0} {g : Ghosts D} (held : Image) (remaining : I → Optio
   IsFaultOn = IsFaultOf held (remaining before) (remaining after) (contents old) (contents new) rest
 
 -- The texts are the words; the reader was before and is after, standard output was old and is new, standard error was
--- untold and is told, and shows what it has taken. Rest is what is left of the command's file.
+-- untold and is told, and shows what it has taken. The end is the status, whether standard error took all that it was to
+-- be told, and what is left of the command's file.
 module _ {D I O E : Type 0} {g : Ghosts D} (held : Image) (remaining : I → Option (List ℕ)) (contents : O → Option (List ℕ)) (shows : E → Option (List ℕ)) where
   -- what carrying out a command promises of the status that the program ends with
-  pub record LineRan (line : Line) (before after : I) (old new : O) (untold told : E) (status : ℕ) (rest : Left D g) : Type 0 where
-    pub statuses : (status ≡ 0) ⊎ ((status ≡ 1) ⊎ (status ≡ 3))
+  pub record LineRan (line : Line) (before after : I) (old new : O) (untold told : E) (end : Ended D g) : Type 0 where
+    pub statuses : (end.status ≡ 0) ⊎ ((end.status ≡ 1) ⊎ (end.status ≡ 3))
     -- it is done, or its check failed or its version isn't permitted; nothing is on standard error
-    pub done : status ≡ 0
-        → CommandEndsOn held remaining contents before after old new rest line true × (told ≡ untold)
-    pub refused : status ≡ 1
-        → CommandEndsOn held remaining contents before after old new rest line false × (told ≡ untold)
+    pub done : end.status ≡ 0
+        → CommandEndsOn held remaining contents before after old new end.left line true × (told ≡ untold)
+    pub refused : end.status ≡ 1
+        → CommandEndsOn held remaining contents before after old new end.left line false × (told ≡ untold)
     -- it failed, and standard error says why
-    pub fails : status ≡ 3 → CommandFailsOn held remaining contents before after old new rest line
-    pub reports : status ≡ 3
-        → (fault : RunFault) × IsFaultOn held remaining contents before after old new rest line fault
-        × IsReported fault (shows untold) (shows told)
+    pub fails : end.status ≡ 3 → CommandFailsOn held remaining contents before after old new end.left line
+    pub reports : end.status ≡ 3
+        → (fault : RunFault) × IsFaultOn held remaining contents before after old new end.left line fault
+        × IsReported fault end.line (shows untold) (shows told)
 
   -- what running the words promises of it
-  pub record Ran (words : List Text) (before after : I) (old new : O) (untold told : E) (status : ℕ) (rest : Left D g) : Type 0 where
-    pub statuses : (status ≡ 0) ⊎ ((status ≡ 1) ⊎ ((status ≡ 2) ⊎ (status ≡ 3)))
+  pub record Ran (words : List Text) (before after : I) (old new : O) (untold told : E) (end : Ended D g) : Type 0 where
+    pub statuses : (end.status ≡ 0) ⊎ ((end.status ≡ 1) ⊎ ((end.status ≡ 2) ⊎ (end.status ≡ 3)))
     -- what the command was to do is done, and standard output has what it tells
-    pub done : status ≡ 0 → is_line words ≡ true
+    pub done : end.status ≡ 0 → is_line words ≡ true
         → (line : Line) × Says words line
-        × CommandEndsOn held remaining contents before after old new rest line true
+        × CommandEndsOn held remaining contents before after old new end.left line true
     -- the check failed or the version isn't permitted, and standard output says so
-    pub refused : status ≡ 1
+    pub refused : end.status ≡ 1
         → (line : Line) × Says words line
-        × CommandEndsOn held remaining contents before after old new rest line false
+        × CommandEndsOn held remaining contents before after old new end.left line false
     -- in both nothing is on standard error
-    pub quiet : status ≡ 0 → is_line words ≡ true → told ≡ untold
-    pub quiet_refused : status ≡ 1 → told ≡ untold
-    -- a mistake in the words is reported on standard error alone
-    pub usage : status ≡ 2 → (is_line words ≢ true) × (new ≡ old)
-    -- words that are no command line run nothing: nothing is read, and the status tells of no check
-    pub idle : is_line words ≢ true → (after ≡ before) × (status ≢ 1)
+    pub quiet : end.status ≡ 0 → is_line words ≡ true → told ≡ untold
+    pub quiet_refused : end.status ≡ 1 → told ≡ untold
+    -- 2 is only for words that are no command line
+    pub usage : end.status ≡ 2 → is_line words ≢ true
+    -- They run nothing: nothing is read. By what clap finds in them, a mistake is told on standard error and ends with 2,
+    -- and help and version, if they are asked for, are shown on standard output and end with 0.
+    pub unread : is_line words ≢ true → after ≡ before
+    pub told_of : is_line words ≢ true
+        → TellsOfWords contents shows (IsFoundIn words) old new untold told end.line end.status
     -- a command that failed has written no more than a beginning of what it would have told
-    pub fails : status ≡ 3 → is_line words ≡ true
+    pub fails : end.status ≡ 3 → is_line words ≡ true
         → ((after ≡ before) × (new ≡ old))
         ⊎ ((line : Line) × Says words line
-        × CommandFailsOn held remaining contents before after old new rest line)
-    -- one line on standard error says why it failed
-    pub reports : status ≡ 3 → HasReport (shows untold) (shows told)
-    -- and it has its reason: there was no memory for the words, or the command failed for it
-    pub reason : status ≡ 3 → is_line words ≡ true
-        → IsReported run_fault.Memory (shows untold) (shows told)
+        × CommandFailsOn held remaining contents before after old new end.left line)
+    -- one line on standard error says why: there was no memory for the words, or the command failed for this reason
+    pub reason : end.status ≡ 3 → is_line words ≡ true
+        → IsReported run_fault.Memory end.line (shows untold) (shows told)
         ⊎ ((line : Line) × (fault : RunFault) × Says words line
-        × IsFaultOn held remaining contents before after old new rest line fault
-        × IsReported fault (shows untold) (shows told))
+        × IsFaultOn held remaining contents before after old new end.left line fault
+        × IsReported fault end.line (shows untold) (shows told))
 
-  -- some words were run over some streams, and the program ends with this status
-  abbrev pub SomeRun : ℕ → Left D g → Type 0
-  SomeRun status rest =
-      (words : List Text) × (before : I) × (after : I) × (old : O) × (new : O) × (untold : E) × (told : E)
-      × Ran words before after old new untold told status rest
+  -- these words were run over some streams, and it ended so
+  abbrev pub RanOver : List Text → Ended D g → Type 0
+  RanOver words end =
+      (before : I) × (after : I) × (old : O) × (new : O) × (untold : E) × (told : E)
+      × Ran words before after old new untold told end
+
+-- the status of a process whose words can't be read, for an error of this kind: 2 for a word that isn't UTF-8
+abbrev pub IsUnread : ErrorKind → ℕ → Type 0
+IsUnread kind status = ((kind ≡ InvalidData) × (status ≡ 2)) ⊎ ((kind ≢ InvalidData) × (status ≡ 3))

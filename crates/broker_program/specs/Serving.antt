@@ -6,7 +6,7 @@ use Rattle.sqlite_disk.specs.declared.Disk.{Ghosts}
 use Rattle.sqlite.specs.FileStore.{files as store_files, view}
 use Rattle.sqlite_store.specs.Calls.{IsQuietCall}
 use Rattle.sqlite.specs.Files.{file_state}
-use Rattle.sqlite.specs.Held.{Held}
+use Rattle.sqlite.specs.Held.{Held, IsNew}
 use Rattle.sqlite.specs.Recovery.{Image}
 use Rattle.sqlite.specs.State.{HasCleanDisk}
 use Rattle.sqlite.specs.View.{IsClean}
@@ -61,6 +61,8 @@ module _ {D : Type 0} {g : Ghosts D} where
     pub clean : HasCleanDisk (file_state stopped.connection)
     pub given : IsGivenBack g stopped.connection store
     pub after : IsOpenedAfter g (left.Store store) conn
+    -- no query on it has a limit of steps
+    pub fresh : IsNew conn
 
   -- The connection was opened on files that held this; or on those files again, once brokers over them had done these
   -- works, the last one first, and each was stopped.

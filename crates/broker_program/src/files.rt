@@ -1,17 +1,17 @@
 //! A broker in a file.
-ghost use Rattle.std.specs.Prelude.{◌≡◌, false, Ok, IfErr, IfOk};
+ghost use Rattle.std.specs.Prelude.{◌≡◌, false, Ok, Err, IfErr, IfOk, MatchResult};
 ghost use Rattle.sqlite.specs.Files.{file_state};
 ghost use Rattle.sqlite.specs.WalFiles.{image_at};
 ghost use Rattle.broker_database.specs.Calls.{Opened};
 ghost use Rattle.broker_program.specs.Files.{ClosesAs, GivesUpAs, LeavesStore, OpensBroker, OpensOn};
 ghost use Rattle.broker_program.specs.Reasons.{FailsToOpen, IsOpeningFault};
 ghost use Rattle.program_io.specs.Reported.{IsFromOutside};
-ghost use Rattle.broker_program.specs.Refusals.{IsOfDatabase, OpensNone};
+ghost use Rattle.broker_program.specs.Refusals.{FailsToConnect, FailsToDisconnect, IsOfDatabase, OpensNone, left_of, told_of};
 
 use crate::left::Left;
 use broker_service::{Broker, OpenFault};
 use program_io::fault::RunFault;
-use sqlite::{Connection, Error, ErrorCode, FileFrom, FileStore, Files, Start};
+use sqlite::{Connection, Error, ErrorCode, FileFrom, FileStore, Files, Leftover, Start};
 use std::fs;
 
 /// A connection over a file that held what `S` says.
@@ -33,23 +33,43 @@ pub(crate) fn fault_of<S: Start>(failed: Failed<S>) -> RunFault
     fault
 }
 
+/// What is told of an error of the files.
+fn told_of(error: &Error) -> RunFault
+    ensures same { result ≡ told_of error.now }
+    ensures outside { IsFromOutside result }
+{
+    match *error {
+        Error::SqliteFailure(ErrorCode::OutOfMemory) => RunFault::Memory,
+        _ => RunFault::File,
+    }
+}
+
+/// What opening gave is handed on: the connection, or what is told of the error and what is left of the files.
+fn opened_of<S: Start>(
+    opened: Result<FileConnection<S>, (Error, Option<Leftover<FileFrom<S>>>)>,
+) -> Result<FileConnection<S>, Failed<S>>
+    ensures { MatchResult opened (λ connection. result ≡ Ok connection)
+        (λ failed. result ≡ Err (told_of failed.0, left_of failed.1)) }
+{
+    match opened {
+        Ok(connection) => Ok(connection),
+        Err((error, Some(rest))) => Err((told_of(&error), Left::Unopened(rest))),
+        Err((error, None)) => Err((told_of(&error), Left::Nothing)),
+    }
+}
+
 /// A connection over the file of this path, which is made with page sums if it isn't there. `File`: it can't be read or
-/// written, another program has it open, or it is no database.
+/// written, another program has it open, or it is no database; `Memory`: there was no memory to open it.
 pub(crate) fn connect<S: Start>(
     rt: &HostRuntime,
     path: &str,
     start: S,
 ) -> Result<FileConnection<S>, Failed<S>>
     ensures ok { IfOk result (OpensOn (image_at S.Start)) }
-    ensures cause { IfErr result (λ failed. IsFromOutside failed.0) }
+    ensures cause { IfErr result (λ failed. FailsToConnect (image_at S.Start) failed.0 failed.1) }
 {
-    match Connection::open_from(rt, path, true, start) {
-        Ok(connection) => Ok(connection),
-        Err((Error::SqliteFailure(ErrorCode::OutOfMemory), _)) => {
-            Err((RunFault::Memory, Left::Nothing))
-        }
-        Err(_) => Err((RunFault::File, Left::Nothing)),
-    }
+    let opened = Connection::open_from(rt, path, true, start);
+    opened_of(opened)
 }
 
 /// The same over a file that has to be there. `File` if it isn't.
@@ -59,7 +79,7 @@ pub(crate) fn connect_existing<S: Start>(
     start: S,
 ) -> Result<FileConnection<S>, Failed<S>>
     ensures ok { IfOk result (OpensOn (image_at S.Start)) }
-    ensures cause { IfErr result (λ failed. IsFromOutside failed.0) }
+    ensures cause { IfErr result (λ failed. FailsToConnect (image_at S.Start) failed.0 failed.1) }
 {
     match fs::exists(rt, path) {
         Ok(true) => connect(rt, path, start),
@@ -67,16 +87,18 @@ pub(crate) fn connect_existing<S: Start>(
     }
 }
 
-/// Closes the file, so that all of it is in the file itself. `File`: what is in its log couldn't be copied.
+/// Closes the file, so that all of it is in the file itself. `File`: what is in its log couldn't be copied; `Memory`:
+/// there was no memory for that. Then it is given up.
 pub(crate) fn disconnect<S: Start>(
     connection: FileConnection<S>,
 ) -> Result<Files<FileFrom<S>>, Failed<S>>
     ensures ok { IfOk result (ClosesAs connection) }
     ensures cause { IfErr result (λ failed. IsFromOutside failed.0) }
+    ensures unclosed { IfErr result (λ failed. FailsToDisconnect connection failed.0 failed.1) }
 {
     match connection.close_files() {
         Ok(files) => Ok(files),
-        Err((_, _)) => Err((RunFault::File, Left::Nothing)),
+        Err((error, store)) => Err((told_of(&error), Left::GivenUp(store))),
     }
 }
 
@@ -140,6 +162,7 @@ pub(crate) fn release<S: Start>(broker: FileBroker<S>) -> FileStore<FileFrom<S>>
 pub(crate) fn close<S: Start>(broker: FileBroker<S>) -> Result<Files<FileFrom<S>>, Failed<S>>
     ensures ok { IfOk result (ClosesAs broker.connection) }
     ensures cause { IfErr result (λ failed. IsFromOutside failed.0) }
+    ensures unclosed { IfErr result (λ failed. FailsToDisconnect broker.connection failed.0 failed.1) }
 {
     disconnect(connection_of(broker))
 }

@@ -1,4 +1,5 @@
 //! What a broker's file keeps over a command. The program calls none of these.
+ghost use Rattle.broker_program.specs.Calm.{ServesCalmly};
 ghost use Rattle.broker_program.specs.Life.{AskingLeads, MakingLeads, MigratingLeads, ServingLeads};
 
 use sqlite_disk::Disk;
@@ -14,4 +15,12 @@ pub fn life_over_commands<D: Disk>()
     ensures migrating { MigratingLeads D.Disk }
     ensures asking { AskingLeads D.Disk }
     ensures serving { ServingLeads D.Disk }
+{}
+
+/// Over a file that holds a state which can be read back, on a disk that works, `serve` answers `store` to no command
+/// that changes nothing: each broker over the file that is stopped is so at a command that was to be done, whichever
+/// opening it is. That a broker stops only at such an answer, and that the states that a run reaches can be read back,
+/// are promises of `Broker::apply`. Of `replay` it is part of what that command promises.
+pub fn service_is_calm<D: Disk>()
+    ensures { ServesCalmly D.Disk }
 {}

@@ -1,5 +1,7 @@
-//! What a command leaves of the file that it worked on.
-use sqlite::{FileStore, Files};
+//! How a run of the program ended, and what a command leaves of the file that it worked on.
+use http_responses::WriteFault;
+use program_io::check::FilesRead;
+use sqlite::{FileStore, Files, Leftover};
 use sqlite_disk::Disk;
 
 /// Connections that were served over the broker in a file.
@@ -16,12 +18,36 @@ pub struct Service<D: Disk> {
 /// What a command left of the file that it worked on.
 #[derive(Drop)]
 pub enum Left<D: Disk> {
-    /// Nothing is said: it worked on none, or the file failed.
+    /// Nothing is said: it worked on none, or the file isn't there or couldn't be taken.
     Nothing,
+    /// Files were read, and this is what they had.
+    Read(FilesRead),
+    /// It was taken and couldn't be opened.
+    Unopened(Leftover<D>),
     /// It was closed, so that all of it is in the file itself.
     Closed(Files<D>),
     /// It was given up as it was: what is in its log stays there.
     GivenUp(FileStore<D>),
     /// It was served.
     Served(Service<D>),
+}
+
+/// How a run of the program ended.
+#[derive(Drop)]
+pub struct Ended<D: Disk> {
+    /// The status that the program ends with.
+    pub status: u8,
+    /// Whether standard error took all that it was to be told. It did if that was nothing.
+    pub line: Result<(), WriteFault>,
+    /// What is left of the file that the command worked on.
+    pub left: Left<D>,
+}
+
+/// A run of the words of a process.
+#[derive(Drop)]
+pub struct Processed<D: Disk> {
+    /// The words, the program's own name first.
+    pub words: Vec<String>,
+    /// How it ended.
+    pub ended: Ended<D>,
 }

@@ -14,6 +14,6 @@ mod routes;
 mod running;
 mod serve;
 
-pub use left::{Left, Service};
+pub use left::{Ended, Left, Processed, Service};
 pub use process::run_process;
 pub use running::run;

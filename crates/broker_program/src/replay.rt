@@ -1,9 +1,9 @@
 //! Serving standard input over tables in memory.
-ghost use Rattle.std.specs.Prelude.{IfErr, IfOk, OnOk, OnErr};
+ghost use Rattle.std.specs.Prelude.{◌≡◌, None, IfErr, IfOk, OnOk, OnErr};
 ghost use Rattle.sqlite.specs.Held.{state};
 ghost use Rattle.sqlite.specs.Steps.{over_memory};
 ghost use Rattle.broker_core.specs.Name.{IsToken};
-ghost use Rattle.broker_http.specs.Serving.{IsInMode};
+ghost use Rattle.broker_http.specs.Serving.{IsInMode, RunsReadable};
 ghost use Rattle.broker_program.specs.Reasons.{EndsReplay, IsOpeningFault};
 ghost use Rattle.broker_program.specs.Replays.{FailsToReplay, Replays, new_broker};
 
@@ -11,6 +11,7 @@ use crate::routes::route_table;
 use broker_core::name::Token;
 use broker_http::serve;
 use broker_service::Broker;
+use command_facts::laws::readable_stays;
 use program_io::fault::RunFault;
 use program_io::forms::token_of;
 use sqlite::{Connection, MemStore};
@@ -20,8 +21,11 @@ use std::io::{Read, Write};
 /// A new broker over tables in memory.
 fn new_broker(alloc: Global, office: &Token) -> Result<Broker<MemStore>, RunFault>
     ensures holds { IfOk result (IsInMode (state over_memory) (new_broker office.now)) }
+    ensures unlimited { IfOk result (λ broker. broker.connection.step_limit ≡ None) }
+    ensures readable { RunsReadable (new_broker office.now) }
     ensures fails { IfErr result IsOpeningFault }
 {
+    readable_stays();
     match Connection::open_in_memory(alloc) {
         Ok(connection) => match Broker::create(alloc, connection, office) {
             Ok(broker) => Ok(broker),

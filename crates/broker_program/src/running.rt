@@ -1,60 +1,82 @@
 //! Running a command over any reader and writers.
-ghost use Rattle.std.specs.Prelude.{◌≡◌, ◌≢◌, ◌⊎◌, IfErr, IfOk, OnErr};
+ghost use Rattle.std.specs.Prelude.{◌≡◌, ◌≢◌, false, IfErr, IfOk, IsTrue, OnErr};
 ghost use Rattle.sqlite.specs.WalFiles.{image_at};
 ghost use Rattle.clap.specs.Values.{kind_of};
 ghost use Rattle.command_line.specs.Lines.{texts_of};
-ghost use Rattle.program_io.specs.Reported.{HasReport, IsReported};
+ghost use Rattle.program_io.specs.Reported.{IsReported};
 ghost use Rattle.broker_program.specs.Running.{CommandEndsOn, CommandFailsOn, IsFaultOn, LineRan, Ran};
+ghost use Rattle.broker_program.specs.Words.{LacksMemory, TellsMistake, TellsOfWords, TellsText};
 
 use crate::can_i_deploy::{Question, ask};
 use crate::init::init;
-use crate::left::Left;
+use crate::left::{Ended, Left};
 use crate::migrate::migrate;
 use crate::replay::replay;
 use crate::serve::serve_file;
 use clap::Error;
 use clap::error::ErrorKind;
 use command_line::{Line, read_line};
+use http_responses::WriteFault;
 use program_io::check::check;
 use program_io::fault::RunFault;
 use program_io::normalise::normalise;
+use program_io::output::put_line;
 use program_io::report::report;
 use sqlite::{FileFrom, Start};
 use std::alloc::Global;
 use std::io::{Read, Write};
 
+/// A status, and whether standard error took all that it was to be told.
+type Told = (u8, Result<(), WriteFault>);
+
 /// The status of a command that failed, with the fault on standard error.
-fn fail<E: Write>(alloc: Global, fault: &RunFault, errors: &mut E) -> u8
-    ensures status { result ≡ 3 }
-    ensures reported { IsReported fault.now (E.contents errors.old) (E.contents errors.new) }
+fn fail<E: Write>(alloc: Global, fault: &RunFault, errors: &mut E) -> Told
+    ensures status { result.0 ≡ 3 }
+    ensures reported { IsReported fault.now result.1 (E.contents errors.old) (E.contents errors.new) }
 {
-    report(alloc, fault, errors);
-    3
+    (3, report(alloc, fault, errors))
 }
 
-/// Reports what `clap` says of the words: help on standard output, a mistake on standard error.
-fn tell<W: Write, E: Write>(alloc: Global, error: &Error, output: &mut W, errors: &mut E) -> u8
-    ensures memory { kind_of error.now ≡ ErrorKind.OutOfMemory → (result ≡ 3) × (output.new ≡ output.old)
-        × IsReported RunFault.Memory (E.contents errors.old) (E.contents errors.new) }
-    ensures mistake { kind_of error.now ≢ ErrorKind.OutOfMemory
-        → kind_of error.now ≢ ErrorKind.DisplayHelp → kind_of error.now ≢ ErrorKind.DisplayVersion
-        → result ≡ 2 }
-    ensures usage { result ≡ 2 → output.new ≡ output.old }
-    ensures shown { (kind_of error.now ≡ ErrorKind.DisplayHelp) ⊎ (kind_of error.now ≡ ErrorKind.DisplayVersion)
-        → (result ≡ 0) ⊎ (result ≡ 3) }
-    ensures statuses { (result ≡ 0) ⊎ ((result ≡ 2) ⊎ (result ≡ 3)) }
-    ensures reports { result ≡ 3 → HasReport (E.contents errors.old) (E.contents errors.new) }
+/// Writes what `clap` says: a mistake on standard error, and else what was asked for on standard output.
+fn tell_text<W: Write, E: Write>(
+    alloc: Global,
+    is_mistake: bool,
+    text: &str,
+    output: &mut W,
+    errors: &mut E,
+) -> Told
+    ensures mistake { IsTrue is_mistake → TellsMistake W.contents E.contents output.old output.new
+        errors.old errors.new result.1 result.0 }
+    ensures shown { is_mistake ≡ false → TellsText W.contents E.contents output.old output.new
+        errors.old errors.new result.1 result.0 }
+{
+    if is_mistake {
+        return (2, put_line(errors, text));
+    }
+    match put_line(output, text) {
+        Ok(()) => (0, Ok(())),
+        Err(_) => fail(alloc, &RunFault::File, errors),
+    }
+}
+
+/// Reports what `clap` says of the words: help on standard output, a mistake on standard error. Its text ends with a
+/// newline.
+fn tell<W: Write, E: Write>(alloc: Global, error: &Error, output: &mut W, errors: &mut E) -> Told
+    ensures memory { kind_of error.now ≡ ErrorKind.OutOfMemory
+        → LacksMemory W.contents E.contents output.old output.new errors.old errors.new result.1 result.0 }
+    ensures told { TellsOfWords W.contents E.contents
+        (λ kind. (kind_of error.now ≢ ErrorKind.OutOfMemory) × (kind_of error.now ≡ kind))
+        output.old output.new errors.old errors.new result.1 result.0 }
 {
     if error.kind() == ErrorKind::OutOfMemory {
         return fail(alloc, &RunFault::Memory, errors);
     }
-    if error.use_stderr() {
-        let _ = write!(errors, "{error}");
-        return 2;
-    }
-    match write!(output, "{error}") {
-        Ok(()) => 0,
-        Err(_) => fail(alloc, &RunFault::File, errors),
+    match format!(in alloc; "{error}") {
+        Ok(text) => {
+            let line = text.as_str().strip_suffix('\n').unwrap_or(text.as_str());
+            tell_text(alloc, error.use_stderr(), line, output, errors)
+        }
+        Err(_) => fail(alloc, &RunFault::Memory, errors),
     }
 }
 
@@ -102,7 +124,10 @@ fn carry_out<S: Start, R: Read, W: Write>(
             Ok(()) => (Ok(true), Left::Nothing),
             Err(fault) => (Err(fault), Left::Nothing),
         },
-        Line::Check { pact, replies } => (check(rt, pact, replies, output), Left::Nothing),
+        Line::Check { pact, replies } => {
+            let (done, read) = check(rt, pact, replies, output);
+            (done, Left::Read(read))
+        }
         Line::CanIDeploy {
             file,
             token,
@@ -121,8 +146,7 @@ fn carry_out<S: Start, R: Read, W: Write>(
     }
 }
 
-/// Runs the command, and answers the status that the program ends with, with the fault on standard error, and what is
-/// left of the file that it worked on.
+/// Runs the command. The result is how that ended, with the fault on standard error.
 fn run_line<S: Start, R: Read, W: Write, E: Write>(
     rt: &HostRuntime,
     line: Line<'_>,
@@ -130,24 +154,32 @@ fn run_line<S: Start, R: Read, W: Write, E: Write>(
     input: &mut R,
     output: &mut W,
     errors: &mut E,
-) -> (u8, Left<FileFrom<S>>)
+) -> Ended<FileFrom<S>>
     ensures { LineRan (image_at S.Start) R.remaining W.contents E.contents line.entry input.old input.new
-        output.old output.new errors.old errors.new result.0 result.1 }
+        output.old output.new errors.old errors.new result }
 {
     let (done, left) = carry_out(rt, line, start, input, output);
     match done {
-        Ok(true) => (0, left),
-        Ok(false) => (1, left),
+        Ok(true) => Ended {
+            status: 0,
+            line: Ok(()),
+            left,
+        },
+        Ok(false) => Ended {
+            status: 1,
+            line: Ok(()),
+            left,
+        },
         Err(fault) => {
-            let status = fail(rt.alloc(), &fault, errors);
+            let (status, line) = fail(rt.alloc(), &fault, errors);
             drop(fault);
-            (status, left)
+            Ended { status, line, left }
         }
     }
 }
 
 /// Runs the command that the words name: the program's own name, a command and its options. The result
-/// is the status that the program ends with.
+/// has the status that the program ends with.
 ///
 /// 0: the command is done, its check passed or its version is permitted; or `clap`'s help or the version
 /// was asked for, which is written to `output`.
@@ -164,10 +196,10 @@ fn run_line<S: Start, R: Read, W: Write, E: Write>(
 /// `pact n`, `replies n`, `check n`: the fault of the pact file, of the replies, or of their comparison.
 /// An answer's body: what the broker answered `can-i-deploy` otherwise. `memory`: there was no memory
 /// for anything else.
-/// If `errors` fails too, its text is lost. Neither `output` nor `errors` is flushed.
+/// If `errors` fails too, the rest of its text is lost, which the result says. Neither `output` nor `errors` is flushed.
 ///
 /// `S` stands for what the file of the command held, if it has one. What is left of it comes with the status: it was
-/// closed, or given up as it was; after a failure too, if its database was found to be none for the command.
+/// closed, or given up as it was, after a failure too; or it couldn't be opened. Of `check` the bytes come that it read.
 pub fn run<S: Start, R: Read, W: Write, E: Write>(
     rt: &HostRuntime,
     words: &[&str],
@@ -175,12 +207,19 @@ pub fn run<S: Start, R: Read, W: Write, E: Write>(
     input: &mut R,
     output: &mut W,
     errors: &mut E,
-) -> (u8, Left<FileFrom<S>>)
+) -> Ended<FileFrom<S>>
     ensures { Ran (image_at S.Start) R.remaining W.contents E.contents (texts_of words.now) input.old input.new
-        output.old output.new errors.old errors.new result.0 result.1 }
+        output.old output.new errors.old errors.new result }
 {
     match read_line(rt.alloc(), &*words) {
         Ok(line) => run_line(rt, line, start, input, output, errors),
-        Err(error) => (tell(rt.alloc(), &error, output, errors), Left::Nothing),
+        Err(error) => {
+            let (status, line) = tell(rt.alloc(), &error, output, errors);
+            Ended {
+                status,
+                line,
+                left: Left::Nothing,
+            }
+        }
     }
 }

@@ -1,9 +1,12 @@
 -- what standard error shows of a command that failed, and why a command on pact files does (this project's own choice)
-use Rattle.std.specs.Prelude.{◌≡◌, ◌≢◌, ◌⊎◌, ◌↔◌, ⊤, ℕ, List, ◌++◌, Option, Ok, Err}
-use Rattle.std.specs.Io.KnownBytes.{Appends, Consumes, IsAtEnd}
+use Rattle.std.specs.Prelude.{◌≡◌, ◌≢◌, ◌⊎◌, ◌↔◌, ⊤, ℕ, List, Option, Result, Ok, Err}
+use Rattle.std.specs.Io.KnownBytes.{Consumes, IsAtEnd}
+use Rattle.std.specs.declared.io.ErrorKind.{ErrorKind}
+use Rattle.std.specs.declared.io.ErrorKind.TheVariants.{OutOfMemory}
 use Rattle.broker_core.specs.Name.{IsName, IsToken}
 use Rattle.broker_core.specs.Text.{Text}
 use Rattle.broker_database.specs.declared.opening.OpenFault.TheVariants as opening
+use Rattle.http_responses.specs.declared.writing.WriteFault.{WriteFault}
 use Rattle.pact_file.specs.Normal.{Normal}
 use Rattle.pact_file.specs.Pact.{Interaction, Pact}
 use Rattle.pact_file.specs.declared.fault.PactFault.TheVariants as pact_fault
@@ -14,15 +17,13 @@ use Rattle.reply_check.specs.declared.fault.CheckFault.TheVariants as check_faul
 use Rattle.reply_check.specs.declared.fault.RepliesFault.TheVariants as replies_fault
 use Rattle.reply_check.specs.declared.reply.Reply.{Reply}
 use Rattle.program_io.specs.Faults.{fault_text}
-use Rattle.program_io.specs.Written.{IsBegun, newline}
+use Rattle.program_io.specs.Written.{IsLineOut}
+use Rattle.program_io.specs.declared.check.FilesRead.{FilesRead}
+use Rattle.program_io.specs.declared.check.FilesRead.TheVariants as files
 use Rattle.program_io.specs.declared.fault.RunFault.{RunFault}
 use Rattle.program_io.specs.declared.fault.RunFault.TheVariants as run_fault
 
 -- ---- what is shown
-
--- the line is out, or if the writer failed a beginning of it
-abbrev pub IsLineOut : List ℕ → Option (List ℕ) → Option (List ℕ) → Type 0
-IsLineOut text old new = Appends old new (text ++ newline) ⊎ IsBegun (text ++ newline) old new
 
 -- the text of the fault has parts that aren't fixed, so that it takes memory
 abbrev pub HasParts : RunFault → Type 0
@@ -33,11 +34,9 @@ HasParts (run_fault.Check f) = ⊤
 HasParts _ = ⊥
 
 -- the fault is reported; or there was no memory for its text, and that is
-abbrev pub IsReported : RunFault → Option (List ℕ) → Option (List ℕ) → Type 0
-IsReported f old new = IsLineOut (fault_text f) old new ⊎ (HasParts f × IsLineOut (fault_text run_fault.Memory) old new)
-
-abbrev pub HasReport : Option (List ℕ) → Option (List ℕ) → Type 0
-HasReport old new = (f : RunFault) × IsReported f old new
+abbrev pub IsReported : RunFault → Result (Unit {0}) WriteFault → Option (List ℕ) → Option (List ℕ) → Type 0
+IsReported f line old new =
+    IsLineOut (fault_text f) line old new ⊎ (HasParts f × IsLineOut (fault_text run_fault.Memory) line old new)
 
 -- ---- why it is reported
 
@@ -80,9 +79,14 @@ abbrev pub FailsToNormalise : Option (List ℕ) → Option (List ℕ) → RunFau
 FailsToNormalise before after f =
     IsFromOutside f ⊎ ((file : List ℕ) × Consumes before after file × IsAtEnd after × IsPactFault file f)
 
--- the fault of `check`, by what its files have
-abbrev pub FailsToCheck : RunFault → Type 0
-FailsToCheck f =
-    IsFromOutside f
-    ⊎ ((file : List ℕ) × IsPactFault file f)
-    ⊎ ((file : List ℕ) × (recorded : List ℕ) × (pact : Pact) × Normal file (Ok pact) × IsRepliesFault pact recorded f)
+-- The fault of `check`, by what was read: the pact file couldn't be; or it has a fault, or the other couldn't be; or
+-- the other has one, or what was to be written couldn't be.
+abbrev pub FailsToCheck : FilesRead → RunFault → Type 0
+FailsToCheck files.Neither f = IsFromOutside f
+FailsToCheck (files.Pact file) f = IsPactFault file.items f ⊎ ((pact : Pact) × Normal file.items (Ok pact) × IsFromOutside f)
+FailsToCheck (files.Both file recorded) f =
+    (pact : Pact) × Normal file.items (Ok pact) × (IsFromOutside f ⊎ IsRepliesFault pact recorded.items f)
+
+-- what reading a file gave is handed on: memory is told only of that
+abbrev pub IsReadFault : ErrorKind → RunFault → Type 0
+IsReadFault kind f = ((kind ≡ OutOfMemory) × (f ≡ run_fault.Memory)) ⊎ ((kind ≢ OutOfMemory) × (f ≡ run_fault.File))

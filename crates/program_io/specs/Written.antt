@@ -1,12 +1,16 @@
 -- what the commands on pact files write: one line on standard output (this project's own choice)
-use Rattle.std.specs.Prelude.{◌≡◌, ◌<◌, ℕ, List, [], ◌∷◌, ◌++◌, length, Bool, true, false, Option, Ok, codes, decimal, take}
+use Rattle.std.specs.Prelude.{◌≡◌, ◌<◌, ℕ, List, [], ◌∷◌, ◌++◌, length, Bool, true, false, Option, Result, Ok, Err, codes}
+use Rattle.std.specs.Prelude.{decimal, take}
 use Rattle.std.specs.List.{flat_map}
 use Rattle.std.specs.Io.KnownBytes.{Appends, Consumes, IsAtEnd}
+use Rattle.http_responses.specs.declared.writing.WriteFault.{WriteFault}
 use Rattle.pact_file.specs.Normal.{Normal}
 use Rattle.pact_file.specs.Pact.{Pact, normal_text}
 use Rattle.reply_check.specs.Replies.{RepliesRead}
 use Rattle.reply_check.specs.Verdicts.{AreFailing, AreKnown}
 use Rattle.reply_check.specs.declared.reply.Reply.{Reply}
+use Rattle.program_io.specs.declared.check.FilesRead.{FilesRead}
+use Rattle.program_io.specs.declared.check.FilesRead.TheVariants.{Both}
 
 abbrev pub newline : List ℕ
 newline = codes "\n"
@@ -14,6 +18,11 @@ newline = codes "\n"
 -- a beginning of the bytes is out, but not the whole
 abbrev pub IsBegun : List ℕ → Option (List ℕ) → Option (List ℕ) → Type 0
 IsBegun bytes old new = (n : ℕ) × (n < length bytes) × Appends old new (take n bytes)
+
+-- the line is out; or the writer failed, and a beginning of it is
+abbrev pub IsLineOut : List ℕ → Result (Unit {0}) WriteFault → Option (List ℕ) → Option (List ℕ) → Type 0
+IsLineOut text (Ok u) old new = Appends old new (text ++ newline)
+IsLineOut text (Err fault) old new = IsBegun (text ++ newline) old new
 
 -- ---- normalise
 
@@ -68,13 +77,13 @@ module _ (pact : Pact) (recorded : List ℕ) (old new : Option (List ℕ)) where
       (places : List ℕ) × AreFailingBy pact recorded places × IsBegun (verdict_text places ++ newline) old new
 
 module _ (old new : Option (List ℕ)) where
-  -- of two files: no contract says what a file has
-  abbrev pub Checks : Bool → Type 0
-  Checks passes =
-      (file : List ℕ) × (recorded : List ℕ) × (pact : Pact)
-      × Normal file (Ok pact) × TellsVerdict pact recorded old new passes
+  -- of the two files that were read
+  abbrev pub Checks : FilesRead → Bool → Type 0
+  Checks (Both file recorded) passes =
+      (pact : Pact) × Normal file.items (Ok pact) × TellsVerdict pact recorded.items old new passes
+  Checks _ passes = ⊥
 
-  abbrev pub ChecksUntil : Type 0
-  ChecksUntil =
-      (file : List ℕ) × (recorded : List ℕ) × (pact : Pact)
-      × Normal file (Ok pact) × BeginsVerdict pact recorded old new
+  abbrev pub ChecksUntil : FilesRead → Type 0
+  ChecksUntil (Both file recorded) =
+      (pact : Pact) × Normal file.items (Ok pact) × BeginsVerdict pact recorded.items old new
+  ChecksUntil _ = ⊥

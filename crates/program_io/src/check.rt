@@ -1,8 +1,9 @@
 //! Recorded replies of a provider against a pact file.
-ghost use Rattle.std.specs.Prelude.{◌≡◌, ◌⊎◌, ◌++◌, IfErr, IfOk, OnErr, OnOk, string_bytes, codes};
+ghost use Rattle.std.specs.Prelude.{◌≡◌, ◌⊎◌, ◌++◌, Ok, IfErr, IfOk, IsErrAnd, MatchResult, OnErr, OnOk, string_bytes, codes};
+ghost use Rattle.std.specs.IoError.{error_kind};
 ghost use Rattle.std.specs.Io.KnownBytes.{Appends};
 ghost use Rattle.std.specs.List.{flat_map};
-ghost use Rattle.program_io.specs.Reported.{FailsToCheck, IsFromOutside, IsRepliesFault};
+ghost use Rattle.program_io.specs.Reported.{FailsToCheck, IsFromOutside, IsReadFault, IsRepliesFault};
 ghost use Rattle.program_io.specs.Written.{AreFailingBy, BeginsVerdict, Checks, ChecksUntil, IsBegun, TellsVerdict};
 ghost use Rattle.program_io.specs.Written.{newline, place_text, verdict_text};
 
@@ -12,18 +13,38 @@ use crate::output::write_line;
 use pact_file::Pact;
 use reply_check::{Verdict, read_replies};
 use std::alloc::{AllocError, Global};
-use std::fs;
 use std::io::{ErrorKind, Write};
+use std::{fs, io};
+
+/// What was read of the two files that are compared.
+#[derive(Drop)]
+pub enum FilesRead {
+    /// The pact file couldn't be read.
+    Neither,
+    /// The pact file alone: it has a fault, or the file of replies couldn't be read.
+    Pact(Vec<u8>),
+    /// The pact file and the file of replies.
+    Both(Vec<u8>, Vec<u8>),
+}
+
+/// What a file has, by what reading it gave. `File`: it couldn't be read.
+fn read_of(read: io::Result<Vec<u8>>) -> Result<Vec<u8>, RunFault>
+    ensures whole { MatchResult read (λ bytes. result ≡ Ok bytes)
+        (λ error. IsErrAnd result (IsReadFault (error_kind error))) }
+    ensures cause { IfErr result IsFromOutside }
+{
+    match read {
+        Ok(bytes) => Ok(bytes),
+        Err(error) if error.kind() == ErrorKind::OutOfMemory => Err(RunFault::Memory),
+        Err(_) => Err(RunFault::File),
+    }
+}
 
 /// What is in the file of this path.
 fn read_file(rt: &HostRuntime, path: &str) -> Result<Vec<u8>, RunFault>
     ensures { IfErr result IsFromOutside }
 {
-    match fs::read(rt, path) {
-        Ok(bytes) => Ok(bytes),
-        Err(error) if error.kind() == ErrorKind::OutOfMemory => Err(RunFault::Memory),
-        Err(_) => Err(RunFault::File),
-    }
+    read_of(fs::read(rt, path))
 }
 
 /// The verdict of the pact on the replies that a file has.
@@ -103,22 +124,47 @@ fn tell_verdict<W: Write>(
     Ok(verdict.passes())
 }
 
+/// Compares the pact in the bytes of a file with the replies in a file of this path, and writes the verdict.
+fn check_read<W: Write>(
+    rt: &HostRuntime,
+    file: Vec<u8>,
+    replies: &str,
+    output: &mut W,
+) -> (Result<bool, RunFault>, FilesRead)
+    ensures ok { IfOk result.0 (Checks (W.contents output.old) (W.contents output.new) result.1) }
+    ensures err { OnErr result.0 ((output.new ≡ output.old)
+        ⊎ ChecksUntil (W.contents output.old) (W.contents output.new) result.1) }
+    ensures cause { IfErr result.0 (FailsToCheck result.1) }
+{
+    match pact_of(rt.alloc(), file.as_slice()) {
+        Ok(pact) => match read_file(rt, replies) {
+            Ok(recorded) => {
+                let told = tell_verdict(rt.alloc(), &pact, recorded.as_slice(), output);
+                drop(pact);
+                (told, FilesRead::Both(file, recorded))
+            }
+            Err(fault) => (Err(fault), FilesRead::Pact(file)),
+        },
+        Err(fault) => (Err(fault), FilesRead::Pact(file)),
+    }
+}
+
 /// Compares the replies in a file with the pact in another, writes the verdict and a newline, and says whether it is a
-/// pass.
+/// pass. What was read of the files comes with it: the file of replies is read once the pact is found to be one.
 pub fn check<W: Write>(
     rt: &HostRuntime,
     pact: &str,
     replies: &str,
     output: &mut W,
-) -> Result<bool, RunFault>
-    ensures ok { IfOk result (Checks (W.contents output.old) (W.contents output.new)) }
+) -> (Result<bool, RunFault>, FilesRead)
+    ensures ok { IfOk result.0 (Checks (W.contents output.old) (W.contents output.new) result.1) }
     // Nothing was written, or a beginning of the verdict.
-    ensures err { OnErr result ((output.new ≡ output.old)
-        ⊎ ChecksUntil (W.contents output.old) (W.contents output.new)) }
-    ensures cause { IfErr result FailsToCheck }
+    ensures err { OnErr result.0 ((output.new ≡ output.old)
+        ⊎ ChecksUntil (W.contents output.old) (W.contents output.new) result.1) }
+    ensures cause { IfErr result.0 (FailsToCheck result.1) }
 {
-    let file = read_file(rt, pact)?;
-    let pact = pact_of(rt.alloc(), file.as_slice())?;
-    let recorded = read_file(rt, replies)?;
-    tell_verdict(rt.alloc(), &pact, recorded.as_slice(), output)
+    match read_file(rt, pact) {
+        Ok(file) => check_read(rt, file, replies, output),
+        Err(fault) => (Err(fault), FilesRead::Neither),
+    }
 }

@@ -18,4 +18,4 @@ pub returns-in-Ok-clause-ok : goal.returns-in-Ok-clause-ok
 returns-in-Ok-clause-ok g c clean =
     opened_after g.D.Disk g.met.D.Disk.seen_may_stay c.args.store c.empty_log-store.result.0 c.close-files.result c.in-Ok.connection
     (subst (λ broke. EmptiesLog c.args.store (c.empty_log-store.result.0, broke)) c.if-broke.false c.empty_log-store.ensures)
-    c.close-files.ensures (c.in-Ok.ensures.opened clean) (c.in-Ok.ensures.found clean)
+    c.close-files.ensures (c.in-Ok.ensures.opened clean) (c.in-Ok.ensures.found clean) c.in-Ok.ensures.fresh

@@ -8,7 +8,7 @@ returns-in-Ok-clause-again g c clean =
     let conn = c.in-Some.connection in
     let early : HasCleanDisk (file_state conn) = omega (arith, clean, c.in-Ok.ensures.opened.survives.clean) in
     let again = subst (λ found. OpensFilesAgain c.release-store.result found) c.in-Some.is c.in_ok-connection.ensures.ok early in
-    (conn, opens_after c.args.broker c.release-store.result again.0 conn c.requires c.release-store.ensures again.1 again.2, c.in-Ok.ensures.opened)
+    (conn, opens_after c.args.broker c.release-store.result again.0 conn c.requires c.release-store.ensures again.1 again.2 again.3, c.in-Ok.ensures.opened)
 
 pub returns-in-None-clause-again : goal.returns-in-None-clause-again
 returns-in-None-clause-again g c =

@@ -1,0 +1,227 @@
+-- a broker in a file is stopped, on a disk that works, only at a command that was to be done
+use Rattle.std.proofs.Common.{◌≡◌, ◌⊎◌, inl, inr, ◌+◌, ◌-◌, ◌≤◌, true, false, IsTrue, List, [], ◌∷◌, ◌++◌, None, refl, sym, ap, ◌∙◌, subst, arith}
+use Rattle.std.proofs.{Math.Logic.{∥∥₁_elim, ∥∥₁_map}, lemmas.Bool.{cases_Bool}}
+use Rattle.sqlite_disk.specs.{declared.Disk.{Ghosts}, Disk.{MoreFaults}}
+use Rattle.sqlite_trees.specs.{View.{doubt}, declared.error.StoreError.{StoreError}}
+use Rattle.sqlite_trees.specs.{declared.error.StoreError.TheVariants.{OutOfMemory, Io, Corrupt, Full, Broken, Unstorable}, Objects.{catalog_tree}}
+use Rattle.sqlite.specs.{Files.{IsOpened, file_state, HoldsDatabase}, Held.{Held, IsNew}, Recovery.{Image}, State.{State, HasCause, HasCleanDisk, store_error}}
+use Rattle.sqlite.specs.{declared.FileStore.{FileStore}, Effect.{IsDatabase}, Schema.{Schema}, Start.{FindsIn}, Tree.{Trees}}
+use Rattle.table_access.specs.{Calls.{HasFailed, fault_of}, declared.StoreFault.TheVariants.{Memory, Store}, Durability.{IsOnDisk}}
+use Rattle.broker_core.specs.{Laws.{CallLeaves, Exit, LeavesAll}, Laws.Exit.{NoStep, Stepped, WasCut}, Machine.{Request, is_step}, State.{State as Broker}}
+use Rattle.broker_core.specs.declared.answer.Answer.{Answer}
+use Rattle.broker_tables.specs.Readable.{IsReadable}
+use Rattle.command_facts.specs.Primitives.{broker_primitives}
+use Rattle.broker_database.specs.{BrokerView.{BrokerView}, Calls.{Applied}, Sessions.{RunsCalls, exit_of}, Stored.{HoldsState, Stores}}
+use Rattle.broker_database.specs.{Causes.{IsToBeDone, StaysReadable}, Life.{AreFilesOf, AreTreesOf, Kept, LifeLeads, Period, PeriodLeads}}
+use Rattle.broker_database.{specs.{Life.Kept.{Blank, OfToday}, Life.Period.{Serving}}, proofs.SchemaLemmas.{one_schema}}
+use Rattle.sqlite_store.specs.Laws.{settled_at}
+use Rattle.broker_program.specs.{Calm.{AllStopCalmly, DiskWorked, DiskWorks, ServesCalmly, StopsAtChange, StopsCalmly, StopsFrom}, Life.{periods_of}}
+use Rattle.broker_program.{specs.Serving.{StartsAfter, Work, Works}, proofs.PeriodLemmas.{Begins, starts_after}}
+use Rattle.broker_core.specs.declared.answer.Answer.TheVariants as answers
+
+-- a failure of the store that isn't want of memory is one of the disk, or the connection was shut
+at_fault : (old new : State) → HasFailed old new Store → MoreFaults old.faults new.faults ⊎ (old.is_open ≡ false)
+at_fault old new failed = by failed.cause failed.fault_is failed.has
+  where
+    by : (cause : StoreError) → Store ≡ fault_of (store_error cause) → HasCause old new ⊥ cause → MoreFaults old.faults new.faults ⊎ (old.is_open ≡ false)
+    by OutOfMemory is has = absurd (let clash : Store ≡ Memory = is in cc)
+    by Io is has = inl has
+    by Corrupt is has = inl has
+    by Full is has = inl has
+    by Broken is has = inr has
+    by Unstorable is has = absurd has
+
+-- an answer that is a step ends the call so
+stepped : (answer : Answer) → is_step answer ≡ true → exit_of answer ≡ Stepped answer
+stepped answers.Store is = cc
+stepped answers.Memory is = cc
+stepped answers.Pattern is = cc
+stepped answers.Stopped is = cc
+stepped _ is = refl
+
+module _ {D : Type 0} {g : Ghosts D} where
+  -- what stays over calls: doubts of the disk stay, and its failures are counted
+  abbrev IsBefore : BrokerView (FileStore D g) → BrokerView (FileStore D g) → Type 0
+  IsBefore b end =
+      (doubt (file_state b.connection).is_clean ≤ doubt (file_state end.connection).is_clean) × ((file_state b.connection).faults ≤ (file_state end.connection).faults)
+
+  before_itself : (b end : BrokerView (FileStore D g)) → end ≡ b → IsBefore b end
+  before_itself b end same = subst (λ (e : BrokerView (FileStore D g)). IsBefore b e) (sym same) (omega arith, omega arith)
+
+  calls_since : (calls : List (Request × Exit)) (b end : BrokerView (FileStore D g)) → RunsCalls file_state b calls end → IsBefore b end
+  calls_since [] b end same = before_itself b end same
+  calls_since ((r, exit) ∷ calls) b end it =
+      let one = it.2.survives.1 in
+      let more : IsBefore it.1 end = elim it.3 [ inl on ↦ calls_since calls it.1 end on.1 | inr cut ↦ before_itself it.1 end cut.3 ] in
+      (omega (arith, one.clean, more.0), omega (arith, one.counts, more.1))
+
+  -- a broker that runs, on an open connection, in a state that can be read back
+  pub record RunsIn (s : Broker) (b : BrokerView (FileStore D g)) : Type 0 where
+    pub runs : b.is_stopped ≡ false
+    pub is_open : IsTrue (file_state b.connection).is_open
+    pub unlimited : (file_state b.connection).step_limit ≡ None
+    pub held : HoldsState s (file_state b.connection)
+    pub readable : IsReadable s
+
+  -- after a call that doesn't stop it, it runs in the state to which the call leads
+  still_runs : (s : Broker) (r : Request) (given : Answer) (b next : BrokerView (FileStore D g)) → Applied file_state b r.token r.command given next → RunsIn s b
+      → HasCleanDisk (file_state next.connection) → ¬ MoreFaults (file_state b.connection).faults (file_state next.connection).faults → next.is_stopped ≡ false
+      → (t : Broker) × CallLeaves broker_primitives s r (exit_of given) t × RunsIn t next
+  still_runs s r given b next applied it clean works runs =
+      let one = applied.survives.1 in
+      let is_open : IsTrue (file_state next.connection).is_open = elim (one.closes clean it.is_open) [ inl now ↦ now | inr more ↦ absurd (works more) ] in
+      let unlimited = one.limit ∙ it.unlimited in
+      let runs_in : (t : Broker) → HoldsState t (file_state next.connection) → IsReadable t → RunsIn t next = λ t held readable.
+      record { runs = runs; is_open = is_open; unlimited = unlimited; held = held; readable = readable } in
+      elim (applied.applies clean it.runs s it.held) [
+        | inl steps ↦ (
+          steps.next,
+          subst (λ (exit : Exit). CallLeaves broker_primitives s r exit steps.next) (sym (stepped given steps.is_machines)) steps.step,
+          runs_in steps.next steps.keeps (applied.readable s (record { answer = given; state = steps.next }) it.readable steps.step),
+        )
+        | inr (inl pattern) ↦ (s, subst (λ (a : Answer). CallLeaves broker_primitives s r (exit_of a) s) (sym pattern.0) refl, runs_in s pattern.2 it.readable)
+        | inr (inr (inl memory)) ↦ (s, subst (λ (a : Answer). CallLeaves broker_primitives s r (exit_of a) s) (sym memory.0) refl, runs_in s memory.1 it.readable)
+        | inr (inr (inr store)) ↦ absurd (let bad : true ≡ false = sym ((applied.stops it.runs).1 store.0) ∙ runs in cc)
+      ]
+
+  pub calls_calm : (calls : List (Request × Exit)) (s : Broker) (b end : BrokerView (FileStore D g)) → RunsCalls file_state b calls end → RunsIn s b
+      → HasCleanDisk (file_state end.connection) → ¬ MoreFaults (file_state b.connection).faults (file_state end.connection).faults → IsTrue end.is_stopped → StopsAtChange s calls
+  calls_calm [] s b end same it clean works stopped =
+      let bad : true ≡ false = sym stopped ∙ ap (λ (t : BrokerView (FileStore D g)). t.is_stopped) same ∙ it.runs in cc
+  calls_calm ((r, exit) ∷ calls) s b end (given, next, applied, rest) it clean works stopped =
+      let since : IsBefore next end = elim rest [ inl on ↦ calls_since calls next end on.1 | inr cut ↦ before_itself next end cut.3 ] in
+      let now : HasCleanDisk (file_state next.connection) = omega (arith, clean, since.0) in
+      let first : ¬ MoreFaults (file_state b.connection).faults (file_state next.connection).faults = λ more. works (omega (arith, more, since.1)) in
+      elim (cases_Bool next.is_stopped) [
+        | inl stops ↦
+            let store = (applied.stops it.runs).0 stops in
+            let cut : exit ≡ WasCut = elim rest [ inl on ↦ on.0 ∙ ap exit_of store | inr killed ↦ killed.0 ] in
+            let done : IsToBeDone s r.token r.command = elim (applied.calm now it.runs store s (record { held = it.held; readable = it.readable; unlimited = it.unlimited })) [
+              | inl failed ↦ elim (at_fault _ _ failed) [ inl more ↦ absurd (first more) | inr shut ↦ absurd (let bad : true ≡ false = sym it.is_open ∙ shut in cc) ]
+              | inr lacks ↦ lacks.0
+            ] in
+            record { before = []; request = r; after = calls; split = ap (λ (e : Exit). (r, e) ∷ calls) cut; state = s; leads = refl; done = done }
+        | inr runs ↦ elim rest [
+          | inl on ↦
+              let later = still_runs s r given b next applied it now first runs in
+              let stop = calls_calm calls later.0 next end on.1 later.2 clean (λ more. works (omega (arith, more, applied.survives.1.counts))) stopped in
+              record {
+                before = (r, exit) ∷ stop.before;
+                request = stop.request;
+                after = stop.after;
+                split = ap (λ (cs : List (Request × Exit)). (r, exit) ∷ cs) stop.split;
+                state = stop.state;
+                leads = (later.0, subst (λ (e : Exit). CallLeaves broker_primitives s r e later.0) (sym on.0) later.1, stop.leads);
+                done = stop.done;
+              }
+          | inr cut ↦ let bad : true ≡ false = sym stopped ∙ ap (λ (t : BrokerView (FileStore D g)). t.is_stopped) cut.3 ∙ runs in cc
+        ]
+      ]
+
+  -- the broker that was opened runs in the state that the connection held
+  pub opened_runs : (work : Work) (conn : Held (FileStore D g)) (end : BrokerView (FileStore D g)) (it : Works work conn end) (s : Broker) → IsOpened conn → IsNew conn
+      → HasCleanDisk (file_state end.connection) → DiskWorks g conn end.connection → HoldsState s (file_state conn) → IsReadable s → IsTrue end.is_stopped → StopsAtChange s work.calls
+  opened_runs work conn end it s opened fresh clean works held readable stopped =
+      let since = calls_since work.calls it.broker end it.calls in
+      let early : HasCleanDisk (file_state it.broker.connection) = omega (arith, clean, since.0) in
+      let opens = it.opened.survives in
+      let first : ¬ MoreFaults (file_state conn).faults (file_state it.broker.connection).faults = λ more. works (omega (arith, more, since.1)) in
+      calls_calm work.calls s it.broker end it.calls (record {
+        runs = it.opened.runs;
+        is_open = elim (opens.closes early opened.0.is_open) [ inl now ↦ now | inr more ↦ absurd (first more) ];
+        unlimited = opens.limit ∙ fresh.unlimited;
+        held = it.opened.holds early s held;
+        readable = readable;
+      }) clean (λ more. works (omega (arith, more, opens.counts))) stopped
+
+-- ---- the state over one opening after another
+
+-- the last of the periods, and those before it
+split_life : (old new : Kept) (life : List Period) (period : Period) → LifeLeads old (life ++ (period ∷ [])) new → (mid : Kept) × LifeLeads old life mid × PeriodLeads mid period new
+split_life old new [] period it = (old, refl, subst (λ (k : Kept). PeriodLeads old period k) (sym it.2) it.1)
+split_life old new (first ∷ life) period it =
+    let more = split_life it.0 new life period it.2 in (more.0, (it.0, it.1, more.1), more.2)
+
+call_readable : (s t : Broker) (r : Request) (exit : Exit) → StaysReadable r.token r.command → CallLeaves broker_primitives s r exit t → IsReadable s → IsReadable t
+call_readable s t r (Stepped answer) stays leaves readable = stays s (record { answer = answer; state = t }) readable leaves
+call_readable s t r NoStep stays leaves readable = subst IsReadable (sym leaves) readable
+call_readable s t r WasCut stays (inl same) readable = subst IsReadable (sym same) readable
+call_readable s t r WasCut stays (inr step) readable = stays s (record { answer = step.0; state = t }) readable step.1
+
+module _ {D : Type 0} (g : Ghosts D) (stays : (file : D) → g.may_leave file (g.seen file)) where
+  -- commands lead from a state that can be read back to one that can
+  calls_readable : (calls : List (Request × Exit)) (b end : BrokerView (FileStore D g)) → RunsCalls file_state b calls end → (s t : Broker) → LeavesAll broker_primitives s calls t → IsReadable s → IsReadable t
+  calls_readable [] b end same s t leaves readable = subst IsReadable (sym leaves) readable
+  calls_readable ((r, exit) ∷ calls) b end it s t leaves readable =
+      let now = call_readable s leaves.0 r exit it.2.readable leaves.1 readable in
+      elim it.3 [
+        | inl on ↦ calls_readable calls it.1 end on.1 leaves.0 t leaves.2 now
+        | inr cut ↦
+            let last : LeavesAll broker_primitives leaves.0 [] t = subst (λ (cs : List (Request × Exit)). LeavesAll broker_primitives leaves.0 cs t) cut.2 leaves.2 in
+            subst IsReadable (sym last) now
+      ]
+
+  -- so do the openings, one after another
+  abbrev IsToday : Kept → Type 0
+  IsToday kept = (s : Broker) × (kept ≡ OfToday s) × IsReadable s
+
+  works_readable : (held : Image) (works : List Work) (conn : Held (FileStore D g)) → StartsAfter held works conn → (first : Broker) → IsReadable first → (new : Kept) → LifeLeads (OfToday first) (periods_of works) new → IsToday new
+  works_readable held [] conn it first readable new same = (first, same, readable)
+  works_readable held (work ∷ works) conn it first readable new leads =
+      let split = split_life (OfToday first) new (periods_of works) (Serving work.calls) leads in
+      let before = works_readable held works it.0 it.2 first readable split.0 split.1 in
+      let runs : PeriodLeads (OfToday before.0) (Serving work.calls) new = subst (λ (k : Kept). PeriodLeads k (Serving work.calls) new) before.1 split.2 in
+      (runs.0, runs.3, calls_readable work.calls it.3.broker it.1 it.3.calls before.0 runs.0 runs.2 before.2)
+
+  -- a connection that was opened on files which keep a state holds it
+  file_holds : (s : Broker) (held : Image) (conn : Held (FileStore D g)) → (trees : Trees) → HoldsDatabase held trees → AreTreesOf (OfToday s) trees → IsOpened conn → FindsIn held (file_state conn) → HoldsState s (file_state conn)
+  file_holds s held conn trees holds are opened finds =
+      let c = file_state conn in
+      let found : c.committed.trees ≡ trees = finds.holds trees holds in
+      let sound : IsDatabase c.committed = (opened.1 opened.0.is_open).1 in
+      let on : IsOnDisk (λ db. Stores db s) c.committed.trees = subst (IsOnDisk (λ db. Stores db s)) (sym found) are in
+      let schema = one_schema (c.committed.trees catalog_tree) on.schema c.committed.schema on.sound.lists sound.lists (ap (λ (x : Schema). x.views) on.has.tables.broker.schema) in
+      let has : Stores c.committed s = subst (λ (x : Schema). Stores (record { schema = x; trees = c.committed.trees }) s) schema on.has in
+      record {
+        held = λ _. record { autocommit = opened.0.autocommit; same = opened.0.clean; sound = sound; has = has };
+        left = λ t may. subst (IsOnDisk (λ db. Stores db s)) (sym (settled_at conn.store stays t opened.0.is_open may)) on;
+      }
+
+  abbrev HoldsToday : Broker → List Work → Held (FileStore D g) → Type 0
+  HoldsToday first works conn = (s : Broker) × LifeLeads (OfToday first) (periods_of works) (OfToday s) × IsReadable s × HoldsState s (file_state conn)
+
+  starts_today : (first : Broker) (held : Image) (works : List Work) (conn : Held (FileStore D g)) → IsReadable first → AreFilesOf g (OfToday first) held → StartsAfter held works conn → ∥ HoldsToday first works conn ∥₁
+  starts_today first held works conn readable are it =
+      ∥∥₁_elim (starts_after g stays (OfToday first) held works conn are it) squash₁ (λ (one : Begins g stays (OfToday first) (periods_of works) conn).
+      let today = works_readable held works conn it first readable one.1.0 one.1.1 in
+      let leads = subst (λ (k : Kept). LifeLeads (OfToday first) (periods_of works) k) today.1 one.1.1 in
+      ∥∥₁_map (subst (λ (k : Kept). AreFilesOf g k one.0) today.1 one.1.2) (λ keeps. elim keeps [
+        | inl some ↦ let r : HoldsToday first works conn = (today.0, leads, today.2, file_holds today.0 one.0 conn some.0 some.1 some.2 one.2 one.3) in r
+        | inr none ↦ absurd (let bad : OfToday today.0 ≡ Blank = none.0 in cc)
+      ]))
+
+  -- a connection is as it is opened, whichever opening it is
+  starts_fresh : (held : Image) (works : List Work) (conn : Held (FileStore D g)) → StartsAfter held works conn → IsOpened conn × IsNew conn
+  starts_fresh held [] conn it = (it.opened, it.fresh)
+  starts_fresh held (work ∷ works) conn it = (it.4.after.2, it.4.fresh)
+
+  works_calm : (first : Broker) (held : Image) (work : Work) (works : List Work) (conn : Held (FileStore D g)) (end : BrokerView (FileStore D g)) → IsReadable first → AreFilesOf g (OfToday first) held
+      → StartsAfter held works conn → Works work conn end → HasCleanDisk (file_state end.connection) → DiskWorks g conn end.connection → IsTrue end.is_stopped → StopsCalmly first work works
+  works_calm first held work works conn end readable are starts does clean disk stopped =
+      let fresh = starts_fresh held works conn starts in
+      ∥∥₁_map (starts_today first held works conn readable are starts) (λ (it : HoldsToday first works conn).
+      let r : StopsFrom first work works = (it.0, it.1, opened_runs work conn end does it.0 fresh.0 fresh.1 clean disk it.3 it.2 stopped) in r)
+
+  all_calm : (first : Broker) (held : Image) (works : List Work) (conn : Held (FileStore D g)) → IsReadable first → AreFilesOf g (OfToday first) held → (starts : StartsAfter held works conn)
+      → DiskWorked g held works conn starts → AllStopCalmly first works
+  all_calm first held [] conn readable are starts worked = tt
+  all_calm first held (work ∷ works) conn readable are starts worked = (
+    works_calm first held work works starts.0 starts.1 readable are starts.2 starts.3 starts.4.clean worked.0 starts.4.stops,
+    all_calm first held works starts.0 readable are starts.2 worked.1,
+  )
+
+  pub serves_calmly : ServesCalmly g
+  serves_calmly first held count rest it readable are worked works = (
+    all_calm first held it.before it.connection readable are it.starts worked,
+    λ stopped. works_calm first held it.last it.before it.connection it.end readable are it.starts it.works it.clean works stopped,
+  )
