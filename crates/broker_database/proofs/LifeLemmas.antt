@@ -1,23 +1,28 @@
 -- What files keep over any number of periods.
-use Rattle.std.specs.Coded.{coded_list}
-use Rattle.std.proofs.Common.{OnOk, IfErr, ◌≡◌, ◌≢◌, ◌<◌, ◌⊎◌, inl, inr, ℕ, List, [], ◌∷◌, ◌++◌, map, ◌==◌, length, Option, Some, None, Result, Ok, Err, true, false, IsTrue, refl, sym, subst, ap, ◌∙◌, arith}
+use Rattle.std.{specs.Coded.{coded_list}, proofs.lemmas.List.{length-take}}
+use Rattle.std.proofs.Common.{codes, get_or-take, slice_index, take, unwrap_or, ◌≤◌, OnOk, IfErr, ◌≡◌, ◌≢◌, ◌<◌, ◌⊎◌, inl, inr, ℕ, List, [], ◌∷◌, ◌++◌, map, ◌==◌, length, Option, Some, None, Result, Ok, Err, true, false, IsTrue, refl, sym, subst, ap, ◌∙◌, arith}
 use Rattle.std.proofs.{Math.Logic.{∥∥₁_elim, ∥∥₁_map}, Math.Path.{fun_ext}}
 use Rattle.sqlite_disk.specs.{declared.Disk.{Ghosts}, declared.Files.{Files}}
 use Rattle.sqlite_trees.specs.Objects.{catalog_tree}
 use Rattle.sqlite_value.specs.contracts.row.Row.{the_row}
 use Rattle.sqlite.specs.{Tree.{Trees}, Recovery.{Image}, Schema.{Schema}, Effect.{Database, IsDatabase}, declared.FileStore.{FileStore}}
 use Rattle.sqlite.specs.{declared.file.Leftover.{Leftover}, Held.{Held, AreDatabases}, Start.{FindsIn}, State.{State, HasCleanDisk}}
-use Rattle.sqlite.{specs.Files.{HoldsDatabase, AreFoundIn, LeavesFiles, IsOpened, IsEmpty, file_state, image_of}, proofs.ListingLemmas.{empty_is_sound}}
-use Rattle.sqlite.proofs.{Theorems.{opens_again}, FileLemmas.{is_something}}
+use Rattle.sqlite.specs.Files.{HoldsDatabase, AreFoundIn, LeavesFiles, IsNothing, IsOpened, IsEmpty, file_state, image_of}
+use Rattle.sqlite.proofs.{ListingLemmas.{empty_is_sound}, Theorems.{opens_again}, FileLemmas.{is_something}}
 use Rattle.sqlite_catalog.specs.Listing.{IsSound}
-use Rattle.sqlite_store.specs.{FileStore.{recovers}, Unopened.{state_of}, declared.store.open.Unopened.{Unopened}}
+use Rattle.sqlite_store.specs.{Laws.{settled_at, stays_at}, Listing.{IsOurs}, declared.catalog.Wanted.{Wanted}, FileStore.{recovers}, Unopened.{state_of}}
+use Rattle.sqlite_store.specs.declared.store.open.Unopened.{Unopened}
+use Rattle.sqlite_pool.specs.{File.{header_in}, Header.{first_page}, Stored.{Adopts, sealed, stored_size, used_size}, StoredLaws.{trimmed_some}}
+use Rattle.sqlite_pool.proofs.ProbeLemmas.{first_byte}
+use Rattle.sqlite_pages.specs.PageMap.{PageMap}
+use Rattle.sqlite_wal.proofs.{AppendLemmas.{some_value}, CreateLemmas.{begun_is_not_blank}}
 use Rattle.table_access.specs.Durability.{HoldsDurably, IsOnDisk}
 use Rattle.broker_core.{specs.{Text.{Text}, Machine.{Request}, State.{State as Broker, opening}, Laws.{Exit, LeavesSessions}}, proofs.DoneLemmas.{sessions_run}}
 use Rattle.broker_core.proofs.SessionLemmas.{sessions, runs_once}
 use Rattle.broker_tables.specs.{Former.{former_format, former_tables}, Holds.{format}, Making.{IsBlank, IsMarked}, Schema.{no_schema, schema_of, broker_schema}}
 use Rattle.command_facts.specs.Primitives.{broker_primitives}
 use Rattle.broker_database.specs.{BrokerView.{BrokerView}, Calls.{Created, Opened, Migrated}, Ends.{AddsNoCrashState}, Handed.{verdict}}
-use Rattle.broker_database.specs.Life.{Kept, Period, calls_of, RunsFrom, LeavesAsWas, PeriodLeads, LifeLeads, BeginsFrom, sessions_in, LivesRun, AreTreesOf, KeepsLatest, PeriodRuns, PeriodsLead, MayLeave, AreFilesOf, EndsAs, HoldsAsBefore, LeavesUnopened, PeriodOnFiles, LifeOnFiles, LivesLead, OpenedFilesHold, IsUnharmed, OpeningSpares}
+use Rattle.broker_database.specs.Life.{Kept, Period, calls_of, RunsFrom, LeavesAsWas, PeriodLeads, LifeLeads, BeginsFrom, sessions_in, LivesRun, AreTreesOf, KeepsLatest, PeriodRuns, PeriodsLead, MayLeave, AreFilesOf, EndsAs, HoldsAsBefore, IsKeptIn, LeavesUnopened, PeriodOnFiles, LifeOnFiles, LivesLead, OpenedFilesHold, IsUnharmed, OpeningSpares, PeriodLeaves, Programs, ProgramsLead, RunsOver}
 use Rattle.broker_database.specs.{Life.Kept.{Blank, OfFormer, OfToday}, Life.Period.{Serving, Making, Migrating, NotOpened}, Migration.{StoresFormer, IsFormer}}
 use Rattle.broker_database.specs.{Opening.{Refuses, Judged, judgement}, Sessions.{IsOpenedOn, GivenRuns}, Stored.{Stores, HoldsState}}
 use Rattle.broker_database.{specs.{declared.opening.Refused.{Refused}, declared.opening.OpenFault.{OpenFault}}, proofs.Judgements.{blank_none, marked_some}}
@@ -196,22 +201,55 @@ not_opened Blank = (refl, refl)
 blank_trees : (trees : Trees) → IsEmpty trees → IsOnDisk IsBlank trees
 blank_trees trees none = let sound = empty_is_sound trees none.1 in record { schema = no_schema; sound = sound; has = record { schema = refl; sound = sound } }
 
--- an empty file has no entry
-found_empty : (image : Image) (trees : Trees) → image.db ≡ [] → AreFoundIn image trees → IsEmpty trees
-found_empty image trees none (inl found) = absurd (let some : 0 < length image.db = found.3.found.present in let never : 0 < 0 = subst (λ (bytes : List ℕ). 0 < length bytes) none some in omega (arith, never))
-found_empty image trees none (inr found) = found.1
+-- files in which pages of a database are found aren't nothing: their first page begins as one does
+module _ (size : ℕ) (image : Image) (pages : PageMap) (wanted : List Wanted) (adopts : Adopts size image pages) (ours : IsOurs size true wanted pages) where
+  first_page_of : (page : List ℕ) → adopts.stored 1 ≡ Some page → (1 < stored_size size) × (slice_index page 0 ≡ 83)
+  first_page_of page is =
+      let used : pages 1 ≡ Some (take size page) = ap (λ (p : PageMap). p 1) (sym adopts.shows) ∙ trimmed_some size _ 1 page is in
+      let head : header_in pages ≡ take 100 (take size page) = ap (λ (o : Option (List ℕ)). take 100 (unwrap_or o [])) used in
+      let magic : take 16 (take 100 (take size page)) ≡ codes "SQLite format 3" ++ 0 ∷ [] = ap (take 16) (sym head) ∙ ours.file.sound.header.0.magic in
+      let whole : length (take size page) ≡ size = ours.file.whole.sized 1 (take size page) used in
+      let sixteen : length (take 16 (take 100 (take size page))) ≡ 16 = ap length magic in
+      let long : 16 ≤ size = omega (arith, sixteen, whole, length-take 16 (take 100 (take size page)), length-take 100 (take size page)) in (
+        omega (arith, long),
+        sym (get_or-take size page 0 0 (omega arith)) ∙ sym (get_or-take 100 (take size page) 0 0 (omega arith)) ∙ sym (get_or-take 16 (take 100 (take size page)) 0 0 (omega arith)) ∙ ap (λ (bytes : List ℕ). slice_index bytes 0) magic,
+      )
+
+  is_found : ¬ IsNothing image
+  is_found nothing =
+      let (page, is) = some_value (adopts.stored 1) adopts.whole.first in
+      let (big, begins) = first_page_of page is in
+      let never = λ (other : ℕ) (some : 0 < other). let gate = first_byte other some in
+      begun_is_not_blank (sealed (first_page other)) page (stored_size size) image adopts.stored adopts.found is (adopts.whole.sized 1 page is) big (begins ∙ sym gate) (λ none. let wrong = sym gate ∙ none in omega arith) in
+      elim nothing [ inl plain ↦ never (used_size 4096 false) (omega arith) plain | inr summed ↦ never (used_size 4096 true) (omega arith) summed ]
+
+-- nothing has no entry
+found_empty : (image : Image) (trees : Trees) → IsNothing image → AreFoundIn image trees → IsEmpty trees
+found_empty image trees nothing (inl found) =
+    absurd (∥∥₁_elim found.4 (λ p q. absurd p) (λ (ours : IsOurs found.0 true found.2 found.1). is_found found.0 image found.1 found.2 found.3 ours nothing))
+found_empty image trees nothing (inr found) = found.1
 
 -- trees are the same if they are so by a thing that is there in some way
 trees_from : {A : Type 0} (p q : Trees) → ∥ A ∥₁ → (A → p ≡ q) → p ≡ q
 trees_from p q some so = fun_ext (λ n. ∥∥₁_elim some (Coded-set (coded_list the_row.coded) (p n) (q n)) (λ x. ap (λ (t : Trees). t n) (so x)))
 
+-- the trees that the files hold which keep something, or it is nothing
+abbrev Holds : Kept → Image → Type 0
+Holds kept image = ((trees : Trees) × HoldsDatabase image trees × AreTreesOf kept trees) ⊎ ((kept ≡ Blank) × IsNothing image)
+
+-- what holds the same keeps the same
+kept_before : (kept : Kept) (old new : Image) → IsKeptIn kept old → HoldsAsBefore old new → IsKeptIn kept new
+kept_before kept old new are same = ∥∥₁_elim are squash₁ (λ (it : Holds kept old). elim it [
+  | inl found ↦ ∥∥₁_map (same.same found.0 found.1) (λ holds. let r : Holds kept new = inl (found.0, holds, found.2) in r)
+  | inr none ↦ ∥∥₁_map (same.none none.1) (λ (now : IsNothing new ⊎ ((trees : Trees) × HoldsDatabase new trees × IsEmpty trees)). elim now [
+    | inl nothing ↦ let r : Holds kept new = inr (none.0, nothing) in r
+    | inr empty ↦ let r : Holds kept new = inl (empty.0, empty.1, subst (λ (k : Kept). AreTreesOf k empty.0) (sym none.0) (blank_trees empty.0 empty.2)) in r
+  ])
+])
+
 module _ {D : Type 0} (g : Ghosts D) where
   abbrev shown : Held (FileStore D g) → State
   shown = file_state {D = D} {g = g}
-
-  -- the trees that the files hold which keep something, or it is nothing, and they are empty
-  abbrev Holds : Kept → Image → Type 0
-  Holds kept image = ((trees : Trees) × HoldsDatabase image trees × AreTreesOf kept trees) ⊎ ((kept ≡ Blank) × (image.db ≡ []))
 
   -- what a connection found that was opened on such files
   abbrev Found : Kept → Held (FileStore D g) → Type 0
@@ -224,14 +262,6 @@ module _ {D : Type 0} (g : Ghosts D) where
         let trees = (shown conn).committed.trees in
         let blank = subst (λ (k : Kept). AreTreesOf k trees) (sym none.0) (blank_trees trees (found_empty held trees none.1 finds.reads)) in
         let r : Found old conn = (trees, blank, record { opens = opened.0; live = opened.1; found = refl }) in r
-  ])
-
-  -- what holds the same keeps the same
-  kept_before : (kept : Kept) (old new : Image) → AreFilesOf g kept old → HoldsAsBefore g old new → AreFilesOf g kept new
-  kept_before kept old new are same = ∥∥₁_elim are squash₁ (λ (it : Holds kept old). elim it [
-    | inl found ↦ ∥∥₁_map (same.same found.0 found.1) (λ holds. let r : Holds kept new = inl (found.0, holds, found.2) in r)
-    | inr none ↦ ∥∥₁_map (same.none none.1) (λ (now : (trees : Trees) × HoldsDatabase new trees × IsEmpty trees).
-        let r : Holds kept new = inl (now.0, now.1, subst (λ (k : Kept). AreTreesOf k now.0) (sym none.0) (blank_trees now.0 now.2)) in r)
   ])
 
   -- trees in which a connection ends, as they are found in this image
@@ -303,6 +333,30 @@ module _ {D : Type 0} (g : Ghosts D) where
         let on : IsOpenedOn trees (shown conn) = record { opens = opened.0; live = opened.1; found = trees_from (shown conn).committed.trees trees some (finds.holds trees) } in
         holds_today trees (shown conn) on (settled conn) s are
 
+-- ---- the same over programs, each with a disk of its own
+
+module _ (all : Programs) where
+  abbrev Led : Kept → List Period → Image → Type 0
+  Led old life end = (new : Kept) × LifeLeads old life new × IsKeptIn new end
+
+  program_leads : (old : Kept) (found end : Image) (period : Period) → IsKeptIn old found → (p : all.Program) × RunsOver all p found period end → ∥ ((new : Kept) × PeriodLeads old period new × IsKeptIn new end) ∥₁
+  program_leads old found end period are (p, it) =
+      file_leads (all.disk p) (λ conn now. stays_at conn.store it.stays now) (λ conn trees now may. settled_at conn.store it.stays trees now may)
+      old found period it.first it.last it.rest end are it.opened it.finds it.runs it.clean it.ends it.may
+
+  leaves_lead : (old : Kept) (found end : Image) (period : Period) → IsKeptIn old found → PeriodLeaves all found period end → ∥ ((new : Kept) × PeriodLeads old period new × IsKeptIn new end) ∥₁
+  leaves_lead old found end NotOpened are (inl same) = ∣ (old, not_opened old, subst (IsKeptIn old) (sym same) are) ∣₁
+  leaves_lead old found end NotOpened are (inr as_before) = ∣ (old, not_opened old, kept_before old found end are as_before) ∣₁
+  leaves_lead old found end (Serving calls) are it = program_leads old found end (Serving calls) are it
+  leaves_lead old found end (Making office calls) are it = program_leads old found end (Making office calls) are it
+  leaves_lead old found end Migrating are it = program_leads old found end Migrating are it
+
+  pub programs_lead : ProgramsLead all
+  programs_lead old found end [] are same = ∣ (old, refl, subst (IsKeptIn old) (sym same) are) ∣₁
+  programs_lead old found end (period ∷ life) are it =
+      ∥∥₁_elim (leaves_lead old found it.0 period are it.1) squash₁ (λ (one : (mid : Kept) × PeriodLeads old period mid × IsKeptIn mid it.0).
+      ∥∥₁_map (programs_lead one.0 it.0 end life one.2 it.2) (λ (more : Led one.0 life end). let r : Led old (period ∷ life) end = (more.0, (one.0, one.1, more.1), more.2) in r))
+
 -- ---- the sessions of a life
 
 -- the commands of a life were run, from the state that they begin from
@@ -363,21 +417,21 @@ module _ {D : Type 0} (g : Ghosts D) (files : Files D) where
   unopened_spares : (now : Unopened D g) → LeavesFiles files (left.Unopened now) → IsUnharmed g (image_of g files) (left.Unopened now) → LeavesUnopened g files (left.Unopened now)
   unopened_spares now (inl nothing) more image may = elim (nothing.1 image may) [
     | inl before ↦ inl before
-    | inr (inl none) ↦ absurd (more.1 image may none)
-    | inr (inr empty) ↦ inr (record { same = λ trees held. absurd (is_something (image_of g files) trees held nothing.0); none = λ _. ∥∥₁_map empty (λ it. let r : (trees : Trees) × HoldsDatabase image trees × IsEmpty trees = (it.0, it.1, it.2) in r) })
+    | inr (inl none) ↦ inr (record { same = λ trees held. absurd (is_something (image_of g files) trees held nothing.0); none = λ _. ∣ inl none ∣₁ })
+    | inr (inr empty) ↦ inr (record { same = λ trees held. absurd (is_something (image_of g files) trees held nothing.0); none = λ _. ∥∥₁_map empty (λ it. let r : IsNothing image ⊎ ((trees : Trees) × HoldsDatabase image trees × IsEmpty trees) = inr (it.0, it.1, it.2) in r) })
   ]
   unopened_spares now (inr kept) more image may = elim ((kept.4 image may).same) [
     | inl before ↦ inl before
     | inr stands ↦ inr (record {
       same = λ trees held.
-          let size = more.0 trees held in
+          let size = more trees held in
           let it = held.2 in
           let r : HoldsDatabase image trees = (
             (state_of now).page_size,
             rw size at held.1,
             record { pages = it.pages; wanted = it.wanted; schema = it.schema; found = stands.1 it.pages (rw size at it.found); ours = rw size at it.ours; reads = rw size at it.reads; sound = it.sound },
           ) in ∣ r ∣₁;
-      none = λ none. absurd (kept.0 (inl (inl (ap length none))));
+      none = λ none. absurd (kept.0 none);
     })
   ]
 
@@ -391,7 +445,7 @@ module _ {D : Type 0} (g : Ghosts D) (files : Files D) where
         none = λ none.
             let empty : (db : Trees) → recovers now db → IsEmpty db = λ db is. found_empty (image_of g files) db none (found db is).0 in
             let sound : AreDatabases (recovers now) = λ db is. (no_schema, empty_is_sound db (empty db is).1) in
-            ∥∥₁_map (again sound) (λ (it : (t : Trees) × recovers now t × HoldsDatabase image t). let r : (t : Trees) × HoldsDatabase image t × IsEmpty t = (it.0, it.2, empty it.0 it.1) in r);
+            ∥∥₁_map (again sound) (λ (it : (t : Trees) × recovers now t × HoldsDatabase image t). let r : IsNothing image ⊎ ((t : Trees) × HoldsDatabase image t × IsEmpty t) = inr (it.0, it.2, empty it.0 it.1) in r);
       })
 
 pub opening_spares : {D : Type 0} (g : Ghosts D) → OpeningSpares g

@@ -1,18 +1,18 @@
 -- What the transactions leave that make a broker's tables, look for a format, and bring a database up.
 use Rattle.broker_core.specs.{State.{State as Broker, opening}, Text.{Text}}
-use Rattle.broker_database.specs.Migration.{BringsUp, BringsUpOrNot, CanBeMigrated, IsFormer, StoresFormer}
-use Rattle.broker_database.specs.{Opening.{IsFresh, IsUncommitted, MakesOrFails, OnlyIfStoreFailed, Refuses, open_fault}, Stored.{HoldsState, Stores}}
-use Rattle.broker_database.{specs.Transaction.{Concludes}, proofs.{MigrationLemmas.{former_found}, OpenFailures.{looking_fails, unbegun_fails}}}
+use Rattle.broker_database.specs.Migration.{BringsUp, BringsUpOrNot, IsFormer, OnlyIfNotMigrated, StoresFormer}
+use Rattle.broker_database.specs.Opening.{IsFresh, IsUncommitted, MakesOrFails, OnlyIfRefused, OnlyIfStoreFailed, Refuses, open_fault}
+use Rattle.broker_database.specs.{Stored.{HoldsState, Stores}, declared.ending.Failure.{Failure}, declared.ending.Failure.TheVariants.{Call, Commit}}
+use Rattle.broker_database.{specs.Transaction.{Concludes, EndsFor, told}, proofs.{MigrationLemmas.{former_found}, OpenFailures.{looking_fails, unbegun_fails}}}
 use Rattle.broker_database.proofs.{Sound.{opens_sound}, StoreFailures.{transaction_fails}}
-use Rattle.broker_database.proofs.Transaction.{WholeTransaction, adds_nothing, once_at_most, transaction_begun, transaction_ends, transaction_once, transaction_over, transaction_spares, transaction_told, transaction_unchanged, unbegun_ends, unbegun_over, unbegun_unchanged}
+use Rattle.broker_database.proofs.Transaction.{WholeTransaction, adds_nothing, once_at_most, transaction_begun, transaction_ends, transaction_once, transaction_over, transaction_spares, transaction_told, transaction_unchanged, transaction_within, unbegun_ends, unbegun_over, unbegun_unchanged}
 use Rattle.broker_tables.specs.{Former.{former_format}, Holds.{Holds}, Making.{IsBlank, IsCalmOverBetween}, Room.{HasAllNumbers}}
 use Rattle.registry_tables.specs.Format.{FailsToFind, FindsFormer, IsOfFormat}
 use Rattle.sqlite.specs.{Effect.{Database}, Held.{Held}, State.{HasCleanDisk, State, Survives}}
-use Rattle.std.proofs.Common.{Bool, Err, IfErr, IsOk, IsOkAnd, IsTrue, None, Ok, Option, Result, Some, arith, false, inl, inr, is_ok, refl, subst, sym, ℕ, ◌↔◌, ◌∙◌, ◌≡◌, ◌≤◌, ◌⊎◌}
+use Rattle.std.proofs.Common.{Bool, Err, IfErr, IsOk, IsOkAnd, IsTrue, None, Ok, Option, Result, Some, ap, arith, false, inl, inr, is_ok, refl, subst, sym, ℕ, ◌↔◌, ◌∙◌, ◌≡◌, ◌≤◌, ◌⊎◌}
 use Rattle.std.proofs.lemmas.Result.{IfErr-weaker, IfOk-weaker}
-use Rattle.table_access.specs.{Calls.{CallsStoreBetween, GoesOn, HasFailed}, Durability.{HoldsDurably}}
-use Rattle.table_access.specs.{Unit.{Begins, CommitIsRefused, FailsToBegin, IsLeft, RefusesCommit}, declared.StoreFault.{StoreFault}}
-use Rattle.table_access.{specs.declared.StoreFault.TheVariants.{Memory, Store}, proofs.CallLemmas.{ended_since, may_take}}
+use Rattle.table_access.specs.{Calls.{CallsStoreBetween, GoesOn, HasFailed}, Durability.{HoldsDurably}, Unit.{Begins, FailsToBegin, IsLeft, RefusesCommit}}
+use Rattle.table_access.{specs.{declared.StoreFault.{StoreFault}, declared.StoreFault.TheVariants.{Memory, Store}}, proofs.CallLemmas.{ended_since, may_take}}
 use Rattle.table_access.proofs.EndLemmas as ends
 
 -- ---- the format is looked for
@@ -55,26 +55,64 @@ kept_ok : {A : Type 0} (Keeps : A → Type 0) (r : Result A StoreFault) → IsOk
 kept_ok Keeps (Ok a) is = refl
 kept_ok Keeps (Err why) is = absurd is
 
--- it is answered Store only as the store fails, or if COMMIT was refused: of a database from which the work makes one that holds this state
-pub made_calm : {X A : Type 0} (shown : Held X → State) (Ready Before : Database → Type 0) (s : Broker) (old mid done new : Held X) (Does Keeps : A → Type 0) (result : Result A StoreFault) (t : WholeTransaction (shown old) (shown mid) (shown done) (shown new) Does Keeps result)
-    → IsCalmOverBetween Ready (shown mid) (shown done) t.worked → (IsTrue t.keeps → IsOk t.worked → IfErr result (λ _. CommitIsRefused shown done new))
-    → ((db : Database) → Before db → Ready db) → ((a : A) → Does a → Keeps a → Before (shown mid).now → Holds (shown done).now s) → OnlyIfStoreFailed shown Before s old new (result ≡ Err Store)
-made_calm {X} {A} shown Ready Before s old mid done new Does Keeps result t calm refused ready makes clean fresh holds is =
-    let worked : HasCleanDisk (shown done) = omega (arith, t.concludes.ends.survives.clean, clean) in
-    transaction_fails (shown old) (shown mid) (shown done) (shown new) Does Keeps (IsUncommitted shown s new) clean result t
-    (IfErr-weaker t.worked _ _ (λ fault failed store. inl failed) (calm worked begun.1.mode (t.begins.limit ∙ fresh.1) (ready (shown mid).now before)))
-    (λ a did keeps kept on. let cause = subst (λ (r : Result A StoreFault). IfErr r (λ _. CommitIsRefused shown done new)) is (refused kept (kept_ok Keeps t.worked (t.kept.0 kept))) in not_kept (makes a did keeps before) on cause.0 cause.1) is
-  where
+module _ {X A : Type 0} (shown : Held X → State) (Ready Before : Database → Type 0) (s : Broker) (old mid done new : Held X) (Does Keeps : A → Type 0) (result : Result A Failure) (t : WholeTransaction (shown old) (shown mid) (shown done) (shown new) Does Keeps (told result)) where
+  module _ (calm : IsCalmOverBetween Ready (shown mid) (shown done) t.worked) (refused : HasCleanDisk (shown new) → IfErr result (EndsFor shown t.keeps t.worked done new))
+      (ready : (db : Database) → Before db → Ready db) (makes : (a : A) → Does a → Keeps a → Before (shown mid).now → Holds (shown done).now s) (clean : HasCleanDisk (shown new)) (fresh : IsFresh (shown old)) (holds : HoldsDurably Before (shown old)) where
     begun : Begins (shown old) (shown mid)
-    begun = transaction_begun (shown old) (shown mid) (shown done) (shown new) _ _ result t clean
+    begun = transaction_begun (shown old) (shown mid) (shown done) (shown new) Does Keeps (told result) t clean
 
     before : Before (shown mid).now
     before = ends.begins Before (shown old) (shown mid) begun holds
 
-    not_kept : Holds (shown done).now s → GoesOn (shown mid) (shown done) → (fault : StoreFault) → RefusesCommit shown done new fault → HasFailed (shown old) (shown new) Store ⊎ IsUncommitted shown s new
-    not_kept made on Store refusal =
-        inl (ended_since (shown old) (shown done) (shown new) Store (on.0, λ _. on.1 begun.1.is_open) (let up : (shown old).faults ≤ (shown done).faults = omega (arith, t.begins.counts, t.works.survives.counts) in up) (refusal.failed on.0))
-    not_kept made on Memory refusal = inr (record { worked = done; made = made; refused = refusal })
+    -- the work fails by Store only as the store fails
+    work_calm : (Why : Type 0) → IfErr t.worked (λ fault. fault ≡ Store → HasFailed (shown mid) (shown done) fault ⊎ Why)
+    work_calm Why =
+        let worked : HasCleanDisk (shown done) = omega (arith, t.concludes.ends.survives.clean, clean) in
+        IfErr-weaker t.worked _ _ (λ fault failed store. inl failed) (calm worked begun.1.mode (t.begins.limit ∙ fresh.1) (ready (shown mid).now before))
+
+    -- so does a call
+    by_call : result ≡ Err (Call Store) → HasFailed (shown old) (shown new) Store
+    by_call is =
+        let why : EndsFor shown t.keeps t.worked done new (Call Store) = subst (λ (r : Result A Failure). IfErr r (EndsFor shown t.keeps t.worked done new)) is (refused clean) in
+        elim (transaction_fails (shown old) (shown mid) (shown done) (shown new) Does Keeps ⊥ clean (told result) t (work_calm ⊥) (λ a did keeps kept on. absurd (why kept (kept_ok Keeps t.worked (t.kept.0 kept)))) (ap told is)) [
+          | inl failed ↦ failed
+          | inr never ↦ absurd never
+        ]
+
+    -- and COMMIT, or for want of memory
+    by_commit : (why : StoreFault) → result ≡ Err (Commit why) → HasFailed (shown old) (shown new) Store ⊎ ((why ≡ Memory) × IsUncommitted shown s old new)
+    by_commit why is =
+        let refusal : EndsFor shown t.keeps t.worked done new (Commit why) = subst (λ (r : Result A Failure). IfErr r (EndsFor shown t.keeps t.worked done new)) is (refused clean) in
+        transaction_fails (shown old) (shown mid) (shown done) (shown new) Does Keeps ((why ≡ Memory) × IsUncommitted shown s old new) clean (told result) t (work_calm ((why ≡ Memory) × IsUncommitted shown s old new))
+        (λ a did keeps kept on. not_kept (makes a did keeps before) on why refusal.1) (ap told is)
+      where
+        not_kept : Holds (shown done).now s → GoesOn (shown mid) (shown done) → (fault : StoreFault) → RefusesCommit shown done new fault → HasFailed (shown old) (shown new) Store ⊎ ((fault ≡ Memory) × IsUncommitted shown s old new)
+        not_kept made on Store refusal =
+            inl (ended_since (shown old) (shown done) (shown new) Store (on.0, λ _. on.1 begun.1.is_open) (let up : (shown old).faults ≤ (shown done).faults = omega (arith, t.begins.counts, t.works.survives.counts) in up) (refusal.failed on.0))
+        not_kept made on Memory refusal =
+            inr (refl, record { worked = done; inside = on.0; survives = transaction_within (shown old) (shown mid) (shown done) (shown new) Does Keeps (told result) t; made = made; refused = refusal })
+
+  -- why it fails by Store: of a database from which the work makes one that holds this state
+  pub made_refused : IsCalmOverBetween Ready (shown mid) (shown done) t.worked → (HasCleanDisk (shown new) → IfErr result (EndsFor shown t.keeps t.worked done new))
+      → ((db : Database) → Before db → Ready db) → ((a : A) → Does a → Keeps a → Before (shown mid).now → Holds (shown done).now s) → OnlyIfRefused shown Before s old new result
+  made_refused calm refused ready makes = record {
+    call = by_call calm refused ready makes;
+    commit = by_commit calm refused ready makes;
+  }
+
+-- where BEGIN was refused
+pub unbegun_refused : {X A : Type 0} (shown : Held X → State) (Before : Database → Type 0) (s : Broker) (old new : Held X) (why : StoreFault) → (HasCleanDisk (shown new) → FailsToBegin (shown old) (shown new) why) → OnlyIfRefused {A = A} shown Before s old new (Err (Call why))
+unbegun_refused shown Before s old new why cause = record {
+  call = λ clean fresh holds is. unbegun_fails (shown old) (shown new) why fresh (cause clean) (let same : why ≡ Store = (let h = is in cc) in same);
+  commit = λ clean fresh holds refusal is. absurd (let h = is in cc);
+}
+
+-- as it is told, it is Store only for these
+pub only_if_failed : {X A : Type 0} (shown : Held X → State) (Before : Database → Type 0) (s : Broker) (old new : Held X) (result : Result A Failure) → OnlyIfRefused shown Before s old new result → OnlyIfStoreFailed shown Before s old new (told result ≡ Err Store)
+only_if_failed shown Before s old new (Ok a) why clean fresh holds is = absurd (cc)
+only_if_failed shown Before s old new (Err (Call Memory)) why clean fresh holds is = absurd (cc)
+only_if_failed shown Before s old new (Err (Call Store)) why clean fresh holds is = inl (why.call clean fresh holds refl)
+only_if_failed shown Before s old new (Err (Commit fault)) why clean fresh holds is = elim (why.commit clean fresh holds fault refl) [ inl failed ↦ inl failed | inr refused ↦ inr refused.1 ]
 
 -- as a failure is handed on
 pub refuses_as : (office : Text) (new : State) (why : StoreFault) → MakesOrFails office new (Err why) → Refuses IsBlank (λ db. Stores db (opening office)) new (open_fault why)
@@ -83,7 +121,7 @@ refuses_as office new Store it = it
 
 -- ---- a database of format 1 is brought up
 
-abbrev IsBroughtUp : State → State → Option ℕ → Type 0
+abbrev pub IsBroughtUp : State → State → Option ℕ → Type 0
 IsBroughtUp mid done found = FindsFormer mid.now found × (found ≡ Some former_format → BringsUp mid.now done.now)
 
 -- nothing is committed but by a database of format 1
@@ -91,11 +129,17 @@ pub former_of : (db : Database) (found : Option ℕ) → FindsFormer db found �
 former_of db None it is = absurd (cc)
 former_of db (Some n) it is = let same : n ≡ former_format = cc in (subst (λ k. IsOfFormat k db) same it.0, it.1 same)
 
+abbrev pub going_up : (old mid done new : State) (worked result : Result (Option ℕ) StoreFault) (keeps : Bool) → (HasCleanDisk mid → Begins old mid) → Survives old mid (λ _. ⊥)
+    → CallsStoreBetween mid done worked (IsBroughtUp mid done) → (IsTrue keeps ↔ IsOkAnd worked (λ found. found ≡ Some former_format)) → Concludes done new keeps worked result
+    → WholeTransaction old mid done new (IsBroughtUp mid done) (λ found. found ≡ Some former_format) result
+going_up old mid done new worked result keeps begun begins works kept concludes =
+    record { worked = worked; keeps = keeps; begun = begun; begins = begins; works = may_take mid done worked _ works; kept = kept; concludes = concludes }
+
 pub brought_up : {X : Type 0} (shown : Held X → State) (old mid done new : Held X) (worked result : Result (Option ℕ) StoreFault) (keeps : Bool) → (HasCleanDisk (shown mid) → Begins (shown old) (shown mid)) → Survives (shown old) (shown mid) (λ _. ⊥)
     → CallsStoreBetween (shown mid) (shown done) worked (IsBroughtUp (shown mid) (shown done)) → (IsTrue keeps ↔ IsOkAnd worked (λ found. found ≡ Some former_format)) → Concludes (shown done) (shown new) keeps worked result
     → (HasCleanDisk (shown done) → (shown mid).step_limit ≡ None → IfErr worked (λ fault. FailsToFind (shown mid) (shown done) fault ⊎ IsFormer (shown mid).now))
-    → IsCalmOverBetween CanBeMigrated (shown mid) (shown done) worked → (HasCleanDisk (shown new) → IsTrue keeps → IsOk worked → IfErr result (λ _. CommitIsRefused shown done new)) → BringsUpOrNot shown old new result
-brought_up shown old mid done new worked result keeps begun begins works kept concludes looks calm refused = record {
+    → OnlyIfNotMigrated shown old new (result ≡ Err Store) → BringsUpOrNot shown old new result
+brought_up shown old mid done new worked result keeps begun begins works kept concludes looks former = record {
   found = λ clean. IfOk-weaker result _ _ (λ found it. (it.0, subst (λ (db : Database). FindsFormer db found) it.1 it.2.0)) (transaction_told (shown old) (shown mid) (shown done) (shown new) _ _ result t clean);
   ends = λ clean s holds.
       transaction_ends (shown old) (shown mid) (shown done) (shown new) _ _ result t (λ db. StoresFormer db s) (λ db. Stores db s) (λ found. (found ≡ Some former_format) × HoldsState s (shown new)) clean holds
@@ -107,11 +151,11 @@ brought_up shown old mid done new worked result keeps begun begins works kept co
   survives = transaction_once (shown old) (shown mid) (shown done) (shown new) _ _ result t;
   spares = λ clean other. transaction_spares (shown old) (shown mid) (shown done) (shown new) _ _ result t (λ found same up is. other (subst IsFormer same (former_of (shown mid).now found up.0 is))) clean;
   calm = λ clean fresh. looking_fails (shown old) (shown mid) (shown done) (shown new) _ _ result t clean fresh IsFormer looks (λ found up is. former_of (shown mid).now found up.0 is);
-  calm_former = λ s fit clean. made_calm shown CanBeMigrated (λ db. StoresFormer db s) s old mid done new _ _ result t calm (refused clean) (λ db is. (s, is.tables, fit)) (λ found up is was. up.1 is s was.tables) clean;
+  calm_former = former;
 }
   where
     t : WholeTransaction (shown old) (shown mid) (shown done) (shown new) (IsBroughtUp (shown mid) (shown done)) (λ found. found ≡ Some former_format) result
-    t = record { worked = worked; keeps = keeps; begun = begun; begins = begins; works = may_take (shown mid) (shown done) worked _ works; kept = kept; concludes = concludes }
+    t = going_up (shown old) (shown mid) (shown done) (shown new) worked result keeps begun begins works kept concludes
 
     stored : (s : Broker) (found : Option ℕ) → StoresFormer (shown mid).now s → IsBroughtUp (shown mid) (shown done) found → found ≡ Some former_format → Stores (shown done).now s
     stored s found was up is = record { tables = up.1 is s was.tables; contents = was.contents }

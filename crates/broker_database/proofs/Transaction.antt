@@ -263,6 +263,10 @@ module _ {A : Type 0} (old mid done new : State) (X Keeps : A → Type 0) (resul
   pub transaction_once : CommitsAtMostOnce old new
   transaction_once = commits_once old mid done new t.worked _ _ t.keeps t.concludes.ended parts
 
+  -- nothing is committed before its end
+  pub transaction_within : Survives old done (λ _. ⊥)
+  transaction_within = within old mid done new t.worked _ _ t.keeps t.concludes.ended parts
+
   -- where nothing is to be kept
   pub transaction_undone : t.keeps ≡ false → Survives old new (λ _. ⊥)
   transaction_undone = commits_nothing old mid done new t.worked _ _ t.keeps t.concludes.ended parts

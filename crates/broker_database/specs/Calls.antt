@@ -76,7 +76,7 @@ module _ {X : Type 0} (shown : Held X → State) where
     -- a stopped broker answers Stopped and is left as it is, and no other one answers so
     pub stopped : IsTrue old.is_stopped → (answer ≡ answers.Stopped) × (new ≡ old)
     pub runs : old.is_stopped ≡ false → answer ≢ answers.Stopped
-    -- on a disk that fails, and when the program is stopped in the call: at most one commit
+    -- on a disk that fails, and when the program is stopped in the call: a crash leaves one more database at most
     pub survives : CommitsAtMostOnce (shown old.connection) (shown new.connection)
 
   -- What the making of a broker leaves of a connection, and what it hands back. Its office's token has this digest.
@@ -99,7 +99,7 @@ module _ {X : Type 0} (shown : Held X → State) where
     pub runs : IfOk given (λ b. b.is_stopped ≡ false)
     -- whatever is handed back, no transaction is left open
     pub over : LeavesNoTransaction (shown old) (shown (left_by given))
-    -- on a disk that fails, and when the program is stopped in the call: at most one commit
+    -- on a disk that fails, and when the program is stopped in the call: a crash leaves one more database at most
     pub survives : CommitsAtMostOnce (shown old) (shown (left_by given))
 
   -- What the opening of a broker leaves of a connection, and what it hands back.
@@ -156,7 +156,7 @@ module _ {X : Type 0} (shown : Held X → State) where
     pub unchanged : HasCleanDisk (shown new) → IfErr given (IsUnchangedUnlessStore (shown old) (shown new))
     -- whatever the answer is, no transaction is left open
     pub over : LeavesNoTransaction (shown old) (shown new)
-    -- on a disk that fails, and when the program is stopped in the call: at most one commit
+    -- on a disk that fails, and when the program is stopped in the call: a crash leaves one more database at most
     pub survives : CommitsAtMostOnce (shown old) (shown new)
     -- and none on a database that isn't of format 1, whatever the answer is: what a crash leaves, it left before
     pub spares : HasCleanDisk (shown new) → ¬ (IsFormer (shown old).now) → AddsNoCrashState (shown old) (shown new)

@@ -1,7 +1,7 @@
 -- why a command is answered Store (this project's own)
 use Rattle.std.specs.Prelude.{◌≡◌, ◌⊎◌, IsTrue, Option, None}
 use Rattle.sqlite.specs.Held.{Held}
-use Rattle.sqlite.specs.State.{State}
+use Rattle.sqlite.specs.State.{State, Survives}
 use Rattle.table_access.specs.Calls.{HasFailed}
 use Rattle.table_access.specs.Unit.{RefusesCommit}
 use Rattle.table_access.specs.declared.StoreFault.TheVariants as faults
@@ -28,12 +28,14 @@ pub record HoldsReadable (s : Broker) (c : State) : Type 0 where
   pub readable : IsReadable s
   pub unlimited : c.step_limit ≡ None
 
--- A command from this state was done in a transaction, and COMMIT was refused for want of memory: the last commit was of
--- that state, and its next state was seen. Shown is what a connection shows.
+-- A command from this state was done in a transaction that was begun on the old connection, in which nothing was
+-- committed, and COMMIT was refused for want of memory: the last commit was of that state, and its next state was seen.
+-- Shown is what a connection shows.
 pub record CommitLacksMemory {X : Type 0} (shown : Held X → State) (s : Broker) (token : Option Text) (command : Command)
-    (new : Held X) : Type 0 where
+    (old new : Held X) : Type 0 where
   pub worked : Held X
   pub inside : IsTrue (shown worked).in_transaction
+  pub survives : Survives (shown old) (shown worked) (λ _. ⊥)
   pub last : Stores (shown worked).committed s
   pub next : HoldsNext s token command (shown worked).now
   pub refused : RefusesCommit shown worked new faults.Memory
@@ -44,7 +46,7 @@ abbrev pub IsNotKept : {X : Type 0} → (Held X → State) → Broker → Option
 IsNotKept shown s token command old new =
     IsToBeDone s token command
     × (HasRoomFor enough (shown old).now
-    → HasFailed (shown old) (shown new) faults.Store ⊎ CommitLacksMemory shown s token command new)
+    → HasFailed (shown old) (shown new) faults.Store ⊎ CommitLacksMemory shown s token command old new)
 
 -- a step of the command leads from a state that can be read back to one that can
 abbrev pub StaysReadable : Option Text → Command → Type 0

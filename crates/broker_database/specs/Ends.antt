@@ -23,8 +23,8 @@ use Rattle.broker_database.specs.Stored.{Stores, HoldsState}
 abbrev pub AddsNoCrashState : State → State → Type 0
 AddsNoCrashState old new = (trees : Trees) → new.may_leave trees → old.may_leave trees
 
--- What the store promises of a call, whatever the disk does: at most one commit. What a crash may leave afterwards it
--- could leave before, or it is that commit. If the program is stopped in the call, it leaves no more than that.
+-- What the store promises of a call, if the disk is clean afterwards: what a crash may leave then it could leave before,
+-- or it is one more database. If the program is stopped in the call, it leaves no more than that.
 abbrev pub CommitsAtMostOnce : State → State → Type 0
 CommitsAtMostOnce old new = (commit : Trees) × Survives old new (λ trees. trees ≡ commit)
 

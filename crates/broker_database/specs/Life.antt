@@ -1,7 +1,7 @@
 -- The files of a broker from the first byte to the last: what is found in them after a program has opened them any
 -- number of times, made a broker or migrated one, served and ended, or was stopped anywhere on the way (this project's
 -- own).
-use Rattle.std.specs.Prelude.{◌≡◌, ◌⊎◌, ◌++◌, List, [], ◌∷◌, map, IsTrue, Result, codes}
+use Rattle.std.specs.Prelude.{◌≡◌, ◌⊎◌, ◌++◌, Bool, true, false, List, [], ◌∷◌, map, IsTrue, Result, codes}
 use Rattle.sqlite_disk.specs.declared.Disk.{Ghosts}
 use Rattle.sqlite_disk.specs.declared.Files.{Files}
 use Rattle.sqlite.specs.Closing.{IsCopied}
@@ -14,6 +14,7 @@ use Rattle.sqlite_store.specs.FileStore.{state as store_state, view, recovers}
 use Rattle.sqlite_store.specs.Unopened.{state_of}
 use Rattle.sqlite.specs.WalFiles.{outcomes}
 use Rattle.sqlite.specs.Held.{Held, AreDatabases}
+use Rattle.sqlite.specs.Start.{FindsIn}
 use Rattle.sqlite.specs.State.{State, HasCleanDisk}
 use Rattle.sqlite.specs.Files.{HoldsDatabase, Finds, IsOpened, IsEmpty, IsNothing, LeavesFiles, file_state, image_of}
 use Rattle.table_access.specs.Durability.{IsOnDisk}
@@ -145,6 +146,17 @@ module _ {X : Type 0} (shown : Held X → State) where
 
 -- ---- the files
 
+-- The two files hold trees that keep it. Where there are no tables, there may be nothing yet: the database file is
+-- empty, or has what an opening that was stopped wrote of a first page.
+abbrev pub IsKeptIn : Kept → Image → Type 0
+IsKeptIn kept image =
+    ∥ (((trees : Trees) × HoldsDatabase image trees × AreTreesOf kept trees) ⊎ ((kept ≡ Blank) × IsNothing image)) ∥₁
+
+-- the database that was there is; where there was nothing there is nothing, or a database without tables
+pub record HoldsAsBefore (old new : Image) : Type 0 where
+  pub same : (trees : Trees) → HoldsDatabase old trees → ∥ HoldsDatabase new trees ∥₁
+  pub none : IsNothing old → ∥ (IsNothing new ⊎ ((trees : Trees) × HoldsDatabase new trees × IsEmpty trees)) ∥₁
+
 module _ {D : Type 0} (g : Ghosts D) where
   -- what a crash may leave: of files; of files whose opening failed; of a store
   abbrev pub MayLeave : Leftover D g → Image → Type 0
@@ -152,10 +164,8 @@ module _ {D : Type 0} (g : Ghosts D) where
   MayLeave (left.Unopened it) = (state_of it).may_leave
   MayLeave (left.Store store) = (store_state store).may_leave
 
-  -- The two files hold trees that keep it; where there are no tables, the database file may be empty.
   abbrev pub AreFilesOf : Kept → Image → Type 0
-  AreFilesOf kept image =
-      ∥ (((trees : Trees) × HoldsDatabase image trees × AreTreesOf kept trees) ⊎ ((kept ≡ Blank) × (image.db ≡ []))) ∥₁
+  AreFilesOf = IsKeptIn
 
   -- Files that are opened after this was left. They read as a crash may have left them, and a crash may leave of them
   -- only what it might have left before: so it is after a program's end, whether it was stopped or the machine was.
@@ -178,11 +188,6 @@ module _ {D : Type 0} (g : Ghosts D) where
   EndsAs conn (left.Files files) = IsCopied conn files
   EndsAs conn (left.Unopened it) = ⊥
   EndsAs conn (left.Store store) = IsGivenBack conn store
-
-  -- the database that was there is, or where the database file was empty there is one without tables
-  pub record HoldsAsBefore (old new : Image) : Type 0 where
-    pub same : (trees : Trees) → HoldsDatabase old trees → ∥ HoldsDatabase new trees ∥₁
-    pub none : old.db ≡ [] → ∥ ((trees : Trees) × HoldsDatabase new trees × IsEmpty trees) ∥₁
 
   -- The files weren't opened: a crash leaves what it might have left before, or what holds the same.
   abbrev pub LeavesUnopened : Files D → Leftover D g → Type 0
@@ -220,13 +225,12 @@ module _ {D : Type 0} (g : Ghosts D) where
       → IsOpened conn → Finds files conn → HoldsState s (file_state conn)
 
   -- What an opening that failed promises of the files (`unharmed` of the kit's `open_files`) doesn't say this: that the
-  -- size of a page that it took is the database's, sums included; that it left no half of a first page; that the trees
-  -- of a store that it hands back are numbered.
+  -- size of a page that it took is the database's, sums included; that the trees of a store that it hands back are
+  -- numbered.
   abbrev pub IsUnharmed : Image → Leftover D g → Type 0
   IsUnharmed first (left.Files files) = Unit {0}
   IsUnharmed first (left.Unopened it) =
-      ((trees : Trees) (held : HoldsDatabase first trees) → held.0 ≡ (state_of it).page_size)
-      × ((image : Image) → (state_of it).may_leave image → ¬ (IsNothing image))
+      (trees : Trees) (held : HoldsDatabase first trees) → held.0 ≡ (state_of it).page_size
   IsUnharmed first (left.Store store) = IsTrue (view store).is_numbered
 
   -- With it, an opening that failed leaves what a life asks of it.
@@ -234,3 +238,58 @@ module _ {D : Type 0} (g : Ghosts D) where
   OpeningSpares =
       (files : Files D) (rest : Leftover D g) → LeavesFiles files rest → IsUnharmed (image_of g files) rest
       → LeavesUnopened files rest
+
+-- ---- the law over programs
+
+-- Programs that use the two files, one after another. Each has a disk of its own: what the files held as it was opened,
+-- and what was answered since. So one that was killed and the next one need not agree on anything but what the files
+-- held in between.
+pub record Programs : Type 1 where
+  pub Program : Type 0
+  pub File : Program → Type 0
+  pub disk : (p : Program) → Ghosts (File p)
+
+module _ (all : Programs) where
+  -- A connection of this program was opened on files that held this, ran the period to its end, over a disk that was
+  -- clean up to there, and a crash may leave this of what it left.
+  pub record RunsOver (p : all.Program) (found : Image) (period : Period) (end : Image) : Type 0 where
+    -- a crash may leave what a file holds, as of each `Disk`
+    pub stays : (file : all.File p) → (all.disk p).may_leave file ((all.disk p).seen file)
+    pub first : Held (FileStore (all.File p) (all.disk p))
+    pub last : Held (FileStore (all.File p) (all.disk p))
+    pub rest : Leftover (all.File p) (all.disk p)
+    pub opened : IsOpened first
+    pub finds : FindsIn found (file_state first)
+    pub runs : PeriodRuns file_state period first last
+    pub clean : HasCleanDisk (file_state last)
+    pub ends : EndsAs (all.disk p) last rest
+    pub may : MayLeave (all.disk p) rest end
+
+  -- What a period may leave of files that held this: what one of the programs does. Of files that weren't opened: what
+  -- they held, or what holds the same.
+  abbrev pub PeriodLeaves : Image → Period → Image → Type 0
+  PeriodLeaves found NotOpened end = (end ≡ found) ⊎ HoldsAsBefore found end
+  PeriodLeaves found period end = (p : all.Program) × RunsOver p found period end
+
+  -- one period after another, each of files that hold what a crash may leave of the one before it
+  abbrev pub LifeLeaves : Image → List Period → Image → Type 0
+  LifeLeaves found [] end = end ≡ found
+  LifeLeaves found (period ∷ life) end = (mid : Image) × PeriodLeaves found period mid × LifeLeaves mid life end
+
+  -- What is left keeps what the periods lead to.
+  abbrev pub ProgramsLead : Type 0
+  ProgramsLead =
+      (old : Kept) (found end : Image) (life : List Period) → IsKeptIn old found → LifeLeaves found life end
+      → ∥ ((new : Kept) × LifeLeads old life new × IsKeptIn new end) ∥₁
+
+-- two of them: one that was killed, say, and the next one
+abbrev pub either_file : Type 0 → Type 0 → Bool → Type 0
+either_file D E true = D
+either_file D E false = E
+
+abbrev pub either_disk : {D E : Type 0} → Ghosts D → Ghosts E → (first : Bool) → Ghosts (either_file D E first)
+either_disk g h true = g
+either_disk g h false = h
+
+abbrev pub two : {D E : Type 0} → Ghosts D → Ghosts E → Programs
+two {D} {E} g h = record { Program = Bool; File = either_file D E; disk = either_disk g h }

@@ -1,5 +1,5 @@
 -- how a broker is made on a database, or opened; and, for private clauses, the steps of its making
-use Rattle.std.specs.Prelude.{◌≡◌, ◌≢◌, ◌⊎◌, ◌↔◌, ◌==◌, ◌++◌, ◌∷◌, ℕ, false, List, if◌then◌else◌, Option, Some, None, Result, Ok, Err, OnOk, IfErr}
+use Rattle.std.specs.Prelude.{◌≡◌, ◌≢◌, ◌⊎◌, ◌↔◌, ◌==◌, ◌++◌, ◌∷◌, ℕ, false, IsTrue, List, if◌then◌else◌, Option, Some, None, Result, Ok, Err, OnOk, IfErr}
 use Rattle.sqlite.specs.Effect.{Database}
 use Rattle.sqlite.specs.Table.{Table}
 use Rattle.sqlite.specs.Held.{Held}
@@ -19,6 +19,8 @@ use Rattle.registry_tables.specs.Format.{IsOfFormat, IsForeign, HasNoFormat, Sha
 use Rattle.broker_database.specs.Ends.{IsAsBefore, CommitsAtMostOnce, LeavesNoTransaction}
 use Rattle.broker_database.specs.Stored.{Stores, HoldsState}
 use Rattle.broker_database.specs.Transaction.{EndsOrFails}
+use Rattle.broker_database.specs.declared.ending.Failure.{Failure}
+use Rattle.broker_database.specs.declared.ending.Failure.TheVariants.{Call, Commit}
 use Rattle.broker_database.specs.declared.opening.OpenFault.{OpenFault}
 use Rattle.broker_database.specs.declared.opening.OpenFault.TheVariants.{NotEmpty, NotABroker, Format, Memory, Store}
 
@@ -107,10 +109,12 @@ OnlyIfUntold old new Answered = HasCleanDisk new → IsFresh old → Answered �
 
 -- ---- why today's tables aren't made
 
--- they were made, all of them, and hold this state, and COMMIT was refused for want of memory; shown is what a
--- connection shows
-pub record IsUncommitted {X : Type 0} (shown : Held X → State) (s : Broker) (new : Held X) : Type 0 where
+-- They were made, all of them, and hold this state, in a transaction that was begun on this connection, in which nothing
+-- was committed, and COMMIT was refused for want of memory. Shown is what a connection shows.
+pub record IsUncommitted {X : Type 0} (shown : Held X → State) (s : Broker) (old new : Held X) : Type 0 where
   pub worked : Held X
+  pub inside : IsTrue (shown worked).in_transaction
+  pub survives : Survives (shown old) (shown worked) (λ _. ⊥)
   pub made : Holds (shown worked).now s
   pub refused : RefusesCommit shown worked new fault.Memory
 
@@ -120,7 +124,17 @@ abbrev pub OnlyIfStoreFailed : {X : Type 0} → (Held X → State) → (Database
     → Type 0
 OnlyIfStoreFailed shown Before s old new Answered =
     HasCleanDisk (shown new) → IsFresh (shown old) → HoldsDurably Before (shown old) → Answered
-    → HasFailed (shown old) (shown new) fault.Store ⊎ IsUncommitted shown s new
+    → HasFailed (shown old) (shown new) fault.Store ⊎ IsUncommitted shown s old new
+
+-- For private clauses: why such a transaction fails by Store. If it was a call, the store failed; if it was COMMIT, that
+-- did, or it was refused for want of memory.
+pub record OnlyIfRefused {X A : Type 0} (shown : Held X → State) (Before : Database → Type 0) (s : Broker) (old new : Held X)
+    (result : Result A Failure) : Type 0 where
+  pub call : HasCleanDisk (shown new) → IsFresh (shown old) → HoldsDurably Before (shown old)
+      → result ≡ Err (Call fault.Store) → HasFailed (shown old) (shown new) fault.Store
+  pub commit : HasCleanDisk (shown new) → IsFresh (shown old) → HoldsDurably Before (shown old)
+      → (why : StoreFault) → result ≡ Err (Commit why)
+      → HasFailed (shown old) (shown new) fault.Store ⊎ ((why ≡ fault.Memory) × IsUncommitted shown s old new)
 
 -- ---- what the two calls leave of a connection, and what they answer; shown is what a connection shows of its store
 
@@ -142,7 +156,7 @@ module _ {X : Type 0} (shown : Held X → State) (old new : Held X) where
     pub unchanged : HasCleanDisk (shown new) → IfErr given (IsUnchangedUnlessStore (shown old) (shown new))
     -- whatever is answered, no transaction is left open
     pub over : LeavesNoTransaction (shown old) (shown new)
-    -- on a disk that fails, and when the program is stopped in the call: at most one commit
+    -- on a disk that fails, and when the program is stopped in the call: a crash leaves one more database at most
     pub survives : CommitsAtMostOnce (shown old) (shown new)
 
   -- The look for a broker's tables.

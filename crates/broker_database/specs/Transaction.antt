@@ -1,13 +1,16 @@
 -- how a transaction ends
-use Rattle.std.specs.Prelude.{◌≡◌, ◌⊎◌, Bool, false, IsTrue, Result, Ok, Err, OnOk, IfErr, is_ok}
+use Rattle.std.specs.Prelude.{◌≡◌, ◌⊎◌, Bool, false, IsTrue, IsOk, Result, Ok, Err, OnOk, IfErr, is_ok}
 use Rattle.sqlite.specs.Tree.{Trees}
 use Rattle.sqlite.specs.Effect.{Database}
+use Rattle.sqlite.specs.Held.{Held}
 use Rattle.sqlite.specs.State.{State, HasCleanDisk, Survives, Commits, IsLive}
 use Rattle.table_access.specs.declared.StoreFault.{StoreFault}
 use Rattle.table_access.specs.declared.StoreFault.TheVariants as faults
 use Rattle.table_access.specs.Calls.{KeepsLastCommit}
 use Rattle.table_access.specs.Durability.{HoldsDurably, HoldsEither}
-use Rattle.table_access.specs.Unit.{IsOver, TellsRollback}
+use Rattle.table_access.specs.Unit.{IsOver, TellsRollback, RefusesCommit}
+use Rattle.broker_database.specs.declared.ending.Failure.{Failure}
+use Rattle.broker_database.specs.declared.ending.Failure.TheVariants.{Call, Commit}
 
 -- It is committed where something is to be kept, and else rolled back; or the database refused that.
 pub record Finishes (old new : State) (keeps : Bool) (ended : Result (Unit {0}) StoreFault) : Type 0 where
@@ -34,6 +37,30 @@ worst _ refusal = refusal
 abbrev pub conclusion : {A : Type 0} → Result A StoreFault → Result (Unit {0}) StoreFault → Result A StoreFault
 conclusion worked (Ok done) = worked
 conclusion worked (Err refusal) = Err (worst worked refusal)
+
+-- ---- its failure, as it is told
+
+-- the fault as which it is told: a refused COMMIT is Store, whatever it was refused by
+abbrev pub fault_of : Failure → StoreFault
+fault_of (Call fault) = fault
+fault_of (Commit fault) = faults.Store
+
+abbrev pub told : {A : Type 0} → Result A Failure → Result A StoreFault
+told (Ok a) = Ok a
+told (Err failure) = Err (fault_of failure)
+
+-- what a work came to, its fault as that of a call
+abbrev pub called : {A : Type 0} → Result A StoreFault → Result A Failure
+called (Ok a) = Ok a
+called (Err fault) = Err (Call fault)
+
+-- What it isn't done for: something was to be kept, and COMMIT was refused, by this fault; or a call failed, and then
+-- nothing was to be kept, or the work had failed. Shown is what a connection shows.
+abbrev pub EndsFor : {X A : Type 0} → (Held X → State) → Bool → Result A StoreFault → Held X → Held X → Failure → Type 0
+EndsFor shown keeps worked old new (Call fault) = IsTrue keeps → ¬ (IsOk worked)
+EndsFor shown keeps worked old new (Commit fault) = IsTrue keeps × RefusesCommit shown old new fault
+
+-- ---- the transaction of a work
 
 -- How a transaction ends in which a work came to worked: it is committed where something is to be kept, else rolled back,
 -- and the answer is what the work came to, or the fault of a refused end.

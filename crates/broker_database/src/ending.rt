@@ -1,32 +1,35 @@
 //! The end of a transaction.
-ghost use Rattle.std.specs.Prelude.{◌≡◌, IsTrue, IsOk, IfErr};
+ghost use Rattle.std.specs.Prelude.{◌≡◌, false, IfErr};
 ghost use Rattle.sqlite.specs.Held.{state};
 ghost use Rattle.sqlite.specs.State.{HasCleanDisk};
 ghost use Rattle.broker_database.specs.Transaction as spec;
-ghost use Rattle.broker_database.specs.Transaction.{Concludes, Finishes};
-ghost use Rattle.table_access.specs.Unit.{CommitIsRefused};
+ghost use Rattle.broker_database.specs.Transaction.{Concludes, EndsFor};
 
 use sqlite::{Alter, Connection};
-use table_access::{StoreFault, commit, rollback};
+use table_access::{CommitRefused, StoreFault, commit, rollback};
 
-/// Ends the transaction: commits it if something is to be kept, and else rolls it back. If the database refused that,
-/// nothing is committed. A refused commit is `Store`, and a crash may leave what was to be kept. A refused rollback is
-/// what it was refused by, and leaves what a done one leaves.
-fn finish<S: Alter>(conn: &mut Connection<S>, keeps: bool) -> Result<(), StoreFault>
-    ensures finishes { Finishes (state S.Store conn.old) (state S.Store conn.new) keeps result }
-    ensures refused { HasCleanDisk (state S.Store conn.new) → IsTrue keeps →
-        IfErr result (λ _. CommitIsRefused (state S.Store) conn.old conn.new) }
-{
-    if !keeps {
-        return rollback(conn);
-    }
-    if !commit(conn) {
-        return Err(StoreFault::Store);
-    }
-    Ok(())
+/// Why a transaction isn't done.
+#[derive(Drop)]
+pub enum Failure {
+    /// A call failed by this: BEGIN, one of its work, or ROLLBACK.
+    Call(StoreFault),
+    /// Its work was done, and then COMMIT was tried, and refused.
+    Commit(CommitRefused),
 }
 
-/// The fault of a transaction whose end was refused by this one: it, or `Store`, if the work had failed by that.
+impl Failure {
+    /// The fault as which it is told. A refused COMMIT is `Store`, whatever it was refused by.
+    pub fn fault(&self) -> StoreFault
+        ensures { result ≡ spec.fault_of self.now }
+    {
+        match self {
+            Failure::Call(fault) => *fault,
+            Failure::Commit(_) => StoreFault::Store,
+        }
+    }
+}
+
+/// The fault of a transaction whose rollback was refused by this one: it, or `Store`, if the work had failed by that.
 fn worst<A>(worked: &Result<A, StoreFault>, refusal: StoreFault) -> StoreFault
     ensures { result ≡ spec.worst worked.now refusal }
 {
@@ -36,19 +39,47 @@ fn worst<A>(worked: &Result<A, StoreFault>, refusal: StoreFault) -> StoreFault
     }
 }
 
+/// What a work came to, its fault as that of a call.
+fn called<A>(worked: Result<A, StoreFault>) -> Result<A, Failure>
+    ensures { result ≡ spec.called worked }
+{
+    match worked {
+        Ok(answer) => Ok(answer),
+        Err(fault) => Err(Failure::Call(fault)),
+    }
+}
+
+/// Ends the transaction of a work that came to this, and keeps nothing of it. The answer is what the work came to, or
+/// the fault of a refused rollback, which leaves what a done one leaves.
+pub fn undo<S: Alter, A: Drop>(
+    conn: &mut Connection<S>,
+    worked: Result<A, StoreFault>,
+) -> Result<A, StoreFault>
+    ensures { Concludes (state S.Store conn.old) (state S.Store conn.new) false worked result }
+{
+    match rollback(conn) {
+        Ok(()) => worked,
+        Err(refusal) => Err(worst(&worked, refusal)),
+    }
+}
+
 /// Ends the transaction of a work that came to this: commits it if something is to be kept, and else rolls it back. The
-/// answer is what the work came to, or the fault of a refused end.
+/// answer is what the work came to, or the fault of a refused end. A refused commit keeps nothing, and a crash may leave
+/// what was to be kept; a refused rollback leaves what a done one leaves.
 pub fn conclude<S: Alter, A: Drop>(
     conn: &mut Connection<S>,
     worked: Result<A, StoreFault>,
     keeps: bool,
-) -> Result<A, StoreFault>
-    ensures concludes { Concludes (state S.Store conn.old) (state S.Store conn.new) keeps worked result }
-    ensures refused { HasCleanDisk (state S.Store conn.new) → IsTrue keeps → IsOk worked →
-        IfErr result (λ _. CommitIsRefused (state S.Store) conn.old conn.new) }
+) -> Result<A, Failure>
+    ensures concludes { Concludes (state S.Store conn.old) (state S.Store conn.new) keeps worked (spec.told result) }
+    ensures refused { HasCleanDisk (state S.Store conn.new) →
+        IfErr result (EndsFor (state S.Store) keeps worked conn.old conn.new) }
 {
-    match finish(conn, keeps) {
-        Ok(()) => worked,
-        Err(refusal) => Err(worst(&worked, refusal)),
+    if !keeps {
+        return called(undo(conn, worked));
+    }
+    match commit(conn) {
+        Ok(()) => called(worked),
+        Err(refusal) => Err(Failure::Commit(refusal)),
     }
 }

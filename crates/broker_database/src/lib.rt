@@ -19,7 +19,7 @@ mod migration;
 mod opening;
 mod service;
 
-pub use ending::conclude;
+pub use ending::{Failure, conclude};
 pub use migration::migrate;
 pub use opening::{OpenFault, Refused, create, open};
 pub use service::Service;

@@ -8,9 +8,12 @@ ghost use Rattle.broker_tables.specs.Making.{IsCalmOver};
 ghost use Rattle.broker_tables.specs.Former.{HoldsFormer, HoldsUnmarked, former_format, added_tables};
 ghost use Rattle.registry_tables.specs.Format.{FindsFormer, FailsOnlyFor};
 ghost use Rattle.broker_database.specs.Calls.{Migrated};
-ghost use Rattle.broker_database.specs.Migration.{BringsUp, BringsUpOrNot, CanBeMigrated, FailsToBringUp};
+ghost use Rattle.broker_database.specs.Migration.{BringsUp, BringsUpOrNot, CanBeMigrated, CanBeStoredAgain};
+ghost use Rattle.broker_database.specs.Migration.{FailsToBringUp, StoresFormer};
+ghost use Rattle.broker_database.specs.Opening.{OnlyIfRefused};
+ghost use Rattle.broker_database.specs.Transaction.{told};
 
-use crate::ending::conclude;
+use crate::ending::{Failure, conclude};
 use crate::opening::{OpenFault, judge, make_indexes, open_fault};
 use registry_tables::format_to_migrate;
 use sqlite::{Alter, Connection};
@@ -63,10 +66,15 @@ fn is_former(found: &Result<Option<u32>, StoreFault>) -> bool
 
 /// Upgrades a database in one transaction, which is committed if its format was 1, and else rolled back. The answer is
 /// the format that was found.
-fn run<S: Alter>(conn: &mut Connection<S>) -> Result<Option<u32>, StoreFault>
-    ensures { BringsUpOrNot (state S.Store) conn.old conn.new result }
+fn run<S: Alter>(conn: &mut Connection<S>) -> Result<Option<u32>, Failure>
+    ensures migrates { BringsUpOrNot (state S.Store) conn.old conn.new (told result) }
+    ensures refused { (s : BrokerState) → CanBeStoredAgain s →
+        OnlyIfRefused (state S.Store) (λ db. StoresFormer db s) s conn.old conn.new result }
 {
-    done!(begin(conn));
+    match begin(conn) {
+        Ok(()) => {},
+        Err(fault) => return Err(Failure::Call(fault)),
+    }
     let found = bring_up(conn);
     let keeps = is_former(&found);
     conclude(conn, found, keeps)
@@ -90,6 +98,6 @@ pub fn migrate<S: Alter>(conn: &mut Connection<S>) -> Result<(), OpenFault>
 {
     match run(conn) {
         Ok(found) => judge(1, found),
-        Err(fault) => Err(open_fault(fault)),
+        Err(failure) => Err(open_fault(failure.fault())),
     }
 }

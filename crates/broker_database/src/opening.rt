@@ -15,9 +15,10 @@ ghost use Rattle.command_facts.specs.Primitives.{broker_primitives};
 ghost use Rattle.broker_database.specs.Ends.{IsAsBefore, IsUnchangedUnless, CommitsAtMostOnce, LeavesNoTransaction};
 ghost use Rattle.broker_tables.specs.Room.{HasAllNumbers};
 ghost use Rattle.broker_database.specs.Opening as spec;
-ghost use Rattle.broker_database.specs.Opening.{MakesRest, MakesOrFails, OnlyIfUntold, OnlyIfStoreFailed, TablesMade, TablesFound, judgement};
+ghost use Rattle.broker_database.specs.Opening.{MakesRest, MakesOrFails, OnlyIfUntold, OnlyIfRefused, TablesMade, TablesFound, judgement};
+ghost use Rattle.broker_database.specs.Transaction.{told};
 
-use crate::ending::conclude;
+use crate::ending::{Failure, conclude, undo};
 use broker_core::name::Token;
 use caller_facts::callers::digest_of;
 use registry_tables::{format_of, is_blank, make_strict_environments};
@@ -114,18 +115,20 @@ fn make_all<S: Alter>(conn: &mut Connection<S>, digest: &str) -> Result<(), Stor
 }
 
 /// Makes all tables in one transaction.
-fn make<S: Alter>(conn: &mut Connection<S>, digest: &str) -> Result<(), StoreFault>
+fn make<S: Alter>(conn: &mut Connection<S>, digest: &str) -> Result<(), Failure>
     ensures ends { HasCleanDisk (state S.Store conn.new) → HoldsDurably IsBlank (state S.Store conn.old)
-        → MakesOrFails digest.now (state S.Store conn.new) result }
+        → MakesOrFails digest.now (state S.Store conn.new) (told result) }
     ensures unchanged { HasCleanDisk (state S.Store conn.new)
-        → IsUnchangedUnless (λ _. Unit {0}) (state S.Store conn.old) (state S.Store conn.new) result }
+        → IsUnchangedUnless (λ _. Unit {0}) (state S.Store conn.old) (state S.Store conn.new) (told result) }
     ensures calm { AreShort (digest.now ∷ [])
-        → OnlyIfStoreFailed (state S.Store) IsBlank (opening digest.now) conn.old conn.new
-        (result ≡ Err StoreFault.Store) }
+        → OnlyIfRefused (state S.Store) IsBlank (opening digest.now) conn.old conn.new result }
     ensures over { LeavesNoTransaction (state S.Store conn.old) (state S.Store conn.new) }
     ensures survives { CommitsAtMostOnce (state S.Store conn.old) (state S.Store conn.new) }
 {
-    done!(begin(conn));
+    match begin(conn) {
+        Ok(()) => {},
+        Err(fault) => return Err(Failure::Call(fault)),
+    }
     let made = make_all(conn, digest);
     let keeps = made.is_ok();
     conclude(conn, made, keeps)
@@ -149,7 +152,7 @@ pub fn create<S: Alter>(
     match digest_of(alloc, office.as_str()) {
         Ok(digest) => match make(conn, digest.as_str()) {
             Ok(()) => Ok(()),
-            Err(fault) => Err(open_fault(fault)),
+            Err(failure) => Err(open_fault(failure.fault())),
         },
         Err(fault) => Err(open_fault(fault)),
     }
@@ -180,7 +183,7 @@ fn find_format<S: Alter>(conn: &mut Connection<S>) -> Result<Option<u32>, StoreF
 {
     done!(begin(conn));
     let found = format_of(conn);
-    conclude(conn, found, false)
+    undo(conn, found)
 }
 
 /// Looks for a broker's tables of today's format, and changes nothing. A broker makes `meta` before each other table.

@@ -223,7 +223,7 @@ module _ {X : Type 0} (shown : Held X → State) (from : Mode) (first : Held X) 
           (still_clean _ _ a.survives.1.clean clean) a.survives.1.counts (disk_at_fault (shown old.connection) (shown new.connection) failed)) in
           elim (a.calm clean at.held.0 store s (record { held = at.held.1; readable = at.stops.0 readable; unlimited = at.since.limit ∙ unlimited })) [
             | inl failed ↦ absurd (no_failure failed)
-            | inr to_do ↦ inr (to_do.0, λ room. elim (to_do.1 (room_here none room)) [ inl failed ↦ absurd (no_failure failed) | inr lacks ↦ lacks ])
+            | inr to_do ↦ inr (to_do.0, λ room. elim (to_do.1 (room_here none room)) [ inl failed ↦ absurd (no_failure failed) | inr lacks ↦ (old.connection, lacks) ])
           ]
     ]
 

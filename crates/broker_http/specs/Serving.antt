@@ -75,7 +75,8 @@ module _ {X : Type 0} (shown : Held X → State) (first : Mode) (old new : Held 
       (shown old).step_limit ≡ None → RunsReadable first
       → IsDiskAtFault (shown old) (shown new)
       ⊎ (IsToBeDone s token command
-      × (HasRoomFor (enough * (steps + 1)) (shown old).now → CommitLacksMemory shown s token command new))
+      × (HasRoomFor (enough * (steps + 1)) (shown old).now
+      → (before : Held X) × CommitLacksMemory shown s token command before new))
 
 module _ {S : Type 0} (Exchange : S → Message → Response → S → Type 0) (s t : S)
     (before after old new : Option (List ℕ)) where

@@ -1,70 +1,86 @@
 -- What the broker's call leaves, put together from what its transaction leaves.
-use Rattle.std.{specs.Prelude.{◌≢◌}, proofs.Common.{◌≡◌, ◌↔◌, inl, inr, Option, Result, Ok, Err, IfOk, false, IsTrue, refl, sym, subst, ◌∙◌}}
+use Rattle.std.{specs.Prelude.{◌≢◌}, proofs.Common.{◌≡◌, ◌↔◌, ◌⊎◌, inl, inr, Option, Result, Ok, Err, IfOk, false, IsTrue, refl, ap, sym, subst, ◌∙◌}}
 use Rattle.sqlite.specs.{Held.{Held}, State.{State, HasCleanDisk}}
-use Rattle.table_access.specs.{Calls.{KeepsLastCommit}, declared.StoreFault.{StoreFault}}
+use Rattle.table_access.specs.{Calls.{HasFailed, KeepsLastCommit}, declared.StoreFault.{StoreFault}}
 use Rattle.broker_core.specs.{Laws.{IsDone}, State.{State as Broker}, Text.{Text}, declared.answer.Answer.{Answer}, declared.command.Command.{Command}}
-use Rattle.broker_database.specs.{BrokerView.{BrokerView}, Calls.{Applied}, Causes.{StaysReadable}, Ends.{Applies, IsAsBefore, IsUnchangedUnless}}
-use Rattle.broker_database.{specs.Stored.{HoldsState}, proofs.Transaction.{outlives_itself}}
-use Rattle.broker_service.{specs.Transacted.{AppliesOrFails, IsNoFailure, IsSoundCommand, Transacted}, proofs.EndLemmas.{deployed_exactly, released_exactly}}
+use Rattle.broker_core.specs.SoundNames.{AreNames}
+use Rattle.broker_database.specs.{BrokerView.{BrokerView}, Calls.{Applied}, Causes.{HoldsReadable, IsNotKept, StaysReadable}}
+use Rattle.broker_database.specs.{Ends.{Applies, IsAsBefore, IsUnchangedUnless}, Transaction.{told}, declared.ending.Failure.{Failure}}
+use Rattle.broker_database.{specs.{declared.ending.Failure.TheVariants.{Call, Commit}, Stored.{HoldsState}}, proofs.Transaction.{outlives_itself}}
+use Rattle.broker_service.specs.Transacted.{AppliesOrFails, IsNoFailure, IsSoundCommand, Transacted, failed_as}
+use Rattle.broker_service.proofs.EndLemmas.{deployed_exactly, released_exactly}
 use Rattle.table_access.specs.declared.StoreFault.TheVariants as fault
 use Rattle.broker_core.specs.declared.answer.Answer.TheVariants as answers
 
--- the answer that a transaction's end is told as
-abbrev pub told : Result Answer StoreFault → Answer
-told (Ok answer) = answer
-told (Err fault.Memory) = answers.Memory
-told (Err fault.Store) = answers.Store
+-- the answer that what a transaction came to is told as
+abbrev pub answer_of : Result Answer StoreFault → Answer
+answer_of (Ok answer) = answer
+answer_of (Err why) = failed_as why
 
-applies_told : (s : Broker) (token : Option Text) (command : Command) (new : State) (r : Result Answer StoreFault) → AppliesOrFails s token command new r → Applies s token command new (told r)
+applies_told : (s : Broker) (token : Option Text) (command : Command) (new : State) (r : Result Answer StoreFault) → AppliesOrFails s token command new r → Applies s token command new (answer_of r)
 applies_told s token command new (Ok answer) (inl steps) = inl steps
 applies_told s token command new (Ok answer) (inr pattern) = inr (inl pattern)
 applies_told s token command new (Err fault.Memory) kept = inr (inr (inl (refl, kept)))
 applies_told s token command new (Err fault.Store) either = inr (inr (inr (refl, either)))
 
-unchanged_told : (old new : State) (r : Result Answer StoreFault) → IsUnchangedUnless IsDone old new r → told r ≢ answers.Store → ¬ (IsDone (told r)) → IsAsBefore old new
+unchanged_told : (old new : State) (r : Result Answer StoreFault) → IsUnchangedUnless IsDone old new r → answer_of r ≢ answers.Store → ¬ (IsDone (answer_of r)) → IsAsBefore old new
 unchanged_told old new (Ok answer) it other undone = it undone
 unchanged_told old new (Err fault.Memory) it other undone = it
 unchanged_told old new (Err fault.Store) it other undone = absurd (other refl)
 
-fails_told : (old new : State) (r : Result Answer StoreFault) → IsUnchangedUnless IsDone old new r → told r ≡ answers.Store → KeepsLastCommit old new
+fails_told : (old new : State) (r : Result Answer StoreFault) → IsUnchangedUnless IsDone old new r → answer_of r ≡ answers.Store → KeepsLastCommit old new
 fails_told old new (Ok answer) it is = (it (subst (λ (a : Answer). ¬ (IsDone a)) (sym is) (λ none. none))).commit
 fails_told old new (Err fault.Memory) it is = it.commit
 fails_told old new (Err fault.Store) it is = it
 
-runs_told : (r : Result Answer StoreFault) → IfOk r IsNoFailure → told r ≢ answers.Stopped
+runs_told : (r : Result Answer StoreFault) → IfOk r IsNoFailure → answer_of r ≢ answers.Stopped
 runs_told (Ok answer) it is = it.2 is
 runs_told (Err fault.Memory) it is = absurd (cc)
 runs_told (Err fault.Store) it is = absurd (cc)
 
 -- Store is told of a failure alone
-store_told : (r : Result Answer StoreFault) → IfOk r IsNoFailure → told r ≡ answers.Store → r ≡ Err fault.Store
+store_told : (r : Result Answer StoreFault) → IfOk r IsNoFailure → answer_of r ≡ answers.Store → r ≡ Err fault.Store
 store_told (Ok answer) it is = absurd (it.1 is)
 store_told (Err fault.Memory) it is = absurd (cc)
 store_told (Err fault.Store) it is = refl
 
+-- a transaction that is told as Store failed by it in a call, or had its COMMIT refused
+is_store : (r : Result Answer Failure) → told r ≡ Err fault.Store → (r ≡ Err (Call fault.Store)) ⊎ ((why : StoreFault) × (r ≡ Err (Commit why)))
+is_store (Ok answer) is = absurd (cc)
+is_store (Err (Call why)) is = inl (let same : why ≡ fault.Store = (let h = is in cc) in ap (λ (f : StoreFault). let r : Result Answer Failure = Err (Call f) in r) same)
+is_store (Err (Commit why)) is = inr (why, refl)
+
 module _ {X : Type 0} (shown : Held X → State) where
+  -- why it did, of a broker that held a state that can be read back
+  transaction_calm : (token : Option Text) (command : Command) (r : Result Answer Failure) (old new : Held X) → Transacted shown token command old new r → HasCleanDisk (shown new) → AreNames command
+      → (s : Broker) → HoldsReadable s (shown old) → told r ≡ Err fault.Store → HasFailed (shown old) (shown new) fault.Store ⊎ IsNotKept shown s token command old new
+  transaction_calm token command r old new it clean named s holds is = elim (is_store r is) [
+    | inl call ↦ elim (it.calm clean named s holds call) [ inl failed ↦ inl failed | inr inside ↦ inr (inside.0, λ room. inl (inside.1 room)) ]
+    | inr commit ↦ elim (it.refused clean s holds commit.0 commit.1) [ inl failed ↦ inl failed | inr lacks ↦ inr (lacks.1, λ room. inr lacks.2) ]
+  ]
+
   -- what a running broker's transaction leaves
-  pub ran : (old : BrokerView X) (token : Option Text) (command : Command) (r : Result Answer StoreFault) (answer : Answer) (new : BrokerView X) → answer ≡ told r
+  pub ran : (old : BrokerView X) (token : Option Text) (command : Command) (r : Result Answer Failure) (answer : Answer) (new : BrokerView X) → answer ≡ answer_of (told r)
       → Transacted shown token command old.connection new.connection r
-      → IfOk r IsNoFailure → (IsTrue new.is_stopped ↔ (answer ≡ answers.Store)) → old.is_stopped ≡ false → IsSoundCommand token command → Applied shown old token command answer new
+      → IfOk (told r) IsNoFailure → (IsTrue new.is_stopped ↔ (answer ≡ answers.Store)) → old.is_stopped ≡ false → IsSoundCommand token command → Applied shown old token command answer new
   ran old token command r answer new is it answered stops running (named, reads) = record {
     readable = reads;
     applies = λ clean _. applies clean;
     deployments = λ clean _ step s holds. deployed_exactly s token command _ answer (applies clean s holds) step;
     releases = λ clean _ step s holds. released_exactly s token command _ answer (applies clean s holds) step;
-    unchanged = λ clean _ other undone. unchanged_told _ _ r (it.unchanged clean) (subst (λ (a : Answer). a ≢ answers.Store) is other) (subst (λ (a : Answer). ¬ (IsDone a)) is undone);
-    fails = λ clean store. fails_told _ _ r (it.unchanged clean) (sym is ∙ store);
-    calm = λ clean _ store s holds. it.calm clean named s holds (store_told r answered (sym is ∙ store));
+    unchanged = λ clean _ other undone. unchanged_told _ _ (told r) (it.unchanged clean) (subst (λ (a : Answer). a ≢ answers.Store) is other) (subst (λ (a : Answer). ¬ (IsDone a)) is undone);
+    fails = λ clean store. fails_told _ _ (told r) (it.unchanged clean) (sym is ∙ store);
+    calm = λ clean _ store s holds. transaction_calm token command r old.connection new.connection it clean named s holds (store_told (told r) answered (sym is ∙ store));
     room = λ clean _. it.room clean;
     over = it.over;
     stops = λ _. stops;
     stopped = λ stopped. absurd (cc);
-    runs = λ _. subst (λ (a : Answer). a ≢ answers.Stopped) (sym is) (runs_told r answered);
+    runs = λ _. subst (λ (a : Answer). a ≢ answers.Stopped) (sym is) (runs_told (told r) answered);
     survives = it.survives;
   }
     where
       applies : HasCleanDisk (shown new.connection) → (s : Broker) → HoldsState s (shown old.connection) → Applies s token command (shown new.connection) answer
-      applies clean s holds = subst (λ (a : Answer). Applies s token command (shown new.connection) a) (sym is) (applies_told s token command (shown new.connection) r (it.ends clean s holds))
+      applies clean s holds = subst (λ (a : Answer). Applies s token command (shown new.connection) a) (sym is) (applies_told s token command (shown new.connection) (told r) (it.ends clean s holds))
 
   -- what a stopped broker is left as
   pub refused_stopped : (b : BrokerView X) (token : Option Text) (command : Command) → IsTrue b.is_stopped → StaysReadable token command → Applied shown b token command answers.Stopped b

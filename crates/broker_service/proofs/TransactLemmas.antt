@@ -1,21 +1,29 @@
 -- What the transaction of a command leaves.
-use Rattle.std.proofs.Common.{◌≡◌, ◌⊎◌, ◌↔◌, ◌≤◌, inl, inr, arith, Option, Result, Ok, Err, IsOk, IfErr, IsOkAnd, Bool, IsTrue, refl, sym, subst, subst₂, ◌∙◌}
+use Rattle.std.proofs.Common.{◌≡◌, ◌⊎◌, ◌↔◌, ◌≤◌, inl, inr, arith, Option, Result, Ok, Err, IsOk, IfErr, IfOk, IsOkAnd, Bool, IsTrue, refl, ap, sym, subst, subst₂, ◌∙◌}
 use Rattle.std.proofs.lemmas.Result.{IfErr-weaker}
 use Rattle.sqlite.specs.{Effect.{Database}, Held.{Held}, State.{State, HasCleanDisk, Survives}}
-use Rattle.table_access.specs.{Calls.{HasFailed, GoesOn, EndsBy}, Unit.{Begins, IsLeft, FailsToBegin, RefusesCommit, CommitIsRefused}}
-use Rattle.table_access.{specs.{declared.StoreFault.{StoreFault}, declared.StoreFault.TheVariants.{Memory, Store}}, proofs.CallLemmas.{ended_since, ended_with}}
+use Rattle.table_access.specs.{Calls.{HasFailed, GoesOn, EndsBy}, Unit.{Begins, IsLeft, FailsToBegin, RefusesCommit}, declared.StoreFault.{StoreFault}}
+use Rattle.table_access.{specs.declared.StoreFault.TheVariants.{Memory, Store}, proofs.CallLemmas.{ended_since, ended_with}}
 use Rattle.broker_core.specs.{Change.{Transition}, Contents.{HasSoundContents}, Laws.{IsDone}, Machine.{Step}, State.{State as Broker}, Text.{Text}}
 use Rattle.broker_core.specs.{declared.answer.Answer.{Answer}, declared.answer.Answer.TheVariants.{Done}, declared.command.Command.{Command}}
 use Rattle.broker_core.specs.SoundNames.{AreNames}
 use Rattle.broker_tables.specs.{Calm.{Serves, HasFailedOrMemory, FailsFromBetween}, Holds.{Holds, HoldsAfter}, Room.{HasRoomFor, TakesRoom, enough}}
 use Rattle.broker_tables.proofs.RoomLemmas.{takes_none}
 use Rattle.command_facts.specs.{Performs.{PerformsBetween, TokensStep, IsToChange, IsMisnamed}, Primitives.{broker_primitives}}
-use Rattle.broker_database.specs.{Causes.{HoldsReadable, IsToBeDone, IsNotKept, KeepsRoom}, Ends.{HoldsNext, Steps, KeepsAtPattern}}
-use Rattle.broker_database.specs.{Stored.{Stores, HoldsState}, Transaction.{Concludes}}
-use Rattle.broker_database.proofs.Transaction.{WholeTransaction, transaction_ends, transaction_unchanged, transaction_shows, transaction_begun, transaction_over, transaction_once, unbegun_ends, unbegun_unchanged, unbegun_over, once_at_most}
+use Rattle.broker_database.specs.{Causes.{HoldsReadable, IsToBeDone, KeepsRoom}, Ends.{HoldsNext, Steps, KeepsAtPattern}, Stored.{Stores, HoldsState}}
+use Rattle.broker_database.specs.{Transaction.{Concludes, EndsFor, conclusion, told}, declared.ending.Failure.{Failure}}
+use Rattle.broker_database.specs.declared.ending.Failure.TheVariants.{Call, Commit}
+use Rattle.broker_database.proofs.Transaction.{WholeTransaction, transaction_ends, transaction_unchanged, transaction_shows, transaction_begun, transaction_over, transaction_once, transaction_within, unbegun_ends, unbegun_unchanged, unbegun_over, once_at_most}
 use Rattle.broker_database.proofs.StoreFailures.{transaction_fails, work_failed}
-use Rattle.broker_service.{specs.Transacted.{AppliesOrFails, Transacted}, proofs.EndLemmas.{done_steps, next_stored, steps_on, undone_keeps}}
+use Rattle.broker_service.specs.Transacted.{AppliesOrFails, FailsAtCommit, FailsInside, Transacted}
+use Rattle.broker_service.proofs.EndLemmas.{done_steps, next_stored, steps_on, undone_keeps}
 use Rattle.table_access.proofs.EndLemmas as ends
+
+-- an answer is that which the work came to
+pub answered : (P : Answer → Type 0) (worked : Result Answer StoreFault) (ended : Result (Unit {0}) StoreFault) (result : Result Answer Failure) → told result ≡ conclusion worked ended → IfOk worked P → IfOk result P
+answered P worked (Ok u) (Ok answer) is it = subst (λ (r : Result Answer StoreFault). IfOk r P) (sym is) it
+answered P worked (Err fault) (Ok answer) is it = absurd (cc)
+answered P worked ended (Err failure) is it = tt
 
 module _ (token : Option Text) (command : Command) where
   -- what the work promises of its answer
@@ -55,6 +63,10 @@ module _ (token : Option Text) (command : Command) where
   done_is_ok (Ok answer) is = refl
   done_is_ok (Err fault) is = absurd is
 
+  never_err : (P : StoreFault → Type 0) (r : Result Answer StoreFault) → IsOk r → IfErr r P
+  never_err P (Ok answer) is = tt
+  never_err P (Err fault) is = absurd (cc)
+
   -- and nothing changed
   unbegun_shows : {s : Broker} (old new : State) → HoldsState s old → IsLeft old new → IsTrue new.is_open → new.now ≡ old.now
   unbegun_shows old new holds (inl same) now = same.0.now_is
@@ -71,9 +83,9 @@ module _ (token : Option Text) (command : Command) where
       ]
 
   module _ {X : Type 0} (shown : Held X → State) where
-    module _ (old mid done new : Held X) (result : Result Answer StoreFault) (t : WholeTransaction (shown old) (shown mid) (shown done) (shown new) (IsPerformed (shown mid) (shown done)) IsDone result) (clean : HasCleanDisk (shown new)) (s : Broker) (ready : HoldsReadable s (shown old)) where
+    module _ (old mid done new : Held X) (result : Result Answer Failure) (t : WholeTransaction (shown old) (shown mid) (shown done) (shown new) (IsPerformed (shown mid) (shown done)) IsDone (told result)) (clean : HasCleanDisk (shown new)) (s : Broker) (ready : HoldsReadable s (shown old)) where
       begun_there : Begins (shown old) (shown mid)
-      begun_there = transaction_begun (shown old) (shown mid) (shown done) (shown new) _ _ result t clean
+      begun_there = transaction_begun (shown old) (shown mid) (shown done) (shown new) _ _ (told result) t clean
 
       was : Stores (shown mid).now s
       was = ends.begins (λ db. Stores db s) (shown old) (shown mid) begun_there ready.held
@@ -87,7 +99,7 @@ module _ (token : Option Text) (command : Command) where
 
       -- what a refused change was to do is to be done
       work_fails : AreNames command → (fault : StoreFault) → HasFailedOrMemory (shown mid) (shown done) fault ⊎ (IsToChange (TokensStep token command) s × (HasRoomFor enough (shown mid).now → EndsBy (IsMisnamed command) (shown mid) (shown done) fault)) → fault ≡ Store
-          → HasFailed (shown mid) (shown done) fault ⊎ IsNotKept shown s token command old new
+          → HasFailed (shown mid) (shown done) fault ⊎ FailsInside s token command (shown old) (shown new)
       work_fails named fault (inl (inl failed)) is = inl failed
       work_fails named fault (inl (inr memory)) is = absurd (let clash : Memory ≡ Store = sym memory ∙ is in cc)
       work_fails named fault (inr (change, ended)) is =
@@ -95,58 +107,72 @@ module _ (token : Option Text) (command : Command) where
             to_be_done s (shown mid).now was change,
             λ room.
                 let failed = ended_with (shown mid) (shown done) fault (λ long. long named) (ended (subst (HasRoomFor enough) (sym begun_there.1.now_is) room)) in
-                inl (work_failed (shown old) (shown mid) (shown done) (shown new) _ _ clean result t Store (subst (HasFailed (shown mid) (shown done)) is failed)),
+                work_failed (shown old) (shown mid) (shown done) (shown new) _ _ clean (told result) t Store (subst (HasFailed (shown mid) (shown done)) is failed),
           )
 
       -- and what was done isn't kept
-      not_kept : (answer : Answer) → IsPerformed (shown mid) (shown done) answer → IsDone answer → GoesOn (shown mid) (shown done) → (fault : StoreFault) → RefusesCommit shown done new fault → HasFailed (shown old) (shown new) Store ⊎ IsNotKept shown s token command old new
+      not_kept : (answer : Answer) → IsPerformed (shown mid) (shown done) answer → IsDone answer → GoesOn (shown mid) (shown done) → (fault : StoreFault) → RefusesCommit shown done new fault → HasFailed (shown old) (shown new) Store ⊎ FailsAtCommit shown s token command old new fault
       not_kept answer performs is_done on Store refused =
           inl (ended_since (shown old) (shown done) (shown new) Store (on.0, λ _. on.1 begun_there.1.is_open) (let up : (shown old).faults ≤ (shown done).faults = omega (arith, t.begins.counts, t.works.survives.counts) in up) (refused.failed on.0))
       not_kept answer performs is_done on Memory refused =
           let next = done_next s (shown mid) (shown done) answer was performs is_done in
           inr (
+            refl,
             (record { answer = answer; state = next.0 }, is_done, next.1),
-            λ _. inr (record {
+            record {
               worked = done;
               inside = on.0;
+              survives = transaction_within (shown old) (shown mid) (shown done) (shown new) _ _ (told result) t;
               last = last (on.1 begun_there.1.is_open);
               next = (answer, next.0, next.1, next.2);
               refused = refused;
-            }),
+            },
           )
 
-      -- why it is answered Store
-      transacted_calm : AreNames command → FailsFromBetween (shown mid) (shown done) t.worked (IsMisnamed command) (HasSoundContents broker_primitives) (IsToChange (TokensStep token command)) → (IsTrue t.keeps → IsOk t.worked → IfErr result (λ _. CommitIsRefused shown done new))
-          → result ≡ Err Store → HasFailed (shown old) (shown new) Store ⊎ IsNotKept shown s token command old new
-      transacted_calm named why refused is =
-          let served : Serves (shown mid) s = record { inside = begun_there.1.mode; unlimited = t.begins.limit ∙ ready.unlimited; held = was.tables; readable = ready.readable } in
-          transaction_fails (shown old) (shown mid) (shown done) (shown new) _ _ (IsNotKept shown s token command old new) clean result t
-          (IfErr-weaker t.worked _ _ (λ fault it store. work_fails named fault it store) (why worked_clean s served was.contents))
-          (λ answer performs is_done kept on. let cause = subst (λ (r : Result Answer StoreFault). IfErr r (λ _. CommitIsRefused shown done new)) is (refused kept (done_is_ok t.worked (t.kept.0 kept))) in not_kept answer performs is_done on cause.0 cause.1) is
+      module _ (refused : IfErr result (EndsFor shown t.keeps t.worked done new)) where
+        -- why a call is answered Store
+        by_call : AreNames command → FailsFromBetween (shown mid) (shown done) t.worked (IsMisnamed command) (HasSoundContents broker_primitives) (IsToChange (TokensStep token command))
+            → result ≡ Err (Call Store) → HasFailed (shown old) (shown new) Store ⊎ FailsInside s token command (shown old) (shown new)
+        by_call named why is =
+            let served : Serves (shown mid) s = record { inside = begun_there.1.mode; unlimited = t.begins.limit ∙ ready.unlimited; held = was.tables; readable = ready.readable } in
+            let none : EndsFor shown t.keeps t.worked done new (Call Store) = subst (λ (r : Result Answer Failure). IfErr r (EndsFor shown t.keeps t.worked done new)) is refused in
+            transaction_fails (shown old) (shown mid) (shown done) (shown new) _ _ (FailsInside s token command (shown old) (shown new)) clean (told result) t
+            (IfErr-weaker t.worked _ _ (λ fault it store. work_fails named fault it store) (why worked_clean s served was.contents))
+            (λ answer performs is_done kept on. absurd (none kept (done_is_ok t.worked (t.kept.0 kept)))) (ap told is)
 
-    pub transacted : (old mid done new : Held X) (worked result : Result Answer StoreFault) (keeps : Bool) → (HasCleanDisk (shown mid) → Begins (shown old) (shown mid)) → Survives (shown old) (shown mid) (λ _. ⊥)
+        -- why COMMIT was refused
+        by_commit : (fault : StoreFault) → result ≡ Err (Commit fault) → HasFailed (shown old) (shown new) Store ⊎ FailsAtCommit shown s token command old new fault
+        by_commit fault is =
+            let refusal : EndsFor shown t.keeps t.worked done new (Commit fault) = subst (λ (r : Result Answer Failure). IfErr r (EndsFor shown t.keeps t.worked done new)) is refused in
+            transaction_fails (shown old) (shown mid) (shown done) (shown new) _ _ (FailsAtCommit shown s token command old new fault) clean (told result) t
+            (never_err (λ f. f ≡ Store → HasFailed (shown mid) (shown done) f ⊎ FailsAtCommit shown s token command old new fault) t.worked (done_is_ok t.worked (t.kept.0 refusal.0)))
+            (λ answer performs is_done kept on. not_kept answer performs is_done on fault refusal.1) (ap told is)
+
+    pub transacted : (old mid done new : Held X) (worked : Result Answer StoreFault) (result : Result Answer Failure) (keeps : Bool) → (HasCleanDisk (shown mid) → Begins (shown old) (shown mid)) → Survives (shown old) (shown mid) (λ _. ⊥)
         → PerformsBetween (shown mid) (shown done) (TokensStep token command) worked
-        → FailsFromBetween (shown mid) (shown done) worked (IsMisnamed command) (HasSoundContents broker_primitives) (IsToChange (TokensStep token command)) → (IsTrue keeps ↔ IsOkAnd worked IsDone) → Concludes (shown done) (shown new) keeps worked result
-        → (HasCleanDisk (shown new) → IsTrue keeps → IsOk worked → IfErr result (λ _. CommitIsRefused shown done new)) → Transacted shown token command old new result
+        → FailsFromBetween (shown mid) (shown done) worked (IsMisnamed command) (HasSoundContents broker_primitives) (IsToChange (TokensStep token command)) → (IsTrue keeps ↔ IsOkAnd worked IsDone) → Concludes (shown done) (shown new) keeps worked (told result)
+        → (HasCleanDisk (shown new) → IfErr result (EndsFor shown keeps worked done new)) → Transacted shown token command old new result
     transacted old mid done new worked result keeps begun begins works calm kept concludes refused = record {
-      ends = transacted_ends (shown old) (shown mid) (shown done) (shown new) result t;
-      unchanged = transaction_unchanged (shown old) (shown mid) (shown done) (shown new) _ _ result t;
-      calm = λ clean named s ready. transacted_calm old mid done new result t clean s ready named calm (refused clean);
-      room = transacted_room (shown old) (shown mid) (shown done) (shown new) result t;
-      over = transaction_over (shown old) (shown mid) (shown done) (shown new) _ _ result t;
-      survives = transaction_once (shown old) (shown mid) (shown done) (shown new) _ _ result t;
+      ends = transacted_ends (shown old) (shown mid) (shown done) (shown new) (told result) t;
+      unchanged = transaction_unchanged (shown old) (shown mid) (shown done) (shown new) _ _ (told result) t;
+      calm = λ clean named s ready. by_call old mid done new result t clean s ready (refused clean) named calm;
+      refused = λ clean s ready. by_commit old mid done new result t clean s ready (refused clean);
+      room = transacted_room (shown old) (shown mid) (shown done) (shown new) (told result) t;
+      over = transaction_over (shown old) (shown mid) (shown done) (shown new) _ _ (told result) t;
+      survives = transaction_once (shown old) (shown mid) (shown done) (shown new) _ _ (told result) t;
     }
       where
-        t : WholeTransaction (shown old) (shown mid) (shown done) (shown new) (IsPerformed (shown mid) (shown done)) IsDone result
+        t : WholeTransaction (shown old) (shown mid) (shown done) (shown new) (IsPerformed (shown mid) (shown done)) IsDone (told result)
         t = record { worked = worked; keeps = keeps; begun = begun; begins = begins; works = works; kept = kept; concludes = concludes }
 
     -- where BEGIN was refused
     pub untransacted : (old new : Held X) (why : StoreFault) → (HasCleanDisk (shown new) → IsLeft (shown old) (shown new)) → (HasCleanDisk (shown new) → FailsToBegin (shown old) (shown new) why)
-        → Survives (shown old) (shown new) (λ _. ⊥) → Transacted shown token command old new (Err why)
+        → Survives (shown old) (shown new) (λ _. ⊥) → Transacted shown token command old new (Err (Call why))
     untransacted old new why refused cause begins = record {
       ends = λ clean s holds. unbegun_ends (shown old) (shown new) why refused begins (λ db. Stores db s) (HoldsNext s token command) (λ answer. Steps s token command (shown new) answer ⊎ KeepsAtPattern s token command (shown new) answer) clean holds;
       unchanged = unbegun_unchanged (shown old) (shown new) why refused begins IsDone;
       calm = λ clean named s ready is. let same : why ≡ Store = (let h = is in cc) in inl (subst (HasFailed (shown old) (shown new)) same (begin_fails s (shown old) (shown new) why ready.held (cause clean)));
+      refused = λ clean s ready fault is. absurd (let h = is in cc);
       room = λ clean s holds now. takes_none enough (shown old).now (shown new).now (unbegun_shows (shown old) (shown new) holds (refused clean) now);
       over = unbegun_over (shown old) (shown new) refused;
       survives = once_at_most (shown old) (shown new) begins;

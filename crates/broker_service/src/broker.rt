@@ -4,20 +4,31 @@ ghost use Rattle.sqlite.specs.Held.{state};
 ghost use Rattle.caller_facts.specs.Callers.{token_of};
 ghost use Rattle.command_facts.specs.Primitives.{broker_primitives};
 ghost use Rattle.broker_database.specs.Calls.{Applied, Created, Opened};
-ghost use Rattle.broker_service.specs.Transacted.{IsSoundCommand};
+ghost use Rattle.broker_database.specs.Transaction.{fault_of};
+ghost use Rattle.broker_service.specs.Transacted.{IsSoundCommand, failed_as};
 
 use crate::work::transact;
 use answer_texts::Answer;
 use broker_core::answer::Answer as Outcome;
 use broker_core::command::Command;
 use broker_core::name::Token;
-use broker_database::Refused;
+use broker_database::{Failure, Refused};
 use broker_tables::has_readable_names;
 use command_facts::laws::readable_stays;
 use sqlite::{Alter, Connection};
 use std::alloc::Global;
 use std::marker::Model;
 use table_access::StoreFault;
+
+/// The answer to a command whose transaction isn't done.
+fn failed(failure: &Failure) -> Answer
+    ensures { result ≡ failed_as (fault_of failure.now) }
+{
+    match failure.fault() {
+        StoreFault::Memory => Answer::failed(Outcome::Memory),
+        StoreFault::Store => Answer::failed(Outcome::Store),
+    }
+}
 
 /// A broker over its database. A contract sees its connection, and whether it is stopped.
 #[derive(Drop)]
@@ -131,8 +142,7 @@ impl<S: Alter> Broker<S> {
     {
         let answer = match transact(alloc, &mut self.conn, token, command) {
             Ok(answer) => answer,
-            Err(StoreFault::Memory) => Answer::failed(Outcome::Memory),
-            Err(StoreFault::Store) => Answer::failed(Outcome::Store),
+            Err(failure) => failed(&failure),
         };
         self.stopped = matches!(answer.outcome(), Outcome::Store);
         answer

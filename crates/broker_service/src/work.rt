@@ -14,7 +14,7 @@ use answer_texts::Answer;
 use broker_core::answer::Answer as Outcome;
 use broker_core::command::{Command, FormFault};
 use broker_core::policy::{Caller, Rule};
-use broker_database::conclude;
+use broker_database::{Failure, conclude};
 use caller_facts::callers::caller_of;
 use contract_commands::branch_pact::get_branch_pact;
 use contract_commands::pacts::get_pact;
@@ -198,17 +198,21 @@ fn is_done(worked: &Result<Answer, StoreFault>) -> bool
     }
 }
 
-/// One command in one transaction. It is committed if something was done, else it is rolled back.
+/// One command in one transaction. It is committed if something was done, else it is rolled back. What was done and
+/// isn't kept has the refusal of its COMMIT in hand.
 pub(crate) fn transact<S: Alter>(
     alloc: Global,
     conn: &mut Connection<S>,
     token: Option<&str>,
     command: &Command,
-) -> Result<Answer, StoreFault>
+) -> Result<Answer, Failure>
     ensures transacts { Transacted (state S.Store) (token_of token.entry) command.now conn.old conn.new result }
     ensures answers { IfOk result IsNoFailure }
 {
-    done!(begin(conn));
+    match begin(conn) {
+        Ok(()) => {},
+        Err(fault) => return Err(Failure::Call(fault)),
+    }
     let worked = work(alloc, conn, token, command);
     let keeps = is_done(&worked);
     conclude(conn, worked, keeps)

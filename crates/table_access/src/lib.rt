@@ -6,17 +6,18 @@
 //! by which only the store is ever out of memory.
 #![tactic(auto)]
 
-ghost use Rattle.std.specs.Prelude.{◌≡◌, ◌⊎◌, ℕ, Ok, Err, false, [], IsTrue, IfErr, OnOk, OnErr, codes};
+ghost use Rattle.std.specs.Prelude.{◌≡◌, ◌⊎◌, ℕ, Ok, Err, [], IsTrue, IfErr, OnOk, OnErr, codes};
 ghost use Rattle.sqlite.specs.State.{HasCleanDisk, Commits, IsUnchanged, IsRolledBack, Survives, IsLive, Executes, Shown};
 ghost use Rattle.sqlite.specs.Held.{state};
 ghost use Rattle.sqlite.specs.Values.{bound};
 ghost use Rattle.sqlite_resolve.specs.Compile.{first};
-ghost use Rattle.table_access.specs.Unit.{Begins, IsLeft, IsOver, FailsToBegin, RollsBack, FailsToRollBack, FailsToCommit, TellsRollback, CommitIsRefused};
+ghost use Rattle.table_access.specs.Unit.{Begins, IsLeft, IsOver, FailsToBegin, RollsBack, FailsToRollBack, TellsRollback, RefusesCommit};
 ghost use Rattle.table_access.specs.Calls.{KeepsLastCommit, CallsStore, FailsToRun};
 ghost use Rattle.table_access.specs.Calls as spec;
 ghost use Rattle.table_access.specs.Reading.{IsRefusedAs};
 ghost use Rattle.table_access.specs.Writes.{IsWriteText};
 
+use committing::run_commit;
 use sqlite::types::ValueRef;
 use sqlite::{Alter, Connection, Error, ErrorCode, Row};
 
@@ -31,9 +32,11 @@ macro_rules! done {
     };
 }
 
+mod committing;
 mod counted;
 mod rows;
 
+pub use committing::CommitRefused;
 pub use counted::change_counted;
 pub use rows::{ReadRow, has_row, list_of, number_at, number_in, number_of, text_at, text_of};
 
@@ -75,21 +78,6 @@ fn run_begin<S: Alter>(conn: &mut Connection<S>) -> Result<usize, Error>
     ensures survives { Survives (state S.Store conn.old) (state S.Store conn.new) (λ _. ⊥) }
 {
     conn.execute("BEGIN", &[])
-}
-
-/// Runs COMMIT. If it is refused, the transaction is rolled back, or there was none.
-fn run_commit<S: Alter>(conn: &mut Connection<S>) -> Result<usize, Error>
-    ensures done { HasCleanDisk (state S.Store conn.new) →
-        OnOk result (IsTrue (state S.Store conn.old).in_transaction
-        × Commits (state S.Store conn.old) (state S.Store conn.new)) }
-    ensures refused { HasCleanDisk (state S.Store conn.new) →
-        OnErr result (IsLeft (state S.Store conn.old) (state S.Store conn.new)) }
-    ensures cause { HasCleanDisk (state S.Store conn.new) →
-        IfErr result (λ e. FailsToCommit (state S.Store conn.old) (state S.Store conn.new) (spec.fault_of e)) }
-    ensures survives { Survives (state S.Store conn.old) (state S.Store conn.new)
-        (λ db. db ≡ (state S.Store conn.old).now.trees) }
-{
-    conn.execute("COMMIT", &[])
 }
 
 /// Runs ROLLBACK. Within a transaction it is refused only if the store failed, which ended the transaction.
@@ -140,26 +128,28 @@ pub fn rollback<S: Alter>(conn: &mut Connection<S>) -> Result<(), StoreFault>
     }
 }
 
-/// Commits the transaction, and says whether it did. If the commit was refused, the transaction is rolled back, and
-/// what was committed before stays while the connection is open; if a fault of the disk shut it, a crash may leave
-/// either.
-pub fn commit<S: Alter>(conn: &mut Connection<S>) -> bool
+/// Commits the transaction. If that was refused, the transaction is rolled back, and what was committed before stays
+/// while the connection is open; if a fault of the disk shut it, a crash may leave either. An error is the refusal of a
+/// COMMIT that was run, or else of one that found no transaction.
+pub fn commit<S: Alter>(conn: &mut Connection<S>) -> Result<(), CommitRefused>
     ensures live { IsLive (state S.Store conn.old) }
-    ensures done { HasCleanDisk (state S.Store conn.new) → IsTrue result →
-        Commits (state S.Store conn.old) (state S.Store conn.new) }
-    ensures refused { HasCleanDisk (state S.Store conn.new) → result ≡ false →
-        KeepsLastCommit (state S.Store conn.old) (state S.Store conn.new) × IsOver (state S.Store conn.new)
-        × CommitIsRefused (state S.Store) conn.old conn.new }
+    ensures done { HasCleanDisk (state S.Store conn.new) →
+        OnOk result (Commits (state S.Store conn.old) (state S.Store conn.new)) }
+    ensures refused { HasCleanDisk (state S.Store conn.new) →
+        IfErr result (λ fault. KeepsLastCommit (state S.Store conn.old) (state S.Store conn.new)
+        × IsOver (state S.Store conn.new) × RefusesCommit (state S.Store) conn.old conn.new fault) }
     ensures survives { Survives (state S.Store conn.old) (state S.Store conn.new)
         (λ db. db ≡ (state S.Store conn.old).now.trees) }
 {
     // Read for the proof: `schema` says that what an open connection shows is a database (the clause `live`).
     let _schema = conn.schema();
-    if run_commit(conn).is_ok() {
-        return true;
+    match run_commit(conn) {
+        Ok(()) => Ok(()),
+        Err(refusal) => {
+            let _ = rollback(conn);
+            Err(refusal)
+        },
     }
-    let _ = rollback(conn);
-    false
 }
 
 /// Runs a statement that writes rows or makes a table or an index, in a transaction.

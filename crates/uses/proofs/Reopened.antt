@@ -1,9 +1,9 @@
 -- What files keep that were closed, and what is left of them if they can't be opened.
-use Rattle.std.proofs.{Common.{◌≡◌, ◌⊎◌, ◌∙◌, inl, inr, [], false, Some, Result, Ok, Err, IfOk, IfErr, ap, arith}, Math.Logic.{∥∥₁_elim, ∥∥₁_map}}
+use Rattle.std.proofs.{Common.{◌≡◌, ◌⊎◌, ◌∙◌, inl, inr, false, Some, Result, Ok, Err, IfOk, IfErr, ap, arith}, Math.Logic.{∥∥₁_elim, ∥∥₁_map}}
 use Rattle.sqlite_disk.specs.{declared.Disk.{Ghosts}, declared.Files.{Files}}
-use Rattle.sqlite.specs.{Closing.{IsCopied, HoldsAlone}, Files.{HoldsDatabase, Finds, IsCleanLeft, IsOpened, LeavesFiles, file_state, image_of}, Held.{Held}}
-use Rattle.sqlite.specs.{Recovery.{Image}, Effect.{Database}, State.{State, HasCleanDisk}, Tree.{Trees}, WalReads.{AreClean}, declared.FileStore.{FileStore}}
-use Rattle.sqlite.{specs.declared.file.Leftover.{Leftover}, proofs.Callers.{finds_again}}
+use Rattle.sqlite.specs.{Closing.{IsCopied, HoldsAlone}, Files.{HoldsDatabase, Finds, IsCleanLeft, IsNothing, IsOpened, LeavesFiles, file_state, image_of}}
+use Rattle.sqlite.specs.{Held.{Held}, Recovery.{Image}, Effect.{Database}, State.{State, HasCleanDisk}, Tree.{Trees}, WalReads.{AreClean}}
+use Rattle.sqlite.{specs.{declared.FileStore.{FileStore}, declared.file.Leftover.{Leftover}}, proofs.Callers.{finds_again}}
 use Rattle.table_access.specs.Durability.{HoldsDurably}
 use Rattle.broker_core.specs.State.{State as Broker}
 use Rattle.broker_tables.specs.{Holds.{format}, Making.{IsMarked}}
@@ -29,9 +29,9 @@ failed why (inr (inl memory)) = inl (cc)
 failed why (inr (inr store)) = inr (cc)
 
 module _ {D : Type 0} (g : Ghosts D) where
-  -- the trees that two files hold, or files without a byte
+  -- the trees that two files hold, or nothing
   abbrev Holds : Broker → Image → Type 0
-  Holds s image = ((trees : Trees) × HoldsDatabase image trees × AreTreesOf (OfToday s) trees) ⊎ ((OfToday s ≡ Blank) × (image.db ≡ []))
+  Holds s image = ((trees : Trees) × HoldsDatabase image trees × AreTreesOf (OfToday s) trees) ⊎ ((OfToday s ≡ Blank) × IsNothing image)
 
   keep_state : (s : Broker) (old : BrokerView (FileStore D g)) (files : Files D) → OpenedFilesHold g → HoldsState s (file_state {D = D} {g = g} old.connection) → IsCopied old.connection files → KeepState g s files
   keep_state s old files law held copied =
@@ -49,7 +49,7 @@ module _ {D : Type 0} (g : Ghosts D) where
   closed old files law copied = record { copied = copied; keep = λ s held. keep_state s old files law held copied }
 
   -- what holds the database that was there keeps the state that was there
-  kept_before : (s : Broker) (old new : Image) → AreFilesOf g (OfToday s) old → HoldsAsBefore g old new → AreFilesOf g (OfToday s) new
+  kept_before : (s : Broker) (old new : Image) → AreFilesOf g (OfToday s) old → HoldsAsBefore old new → AreFilesOf g (OfToday s) new
   kept_before s old new keeps same =
       ∥∥₁_elim keeps squash₁ (λ (it : Holds s old). elim it [
         | inl found ↦ ∥∥₁_map (same.same found.0 found.1) (λ holds. let r : Holds s new = inl (found.0, holds, found.2) in r)

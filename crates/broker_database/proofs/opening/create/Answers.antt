@@ -5,8 +5,8 @@ use Rattle.table_access.specs.{Calls.{HasFailed}, declared.StoreFault.{StoreFaul
 use Rattle.broker_tables.specs.{Making.{IsBlank}, Refusals.{AreShort}, Schema.{no_schema}}
 use Rattle.command_facts.{specs.Primitives.{broker_primitives}, proofs.ShortTexts.{digest_short}}
 use Rattle.broker_database.specs.{Ends.{IsUnchangedUnless}, Opening.{Refuses, IsUncommitted, IsUnchangedUnlessStore, open_fault}, Stored.{Stores}}
-use Rattle.broker_database.{specs.declared.opening.OpenFault.{OpenFault}, proofs.{MakeLemmas.{refuses_as}, OpenFailures.{told_store}}}
-use Rattle.broker_database.proofs.Transaction.{as_it_is, once_at_most, outlives_itself}
+use Rattle.broker_database.{specs.{Transaction.{fault_of}, declared.opening.OpenFault.{OpenFault}}, proofs.MakeLemmas.{only_if_failed, refuses_as}}
+use Rattle.broker_database.proofs.{OpenFailures.{told_store}, Transaction.{as_it_is, once_at_most, outlives_itself}}
 use Rattle.table_access.specs.declared.StoreFault.TheVariants as fault
 use Rattle.broker_database.specs.declared.opening.OpenFault.TheVariants as told
 use Rattle.broker_database.proofs.opening.create.Goals as goal
@@ -43,23 +43,24 @@ returns-in-Ok g c =
     let digest = c.as_str-in-Ok.result.now in
     let digest_is : digest ≡ broker_primitives.digest_of c.args.office.now = c.as_str-in-Ok.ensures.value ∙ c.in-Ok.ensures.ok ∙ ap broker_primitives.digest_of c.as_str.ensures in
     let short : AreShort (digest ∷ []) = (subst (λ (text : Text). length text ≤ 10 ^ 7) (sym digest_is) (digest_short c.args.office.now), tt) in
-    let why = c.in-Err-make.fault in
+    let why = fault_of c.in-Err-make.failure in
+    let is_told = c.open_fault.ensures ∙ ap open_fault c.fault.ensures in
     record {
       made = tt;
       refuses = λ clean blank none.
-          subst (λ (f : OpenFault). Refuses IsBlank (λ db. Stores db (opening (broker_primitives.digest_of c.args.office.now))) (state g.S.Store new) f) (sym c.open_fault.ensures)
+          subst (λ (f : OpenFault). Refuses IsBlank (λ db. Stores db (opening (broker_primitives.digest_of c.args.office.now))) (state g.S.Store new) f) (sym is_told)
           (subst (λ (text : Text). Refuses IsBlank (λ db. Stores db (opening text)) (state g.S.Store new) (open_fault why)) digest_is
           (refuses_as digest (state g.S.Store new) why (c.in-Err-make.ensures.ends clean blank)));
       calm = λ clean fresh blank is.
-          subst (λ (text : Text). HasFailed (state g.S.Store old) (state g.S.Store new) fault.Store ⊎ IsUncommitted (state g.S.Store) (opening text) new) digest_is
-          (c.in-Err-make.ensures.calm short clean fresh blank (ap Err (told_store why (ap Err (sym c.open_fault.ensures) ∙ is))));
+          subst (λ (text : Text). HasFailed (state g.S.Store old) (state g.S.Store new) fault.Store ⊎ IsUncommitted (state g.S.Store) (opening text) old new) digest_is
+          (only_if_failed (state g.S.Store) IsBlank (opening digest) old new (Err c.in-Err-make.failure) (c.in-Err-make.ensures.calm short) clean fresh blank (ap Err (told_store why (ap Err (sym is_told) ∙ is))));
       not_empty = (
-        λ is. absurd (never_not_empty why (ap Err (sym c.open_fault.ensures) ∙ is)),
+        λ is. absurd (never_not_empty why (ap Err (sym is_told) ∙ is)),
         λ filled. absurd (filled (c.is_blank.ensures.0 c.if-not-is_blank.false)),
       );
-      same = λ is. absurd (never_not_empty why (ap Err (sym c.open_fault.ensures) ∙ is));
+      same = λ is. absurd (never_not_empty why (ap Err (sym is_told) ∙ is));
       unchanged = λ clean.
-          subst (IsUnchangedUnlessStore (state g.S.Store old) (state g.S.Store new)) (sym c.open_fault.ensures)
+          subst (IsUnchangedUnlessStore (state g.S.Store old) (state g.S.Store new)) (sym is_told)
           (unchanged_as (state g.S.Store old) (state g.S.Store new) why (c.in-Err-make.ensures.unchanged clean));
       over = c.make.ensures.over;
       survives = c.make.ensures.survives;
