@@ -1,18 +1,16 @@
 -- The rows of each query of these tables can be read, if the state that the database holds can; and there is none for a
 -- number that no version has.
-use Rattle.std.proofs.Common.{◌≡◌, ◌∙◌, ◌<◌, ◌≤◌, inl, inr, ℕ, pos, List, [], ◌∷◌, Option, Some, None, true, refl, sym, ap, subst, slice_get, arith}
-use Rattle.sqlite.specs.{declared.types.Value.TheVariants.{Int}, Order.{Row, column}, Edit.{id_in}, Term.{col, eval_all}, Effect.{Database}}
-use Rattle.sqlite.specs.Collation.TheVariants.{Binary}
+use Rattle.std.proofs.Common.{◌≡◌, ◌∙◌, ◌<◌, ◌≤◌, inl, inr, ℕ, pos, List, [], ◌∷◌, Some, true, refl, sym, ap, subst, arith}
+use Rattle.sqlite.specs.{declared.types.Value.TheVariants.{Int}, Order.{Row, column}, Term.{col, eval_all}, Effect.{Database}, Collation.TheVariants.{Binary}}
 use Rattle.sqlite_rules.{specs.Lists.{Has}, proofs.TableLemmas.{int_is}}
 use Rattle.sqlite_sql.specs.{declared.ops.BinaryOp.TheVariants.{Compare}, declared.ops.CompareOp.TheVariants.{Eq}, Ops.{binary, is_true}}
 use Rattle.sqlite_keyed.proofs.RuleLemmas.{first_of_both, second_of_both}
-use Rattle.table_access.{specs.{Columns.{text, whole_at}, Sound.{whole}, Reading.{IsNumberRow}, Statements.{shows}}, proofs.Answered.{first_has}}
-use Rattle.table_access.proofs.SoundLemmas.{whole_in, at_has, has_place}
+use Rattle.table_access.{specs.{Columns.{text, whole_at}, Reading.{IsNumberRow}, Statements.{shows}}, proofs.SoundLemmas.{whole_in, at_has, has_place}}
 use Rattle.broker_core.specs.{State.{State as Broker}, declared.command.Version.{Version}}
 use Rattle.broker_tables.specs.{Schema.{in_versions, in_contracts, in_results, in_latest}, Holds.{Holds}, Readable.{IsReadable}, Numbers.{number_of}}
 use Rattle.broker_tables.proofs.ReadableRows.{IsLow, number_cell, name_cell, truth_cell, result_low, to_version_low, to_content_low, to_result_low, version_named, to_pacticipant_named, pass_low}
 use Rattle.broker_tables.proofs.{Placed.{contracts, contracts_there, results, results_there, latest, latest_there}, NoVersion.{no_row}}
-use Rattle.broker_tables.proofs.{VersionRows.{owners, names, whole_test}, Asked.{IsShown, EachReads, NoneFor, of_table, of_both, of_first, number_reads}}
+use Rattle.broker_tables.proofs.{VersionRows.{owners, names, whole_test}, Asked.{EachReads, NoneFor, of_table, of_both, of_first, number_reads}}
 use Rattle.contract_tables.specs.{Listings.{ReadsAsMarked, ReadsAsNames}, VersionResults.{ReadsAsLatest}, Verified.{ReadsAsResult}}
 use Rattle.contract_tables.proofs.ContractRows.{numbers, contents, providers, content, project, own, users_project, users}
 use Rattle.contract_tables.proofs.ResultRows.{contents as latest_contents, versions, numbers as latest_numbers}

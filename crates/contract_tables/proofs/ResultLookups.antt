@@ -20,8 +20,8 @@ use Rattle.table_access.proofs.{Steps.{answered}, Newest.{newest_number}, Maps.{
 use Rattle.table_access.proofs.{Parts.{number_part, is_param, where_last, all_where, numbers_once}, Values.{same_texts, equal_text}, Keys.{apart_by}}
 use Rattle.table_access.proofs.{Members.{filter_has}, SoundLemmas.{at_has, text_at, has_place, all_of}, ReadLemmas.{option_map_twice, whole_pos}}
 use Rattle.broker_core.specs.{Text.{same_text}, Change.{is_text, result_of_run}, State.{State as Broker, Verification}}
-use Rattle.broker_tables.specs.{Schema.{in_results, in_checked_results}, Rows.{truth, truth_in, value_at, stands_at, text_or_null}, Numbers.{number_of}}
-use Rattle.broker_tables.{specs.Holds.{Holds, IsBroker, ResultRow, result_in, result_of}, proofs.{Frames.{meant}, Standing.{stands_found, value_map}}}
+use Rattle.broker_tables.specs.{Schema.{in_results, in_checked_results}, Rows.{value_at, stands_at, text_or_null}, Numbers.{number_of}}
+use Rattle.broker_tables.{specs.Holds.{Holds, IsBroker, ResultRow, result_in, result_of}, proofs.{Frames.{meant}, Standing.{stands_found}}}
 use Rattle.broker_tables.proofs.{Placed.{results, results_there, checked_results, checked_results_there}, ByNumber.{by_number}, Newest.{newest_result}}
 use Rattle.broker_tables.proofs.{Asked.{Asked, IsShown}, Inserted.{IsFree}, Ties.{two_tests}}
 use Rattle.contract_tables.specs.Verified.{Cells, cells, cells_of, ByNumbers, by_numbers, numbers_are, result_with, run_value}

@@ -1,18 +1,17 @@
 -- The rows of the latest results: by their keys, and the versions of a provider that have one for a content, listed.
-use Rattle.std.specs.{Prelude.{option_map, option_and_then, ◌↔◌}, Ordering.{eq_by_cmp, int_cmp}, Cmp.{int_cmp_total}}
-use Rattle.std.proofs.Common.{◌≡◌, ℕ, pos, codes, List, [], ◌∷◌, true, refl, sym, ap, ◌∙◌, slice_get, Some, None, Option}
+use Rattle.std.specs.{Prelude.{option_map, option_and_then, ◌↔◌}, Ordering.{int_cmp}}
+use Rattle.std.proofs.Common.{◌≡◌, ℕ, pos, codes, List, [], ◌∷◌, true, refl, sym, ap, ◌∙◌, Some, None, Option}
 use Rattle.sqlite.specs.{Edit.{id_in}, declared.types.Value.TheVariants.{Int, Text}, Order.{Row, column}, Term.{Term, col, op2}, Collation.TheVariants.{Binary}}
 use Rattle.sqlite.specs.{Effect.{Database}, Listing.{understood}}
 use Rattle.sqlite_sql.specs.{declared.ops.BinaryOp.TheVariants.{Compare}, declared.ops.CompareOp.TheVariants.{Eq}}
 use Rattle.sqlite_value.specs.Keys.{ascending}
 use Rattle.sqlite_rules.specs.Lists.{Has}
 use Rattle.sqlite_tied.specs.Compute.{everything}
-use Rattle.table_access.specs.{Columns.{text, whole_at, by_both}, Sound.{text_in, whole}, Statements.{from_table, from_both, by_two, keeps, keeps_both}}
-use Rattle.table_access.{specs.Reading.{AreRead}, proofs.{Steps.{answered}, Maps.{looks_up_at, find_has, has_find}}}
-use Rattle.table_access.proofs.{Parts.{whole_part, is_param, where_last, where_and, all_where}, ReadLemmas.{number_found, same_numbers, option_map_twice}}
+use Rattle.table_access.specs.{Columns.{text, whole_at, by_both}, Sound.{text_in, whole}, Statements.{from_both, keeps_both}, Reading.{AreRead}}
+use Rattle.table_access.proofs.Maps.{find_has, has_find}
 use Rattle.broker_core.specs.{declared.command.Version.{Version}, Listing.{Lists}, Text.{Text as Words, version}}
 use Rattle.broker_core.specs.State.{State as Broker, Verification, latest_result}
-use Rattle.broker_tables.{specs.{Schema.{in_versions, in_latest}, Rows.{value_at}, Numbers.{number_of}, Holds.{Holds, IsBroker}}, proofs.Asked.{Asked, IsShown}}
+use Rattle.broker_tables.{specs.{Schema.{in_versions, in_latest}, Rows.{value_at}, Numbers.{number_of}, Holds.{Holds}}, proofs.Asked.{Asked, IsShown}}
 use Rattle.broker_tables.proofs.VersionRows.{whole_test, text_test, by_number, version_number, versions_numbered, owners, names, same_version, row_number, find_version, one_row}
 use Rattle.broker_tables.proofs.Orders.{exact_texts, numbers_total, exact_numbers}
 use Rattle.contract_tables.specs.{declared.told_versions.NamedResult.{NamedResult}, ToldVersions.{named_cmp, IsNamedRow}, Verified.{latest_at}}
