@@ -3,6 +3,7 @@
 #![tactic(auto)]
 
 pub mod check;
+pub mod entrance;
 pub mod fault;
 pub mod forms;
 pub mod listening;
