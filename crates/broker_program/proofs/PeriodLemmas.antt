@@ -1,12 +1,12 @@
 -- The openings of a file, one after another, are periods of its life.
-use Rattle.std.proofs.{Common.{List, [], ◌∷◌, ◌++◌, Ok, refl, subst}, Math.Logic.{∥∥₁_elim, ∥∥₁_map}}
+use Rattle.std.proofs.{Common.{List, [], ◌∷◌, ◌++◌, Ok, refl, subst, sym}, Math.Logic.{∥∥₁_elim, ∥∥₁_map}}
 use Rattle.sqlite_disk.specs.declared.Disk.{Ghosts}
 use Rattle.sqlite_store.specs.Laws.{settled_at, stays_at}
 use Rattle.sqlite.specs.{Files.{IsOpened, file_state, image_of}, Held.{Held}, Recovery.{Image}, Start.{FindsIn}, State.{HasCleanDisk}}
 use Rattle.sqlite.specs.{declared.FileStore.{FileStore}, declared.file.Leftover.{Leftover}}
 use Rattle.broker_database.specs.{BrokerView.{BrokerView}, Life.{Kept, Period, PeriodLeads, LifeLeads, PeriodRuns, AreFilesOf, EndsAs, MayLeave}}
-use Rattle.broker_database.{specs.Life.Period.{Serving}, proofs.LifeLemmas.{file_leads}}
-use Rattle.broker_program.specs.{Life.{periods_of}, Serving.{StartsAfter, Work, Works}}
+use Rattle.broker_database.{specs.{Life.Period.{Serving}, Sessions.{RunsCalls}}, proofs.LifeLemmas.{file_leads}}
+use Rattle.broker_program.{specs.{Life.{periods_of}, Serving.{StartsAfter, Work, Works}}, proofs.CallLemmas.{peers_run}}
 use Rattle.sqlite.specs.declared.file.Leftover.TheVariants as left
 
 -- one more period
@@ -34,7 +34,8 @@ module _ {D : Type 0} (g : Ghosts D) (stays : (file : D) → g.may_leave file (g
   pub adds_works : (old : Kept) (work : Work) (works : List Work) (conn : Held (FileStore D g)) (end : BrokerView (FileStore D g)) (rest : Leftover D g) (image : Image) → ∥ Begins old (periods_of works) conn ∥₁
       → Works work conn end → HasCleanDisk (file_state end.connection) → EndsAs g end.connection rest → MayLeave g rest image → ∥ Keeps old (periods_of (work ∷ works)) image ∥₁
   adds_works old work works conn end rest image begins does clean ends may =
-      adds_period old (periods_of works) (Serving work.calls) conn end.connection rest image begins (Ok does.broker, does.opened, (end, does.calls, refl)) clean ends may
+      let runs = subst (λ calls. RunsCalls file_state does.broker calls end) (sym does.calls) (peers_run work.visits does.broker end does.peers) in
+      adds_period old (periods_of works) (Serving work.calls) conn end.connection rest image begins (Ok does.broker, does.opened, (end, runs, refl)) clean ends may
 
   pub starts_after : (old : Kept) (held : Image) (works : List Work) (conn : Held (FileStore D g)) → AreFilesOf g old held → StartsAfter held works conn → ∥ Begins old (periods_of works) conn ∥₁
   starts_after old held [] conn are it = ∣ (held, (old, refl, are), it.opened, it.found) ∣₁

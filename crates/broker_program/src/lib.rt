@@ -17,3 +17,4 @@ mod serve;
 pub use left::{Left, Service};
 pub use process::run_process;
 pub use running::run;
+pub use serve::serve_each;

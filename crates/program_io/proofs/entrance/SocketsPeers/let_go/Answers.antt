@@ -1,5 +1,4 @@
-use Rattle.std.proofs.Common.{arith}
-use Rattle.std.proofs.lemmas.List.{length-replicate}
+use Rattle.std.proofs.{Common.{arith}, lemmas.List.{length-replicate}}
 use Rattle.program_io.specs.Entrance.{stranger}
 use Rattle.program_io.proofs.entrance.SocketsPeers.let_go.Goals as goal
 
