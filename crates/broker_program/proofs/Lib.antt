@@ -4,6 +4,7 @@ pub mod CalmLemmas
 pub mod WordsLemmas
 pub mod RefusalLemmas
 pub mod ReopeningLemmas
+pub mod VisitLemmas
 pub mod ServingLemmas
 mod CallLemmas
 pub mod PeriodLemmas

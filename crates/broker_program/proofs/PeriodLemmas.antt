@@ -6,7 +6,7 @@ use Rattle.sqlite.specs.{Files.{IsOpened, file_state, image_of}, Held.{Held}, Re
 use Rattle.sqlite.specs.{declared.FileStore.{FileStore}, declared.file.Leftover.{Leftover}}
 use Rattle.broker_database.specs.{BrokerView.{BrokerView}, Life.{Kept, Period, PeriodLeads, LifeLeads, PeriodRuns, AreFilesOf, EndsAs, MayLeave}}
 use Rattle.broker_database.{specs.Life.Period.{Serving}, proofs.LifeLemmas.{file_leads}}
-use Rattle.broker_program.specs.{Life.{periods_of}, Serving.{StartsAfter, Work, Works}}
+use Rattle.broker_program.{specs.{Life.{periods_of}, Serving.{StartsAfter, Work, Works}}, proofs.CallLemmas.{work_runs}}
 use Rattle.sqlite.specs.declared.file.Leftover.TheVariants as left
 
 -- one more period
@@ -34,7 +34,7 @@ module _ {D : Type 0} (g : Ghosts D) (stays : (file : D) → g.may_leave file (g
   pub adds_works : (old : Kept) (work : Work) (works : List Work) (conn : Held (FileStore D g)) (end : BrokerView (FileStore D g)) (rest : Leftover D g) (image : Image) → ∥ Begins old (periods_of works) conn ∥₁
       → Works work conn end → HasCleanDisk (file_state end.connection) → EndsAs g end.connection rest → MayLeave g rest image → ∥ Keeps old (periods_of (work ∷ works)) image ∥₁
   adds_works old work works conn end rest image begins does clean ends may =
-      adds_period old (periods_of works) (Serving work.calls) conn end.connection rest image begins (Ok does.broker, does.opened, (end, does.calls, refl)) clean ends may
+      adds_period old (periods_of works) (Serving work.calls) conn end.connection rest image begins (Ok does.broker, does.opened, (end, work_runs work conn end does, refl)) clean ends may
 
   pub starts_after : (old : Kept) (held : Image) (works : List Work) (conn : Held (FileStore D g)) → AreFilesOf g old held → StartsAfter held works conn → ∥ Begins old (periods_of works) conn ∥₁
   starts_after old held [] conn are it = ∣ (held, (old, refl, are), it.opened, it.found) ∣₁

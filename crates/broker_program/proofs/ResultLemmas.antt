@@ -1,5 +1,5 @@
 -- facts of a result
-use Rattle.std.proofs.Common.{◌≡◌, IfErr, IfOk, MatchResult, OnErr, Result, Ok, Err, subst, sym}
+use Rattle.std.proofs.Common.{◌≡◌, ◌∙◌, Bool, true, Option, None, Some, is_some, not, IfErr, IfOk, MatchResult, OnErr, Result, Ok, Err, refl, ap, subst, sym, true≢false}
 
 pub if_ok : {T E P : Type 0} (r : Result T E) → P → IfOk r (λ _. P)
 if_ok (Ok x) p = p
@@ -23,3 +23,12 @@ module _ {T E F : Type 0} (f : E → F) where
   pub handed_err : (r : Result T E) (s : Result T F) (Q : F → Type 0) → MatchResult r (λ x. s ≡ Ok x) (λ e. s ≡ Err (f e)) → IfErr r (λ e. Q (f e)) → IfErr s Q
   handed_err (Ok x) s Q is q = subst (λ (t : Result T F). IfErr t Q) (sym is) tt
   handed_err (Err e) s Q is q = subst (λ (t : Result T F). IfErr t Q) (sym is) q
+
+-- two facts of a result that is Ok give a third
+pub ok_with : {T E : Type 0} (r : Result T E) (P Q R : T → Type 0) → ((x : T) → P x → Q x → R x) → IfOk r P → IfOk r Q → IfOk r R
+ok_with (Ok x) P Q R both p q = both x p q
+ok_with (Err y) P Q R both p q = tt
+
+pub none_if : {T : Type 0} (found : Option T) (test : Bool) → is_some found ≡ not test → test ≡ true → found ≡ None
+none_if None test is yes = refl
+none_if (Some x) test is yes = absurd (true≢false (is ∙ ap not yes))

@@ -16,7 +16,7 @@ use Rattle.broker_database.specs.{Causes.{IsToBeDone, StaysReadable}, Life.{AreF
 use Rattle.broker_database.{specs.{Life.Kept.{Blank, OfToday}, Life.Period.{Serving}}, proofs.SchemaLemmas.{one_schema}}
 use Rattle.sqlite_store.specs.Laws.{settled_at}
 use Rattle.broker_program.specs.{Calm.{AllStopCalmly, DiskWorked, DiskWorks, ServesCalmly, StopsAtChange, StopsCalmly, StopsFrom}, Life.{periods_of}}
-use Rattle.broker_program.{specs.Serving.{StartsAfter, Work, Works}, proofs.PeriodLemmas.{Begins, starts_after}}
+use Rattle.broker_program.{specs.Serving.{StartsAfter, Work, Works}, proofs.{CallLemmas.{work_runs}, PeriodLemmas.{Begins, starts_after}}}
 use Rattle.broker_core.specs.declared.answer.Answer.TheVariants as answers
 
 -- a failure of the store that isn't want of memory is one of the disk, or the connection was shut
@@ -122,11 +122,11 @@ module _ {D : Type 0} {g : Ghosts D} where
   pub opened_runs : (work : Work) (conn : Held (FileStore D g)) (end : BrokerView (FileStore D g)) (it : Works work conn end) (s : Broker) → IsOpened conn → IsNew conn
       → HasCleanDisk (file_state end.connection) → DiskWorks g conn end.connection → HoldsState s (file_state conn) → IsReadable s → IsTrue end.is_stopped → StopsAtChange s work.calls
   opened_runs work conn end it s opened fresh clean works held readable stopped =
-      let since = calls_since work.calls it.broker end it.calls in
+      let since = calls_since work.calls it.broker end (work_runs work conn end it) in
       let early : HasCleanDisk (file_state it.broker.connection) = omega (arith, clean, since.0) in
       let opens = it.opened.survives in
       let first : ¬ MoreFaults (file_state conn).faults (file_state it.broker.connection).faults = λ more. works (omega (arith, more, since.1)) in
-      calls_calm work.calls s it.broker end it.calls (record {
+      calls_calm work.calls s it.broker end (work_runs work conn end it) (record {
         runs = it.opened.runs;
         is_open = elim (opens.closes early opened.0.is_open) [ inl now ↦ now | inr more ↦ absurd (first more) ];
         unlimited = opens.limit ∙ fresh.unlimited;
@@ -171,7 +171,7 @@ module _ {D : Type 0} (g : Ghosts D) (stays : (file : D) → g.may_leave file (g
       let split = split_life (OfToday first) new (periods_of works) (Serving work.calls) leads in
       let before = works_readable held works it.0 it.2 first readable split.0 split.1 in
       let runs : PeriodLeads (OfToday before.0) (Serving work.calls) new = subst (λ (k : Kept). PeriodLeads k (Serving work.calls) new) before.1 split.2 in
-      (runs.0, runs.3, calls_readable work.calls it.3.broker it.1 it.3.calls before.0 runs.0 runs.2 before.2)
+      (runs.0, runs.3, calls_readable work.calls it.3.broker it.1 (work_runs work it.0 it.1 it.3) before.0 runs.0 runs.2 before.2)
 
   -- a connection that was opened on files which keep a state holds it
   file_holds : (s : Broker) (held : Image) (conn : Held (FileStore D g)) → (trees : Trees) → HoldsDatabase held trees → AreTreesOf (OfToday s) trees → IsOpened conn → FindsIn held (file_state conn) → HoldsState s (file_state conn)
@@ -221,7 +221,7 @@ module _ {D : Type 0} (g : Ghosts D) (stays : (file : D) → g.may_leave file (g
   )
 
   pub serves_calmly : ServesCalmly g
-  serves_calmly first held count rest it readable are worked works = (
+  serves_calmly first held visits rest it readable are worked works = (
     all_calm first held it.before it.connection readable are it.starts worked,
     λ stopped. works_calm first held it.last it.before it.connection it.end readable are it.starts it.works it.clean works stopped,
   )

@@ -1,47 +1,104 @@
 -- peers that are served one after another, over one opening of the files after another
-use Rattle.std.proofs.Common.{◌≡◌, ◌≤◌, inl, inr, ℕ, ◌+◌, ◌-◌, suc, [], ◌∷◌, Option, None, Some, MatchOption, refl, sym, subst, ◌∙◌, arith}
+use Rattle.std.proofs.Common.{◌≡◌, ◌≢◌, ◌<◌, ◌⊎◌, ◌+◌, inl, inr, false, ℕ, List, [], ◌∷◌, ◌++◌, length, append_assoc, append-nil, Option, None, Some, IfSome, MatchOption, Result, refl, sym, ap, subst, ◌∙◌, arith}
+use Rattle.std.proofs.lemmas.List.Elements.{Contains-append_cases, Contains-push_cases}
 use Rattle.sqlite_disk.specs.{declared.Disk.{Ghosts}, declared.Files.{Files}}
 use Rattle.sqlite.specs.{Files.{file_state}, Recovery.{Image}, State.{HasCleanDisk}, WalReads.{AreClean}, declared.FileStore.{FileStore}}
 use Rattle.sqlite.specs.declared.file.Leftover.{Leftover}
 use Rattle.broker_database.specs.{BrokerView.{BrokerView}, Life.{EndsAs, IsGivenBack}}
+use Rattle.broker_http.specs.{Calls.{IsServed}, declared.served.ServeFault.{ServeFault}, declared.served.Served.{Served}}
+use Rattle.program_io.specs.Entrance.{IsLetGo, IsLetIn, NoneIsIn, Peer, Queue, Visit}
 use Rattle.broker_program.specs.{Files.{ClosesAs, OpensBroker}, Refusals.{IsLeftUnserved}}
-use Rattle.broker_program.specs.Reopening.{HasServed, OpensBrokerAgain, ServesAll, ServesMore, ServesOn, ServesSoFar}
-use Rattle.broker_program.specs.{Serving.{LosesFiles, ServesFile, ServesNext, ServesOver, Work, Works, peers_of}, declared.left.Service.{Service}}
-use Rattle.broker_program.proofs.CallLemmas.{peers_call}
+use Rattle.broker_program.specs.Reopening.{HasServed, OpensBrokerAgain, ServesAll, ServesBetween, ServesMore, ServesOn, ServesSoFar}
+use Rattle.broker_program.specs.Serving.{IsPeerOf, LosesFiles, ServesFile, ServesNext, ServesOver, ServesPeer, ServesPeers, ServesQueue, ServesVisits, Work, Works, calls_of_peers, visits_of}
+use Rattle.broker_program.specs.declared.left.Service.{Service}
+use Rattle.broker_program.proofs.VisitLemmas.{idle_then, lost_fewer, lost_visited, more_went, none_visited, one_visited, visited_fewer, visited_then}
 use Rattle.sqlite.specs.declared.file.Leftover.TheVariants as left
 
+module _ {D : Type 0} (g : Ghosts D) where
+  abbrev pub none_between : (queue : Queue) → ServesBetween g queue queue
+  none_between queue = record { visits = []; visited = none_visited queue; served = λ visit none. let e : ⊥ = omega (arith, none.1) in absurd e }
+
+  -- those that were served in between, and then others
+  pub between_then : (old mid new : Queue) → ServesBetween g old mid → ServesBetween g mid new → ServesBetween g old new
+  between_then old mid new it more = record {
+    visits = it.visits ++ more.visits;
+    visited = visited_then old mid new it.visits more.visits it.visited more.visited;
+    served = λ visit is. elim (Contains-append_cases it.visits more.visits visit is) [ inl front ↦ it.served visit front | inr back ↦ more.served visit back ];
+  }
+
 module _ {D : Type 0} {g : Ghosts D} where
-  pub none_served : (held : Image) (count : ℕ) (broker : BrokerView (FileStore D g)) → OpensBroker held broker → ServesMore held count count broker
-  none_served held count broker opens = (
-    0,
-    (let e : count ≡ count + 0 = omega arith in e),
+  -- one more peer
+  then_peer : (visits : List Visit) (visit : Visit) (s mid t : BrokerView (FileStore D g)) → ServesPeers visits s mid → ServesPeer visit mid t → ServesPeers (visits ++ visit ∷ []) s t
+  then_peer [] visit s mid t same it = (t, subst (λ (b : BrokerView (FileStore D g)). ServesPeer visit b t) same it, refl)
+  then_peer (first ∷ visits) visit s mid t more it = (more.0, more.1, then_peer visits visit more.0 mid t more.2 it)
+
+  -- one that was let in, served, and let go from behind the door as it was then
+  pub next_visited : (old mid behind new : Queue) (before after : Peer) (s t : BrokerView (FileStore D g)) → IsLetIn old mid before → behind ≡ mid → IsLetGo behind new after → s.is_stopped ≡ false
+      → (result : Result Served ServeFault) → IsServed file_state s t before.sends after.sends before.took after.took result → ServesNext s t old new
+  next_visited old mid behind new before after s t let_in same let_go runs result served =
+      inr (record { before = before; after = after }, (mid, let_in, subst (λ (q : Queue). IsLetGo q new after) same let_go), (runs, result, served))
+
+  pub none_served : (held : Image) (queue : Queue) (broker : BrokerView (FileStore D g)) → OpensBroker held broker → ServesMore held queue queue broker
+  none_served held queue broker opens = (
+    none_between g queue,
     λ clean.
         let from = opens clean in
-        record { before = []; served = 0; connection = from.0; broker = broker; starts = from.1; opened = from.2; peers = refl; counts = refl },
+        record { before = []; served = []; connection = from.0; broker = broker; starts = from.1; opened = from.2; peers = refl; all = refl },
   )
 
-  pub next_served : (held : Image) (before mid after : ℕ) (s t : BrokerView (FileStore D g)) → ServesMore held before mid s → ServesNext s t mid after → ServesMore held before after t
-  next_served held before mid after s t more (inl lost) =
-      (more.0, lost.0 ∙ more.1, subst (λ (b : BrokerView (FileStore D g)). HasServed held more.0 b) (sym lost.1) more.2)
-  next_served held before mid after s t more (inr served) = (
-    suc more.0,
-    (let e : after ≡ before + suc more.0 = omega (arith, served.0, more.1) in e),
-    λ clean.
-        let early : HasCleanDisk (file_state s.connection) = omega (arith, clean, served.1.2.survives.1.clean) in
-        let it = more.2 early in
-        let counts : suc more.0 ≡ suc it.served + peers_of it.before = omega (arith, it.counts) in
-        record { before = it.before; served = suc it.served; connection = it.connection; broker = it.broker; starts = it.starts; opened = it.opened; peers = (s, it.peers, served.1); counts = counts },
+  pub next_served : (held : Image) (old mid new : Queue) (s t : BrokerView (FileStore D g)) (it : ServesBetween g old mid) → HasServed held it.visits s → ServesNext s t mid new → ServesMore held old new t
+  next_served held old mid new s t more so_far (inl lost) = (
+    record { visits = more.visits; visited = lost_visited old mid new more.visits more.visited lost.0; served = more.served },
+    subst (λ (b : BrokerView (FileStore D g)). HasServed held more.visits b) (sym lost.1) so_far,
   )
+  next_served held old mid new s t more so_far (inr next) = (
+    record {
+      visits = more.visits ++ next.0 ∷ [];
+      visited = visited_then old mid new more.visits (next.0 ∷ []) more.visited (one_visited mid new next.0 next.1);
+      served = λ visit is. elim (Contains-push_cases more.visits next.0 visit is) [
+        | inl front ↦ more.served visit front
+        | inr same ↦ subst (λ v. IsPeerOf g v) same (s, t, next.2)
+      ];
+    },
+    λ clean.
+        let early : HasCleanDisk (file_state s.connection) = omega (arith, clean, next.2.2.survives.1.clean) in
+        let it = so_far early in
+        record {
+          before = it.before;
+          served = it.served ++ next.0 ∷ [];
+          connection = it.connection;
+          broker = it.broker;
+          starts = it.starts;
+          opened = it.opened;
+          peers = then_peer it.served next.0 it.broker s t it.peers next.2;
+          all = ap (λ visits. visits ++ next.0 ∷ []) it.all ∙ append_assoc (visits_of it.before) it.served (next.0 ∷ []);
+        },
+  )
+
+  -- one fewer is to come, and one more was let go, or the broker is the one that it was
+  pub next_goes : (old new : Queue) (s t : BrokerView (FileStore D g)) → ServesNext s t old new → NoneIsIn old
+      → NoneIsIn new × (length old.coming ≡ length new.coming + 1) × (((t ≡ s) × (length new.went ≡ length old.went)) ⊎ (length new.went ≡ length old.went + 1))
+  next_goes old new s t (inl lost) idle =
+      let it = lost_visited old old new [] (none_visited old) lost.0 in
+      let same : length new.went ≡ length old.went = omega (arith, more_went old new [] it) in
+      (idle_then old new [] it idle, lost_fewer old new lost.0, inl (lost.1, same))
+  next_goes old new s t (inr next) idle =
+      let it = one_visited old new next.0 next.1 in
+      let more : length new.went ≡ length old.went + 1 = omega (arith, more_went old new (next.0 ∷ []) it) in
+      (idle_then old new (next.0 ∷ []) it idle, visited_fewer old new next.0 next.1, inr more)
+
+  pub next_less : (old new : Queue) (s t : BrokerView (FileStore D g)) → ServesNext s t old new → NoneIsIn old → length new.coming < length old.coming
+  next_less old new s t next none = let goes = next_goes old new s t next none in omega (arith, goes.1)
 
   -- what was done over the opening that is the last one now
-  module _ (held : Image) (count : ℕ) (now : BrokerView (FileStore D g)) (it : ServesSoFar held count now) where
+  module _ (held : Image) (visits : List Visit) (now : BrokerView (FileStore D g)) (it : ServesSoFar held visits now) where
     abbrev last : Work
-    last = record { peers = it.served; calls = (peers_call it.served it.broker now it.peers).0 }
+    last = record { visits = it.served; calls = calls_of_peers it.served it.broker now it.peers }
 
     works : Works last it.connection now
-    works = record { broker = it.broker; opened = it.opened; peers = it.peers; calls = (peers_call it.served it.broker now it.peers).1 }
+    works = record { broker = it.broker; opened = it.opened; peers = it.peers; calls = refl }
 
-    pub over : (rest : Leftover D g) → HasCleanDisk (file_state now.connection) → EndsAs g now.connection rest → ServesOver g held count rest
+    pub over : (rest : Leftover D g) → HasCleanDisk (file_state now.connection) → EndsAs g now.connection rest → ServesOver g held visits rest
     over rest clean ends = record {
       last = last;
       before = it.before;
@@ -49,32 +106,41 @@ module _ {D : Type 0} {g : Ghosts D} where
       end = now;
       starts = it.starts;
       works = works;
-      counts = it.counts;
+      all = it.all;
       clean = clean;
       ends = ends;
     }
 
-  pub goes_on : (held : Image) (count : ℕ) (stopped : BrokerView (FileStore D g)) (found : Option (BrokerView (FileStore D g))) → OpensBrokerAgain stopped found → HasServed held count stopped → ServesOn held count found
-  goes_on held count stopped None lost so_far =
-      (count, (omega arith), lost.0, lost.1, λ clean. let given = lost.2 clean in over held count stopped (so_far given.0) (left.Store lost.0) given.0 given.1)
-  goes_on held count stopped (Some broker) again so_far = λ clean.
+  pub goes_on : (held : Image) (visits : List Visit) (stopped : BrokerView (FileStore D g)) (found : Option (BrokerView (FileStore D g))) → OpensBrokerAgain stopped found → HasServed held visits stopped
+      → ServesOn held visits found
+  goes_on held visits stopped None lost so_far = (
+    visits,
+    [],
+    sym (append-nil visits),
+    lost.0,
+    lost.1,
+    λ clean.
+        let given = lost.2 clean in
+        over held visits stopped (so_far given.0) (left.Store lost.0) given.0 given.1,
+  )
+  goes_on held visits stopped (Some broker) again so_far = λ clean.
       let from = again clean in
       let it = so_far from.1.clean in
-      let works_now = last held count stopped it ∷ it.before in
       record {
-        before = works_now;
-        served = 0;
+        before = last held visits stopped it ∷ it.before;
+        served = [];
         connection = from.0;
         broker = broker;
-        starts = (it.connection, stopped, it.starts, works held count stopped it, from.1);
+        starts = (it.connection, stopped, it.starts, works held visits stopped it, from.1);
         opened = from.2;
         peers = refl;
-        counts = (let all : count ≡ 0 + peers_of works_now = omega (arith, it.counts) in all);
+        all = it.all ∙ sym (append-nil (visits_of it.before ++ it.served));
       }
 
-  pub all_served : (held : Image) (count : ℕ) (end : BrokerView (FileStore D g)) (files : Files D) → HasServed held count end → ClosesAs end.connection files → AreClean g files.log files.db → ServesOver g held count (left.Files files)
-  all_served held count end files so_far closes clean =
-      let copied = closes clean in over held count end (so_far copied.was_clean) (left.Files files) copied.was_clean copied
+  pub all_served : (held : Image) (visits : List Visit) (end : BrokerView (FileStore D g)) (files : Files D) → HasServed held visits end → ClosesAs end.connection files → AreClean g files.log files.db
+      → ServesOver g held visits (left.Files files)
+  all_served held visits end files so_far closes clean =
+      let copied = closes clean in over held visits end (so_far copied.was_clean) (left.Files files) copied.was_clean copied
 
   -- the broker there was opened, and given up without a peer
   pub unserved : (held : Image) (broker : BrokerView (FileStore D g)) (store : FileStore D g) → OpensBroker held broker
@@ -83,23 +149,43 @@ module _ {D : Type 0} {g : Ghosts D} where
       let from = opens given.0 in
       record { connection = from.0; broker = broker; starts = from.1; opened = from.2; clean = given.0; left = given.1 }
 
-module _ {D : Type 0} (g : Ghosts D) where
-  -- others were served once a sync of the files failed
-  pub lost_later : (held : Image) (before mid after : ℕ) (found : Option (Files D)) → mid ≤ after → found ≡ None → ServesAll g held before mid found → ServesAll g held before after None
-  lost_later held before mid after found later none it =
-      let were : ServesAll g held before mid None = subst (λ (f : Option (Files D)). ServesAll g held before mid f) none it in
-      let lost : LosesFiles g held were.count = were.rest in
+none≢some : {T : Type 0} (x : T) → None ≢ Some x
+none≢some {T} x is = subst (λ (o : Option T). MatchOption o (Unit {0}) (λ _. ⊥)) is tt
+
+module _ {D L : Type 0} (g : Ghosts D) (later : Ghosts L) where
+  -- all that came were served over the files
+  pub queue_served : (held : Image) (old new : Queue) (found : Option (Files D)) (files : Files D) → found ≡ Some files → IfSome found (λ _. length new.coming ≡ 0) → ServesAll g held old new found
+      → ServesQueue g later held old new (Some files)
+  queue_served held old new None files is all it = absurd (none≢some files is)
+  queue_served held old new (Some kept) files is all it =
+      let file = subst (λ (f : Option (Files D)). ServesVisits g held it.0.visits f) is it.1 in
+      record { visits = it.0.visits; visited = it.0.visited; all = all; served = λ visit is. inl (it.0.served visit is); file = file }
+
+  -- or others once a sync of the files failed
+  pub lost_later : (held : Image) (old mid new : Queue) (found : Option (Files D)) → found ≡ None → length new.coming ≡ 0 → ServesAll g held old mid found → ServesBetween later mid new
+      → ServesQueue g later held old new None
+  lost_later held old mid new found none all it more =
+      let lost : LosesFiles g held it.0.visits = subst (λ (f : Option (Files D)). ServesVisits g held it.0.visits f) none it.1 in
       record {
-        count = after - before;
-        counts = (let e : after ≡ before + (after - before) = omega (arith, later, were.counts) in e);
-        rest = (lost.0, (let e : lost.0 ≤ after - before = omega (arith, later, were.counts, lost.1) in e), lost.2, lost.3, lost.4);
+        visits = it.0.visits ++ more.visits;
+        visited = visited_then old mid new it.0.visits more.visits it.0.visited more.visited;
+        all = all;
+        served = λ visit is. elim (Contains-append_cases it.0.visits more.visits visit is) [ inl front ↦ inl (it.0.served visit front) | inr back ↦ inr (more.served visit back) ];
+        file = (
+          lost.0,
+          lost.1 ++ more.visits,
+          ap (λ visits. visits ++ more.visits) lost.2 ∙ append_assoc lost.0 lost.1 more.visits,
+          lost.3,
+          lost.4,
+          lost.5,
+        );
       }
 
-  pub file_served : (held : Image) (before after all : ℕ) (found : Option (Files D)) (service : Service D) → before ≡ 0 → ServesAll g held before after found → service.served ≡ after → service.files ≡ found
-      → service.served + service.lost ≡ all → ServesFile g held all service
-  file_served held before after all found service fresh it served files sum =
-      let count : it.count ≡ service.served = omega (arith, fresh, it.counts, served) in (
-        sum,
-        subst (λ (f : Option (Files D)). MatchOption f (LosesFiles g held service.served) (λ files. AreClean g files.log files.db → ServesOver g held service.served (left.Files files))) (sym files)
-            (subst (λ (n : ℕ). MatchOption found (LosesFiles g held n) (λ files. AreClean g files.log files.db → ServesOver g held n (left.Files files))) count it.rest),
+  -- so many connections
+  pub file_served : (held : Image) (old new : Queue) (all : ℕ) (service : Service D) → (length old.went ≡ 0) × (length old.coming + old.lost ≡ all) → ServesQueue g later held old new service.files
+      → (service.served ≡ length new.went) × (service.lost ≡ new.lost) → ServesFile g held all service
+  file_served held old new all service first it counts =
+      let went = more_went old new it.visits it.visited in (
+        omega (arith, it.visited.count, went, it.all, first.0, first.1, counts.0, counts.1),
+        (it.visits, omega (arith, went, first.0, counts.0), it.file),
       )

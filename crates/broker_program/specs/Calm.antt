@@ -1,5 +1,5 @@
 -- why a broker that serves a file is stopped, if the disk works: a command was to be done (this project's own choice)
-use Rattle.std.specs.Prelude.{◌≡◌, ℕ, List, [], ◌∷◌, ◌++◌, IsTrue}
+use Rattle.std.specs.Prelude.{◌≡◌, List, [], ◌∷◌, ◌++◌, IsTrue}
 use Rattle.sqlite_disk.specs.Disk.{MoreFaults}
 use Rattle.sqlite_disk.specs.declared.Disk.{Ghosts}
 use Rattle.sqlite.specs.Files.{file_state}
@@ -16,6 +16,7 @@ use Rattle.command_facts.specs.Primitives.{broker_primitives}
 use Rattle.broker_database.specs.Causes.{IsToBeDone}
 use Rattle.broker_database.specs.Life.{AreFilesOf, LifeLeads}
 use Rattle.broker_database.specs.Life.Kept.{OfToday}
+use Rattle.program_io.specs.Entrance.{Visit}
 use Rattle.broker_program.specs.Life.{periods_of}
 use Rattle.broker_program.specs.Serving.{ServesOver, StartsAfter, Work}
 
@@ -58,7 +59,7 @@ module _ {D : Type 0} (g : Ghosts D) where
   -- at a command that was to be done.
   abbrev pub ServesCalmly : Type 0
   ServesCalmly =
-      (first : Broker) (held : Image) (count : ℕ) (rest : Leftover D g) (it : ServesOver g held count rest)
+      (first : Broker) (held : Image) (visits : List Visit) (rest : Leftover D g) (it : ServesOver g held visits rest)
       → IsReadable first → AreFilesOf g (OfToday first) held
       → DiskWorked held it.before it.connection it.starts → DiskWorks it.connection it.end.connection
       → AllStopCalmly first it.before × (IsTrue it.end.is_stopped → StopsCalmly first it.last it.before)

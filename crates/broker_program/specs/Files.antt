@@ -46,7 +46,7 @@ module _ {D : Type 0} {g : Ghosts D} where
   abbrev pub GivesUpAs : Held (FileStore D g) → FileStore D g → Type 0
   GivesUpAs conn store = IsClean (view store) → HasCleanDisk (file_state conn) × IsGivenBack g conn store
 
-  -- For private clauses: a broker was opened over files that held this, if the disk is clean.
+  -- a broker was opened over files that held this, if the disk is clean
   abbrev pub OpensBroker : Image → BrokerView (FileStore D g) → Type 0
   OpensBroker held broker =
       HasCleanDisk (file_state broker.connection)

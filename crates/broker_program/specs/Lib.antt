@@ -1,6 +1,7 @@
 pub mod Replays
 pub mod Told
 pub mod Files
+pub mod Asked
 pub mod Serving
 pub mod Reopening
 pub mod Making

@@ -1,5 +1,5 @@
 -- what a file keeps once a command over it has ended, in the words of the life of a broker's files (this project's own)
-use Rattle.std.specs.Prelude.{ℕ, List, [], ◌∷◌, ◌++◌, Some}
+use Rattle.std.specs.Prelude.{List, [], ◌∷◌, ◌++◌, Some}
 use Rattle.sqlite_disk.specs.declared.Disk.{Ghosts}
 use Rattle.sqlite_disk.specs.declared.Files.{Files}
 use Rattle.sqlite.specs.FileStore.{state as store_state}
@@ -14,6 +14,7 @@ use Rattle.command_facts.specs.Primitives.{broker_primitives}
 use Rattle.broker_database.specs.Life.{Kept, Period, LifeLeads, AreFilesOf, MayLeave}
 use Rattle.broker_database.specs.Life.Period.{Making, Migrating, Serving}
 use Rattle.broker_database.specs.Sessions.{exit_of}
+use Rattle.program_io.specs.Entrance.{Visit}
 use Rattle.broker_program.specs.Making.{MakesBroker, MigratesFile}
 use Rattle.broker_program.specs.Serving.{ServesOver, Work}
 use Rattle.broker_program.specs.Told.{BrokerAnswers}
@@ -54,5 +55,5 @@ module _ {D : Type 0} (g : Ghosts D) where
   -- ran for its peers.
   abbrev pub ServingLeads : Type 0
   ServingLeads =
-      (held : Image) (count : ℕ) (rest : Leftover D g) (it : ServesOver g held count rest)
+      (held : Image) (visits : List Visit) (rest : Leftover D g) (it : ServesOver g held visits rest)
       → KeepsAfter held (periods_of (it.last ∷ it.before)) (MayLeave g rest)

@@ -1,5 +1,5 @@
 -- For private clauses: a broker's file that is served, and opened again once its broker stopped.
-use Rattle.std.specs.Prelude.{◌≡◌, ℕ, ◌+◌, Bool, false, List, Option, Ok, MatchOption}
+use Rattle.std.specs.Prelude.{◌≡◌, ◌++◌, Bool, false, List, Contains, Option, Ok, MatchOption}
 use Rattle.sqlite_disk.specs.declared.Disk.{Ghosts}
 use Rattle.sqlite_disk.specs.declared.Files.{Files}
 use Rattle.sqlite.specs.FileStore.{view}
@@ -9,15 +9,15 @@ use Rattle.sqlite.specs.Held.{Held, IsNew}
 use Rattle.sqlite.specs.Recovery.{Image}
 use Rattle.sqlite.specs.State.{HasCleanDisk}
 use Rattle.sqlite.specs.View.{IsClean}
-use Rattle.sqlite.specs.WalReads.{AreClean}
 use Rattle.sqlite.specs.declared.FileStore.{FileStore}
 use Rattle.sqlite.specs.declared.file.Leftover.TheVariants as left
 use Rattle.broker_database.specs.BrokerView.{BrokerView}
 use Rattle.broker_database.specs.Calls.{Opened}
 use Rattle.broker_database.specs.Life.{IsOpenedAfter}
 use Rattle.broker_program.specs.Files.{GivesUpAs}
-use Rattle.broker_program.specs.Serving.{LosesFiles, LosesSync, OpensAfter, ServesOver, ServesPeers, StartsAfter, Work}
-use Rattle.broker_program.specs.Serving.{peers_of}
+use Rattle.program_io.specs.Entrance.{AreVisited, Queue, Visit}
+use Rattle.broker_program.specs.Serving.{IsPeerOf, LosesFiles, LosesSync, OpensAfter, ServesPeers, ServesVisits}
+use Rattle.broker_program.specs.Serving.{StartsAfter, Work, visits_of}
 
 module _ {D : Type 0} {g : Ghosts D} where
   -- the log of a store that was given up was copied into the database file, or not; unless it broke, which is said, the
@@ -46,33 +46,41 @@ module _ {D : Type 0} {g : Ghosts D} where
       HasCleanDisk (file_state broker.connection)
       → (conn : Held (FileStore D g)) × OpensAfter stopped conn × Opened file_state conn (Ok broker))
 
-  -- brokers in files that held this have served so many peers, and this is the last of them as it is now
-  pub record ServesSoFar (held : Image) (count : ℕ) (now : BrokerView (FileStore D g)) : Type 0 where
+  -- brokers in files that held this have served these peers, and this is the last of them as it is now
+  pub record ServesSoFar (held : Image) (visits : List Visit) (now : BrokerView (FileStore D g)) : Type 0 where
     pub before : List Work
-    pub served : ℕ
+    pub served : List Visit
     pub connection : Held (FileStore D g)
     pub broker : BrokerView (FileStore D g)
     pub starts : StartsAfter held before connection
     pub opened : Opened file_state connection (Ok broker)
     pub peers : ServesPeers served broker now
-    pub counts : count ≡ served + peers_of before
+    pub all : visits ≡ visits_of before ++ served
 
   -- the same, if the disk is clean
-  abbrev pub HasServed : Image → ℕ → BrokerView (FileStore D g) → Type 0
-  HasServed held count broker = HasCleanDisk (file_state broker.connection) → ServesSoFar held count broker
+  abbrev pub HasServed : Image → List Visit → BrokerView (FileStore D g) → Type 0
+  HasServed held visits broker = HasCleanDisk (file_state broker.connection) → ServesSoFar held visits broker
 
   -- it goes on so, over its files that are opened again if it is stopped; or a sync of them failed
-  abbrev pub ServesOn : Image → ℕ → Option (BrokerView (FileStore D g)) → Type 0
-  ServesOn held count found = MatchOption found (LosesFiles g held count) (HasServed held count)
-
-  -- by a count of the connections, so many more were served
-  abbrev pub ServesMore : Image → ℕ → ℕ → BrokerView (FileStore D g) → Type 0
-  ServesMore held before after broker = (n : ℕ) × (after ≡ before + n) × HasServed held n broker
+  abbrev pub ServesOn : Image → List Visit → Option (BrokerView (FileStore D g)) → Type 0
+  ServesOn held visits found = MatchOption found (LosesFiles g held visits) (HasServed held visits)
 
 module _ {D : Type 0} (g : Ghosts D) where
-  -- and this is left of the files
-  pub record ServesAll (held : Image) (before after : ℕ) (found : Option (Files D)) : Type 0 where
-    pub count : ℕ
-    pub counts : after ≡ before + count
-    pub rest : MatchOption found (LosesFiles g held count) (λ files.
-        AreClean g files.log files.db → ServesOver g held count (left.Files files))
+  -- the peers that came in between were served by brokers, in whatever files
+  pub record ServesBetween (old new : Queue) : Type 0 where
+    pub visits : List Visit
+    pub visited : AreVisited old new visits
+    pub served : (visit : Visit) → Contains visits visit → IsPeerOf g visit
+
+  -- they were served over files that held this, and this is left of the files
+  abbrev pub ServesAll : Image → Queue → Queue → Option (Files D) → Type 0
+  ServesAll held old new found = (it : ServesBetween old new) × ServesVisits g held it.visits found
+
+module _ {D : Type 0} {g : Ghosts D} where
+  -- they were served over such files by this broker as the last one
+  abbrev pub ServesMore : Image → Queue → Queue → BrokerView (FileStore D g) → Type 0
+  ServesMore held old new broker = (it : ServesBetween g old new) × HasServed held it.visits broker
+
+  -- they were served before this broker was opened, by others on a disk as its own
+  abbrev pub ServesBefore : Queue → Queue → BrokerView (FileStore D g) → Type 0
+  ServesBefore old new broker = ServesBetween g old new

@@ -17,3 +17,4 @@ mod serve;
 pub use left::{Ended, Left, Processed, Service};
 pub use process::run_process;
 pub use running::run;
+pub use serve::serve_each;

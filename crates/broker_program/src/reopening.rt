@@ -1,6 +1,7 @@
 //! Opening a broker's files again once it stopped.
-ghost use Rattle.std.specs.Prelude.{◌≡◌, ℕ, false, Some, Ok, IfErr, IfOk, IfSome, IsTrue};
+ghost use Rattle.std.specs.Prelude.{◌≡◌, List, false, Some, Ok, IfErr, IfOk, IfSome, IsTrue};
 ghost use Rattle.sqlite.specs.WalFiles.{image_at};
+ghost use Rattle.program_io.specs.Entrance.{Visit};
 ghost use Rattle.program_io.specs.Reported.{IsFromOutside};
 ghost use Rattle.broker_program.specs.Reasons.{IsReopeningFault};
 ghost use Rattle.broker_program.specs.Reopening.{EmptiesLog, ServesOn, HasServed, OpensBrokerAgain};
@@ -96,7 +97,8 @@ pub(crate) fn running<S: Start>(
 ) -> Result<Option<FileBroker<S>>, RunFault>
     ensures same { broker.is_stopped ≡ false → result ≡ Ok (Some broker) }
     ensures runs { IfOk result (λ found. IfSome found (λ b. b.is_stopped ≡ false)) }
-    ensures goes { (n : ℕ) → HasServed (image_at S.Start) n broker → IfOk result (ServesOn (image_at S.Start) n) }
+    ensures goes { (visits : List Visit) → HasServed (image_at S.Start) visits broker
+        → IfOk result (ServesOn (image_at S.Start) visits) }
     ensures cause { IfErr result IsReopeningFault }
 {
     if broker.is_stopped() {

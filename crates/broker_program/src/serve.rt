@@ -1,13 +1,14 @@
-//! Serving connections over the broker in a file.
-ghost use Rattle.std.specs.Prelude.{◌≡◌, ◌≢◌, ◌<◌, ◌≤◌, ◌+◌, ◌⊎◌, false, IfErr, IfOk, IfSome, OnOk};
+//! Serving peers over the broker in a file.
+ghost use Rattle.std.specs.Prelude.{◌≡◌, ◌<◌, ◌≤◌, ◌⊎◌, length, false, None, IfErr, IfOk, IfSome, OnOk};
 ghost use Rattle.sqlite.specs.WalFiles.{image_at};
-ghost use Rattle.broker_program.specs.Files.{OpensBroker};
+ghost use Rattle.program_io.specs.Entrance.{NoneIsIn, IsNewQueue};
 ghost use Rattle.program_io.specs.Listening.{ListensOn};
-ghost use Rattle.broker_program.specs.Reasons.{CutsService, FailsToServe, IsOpeningFault};
 ghost use Rattle.program_io.specs.Reported.{IsFromOutside};
+ghost use Rattle.broker_program.specs.Files.{OpensBroker};
+ghost use Rattle.broker_program.specs.Reasons.{CutsService, FailsToServe, IsOpeningFault};
 ghost use Rattle.broker_program.specs.Reasons.{IsReopeningFault};
-ghost use Rattle.broker_program.specs.Reopening.{ServesAll};
-ghost use Rattle.broker_program.specs.Serving.{ServesFile, ServesNext};
+ghost use Rattle.broker_program.specs.Reopening.{ServesAll, ServesBetween};
+ghost use Rattle.broker_program.specs.Serving.{ServesFile, ServesNext, ServesQueue};
 
 use crate::files::{Failed, FileBroker, close, fault_of, open_broker, release};
 use crate::left::{Left, Service};
@@ -16,67 +17,69 @@ use crate::routes::route_table;
 use broker_http::RouteTable;
 use broker_http::patience::serve_peer;
 use http_messages::patience::LIMITS;
+use program_io::entrance::{Peers, Sockets};
 use program_io::fault::RunFault;
-use program_io::listening::{Connections, listen_on};
+use program_io::listening::listen_on;
 use sqlite::{FileFrom, Files, Start, Unknown};
 use sqlite_disk::Disk;
 
-/// Serves the next connection. If it fails it ends, and nothing is reported.
-fn serve_next<S: Start>(
+/// Serves the next peer, once it has come in, and lets it go. If that fails it ends, and nothing is reported.
+fn serve_next<S: Start, P: Peers>(
     rt: &HostRuntime,
     routes: &RouteTable,
     broker: &mut FileBroker<S>,
-    connections: &mut Connections,
+    peers: &mut P,
 )
     requires runs { broker.old.is_stopped ≡ false }
-    requires some { connections.old.left ≢ 0 }
-    ensures left { (connections.old.left ≡ connections.new.left + 1) × (connections.new.all ≡ connections.old.all) }
-    ensures peer { ServesNext broker.old broker.new connections.old.served connections.new.served }
+    requires some { 0 < length (P.queue peers.old).coming }
+    requires idle { NoneIsIn (P.queue peers.old) }
+    ensures { ServesNext broker.old broker.new (P.queue peers.old) (P.queue peers.new) }
 {
-    if let Some(stream) = connections.next() {
-        // Else an answer in two parts would wait for the peer to acknowledge the first.
-        let _ = stream.set_nodelay(true);
-        let door = &mut connections.entrance;
-        let _ = serve_peer(
+    if let Some((reader, writer)) = peers.next() {
+        let (_, reader, writer) = serve_peer(
             rt.alloc(),
             routes,
             broker,
-            &stream,
-            &stream,
-            door,
+            reader,
+            writer,
+            peers.door(),
             rt,
             LIMITS,
         );
+        peers.let_go(reader, writer);
     }
 }
 
-/// Serves the connections that are left, one after the other, over the broker of the file, and closes it. If the broker
-/// stops, its files are opened again before the next connection. None if a sync of them failed: then some are left.
-fn serve_over<S: Start>(
+/// Serves the peers that are to come, one after the other, over the broker of the file, and closes it. If the broker
+/// stops, its files are opened again before the next peer. None if a sync of them failed: then some are still to come.
+fn serve_over<S: Start, P: Peers>(
     rt: &HostRuntime,
     routes: &RouteTable,
     broker: FileBroker<S>,
-    connections: &mut Connections,
+    peers: &mut P,
 ) -> Result<Option<Files<FileFrom<S>>>, RunFault>
     requires runs { broker.is_stopped ≡ false }
     requires opened { OpensBroker (image_at S.Start) broker }
-    ensures done { IfOk result (λ found. IfSome found (λ _. connections.new.left ≡ 0)) }
-    ensures fewer { connections.old.left ≢ 0 → OnOk result (connections.new.left < connections.old.left) }
-    ensures some { IfOk result (λ found. found ≡ None → connections.old.served < connections.new.served) }
-    ensures all { connections.new.all ≡ connections.old.all }
-    ensures grows { connections.old.served ≤ connections.new.served }
+    requires idle { NoneIsIn (P.queue peers.old) }
+    ensures done { IfOk result (λ found. IfSome found (λ _. length (P.queue peers.new).coming ≡ 0)) }
+    ensures fewer { IfOk result (λ found. found ≡ None
+        → length (P.queue peers.new).coming < length (P.queue peers.old).coming) }
+    ensures some { IfOk result (λ found. found ≡ None
+        → length (P.queue peers.old).went < length (P.queue peers.new).went) }
+    ensures grows { length (P.queue peers.old).went ≤ length (P.queue peers.new).went }
+    ensures idle { NoneIsIn (P.queue peers.new) }
     ensures ok { IfOk result (ServesAll ⟦<FileFrom<S> as Disk>⟧ (image_at S.Start)
-        connections.old.served connections.new.served) }
+        (P.queue peers.old) (P.queue peers.new)) }
     ensures cause { IfErr result (λ fault. IsFromOutside fault
-        ⊎ (IsOpeningFault fault × (connections.old.served < connections.new.served))) }
+        ⊎ (IsOpeningFault fault × (length (P.queue peers.old).went < length (P.queue peers.new).went))) }
 {
     let mut broker = broker;
-    while connections.left > 0 {
+    while peers.left() > 0 {
         broker = match running(rt, broker)? {
             Some(broker) => broker,
             None => return Ok(None),
         };
-        serve_next(rt, routes, &mut broker, connections);
+        serve_next(rt, routes, &mut broker, peers);
     }
     match close(broker) {
         Ok(files) => Ok(Some(files)),
@@ -84,47 +87,57 @@ fn serve_over<S: Start>(
     }
 }
 
-/// Serves the connections that are left over the file that has this path then.
-fn serve_again(
+/// The broker in the file that has this path now.
+fn open_again(rt: &HostRuntime, file: &str) -> Result<FileBroker<Unknown>, RunFault>
+    ensures runs { IfOk result (λ b. b.is_stopped ≡ false) }
+    ensures opened { IfOk result (OpensBroker (image_at ⟦<Unknown as Start>⟧)) }
+    ensures cause { IfErr result IsReopeningFault }
+{
+    match open_broker(rt, file, Unknown) {
+        Ok(broker) => Ok(broker),
+        Err(failed) => Err(fault_of(failed)),
+    }
+}
+
+/// Serves the peers that are to come over the file that has this path then.
+fn serve_again<P: Peers>(
     rt: &HostRuntime,
     routes: &RouteTable,
     file: &str,
-    connections: &mut Connections,
+    peers: &mut P,
 ) -> Result<(), RunFault>
-    ensures done { OnOk result ((connections.new.left ≡ 0) × (connections.new.all ≡ connections.old.all)) }
-    ensures grows { connections.old.served ≤ connections.new.served }
+    requires idle { NoneIsIn (P.queue peers.old) }
+    ensures done { OnOk result (length (P.queue peers.new).coming ≡ 0) }
+    ensures ok { OnOk result (ServesBetween ⟦<FileFrom<Unknown> as Disk>⟧ (P.queue peers.old) (P.queue peers.new)) }
+    ensures grows { length (P.queue peers.old).went ≤ length (P.queue peers.new).went }
     ensures cause { IfErr result IsReopeningFault }
 {
-    while 0 < connections.left {
-        match open_broker(rt, file, Unknown) {
-            Ok(broker) => {
-                let _ = serve_over(rt, routes, broker, connections)?;
-            }
-            Err(failed) => return Err(fault_of(failed)),
-        }
+    let mut broker = open_again(rt, file)?;
+    while serve_over(rt, routes, broker, peers)?.is_none() {
+        broker = open_again(rt, file)?;
     }
     Ok(())
 }
 
-/// Serves the connections that are left. If a sync of the broker's files fails, those of its path are opened.
-fn serve_all<S: Start>(
+/// Serves the peers that are to come. If a sync of the broker's files fails, those of its path are opened.
+fn serve_all<S: Start, P: Peers>(
     rt: &HostRuntime,
     routes: &RouteTable,
     broker: FileBroker<S>,
     file: &str,
-    connections: &mut Connections,
+    peers: &mut P,
 ) -> Result<Option<Files<FileFrom<S>>>, RunFault>
     requires runs { broker.is_stopped ≡ false }
     requires opened { OpensBroker (image_at S.Start) broker }
-    ensures done { OnOk result ((connections.new.left ≡ 0) × (connections.new.all ≡ connections.old.all)) }
-    ensures ok { IfOk result (ServesAll ⟦<FileFrom<S> as Disk>⟧ (image_at S.Start)
-        connections.old.served connections.new.served) }
+    requires idle { NoneIsIn (P.queue peers.old) }
+    ensures ok { IfOk result (ServesQueue ⟦<FileFrom<S> as Disk>⟧ ⟦<FileFrom<Unknown> as Disk>⟧ (image_at S.Start)
+        (P.queue peers.old) (P.queue peers.new)) }
     ensures cause { IfErr result (λ fault. IsFromOutside fault
-        ⊎ (IsOpeningFault fault × (connections.old.served < connections.new.served))) }
+        ⊎ (IsOpeningFault fault × (length (P.queue peers.old).went < length (P.queue peers.new).went))) }
 {
-    match serve_over(rt, routes, broker, connections)? {
+    match serve_over(rt, routes, broker, peers)? {
         Some(files) => Ok(Some(files)),
-        None => match serve_again(rt, routes, file, connections) {
+        None => match serve_again(rt, routes, file, peers) {
             Ok(()) => Ok(None),
             Err(fault) => Err(fault),
         },
@@ -132,36 +145,42 @@ fn serve_all<S: Start>(
 }
 
 /// What was served, and what is left of the files.
-fn service_of<S: Start>(
-    connections: &Connections,
-    files: Option<Files<FileFrom<S>>>,
-) -> Service<FileFrom<S>>
-    ensures { (result.served ≡ connections.now.served) × (result.lost ≡ connections.now.lost) × (result.files ≡ files) }
+fn service_of<P: Peers, D: Disk>(peers: &P, files: Option<Files<D>>) -> Service<D>
+    ensures { (result.served ≡ length (P.queue peers.now).went) × (result.lost ≡ (P.queue peers.now).lost)
+        × (result.files ≡ files) }
 {
     Service {
-        served: connections.served,
-        lost: connections.lost,
+        served: peers.gone(),
+        lost: peers.lost(),
         files,
     }
 }
 
-/// Serves the connections, one after the other, over the broker of the file.
-fn serve_each<S: Start>(
+/// Serves the peers, one after the other, over the broker of the file that was opened, and closes it: what each sends is
+/// answered by what it takes, as the broker there answers it. If the broker stops, its files are opened again before the
+/// next peer; and once a sync of them failed, those of the path.
+///
+/// How serving a peer failed isn't said: its connection is over then, and the next one comes in. If the files can't be
+/// opened again or closed, the fault is the reason (`File`, `Open`, `Memory`), and the other peers aren't served.
+pub fn serve_each<S: Start, P: Peers>(
     rt: &HostRuntime,
     routes: &RouteTable,
     broker: FileBroker<S>,
     file: &str,
-    connections: &mut Connections,
+    peers: &mut P,
 ) -> Result<Service<FileFrom<S>>, Failed<S>>
     requires runs { broker.is_stopped ≡ false }
     requires opened { OpensBroker (image_at S.Start) broker }
-    requires fresh { connections.old.served ≡ 0 }
-    ensures ok { IfOk result (ServesFile ⟦<FileFrom<S> as Disk>⟧ (image_at S.Start) connections.old.all) }
+    requires fresh { IsNewQueue (P.queue peers.old) }
+    ensures ok { IfOk result (λ service. ServesQueue ⟦<FileFrom<S> as Disk>⟧ ⟦<FileFrom<Unknown> as Disk>⟧
+        (image_at S.Start) (P.queue peers.old) (P.queue peers.new) service.files) }
+    ensures counts { IfOk result (λ service. (service.served ≡ length (P.queue peers.new).went)
+        × (service.lost ≡ (P.queue peers.new).lost)) }
     ensures cause { IfErr result (λ failed. CutsService failed.0 failed.1) }
 {
-    match serve_all(rt, routes, broker, file, connections) {
-        Ok(files) => Ok(service_of(connections, files)),
-        Err(fault) => Err((fault, Left::Served(service_of(connections, None)))),
+    match serve_all(rt, routes, broker, file, peers) {
+        Ok(files) => Ok(service_of(peers, files)),
+        Err(fault) => Err((fault, Left::Served(service_of(peers, None)))),
     }
 }
 
@@ -180,7 +199,7 @@ fn serve_at<S: Start>(
 {
     let broker = open_broker(rt, file, start)?;
     match listen_on(rt, listen, connections) {
-        Ok(mut connections) => serve_each(rt, routes, broker, file, &mut connections),
+        Ok(connections) => serve_each(rt, routes, broker, file, &mut Sockets::new(connections)),
         Err(fault) => Err((fault, Left::GivenUp(release(broker)))),
     }
 }

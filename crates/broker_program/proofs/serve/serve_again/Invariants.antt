@@ -1,10 +1,17 @@
-use Rattle.std.proofs.Common.{◌≡◌, ◌≤◌}
+use Rattle.std.proofs.Common.{◌≡◌, ◌≤◌, length, false}
+use Rattle.sqlite.specs.WalFiles.{image_at}
+use Rattle.sqlite_disk.specs.contracts.start.UnknownStart.TheImpl.{ghosts}
+use Rattle.program_io.specs.Entrance.{NoneIsIn}
+use Rattle.broker_program.specs.{Files.{OpensBroker}, Reopening.{ServesBefore}}
 use Rattle.broker_program.proofs.serve.serve_again.Given as goal
 
--- each opening takes one of those that are left
-abbrev pub decreases-loop-connections : goal.decreases-loop-connections
-decreases-loop-connections l = l.connections.left
+-- each opening takes one of those that are to come
+abbrev pub decreases-loop-broker : goal.decreases-loop-broker
+decreases-loop-broker g l = length (g.P.Peers.queue l.peers).coming
 
-abbrev pub invariant-loop-connections : goal.invariant-loop-connections
-invariant-loop-connections l =
-    (l.connections.all ≡ l.fn.connections.all) × (l.fn.connections.served ≤ l.connections.served)
+abbrev pub invariant-loop-broker : goal.invariant-loop-broker
+invariant-loop-broker g l =
+    let old = g.P.Peers.queue l.fn.peers in
+    let now = g.P.Peers.queue l.peers in
+    NoneIsIn now × (length old.went ≤ length now.went) × (l.broker.is_stopped ≡ false)
+    × OpensBroker (image_at ghosts) l.broker × ServesBefore old now l.broker

@@ -1,12 +1,17 @@
-use Rattle.std.proofs.{Common.{inl, inr}, lemmas.Result.{IfErr-weaker}}
-use Rattle.broker_program.proofs.{ResultLemmas.{if_ok}, ServingLemmas.{unserved}}
+use Rattle.std.proofs.{Common.{◌∙◌, inl, inr}, lemmas.Result.{IfErr-weaker}}
+use Rattle.broker_program.proofs.{ResultLemmas.{if_ok, ok_with}, ServingLemmas.{file_served, unserved}, VisitLemmas.{new_count, new_queue}}
 use Rattle.broker_program.proofs.serve.serve_at.Goals as goal
 
 pub returns-in-Ok-clause-said : goal.returns-in-Ok-clause-said
 returns-in-Ok-clause-said g c = if_ok c.serve_each.result c.in-Ok.ensures.said
 
+pub serve_each-requires-clause-fresh : goal.serve_each-requires-clause-fresh
+serve_each-requires-clause-fresh g c = new_queue _ _ _ c.new.ensures
+
 pub returns-in-Ok-clause-ok : goal.returns-in-Ok-clause-ok
-returns-in-Ok-clause-ok g c = rw c.in-Ok.ensures.count.0 at c.serve_each.ensures.ok
+returns-in-Ok-clause-ok g c =
+    let first = new_count _ _ _ _ _ c.new.ensures c.in-Ok.ensures.count.1 (c.in-Ok.connections.counted ∙ c.in-Ok.ensures.count.0) in
+    ok_with c.serve_each.result _ _ _ (λ service queue counts. file_served _ _ _ _ _ _ service first queue counts) c.serve_each.ensures.ok c.serve_each.ensures.counts
 
 pub returns-in-Ok-clause-cause : goal.returns-in-Ok-clause-cause
 returns-in-Ok-clause-cause g c =
