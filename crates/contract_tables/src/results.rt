@@ -187,6 +187,15 @@ pub fn add_result<S: Alter>(
     let Some(number) = next_number(count) else {
         return Err(StoreFault::Store);
     };
-    done!(record_result(conn, number, content, provider, version_number, pass, checked, run));
+    done!(record_result(
+        conn,
+        number,
+        content,
+        provider,
+        version_number,
+        pass,
+        checked,
+        run
+    ));
     Ok(number)
 }
