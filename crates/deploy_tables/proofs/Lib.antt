@@ -11,3 +11,4 @@ pub mod NeedLemmas
 pub mod MatrixLemmas
 pub mod MatrixLoop
 pub mod ReadableRows
+pub mod VersionsThere

@@ -1,28 +1,41 @@
--- What is found of the parts that are read are the needs that aren't good.
+-- What is found of the parts that are read are the needs that are wanted.
 use Rattle.std.specs.Prelude.{Option, Some, None, option_map, option_and_then, option_to_list, is_some, Contains, IsSomeAnd, ◌↔◌, if◌then◌else◌}
+use Rattle.std.specs.{Cmp.{IsTotalOrder, on_total, then_total}, Cmp.Lexicographic.{nat_list_cmp_total, options_total}}
+use Rattle.std.specs.declared.cmp.Ordering.TheVariants.{Equal}
 use Rattle.std.proofs.Common.{◌≡◌, ◌≢◌, ◌⊎◌, ℕ, List, [], ◌∷◌, ◌++◌, refl, sym, ◌∙◌, ap, subst, inl, inr, Bool, true, false, true≢false, not, ◌&&◌, ◌||◌, ◌==◌, length, arith}
 use Rattle.std.proofs.lemmas.Bool.{eqb-true}
 use Rattle.broker_tables.{specs.Numbers.{number_of}, proofs.NumberLemmas.{one_version}}
 use Rattle.contract_tables.specs.declared.listings.Contract.{Contract}
-use Rattle.deploy_tables.specs.Needs.{AreFaults, AreOfVersions, is_good, need_with, need_used, IsOpen, IsWithPartner, IsNeedOfContract, IsOwnNeed, IsUsed, IsNeedOfOthers}
+use Rattle.deploy_tables.specs.Needs.{AreFaults, AreOfVersions, need_cmp, is_good, is_wanted, is_left_out, need_with, need_used, IsWanted, IsWithPartner, IsNeedOfContract, IsOwnNeed, IsUsed, IsNeedOfOthers}
 use Rattle.deploy_tables.specs.{declared.contracts_there.NumberedContract.{NumberedContract}, Matrix.{IsOfSome}, ContractsThere.{TellsContracts}}
+use Rattle.deploy_tables.specs.{declared.wanted_needs.Wanted.{Wanted}, declared.wanted_needs.Wanted.TheVariants.{All, Open}}
 use Rattle.deploy_tables.{specs.Partners.{ArePartners, AreNumbered, AreNumbersOfVersions}, proofs.MatrixLoop.{both_ways, both_of, one_is, one_of}}
 use Rattle.broker_core.specs.{declared.command.Version.{Version}, declared.need.Need.{Need}, declared.need.Latest.{Latest}, declared.need.Kind.{Kind}}
 use Rattle.broker_core.specs.{declared.need.PairFault.{PairFault}, Text.{Text, same_text, version}, State.{State, latest}, Gate.{Stands, consumer_of, IsNeed}}
-use Rattle.broker_core.{specs.{Faults.{fault_of, fault_cmp, kind_of, IsFaultAmong}, Listing.{Lists}}, proofs.Lists.{contains_none, contains_here}}
-use Rattle.broker_core.proofs.Judgement.{text_is, text_refl}
+use Rattle.broker_core.{specs.{Faults.{fault_of, fault_cmp, kind_of, IsFaultAmong}, Listing.{Lists}}, proofs.Lists.{some_is, contains_none, contains_here}}
+use Rattle.broker_core.proofs.{Order.{text_tied, option_tied, both_equal}, Judgement.{text_is, text_refl}}
 
 -- ---- a latest result, and lists of at most one
 
 -- something is lacking where the need isn't good
-open_is : (strict : Bool) (w : Text) (said : Option Latest) → is_some (kind_of strict (Some w) said) ≡ not (is_good strict said)
-open_is strict w None = refl
-open_is strict w (Some l) = go l.pass l.checked strict
+lacking_is : (strict : Bool) (w : Text) (said : Option Latest) → is_some (kind_of strict (Some w) said) ≡ not (is_good strict said)
+lacking_is strict w None = refl
+lacking_is strict w (Some l) = go l.pass l.checked strict
   where
     go : (pass checked strict : Bool) → is_some (kind_of strict (Some w) (Some (record { pass = pass; checked = checked }))) ≡ not (pass && (checked || not strict))
     go true true true = refl
     go true false true = refl
     go _ _ _ = refl
+
+-- so what is left out isn't wanted
+left_out_is : (wanted : Wanted) (u : Version) (p w : Text) (said : Option Latest) → is_wanted wanted (need_with u p (Some w) said) ≡ not (is_left_out wanted said)
+left_out_is All u p w said = refl
+left_out_is (Open strict) u p w said = lacking_is strict w said
+
+-- and a provider that isn't there always is
+absent_wanted : (wanted : Wanted) (v : Version) (p : Text) → IsWanted wanted (need_with v p None None)
+absent_wanted All v p = refl
+absent_wanted (Open strict) v p = refl
 
 -- whether a list is empty, as its length says
 pub when_none : (xs : List ℕ) (b : Bool) → b ≡ (length xs == 0) → b ≡ true → xs ≡ []
@@ -35,13 +48,13 @@ when_some (x ∷ xs) b is otherwise same = cc
 
 -- ---- a contract with one version, and one with the pacticipant of v, by what the latest result says
 
-module _ (s : State) (v : Version) (strict : Bool) (said : Option Latest) (good : Bool) (says_good : good ≡ is_good strict said) where
-  lacks : (x : Need) (u : Version) (p w : Text) → x ≡ need_with u p (Some w) said → is_some (kind_of strict x.provider_version x.latest) ≡ not good
-  lacks x u p w is = ap (λ (y : Need). is_some (kind_of strict y.provider_version y.latest)) is ∙ open_is strict w said ∙ ap not (sym says_good)
+module _ (s : State) (v : Version) (wanted : Wanted) (said : Option Latest) (good : Bool) (says_good : good ≡ is_left_out wanted said) where
+  lacks : (x : Need) (u : Version) (p w : Text) → x ≡ need_with u p (Some w) said → is_wanted wanted x ≡ not good
+  lacks x u p w is = ap (is_wanted wanted) is ∙ left_out_is wanted u p w said ∙ ap not (sym says_good)
 
-  -- a good need isn't told
+  -- one that is left out isn't told
   pub good_with : (c : Contract) (n : ℕ) → good ≡ true → ((w : Version) → number_of s.versions w ≡ Some n → said ≡ latest s c.content w) → (found : List Need)
-      → found ≡ [] → (x : Need) → Contains found x ↔ IsWithPartner s v c strict n x
+      → found ≡ [] → (x : Need) → Contains found x ↔ IsWithPartner s v c wanted n x
   good_with c n so says found none x = (
     λ there. absurd (contains_none x (subst (λ xs. Contains xs x) none there)),
     λ is. let w = is.0 in absurd (true≢false (sym is.2 ∙ lacks x v c.provider w.name (is.3 ∙ ap (need_with v c.provider (Some w.name)) (sym (says w is.1)))
@@ -51,7 +64,7 @@ module _ (s : State) (v : Version) (strict : Bool) (said : Option Latest) (good 
   -- another one is, with the version of this number
   pub open_with : (c : Contract) (n : ℕ) → good ≡ false → ((w : Version) → number_of s.versions w ≡ Some n → said ≡ latest s c.content w)
       → (w : Version) → number_of s.versions w ≡ Some n → (found : List Need) → found ≡ need_with v c.provider (Some w.name) said ∷ [] → (x : Need)
-      → Contains found x ↔ IsWithPartner s v c strict n x
+      → Contains found x ↔ IsWithPartner s v c wanted n x
   open_with c n otherwise says w known found is x =
       both_ways (one_of found (need_with v c.provider (Some w.name) said) is x) (
         λ same. (w, known, lacks x v c.provider w.name same ∙ ap not otherwise, same ∙ ap (need_with v c.provider (Some w.name)) (says w known)),
@@ -65,7 +78,7 @@ module _ (s : State) (v : Version) (strict : Bool) (said : Option Latest) (good 
   unless_same p q false is y x = (λ c. (λ same. true≢false (sym (ap (same_text p) (sym same) ∙ text_refl p) ∙ is), (one_is y x).0 c), λ h. (one_is y x).1 h.1)
 
   pub open_used : (c : NumberedContract) → good ≡ false → said ≡ latest s c.content v → (w : Version) → number_of s.versions w ≡ Some c.number
-      → (x : Need) → Contains (option_to_list (need_used v said w)) x ↔ IsUsed s v strict c x
+      → (x : Need) → Contains (option_to_list (need_used v said w)) x ↔ IsUsed s v wanted c x
   open_used c otherwise says w known x =
       both_ways (unless_same w.pacticipant v.pacticipant (same_text w.pacticipant v.pacticipant) refl (need_with w v.pacticipant (Some v.name) said) x) (
         λ it. (w, known, it.0, lacks x w v.pacticipant v.name it.1 ∙ ap not otherwise, it.1 ∙ ap (need_with w v.pacticipant (Some v.name)) says),
@@ -76,8 +89,8 @@ module _ (s : State) (v : Version) (strict : Bool) (said : Option Latest) (good 
 
 -- ---- a contract with all that stand there
 
-module _ (s : State) (v : Version) (e : Text) (strict : Bool) (c : Contract) (numbered : AreNumbered s e) where
-  pub with_some : (there : List ℕ) → ArePartners s c.provider (Stands s e) there → (there ≡ [] → ⊥) → (x : Need) → IsOfSome (λ n. IsWithPartner s v c strict n x) there ↔ IsNeedOfContract s v e strict c x
+module _ (s : State) (v : Version) (e : Text) (wanted : Wanted) (c : Contract) (numbered : AreNumbered s e) where
+  pub with_some : (there : List ℕ) → ArePartners s c.provider (Stands s e) there → (there ≡ [] → ⊥) → (x : Need) → IsOfSome (λ n. IsWithPartner s v c wanted n x) there ↔ IsNeedOfContract s v e wanted c x
   with_some there are some x = (
     λ is.
         let it = (are is.0).0 is.1 in
@@ -98,7 +111,7 @@ module _ (s : State) (v : Version) (e : Text) (strict : Bool) (c : Contract) (nu
   partners_versions there are n c1 = let it = (are n).0 c1 in (version c.provider it.0, it.2)
 
   pub with_none : (there : List ℕ) → ArePartners s c.provider (Stands s e) there → there ≡ [] → (found : List Need)
-      → found ≡ need_with v c.provider None None ∷ [] → (x : Need) → Contains found x ↔ IsNeedOfContract s v e strict c x
+      → found ≡ need_with v c.provider None None ∷ [] → (x : Need) → Contains found x ↔ IsNeedOfContract s v e wanted c x
   with_none there are none found is x = both_ways (one_of found (need_with v c.provider None None) is x)
       (λ same. inr (nobody, same), λ is. elim is [ inl one ↦ absurd (nobody one.0 one.1) | inr none ↦ none.1 ])
     where
@@ -108,35 +121,35 @@ module _ (s : State) (v : Version) (e : Text) (strict : Bool) (c : Contract) (nu
 
 -- ---- both sides
 
-abbrev IsOpenNeed : State → Version → Text → Bool → Need → Type 0
-IsOpenNeed s v e strict x = IsNeed s v e x × IsOpen strict x
+abbrev IsWantedNeed : State → Version → Text → Wanted → Need → Type 0
+IsWantedNeed s v e wanted x = IsNeed s v e x × IsWanted wanted x
 
-module _ (s : State) (v : Version) (e : Text) (strict : Bool) where
+module _ (s : State) (v : Version) (e : Text) (wanted : Wanted) where
   -- what the contract of v gives is a need
-  consumed_is : (x : Need) → IsOwnNeed s v e strict x → IsOpenNeed s v e strict x
+  consumed_is : (x : Need) → IsOwnNeed s v e wanted x → IsWantedNeed s v e wanted x
   consumed_is x (c, mine, inl (w, stands, lacking, is)) =
-      subst (λ y. IsOpenNeed s v e strict y) (sym is) (record { content = c.content; contract = mine; between = inl (refl, stands); result = refl }, subst (IsOpen strict) is lacking)
+      subst (λ y. IsWantedNeed s v e wanted y) (sym is) (record { content = c.content; contract = mine; between = inl (refl, stands); result = refl }, subst (IsWanted wanted) is lacking)
   consumed_is x (c, mine, inr (none, is)) =
-      subst (λ y. IsOpenNeed s v e strict y) (sym is) (record { content = c.content; contract = mine; between = inr (inl (refl, refl, none)); result = refl }, refl)
+      subst (λ y. IsWantedNeed s v e wanted y) (sym is) (record { content = c.content; contract = mine; between = inr (inl (refl, refl, none)); result = refl }, absent_wanted wanted v c.provider)
 
-  provided_is : (x : Need) → IsNeedOfOthers s v e strict x → IsOpenNeed s v e strict x
+  provided_is : (x : Need) → IsNeedOfOthers s v e wanted x → IsWantedNeed s v e wanted x
   provided_is x (c, (u, stands, numbered, uses), (w, number, other, lacking, is)) =
       let alike : u ≡ w = one_version s.versions u w c.number numbered number in
-      subst (λ y. IsOpenNeed s v e strict y) (sym is) (
+      subst (λ y. IsWantedNeed s v e wanted y) (sym is) (
         record {
           content = c.content;
           contract = subst (λ y. s.contracts (y, v.pacticipant) ≡ Some c.content) alike uses;
           between = inr (inr (other, subst (Stands s e) alike stands, refl, refl));
           result = refl;
         },
-        subst (IsOpen strict) is lacking,
+        subst (IsWanted wanted) is lacking,
       )
 
   alike : (a b : Need) → a.consumer ≡ b.consumer → a.consumer_version ≡ b.consumer_version → a.provider ≡ b.provider → a.provider_version ≡ b.provider_version → a.latest ≡ b.latest → a ≡ b
   alike a b one two three four five = λ i. record { consumer = one i; consumer_version = two i; provider = three i; provider_version = four i; latest = five i }
 
   from_standing : (x : Need) (content : ℕ) → s.contracts (consumer_of x, x.provider) ≡ Some content → consumer_of x ≡ v → (o : Option Text) → x.provider_version ≡ o → IsSomeAnd o (λ w. Stands s e (version x.provider w))
-      → x.latest ≡ option_and_then (λ w. latest s content (version x.provider w)) o → IsOpen strict x → IsOwnNeed s v e strict x
+      → x.latest ≡ option_and_then (λ w. latest s content (version x.provider w)) o → IsWanted wanted x → IsOwnNeed s v e wanted x
   from_standing x content contract mine None is there result lacking = absurd there
   from_standing x content contract mine (Some w) is there result lacking = (
     record { provider = x.provider; content = content },
@@ -144,8 +157,8 @@ module _ (s : State) (v : Version) (e : Text) (strict : Bool) where
     inl (w, there, lacking, alike x (need_with v x.provider (Some w) (latest s content (version x.provider w))) (ap (λ (u : Version). u.pacticipant) mine) (ap (λ (u : Version). u.name) mine) refl is result),
   )
 
-  -- and each need that isn't good is found
-  from_need : (x : Need) → AreNumbered s e → IsNeed s v e x → IsOpen strict x → IsOwnNeed s v e strict x ⊎ IsNeedOfOthers s v e strict x
+  -- and each need that is wanted is found
+  from_need : (x : Need) → AreNumbered s e → IsNeed s v e x → IsWanted wanted x → IsOwnNeed s v e wanted x ⊎ IsNeedOfOthers s v e wanted x
   from_need x numbered is lacking = elim is.between [
     | inl there ↦ inl (from_standing x is.content is.contract there.0 x.provider_version refl there.1 is.result lacking)
     | inr (inl none) ↦ inl (
@@ -177,19 +190,40 @@ module _ (s : State) (v : Version) (e : Text) (strict : Bool) where
   pub are_of_versions : (p : Text) (there : List NumberedContract) → TellsContracts s p (Stands s e) there → AreOfVersions s there
   are_of_versions p there told c has = let it = (told c).0 has in (it.0, it.2)
 
-  pub provided_are : (there : List NumberedContract) (found : List Need) → TellsContracts s v.pacticipant (Stands s e) there → ((x : Need) → Contains found x ↔ IsOfSome (λ c. IsUsed s v strict c x) there) → (x : Need) → Contains found x ↔ IsNeedOfOthers s v e strict x
+  pub provided_are : (there : List NumberedContract) (found : List Need) → TellsContracts s v.pacticipant (Stands s e) there → ((x : Need) → Contains found x ↔ IsOfSome (λ c. IsUsed s v wanted c x) there) → (x : Need) → Contains found x ↔ IsNeedOfOthers s v e wanted x
   provided_are there found told here x = (
     λ c. let it = (here x).0 c in (it.0, (told it.0).0 it.1, it.2),
     λ is. (here x).1 (is.0, (told is.0).1 is.1, is.2),
   )
 
-  pub both_are : AreNumbered s e → (mine theirs all : List Need) → all ≡ mine ++ theirs → ((x : Need) → Contains mine x ↔ IsOwnNeed s v e strict x)
-      → ((x : Need) → Contains theirs x ↔ IsNeedOfOthers s v e strict x)
-      → (x : Need) → Contains all x ↔ IsOpenNeed s v e strict x
+  pub both_are : AreNumbered s e → (mine theirs all : List Need) → all ≡ mine ++ theirs → ((x : Need) → Contains mine x ↔ IsOwnNeed s v e wanted x)
+      → ((x : Need) → Contains theirs x ↔ IsNeedOfOthers s v e wanted x)
+      → (x : Need) → Contains all x ↔ IsWantedNeed s v e wanted x
   both_are numbered mine theirs all same are_mine are_theirs x = both_ways (both_of mine theirs all same x (are_mine x) (are_theirs x)) (
     λ found. elim found [ inl one ↦ consumed_is x one | inr two ↦ provided_is x two ],
     λ is. from_need x numbered is.0 is.1,
   )
+
+-- ---- all of them, each once
+
+pub need_cmp_total : IsTotalOrder need_cmp
+need_cmp_total = then_total (on_total (λ (x : Need). x.consumer) nat_list_cmp_total)
+    (then_total (on_total (λ (x : Need). x.consumer_version) nat_list_cmp_total)
+    (then_total (on_total (λ (x : Need). x.provider) nat_list_cmp_total) (on_total (λ (x : Need). x.provider_version) (options_total nat_list_cmp_total))))
+
+-- two needs of the same names are one
+pub one_need : (s : State) (v : Version) (e : Text) (x y : Need) → IsNeed s v e x → IsNeed s v e y → need_cmp x y ≡ Equal → x ≡ y
+one_need s v e x y is are tied =
+    let a = both_equal _ _ tied in
+    let b = both_equal _ _ a.1 in
+    let d = both_equal _ _ b.1 in
+    let c = text_tied x.consumer y.consumer a.0 in
+    let cv = text_tied x.consumer_version y.consumer_version b.0 in
+    let p = text_tied x.provider y.provider d.0 in
+    let pv = option_tied x.provider_version y.provider_version d.1 in
+    let content : is.content ≡ are.content = some_is _ _ (sym is.contract ∙ (λ i. s.contracts (version (c i) (cv i), p i)) ∙ are.contract) in
+    let said : x.latest ≡ y.latest = is.result ∙ (λ i. option_and_then (λ w. latest s (content i) (version (p i) w)) (pv i)) ∙ sym are.result in
+    λ i. record { consumer = c i; consumer_version = cv i; provider = p i; provider_version = pv i; latest = said i }
 
 -- ---- their faults
 
@@ -197,14 +231,14 @@ abbrev fault_with : Need → Kind → PairFault
 fault_with x kind = record { consumer = x.consumer; consumer_version = x.consumer_version; provider = x.provider; provider_version = x.provider_version; kind = kind }
 
 -- a need that has a fault isn't good
-faulty : (strict : Bool) (x : Need) (f : PairFault) → fault_of strict x ≡ Some f → IsOpen strict x
+faulty : (strict : Bool) (x : Need) (f : PairFault) → fault_of strict x ≡ Some f → IsWanted (Open strict) x
 faulty strict x f is = go (kind_of strict x.provider_version x.latest) is
   where
     go : (o : Option Kind) → option_map (fault_with x) o ≡ Some f → is_some o ≡ true
     go None none = absurd cc
     go (Some k) some = refl
 
-pub faults_are : (s : State) (v : Version) (e : Text) (strict : Bool) (needs : List Need) (faults : List PairFault) → ((x : Need) → Contains needs x ↔ IsOpenNeed s v e strict x) → Lists fault_cmp (IsFaultAmong strict needs) faults → AreFaults s v e strict faults
+pub faults_are : (s : State) (v : Version) (e : Text) (strict : Bool) (needs : List Need) (faults : List PairFault) → ((x : Need) → Contains needs x ↔ IsWantedNeed s v e (Open strict) x) → Lists fault_cmp (IsFaultAmong strict needs) faults → AreFaults s v e strict faults
 faults_are s v e strict needs faults are listed same = record {
   sorted = listed.sorted;
   exactly = λ f. (

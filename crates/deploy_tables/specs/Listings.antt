@@ -7,6 +7,7 @@ use Rattle.table_access.specs.declared.StoreFault.TheVariants.{Store}
 use Rattle.table_access.specs.Reading.{IsTextAt}
 use Rattle.broker_core.specs.declared.command.Version.{Version}
 use Rattle.broker_core.specs.declared.answer.DeployedItem.{DeployedItem}
+use Rattle.broker_core.specs.Text.{version}
 use Rattle.broker_tables.specs.Names.{IsNameAt}
 
 -- the columns are the pacticipant, the instance and the version's name
@@ -32,3 +33,7 @@ FailsAsDeployed row fault = (fault ≡ Store) ↔ (¬ ReadsAsDeployed row)
 
 abbrev pub FailsAsReleased : Row → StoreFault → Type 0
 FailsAsReleased row fault = (fault ≡ Store) ↔ (¬ ReadsAsReleased row)
+
+-- the version that is deployed
+abbrev pub deployed_version : DeployedItem → Version
+deployed_version item = version item.pacticipant item.version

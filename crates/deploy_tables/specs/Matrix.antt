@@ -1,16 +1,22 @@
--- For private clauses: the matrix of a version, from the parts that are read: its own contracts with the versions that
--- have results for them, and what it has results for itself with the consumers. What the matrix is, `IsMatrixRow` of
--- broker_core says, which the clause of `matrix` cites.
+-- The matrix of a version, by its number. What it is, `IsMatrixRow` of broker_core says; all behind `ListsMatrix`, which
+-- the clause of `matrix` cites, is for private clauses: how it is put together from the parts that are read, its own
+-- contracts with the versions that have results for them, and what it has results for itself with the consumers.
 use Rattle.std.specs.Prelude.{Contains, ◌≡◌, ◌⊎◌, ℕ, List, [], ◌∷◌, map, Option, Some, None}
 use Rattle.broker_core.specs.declared.command.Version.{Version}
 use Rattle.broker_core.specs.declared.answer.MatrixRow.{MatrixRow}
 use Rattle.broker_core.specs.declared.answer.Verified.{Verified}
 use Rattle.broker_core.specs.Text.{Text, version}
-use Rattle.broker_core.specs.Machine.{IsLatest}
+use Rattle.broker_core.specs.Listing.{Lists}
+use Rattle.broker_core.specs.Machine.{IsLatest, IsMatrixRow, matrix_cmp}
 use Rattle.broker_core.specs.State.{State, latest_result}
 use Rattle.contract_tables.specs.declared.listings.Contract.{Contract}
 use Rattle.contract_tables.specs.declared.version_results.LatestResult.{LatestResult}
 use Rattle.contract_tables.specs.VersionResults.{IsLatestOf}
+use Rattle.deploy_tables.specs.Releases.{IsOfNumber}
+
+-- these are the rows of the matrix of the version of this number, each once, in their order; none where no version has it
+abbrev pub ListsMatrix : State → ℕ → List MatrixRow → Type 0
+ListsMatrix s number rows = IsOfNumber s number (λ v. Lists matrix_cmp (IsMatrixRow s v) rows) (rows ≡ [])
 
 -- ---- what `rows_with` and its parts compute, step by step as the code does it
 

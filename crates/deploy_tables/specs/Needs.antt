@@ -1,21 +1,25 @@
--- What a version needs in an environment and isn't good, from the parts that are read. The clause of `faults` cites
--- `ListsFaults`, which says it in the machine's words; all else is for private clauses.
-use Rattle.std.specs.Prelude.{Contains, ◌≡◌, ◌≢◌, ◌⊎◌, ◌&&◌, ◌||◌, not, List, [], ℕ, Bool, false, Option, Some, None, is_some, if◌then◌else◌, IsTrue, MatchOption}
-use Rattle.std.specs.Option.{option_map_or}
+-- What a version needs in an environment, from the parts that are read. The clauses of `faults` and `needs` cite
+-- `ListsFaults` and `ListsNeeds`, which say it in the machine's words; all else is for private clauses.
+use Rattle.std.specs.Prelude.{Contains, ◌≡◌, ◌≢◌, ◌⊎◌, ◌&&◌, ◌||◌, not, List, [], ℕ, Bool, true, false, Option, Some, None, is_some, if◌then◌else◌, IsTrue, MatchOption}
+use Rattle.std.specs.declared.cmp.Ordering.{Ordering}
+use Rattle.std.specs.Ordering.{ordering_then}
+use Rattle.std.specs.Option.{option_map_or, option_cmp}
 use Rattle.broker_core.specs.declared.command.Version.{Version}
 use Rattle.broker_core.specs.declared.need.Need.{Need}
 use Rattle.broker_core.specs.declared.need.Latest.{Latest}
 use Rattle.broker_core.specs.declared.need.PairFault.{PairFault}
-use Rattle.broker_core.specs.Text.{Text, same_text, version}
+use Rattle.broker_core.specs.Text.{Text, same_text, text_cmp, version}
 use Rattle.broker_core.specs.State.{State, latest, is_strict}
-use Rattle.broker_core.specs.Gate.{Stands, IsFault}
+use Rattle.broker_core.specs.Gate.{Stands, IsNeed, IsFault}
 use Rattle.broker_core.specs.Faults.{kind_of, fault_cmp}
 use Rattle.broker_core.specs.Listing.{Lists}
 use Rattle.broker_tables.specs.Numbers.{number_of}
 use Rattle.contract_tables.specs.declared.listings.Contract.{Contract}
 use Rattle.contract_tables.specs.declared.version_results.LatestResult.{LatestResult}
 use Rattle.contract_tables.specs.VersionResults.{latest_cmp, IsLatestOf}
-use Rattle.deploy_tables.specs.Releases.{IsVersion}
+use Rattle.deploy_tables.specs.Releases.{IsVersion, IsOfNumber}
+use Rattle.deploy_tables.specs.declared.wanted_needs.Wanted.{Wanted}
+use Rattle.deploy_tables.specs.declared.wanted_needs.Wanted.TheVariants.{All, Open}
 use Rattle.deploy_tables.specs.declared.contracts_there.NumberedContract.{NumberedContract}
 
 -- ---- the faults
@@ -28,6 +32,18 @@ AreFaults s v e strict faults = is_strict s e ≡ strict → Lists fault_cmp (Is
 abbrev pub ListsFaults : State → Version → Text → Bool → List PairFault → Type 0
 ListsFaults s v e strict faults =
     MatchOption (number_of s.versions v) (faults ≡ []) (λ _. AreFaults s v e strict faults)
+
+-- ---- the needs
+
+-- needs stand in the order of faults: by consumer, its version, provider, its version (none first)
+abbrev pub need_cmp : Need → Need → Ordering
+need_cmp x y = ordering_then (text_cmp x.consumer y.consumer)
+    (ordering_then (text_cmp x.consumer_version y.consumer_version)
+    (ordering_then (text_cmp x.provider y.provider) (option_cmp text_cmp x.provider_version y.provider_version)))
+
+-- these are the needs in e of the version of this number, each once, in their order; none where no version has it
+abbrev pub ListsNeeds : State → ℕ → Text → List Need → Type 0
+ListsNeeds s number e needs = IsOfNumber s number (λ v. Lists need_cmp (IsNeed s v e) needs) (needs ≡ [])
 
 -- ---- what is read
 
@@ -43,15 +59,24 @@ AreLatestOf s v results = Lists latest_cmp (IsLatestOf s v) results
 abbrev pub AreOfVersions : State → List NumberedContract → Type 0
 AreOfVersions s contracts = (c : NumberedContract) → Contains contracts c → IsVersion c.number s
 
--- ---- the needs that aren't good
+-- ---- the needs that are wanted
 
--- something is lacking of the need
-abbrev pub IsOpen : Bool → Need → Type 0
-IsOpen strict need = IsTrue (is_some (kind_of strict need.provider_version need.latest))
+-- all of them are, or those of which something is lacking
+abbrev pub is_wanted : Wanted → Need → Bool
+is_wanted All need = true
+is_wanted (Open strict) need = is_some (kind_of strict need.provider_version need.latest)
+
+abbrev pub IsWanted : Wanted → Need → Type 0
+IsWanted wanted need = IsTrue (is_wanted wanted need)
 
 -- the need is good of a contract of which the latest result says this, where the provider has a version there
 abbrev pub is_good : Bool → Option Latest → Bool
 is_good strict said = option_map_or (λ l. l.pass && (l.checked || not strict)) said false
+
+-- so it isn't wanted
+abbrev pub is_left_out : Wanted → Option Latest → Bool
+is_left_out All said = false
+is_left_out (Open strict) said = is_good strict said
 
 -- the need of a contract of v with this version of the provider
 abbrev pub need_with : Version → Text → Option Text → Option Latest → Need
@@ -69,29 +94,29 @@ need_used v said w =
     if same_text w.pacticipant v.pacticipant then None else Some (need_with w v.pacticipant (Some v.name) said)
 
 -- the contract c of v, with the version of this number
-abbrev pub IsWithPartner : State → Version → Contract → Bool → ℕ → Need → Type 0
-IsWithPartner s v c strict n x = (w : Version) × (number_of s.versions w ≡ Some n) × IsOpen strict x
+abbrev pub IsWithPartner : State → Version → Contract → Wanted → ℕ → Need → Type 0
+IsWithPartner s v c wanted n x = (w : Version) × (number_of s.versions w ≡ Some n) × IsWanted wanted x
     × (x ≡ need_with v c.provider (Some w.name) (latest s c.content w))
 
 -- the contract c of v, with a version of its provider that stands in e, or with none where none does
-abbrev pub IsNeedOfContract : State → Version → Text → Bool → Contract → Need → Type 0
-IsNeedOfContract s v e strict c x =
-    ((w : Text) × Stands s e (version c.provider w) × IsOpen strict x
+abbrev pub IsNeedOfContract : State → Version → Text → Wanted → Contract → Need → Type 0
+IsNeedOfContract s v e wanted c x =
+    ((w : Text) × Stands s e (version c.provider w) × IsWanted wanted x
     × (x ≡ need_with v c.provider (Some w) (latest s c.content (version c.provider w))))
     ⊎ (((w : Text) → ¬ (Stands s e (version c.provider w))) × (x ≡ need_with v c.provider None None))
 
 -- v is the consumer
-abbrev pub IsOwnNeed : State → Version → Text → Bool → Need → Type 0
-IsOwnNeed s v e strict x = (c : Contract) × IsOwnContract s v c × IsNeedOfContract s v e strict c x
+abbrev pub IsOwnNeed : State → Version → Text → Wanted → Need → Type 0
+IsOwnNeed s v e wanted x = (c : Contract) × IsOwnContract s v c × IsNeedOfContract s v e wanted c x
 
 -- a contract of the version of another pacticipant that has this number, with the pacticipant of v, and v
-abbrev pub IsUsed : State → Version → Bool → NumberedContract → Need → Type 0
-IsUsed s v strict c x = (w : Version) × (number_of s.versions w ≡ Some c.number) × (w.pacticipant ≢ v.pacticipant)
-    × IsOpen strict x × (x ≡ need_with w v.pacticipant (Some v.name) (latest s c.content v))
+abbrev pub IsUsed : State → Version → Wanted → NumberedContract → Need → Type 0
+IsUsed s v wanted c x = (w : Version) × (number_of s.versions w ≡ Some c.number) × (w.pacticipant ≢ v.pacticipant)
+    × IsWanted wanted x × (x ≡ need_with w v.pacticipant (Some v.name) (latest s c.content v))
 
 -- v is the provider
-abbrev pub IsNeedOfOthers : State → Version → Text → Bool → Need → Type 0
-IsNeedOfOthers s v e strict x = (c : NumberedContract)
+abbrev pub IsNeedOfOthers : State → Version → Text → Wanted → Need → Type 0
+IsNeedOfOthers s v e wanted x = (c : NumberedContract)
     × ((w : Version) × Stands s e w × (number_of s.versions w ≡ Some c.number)
     × (s.contracts (w, v.pacticipant) ≡ Some c.content))
-    × IsUsed s v strict c x
+    × IsUsed s v wanted c x

@@ -1,5 +1,5 @@
 -- What a release and its end change of the state.
-use Rattle.std.specs.Prelude.{◌≡◌, ℕ, Bool, Some, true, false}
+use Rattle.std.specs.Prelude.{◌≡◌, ℕ, Bool, Option, Some, true, false, MatchOption}
 use Rattle.broker_core.specs.declared.command.Version.{Version}
 use Rattle.broker_core.specs.Text.{Text, put_at, same_pair, same_text, same_version}
 use Rattle.broker_core.specs.State.{State}
@@ -9,6 +9,16 @@ use Rattle.deploy_tables.specs.Deployments.{IsEnvironment}
 -- there is a version of this number
 abbrev pub IsVersion : ℕ → State → Type 0
 IsVersion number s = (v : Version) × (number_of s.versions v ≡ Some number)
+
+-- this is so of the version of this number, or that where no version has it
+abbrev pub IsOfNumber : State → ℕ → (Version → Type 0) → Type 0 → Type 0
+IsOfNumber s number Is Otherwise =
+    ((v : Version) → number_of s.versions v ≡ Some number → Is v) × ((¬ IsVersion number s) → Otherwise)
+
+-- the version of this number, or none where no version has it
+abbrev pub FindsVersion : ℕ → Option Version → State → Type 0
+FindsVersion number found s =
+    MatchOption found (¬ IsVersion number s) (λ v. number_of s.versions v ≡ Some number)
 
 -- whether the version of this number is released there; nothing is released by a number that no version has
 abbrev pub FindsReleased : Text → ℕ → Bool → State → Type 0

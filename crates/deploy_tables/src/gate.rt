@@ -4,7 +4,7 @@ ghost use Rattle.broker_tables.specs.Numbers.{number_of as number_known};
 ghost use Rattle.broker_tables.specs.Calm.{CalmQueries};
 ghost use Rattle.deploy_tables.specs.Needs.{AreFaults, ListsFaults};
 
-use crate::open_needs::open_needs;
+use crate::wanted_needs::{Wanted, wanted_needs};
 use broker_core::command::Version;
 use broker_core::gate::decide;
 use broker_core::need::PairFault;
@@ -26,7 +26,8 @@ fn faults_numbered<S: Alter>(
         (λ found s. number_known s.versions version.now ≡ Some number →
         AreFaults s version.now environment.now strict found.items) }
 {
-    let needs = done!(open_needs(alloc, conn, number, version, environment, strict));
+    let wanted = Wanted::Open { strict };
+    let needs = done!(wanted_needs(alloc, conn, number, version, environment, wanted));
     match decide(alloc, &needs, strict) {
         Ok(faults) => Ok(faults),
         Err(_) => Err(StoreFault::Memory),

@@ -18,6 +18,7 @@ macro_rules! done {
     };
 }
 
+mod all_needs;
 mod contracts_there;
 mod deployments;
 mod gate;
@@ -25,15 +26,18 @@ mod listings;
 mod lists;
 mod making;
 mod matrix_rows;
-mod open_needs;
 mod partners;
 mod releases;
 mod rows;
 mod version_names;
+mod versions_there;
+mod wanted_needs;
 
+pub use all_needs::needs;
 pub use deployments::{is_deployed, record_deployed, take_out};
 pub use gate::faults;
 pub use listings::{deployed, released};
 pub use making::make_tables;
 pub use matrix_rows::matrix;
 pub use releases::{end_support, is_released, record_released};
+pub use versions_there::standing;

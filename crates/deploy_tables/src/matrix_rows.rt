@@ -6,16 +6,16 @@ ghost use Rattle.broker_core.specs.Listing.{Lists};
 ghost use Rattle.broker_core.specs.Machine.{IsMatrixRow, matrix_cmp};
 ghost use Rattle.broker_tables.specs.Numbers.{number_of as number_known};
 ghost use Rattle.broker_tables.specs.Calm.{CalmQueries};
-ghost use Rattle.deploy_tables.specs.Matrix.{IsOfContract, IsOfContent, IsOfSome, IsProvided};
+ghost use Rattle.deploy_tables.specs.Matrix.{IsOfContract, IsOfContent, IsOfSome, IsProvided, ListsMatrix};
 
 use crate::lists::add;
 use crate::rows::{each_row_once, rows_used, rows_with};
+use crate::version_names::find_version;
 use broker_core::answer::MatrixRow;
 use broker_core::command::Version;
 use contract_tables::{
     Contract, LatestResult, consumers_of, contracts_of, latest_results, verified_versions,
 };
-use registry_tables::version_of;
 use sqlite::{Alter, Connection};
 use std::alloc::Global;
 use table_access::StoreFault;
@@ -130,9 +130,9 @@ fn matrix_numbered<S: Alter>(
     Ok(each_row_once(rows))
 }
 
-/// The matrix of the version, in the order of faults: each of its contracts with each version of the provider that has a
-/// result for the content, or with none; and each contract with its pacticipant for whose content it has a result. Each
-/// row has the latest result. The list is empty if there is no such version.
+/// The matrix of the version of this number, in the order of faults: each of its contracts with each version of the
+/// provider that has a result for the content, or with none; and each contract with its pacticipant for whose content it
+/// has a result. Each row has the latest result. The list is empty if no version has this number.
 ///
 /// # Errors
 /// `StoreFault::Memory` if the database is out of memory, or there is none for the answer; `StoreFault::Store` if it
@@ -140,13 +140,12 @@ fn matrix_numbered<S: Alter>(
 pub fn matrix<S: Alter>(
     alloc: Global,
     conn: &mut Connection<S>,
-    version: &Version,
+    number: u32,
 ) -> Result<Vec<MatrixRow>, StoreFault>
-    ensures { CalmQueries S.Store conn.old conn.new result
-        (λ rows s. Lists matrix_cmp (IsMatrixRow s version.now) rows.items) }
+    ensures { CalmQueries S.Store conn.old conn.new result (λ rows s. ListsMatrix s number rows.items) }
 {
-    match done!(version_of(conn, version.pacticipant.as_str(), version.name.as_str())) {
-        Some(number) => matrix_numbered(alloc, conn, number, version),
+    match done!(find_version(alloc, conn, number)) {
+        Some(version) => matrix_numbered(alloc, conn, number, &version),
         None => Ok(Vec::new(alloc)),
     }
 }

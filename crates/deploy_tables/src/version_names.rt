@@ -4,7 +4,7 @@ ghost use Rattle.broker_core.specs.declared.command.Version.{Version as VersionM
 ghost use Rattle.broker_tables.specs.Numbers.{number_of as number_known};
 ghost use Rattle.broker_tables.specs.Calm.{CalmQueries, IsCalmFrom};
 ghost use Rattle.broker_tables.specs.Holds.{Queries};
-ghost use Rattle.deploy_tables.specs.Releases.{IsVersion};
+ghost use Rattle.deploy_tables.specs.Releases.{IsVersion, FindsVersion};
 
 use crate::listings::VersionRow;
 use broker_core::command::Version;
@@ -29,6 +29,22 @@ fn versions_numbered<S: Alter>(
     )
 }
 
+/// The version of this number, or `None` if no version has it.
+///
+/// # Errors
+/// `StoreFault::Memory` if the database is out of memory, or there is none for the names; `StoreFault::Store` if it
+/// refused the query, or if the row doesn't read.
+pub(crate) fn find_version<S: Alter>(
+    alloc: Global,
+    conn: &mut Connection<S>,
+    number: u32,
+) -> Result<Option<Version>, StoreFault>
+    ensures { CalmQueries S.Store conn.old conn.new result (FindsVersion number) }
+{
+    let mut found = done!(versions_numbered(alloc, conn, number));
+    Ok(found.pop())
+}
+
 /// The version of this number, which a row names.
 ///
 /// # Errors
@@ -41,8 +57,7 @@ pub(crate) fn version_numbered<S: Alter>(
     ensures answers { Queries S.Store conn.old conn.new result (λ found s. number_known s.versions found ≡ Some number) }
     ensures calm { IsCalmFrom S.Store conn.old conn.new result (IsVersion number) }
 {
-    let mut found = done!(versions_numbered(alloc, conn, number));
-    match found.pop() {
+    match done!(find_version(alloc, conn, number)) {
         Some(version) => Ok(version),
         None => Err(StoreFault::Store),
     }

@@ -1,6 +1,6 @@
 -- what the commands on a version and an environment show and change, for the clauses of private functions: no public
 -- clause cites it
-use Rattle.std.specs.Prelude.{◌≡◌, List, Some, Bool, IsTrue, Result}
+use Rattle.std.specs.Prelude.{◌≡◌, ℕ, List, Some, Bool, IsTrue, Result}
 use Rattle.sqlite.specs.Held.{Held}
 use Rattle.sqlite_trees.specs.declared.store.Store.{Ghosts}
 use Rattle.table_access.specs.declared.StoreFault.{StoreFault}
@@ -22,7 +22,7 @@ use Rattle.broker_core.specs.declared.need.PairFault.{PairFault}
 use Rattle.broker_core.specs.declared.policy.Caller.{Caller}
 use Rattle.command_facts.specs.Performs.{CarriesWhere, IsMisnamed}
 use Rattle.command_facts.specs.Primitives.{broker_primitives}
-use Rattle.environment_commands.specs.Places.{IsAdmitted}
+use Rattle.environment_commands.specs.Places.{IsAdmitted, HasNumber}
 use Rattle.environment_commands.specs.declared.places.Admitted.{Admitted}
 
 -- what the command does once nothing refuses it
@@ -61,9 +61,9 @@ IsEnvironmentShown e marks answer s = (caller : Caller) → s.environments e ≡
 abbrev pub IsGateShown : Text → Version → Admitted → Answer → Broker → Type 0
 IsGateShown e v place answer s = IsAdmitted e v place s → Enacts (CanIDeploy v e) s (unchanged_with s answer)
 
--- what is shown of the matrix of a version
-abbrev pub IsMatrixShown : Version → Answer → Broker → Type 0
-IsMatrixShown v answer s = Enacts (GetMatrix v) s (unchanged_with s answer)
+-- what is shown of the matrix of the version of this number
+abbrev pub IsMatrixShown : ℕ → Answer → Broker → Type 0
+IsMatrixShown number answer s = (v : Version) → HasNumber v number s → Enacts (GetMatrix v) s (unchanged_with s answer)
 
 -- the answer that shows an environment with its lists
 abbrev pub shows : Text → Marks → List DeployedItem → List Version → Answer

@@ -1,5 +1,5 @@
 //! The matrix of a version.
-ghost use Rattle.std.specs.Prelude.{Some, None, IfOk, IfErr};
+ghost use Rattle.std.specs.Prelude.{◌≡◌, Some, None, IfOk, IfErr};
 ghost use Rattle.broker_core.specs.declared.command.Command.TheVariants.{GetMatrix};
 ghost use Rattle.broker_tables.specs.Calm.{CalmQueries};
 ghost use Rattle.command_facts.specs.Performs.{CarriesCalmly};
@@ -15,14 +15,15 @@ use sqlite::{Alter, Connection};
 use std::alloc::Global;
 use table_access::StoreFault;
 
-/// Nothing, or the answer that refuses to show the matrix of the version.
-fn admitted_to_matrix(version: VersionFacts) -> Result<(), Answer>
+/// The number of the version, or the answer that refuses to show its matrix.
+fn admitted_to_matrix(version: VersionFacts) -> Result<u32, Answer>
     ensures refused { IfErr result (λ answer. MatrixHasRefusal version (Some answer)) }
     ensures let_through { IfOk result (λ _. MatrixHasRefusal version None) }
+    ensures numbered { IfOk result (λ number. version.number ≡ Some number) }
 {
     match number_among(version) {
-        Ok(_) => if version.owner.is_allowed {
-            Ok(())
+        Ok(number) => if version.owner.is_allowed {
+            Ok(number)
         } else {
             Err(Answer::Denied(Rule::A6))
         },
@@ -30,15 +31,15 @@ fn admitted_to_matrix(version: VersionFacts) -> Result<(), Answer>
     }
 }
 
-/// Shows the matrix of the version.
+/// Shows the matrix of the version of this number.
 fn show_matrix<S: Alter>(
     alloc: Global,
     conn: &mut Connection<S>,
-    version: &Version,
+    number: u32,
 ) -> Result<Answer, StoreFault>
-    ensures { CalmQueries S.Store conn.old conn.new result (IsMatrixShown version.now) }
+    ensures { CalmQueries S.Store conn.old conn.new result (IsMatrixShown number) }
 {
-    let rows = done!(matrix(alloc, conn, version));
+    let rows = done!(matrix(alloc, conn, number));
     Ok(Answer::Shown(Shown::Matrix(MatrixRows::new(rows))))
 }
 
@@ -53,7 +54,7 @@ pub fn get_matrix<S: Alter>(
 {
     let facts = done!(read_version(alloc, conn, caller, Rule::A6, version, false));
     match admitted_to_matrix(facts) {
-        Ok(()) => show_matrix(alloc, conn, version),
+        Ok(number) => show_matrix(alloc, conn, number),
         Err(answer) => Ok(answer),
     }
 }

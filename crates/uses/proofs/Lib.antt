@@ -1,3 +1,4 @@
 pub mod Deployed
 pub mod Reopened
 pub mod Served
+pub mod Asked

@@ -3,3 +3,4 @@ pub mod Pacts
 pub mod Reopening
 pub mod Replies
 pub mod Streams
+pub mod Tables

@@ -7,9 +7,11 @@ mod pacts;
 mod reopening;
 mod replies;
 mod streams;
+mod tables;
 
 pub use deploying::{deploy, deployment};
 pub use pacts::normal_text;
 pub use reopening::{NotReopened, reopen};
 pub use replies::{Unjudged, failing};
 pub use streams::answers;
+pub use tables::{claim_pass, is_alone, is_vacant, is_verified};

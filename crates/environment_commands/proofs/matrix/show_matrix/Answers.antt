@@ -8,4 +8,4 @@ use Rattle.environment_commands.proofs.matrix.show_matrix.Goals as goal
 pub returns : goal.returns
 returns g c =
     calm_answers (state g.S.Store c.args.conn.now) (state g.S.Store c.matrix.new.conn) c.in-Ok.value (Shown (shown.Matrix c.new.result)) _ _
-    (λ s rows. (c.in-Ok.value.items, rows, ap (λ (xs : List MatrixRow). unchanged_with s (Shown (shown.Matrix xs))) c.new.ensures)) c.in-Ok.ensures
+    (λ s rows v number. (c.in-Ok.value.items, rows.0 v number, ap (λ (xs : List MatrixRow). unchanged_with s (Shown (shown.Matrix xs))) c.new.ensures)) c.in-Ok.ensures

@@ -1,0 +1,25 @@
+-- What is deployed and what is released are the versions that are in an environment.
+use Rattle.std.specs.{Prelude.{Contains, ◌↔◌}, declared.cmp.Ordering.TheVariants.{Equal}}
+use Rattle.std.proofs.Common.{◌≡◌, List, ◌++◌, map, Some, IsTrue, refl, sym, subst}
+use Rattle.broker_core.specs.{declared.answer.DeployedItem.{DeployedItem}, declared.command.Version.{Version}, Gate.{Stands}, Listing.{Lists}}
+use Rattle.broker_core.{specs.{Machine.{deployed_cmp, version_cmp}, State.{State}, Text.{Text, version}}, proofs.Order.{text_tied, both_equal}}
+use Rattle.deploy_tables.{specs.Listings.{deployed_version}, proofs.{MatrixLemmas.{mapped_is}, MatrixLoop.{both_ways, both_of}}}
+
+pub version_tied : (x y : Version) → version_cmp x y ≡ Equal → x ≡ y
+version_tied x y tied =
+    let it = both_equal _ _ tied in
+    λ i. version (text_tied x.pacticipant y.pacticipant it.0 i) (text_tied x.name y.name it.1 i)
+
+pub stand_is : (s : State) (e : Text) (deployed : List DeployedItem) (released all found : List Version)
+    → Lists deployed_cmp (λ x. s.deployed (e, x.pacticipant, x.instance) ≡ Some x.version) deployed → Lists version_cmp (λ v. IsTrue (s.released (e, v))) released
+    → all ≡ map deployed_version deployed ++ released → Lists version_cmp (Contains all) found → Lists version_cmp (Stands s e) found
+stand_is s e deployed released all found of_deployed of_released is listed = record {
+  sorted = listed.sorted;
+  exactly = λ v. both_ways (listed.exactly v) (both_of (map deployed_version deployed) released all is v (deployed_is v) (of_released.exactly v));
+}
+  where
+    deployed_is : (v : Version) → Contains (map deployed_version deployed) v ↔ ((instance : Text) × (s.deployed (e, v.pacticipant, instance) ≡ Some v.name))
+    deployed_is v = both_ways (mapped_is deployed_version deployed of_deployed v) (
+      λ item. (item.0.instance, subst (λ (w : Version). s.deployed (e, w.pacticipant, item.0.instance) ≡ Some w.name) (sym item.2) item.1),
+      λ there. (record { pacticipant = v.pacticipant; instance = there.0; version = v.name }, there.1, refl),
+    )

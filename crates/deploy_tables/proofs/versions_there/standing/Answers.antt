@@ -1,0 +1,13 @@
+use Rattle.std.proofs.Common.{map, ap, ◌∙◌, ◌++◌}
+use Rattle.deploy_tables.{specs.Listings.{deployed_version}, proofs.{MatrixLoop.{query_failed, both_told, calm_answers}, VersionsThere.{stand_is}}}
+use Rattle.deploy_tables.proofs.versions_there.standing.Goals as goal
+
+pub returns : goal.returns
+returns g c =
+    calm_answers _ _ _ c.each_version_once.result _ _
+    (λ s both. stand_is s c.args.environment.now _ _ _ _ both.0 both.1
+    (c.in-Ok-all_versions.ensures.all ∙ ap (λ items. map deployed_version items ++ c.in-Ok-released.value.items) c.deref.ensures.value) c.each_version_once.ensures)
+    (both_told _ _ _ _ _ _ _ c.in-Ok.ensures c.in-Ok-released.ensures)
+
+pub returns-in-Err-released : goal.returns-in-Err-released
+returns-in-Err-released g c = query_failed _ _ _ _ _ _ _ _ c.in-Ok.ensures c.in-Err-released.ensures

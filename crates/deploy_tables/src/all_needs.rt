@@ -1,0 +1,84 @@
+//! All needs of a version in an environment.
+ghost use Rattle.std.specs.Prelude.{◌≡◌, ◌↔◌, Some, Contains};
+ghost use Rattle.broker_core.specs.declared.command.Version.{Version as VersionModel};
+ghost use Rattle.broker_core.specs.declared.need.Need.{Need as NeedModel};
+ghost use Rattle.broker_core.specs.Gate.{IsNeed};
+ghost use Rattle.broker_core.specs.Listing.{Lists};
+ghost use Rattle.broker_core.specs.State.{State as Broker};
+ghost use Rattle.broker_core.specs.Text.{Text};
+ghost use Rattle.broker_tables.specs.Numbers.{number_of as number_known};
+ghost use Rattle.broker_tables.specs.Calm.{CalmQueries};
+ghost use Rattle.deploy_tables.specs.Needs.{need_cmp, ListsNeeds};
+
+use crate::version_names::find_version;
+use crate::wanted_needs::{Wanted, wanted_needs};
+use broker_core::command::Version;
+use broker_core::need::Need;
+use sqlite::{Alter, Connection};
+use std::alloc::Global;
+use std::cmp::Ordering;
+use table_access::StoreFault;
+
+/// The order of two needs.
+fn need_order(one: &Need, other: &Need) -> Ordering
+    ensures { result ≡ need_cmp one.now other.now }
+{
+    one.consumer.cmp(&other.consumer).then(
+        one.consumer_version.cmp(&other.consumer_version).then(
+            one.provider
+                .cmp(&other.provider)
+                .then(one.provider_version.cmp(&other.provider_version)),
+        ),
+    )
+}
+
+/// The needs of a version, each once, in their order.
+fn each_need_once(needs: Vec<Need>) -> Vec<Need>
+    ensures { (s : Broker) (v : VersionModel) (e : Text) →
+        ((x : NeedModel) → Contains needs.items x ↔ IsNeed s v e x) →
+        Lists need_cmp (IsNeed s v e) result.items }
+{
+    let mut needs = needs;
+    needs.sort_unstable_by(|one, other| need_order(one, other));
+    needs.dedup_by(|one, other| need_order(one, other).is_eq());
+    needs
+}
+
+/// The needs of the version of this number.
+fn needs_numbered<S: Alter>(
+    alloc: Global,
+    conn: &mut Connection<S>,
+    number: u32,
+    version: &Version,
+    environment: &str,
+) -> Result<Vec<Need>, StoreFault>
+    ensures { CalmQueries S.Store conn.old conn.new result
+        (λ found s. number_known s.versions version.now ≡ Some number →
+        Lists need_cmp (IsNeed s version.now environment.now) found.items) }
+{
+    let found = done!(wanted_needs(alloc, conn, number, version, environment, Wanted::All));
+    Ok(each_need_once(found))
+}
+
+/// The needs in the environment of the version of this number, with what the latest result says beside each: of its
+/// contracts with each version of their providers that is there, or with none, and of the contracts that versions of
+/// other pacticipants which are there have with its pacticipant. Each need is there once, in the order of faults. The
+/// list is empty if no version has this number.
+///
+/// # Errors
+/// `StoreFault::Memory` if the database is out of memory, or there is none for the answer; `StoreFault::Store` if it
+/// refused a query, or if a row doesn't read.
+pub fn needs<S: Alter>(
+    alloc: Global,
+    conn: &mut Connection<S>,
+    number: u32,
+    environment: &str,
+) -> Result<Vec<Need>, StoreFault>
+    ensures { CalmQueries S.Store conn.old conn.new result
+        (λ found s. ListsNeeds s number environment.now found.items) }
+{
+    match done!(find_version(alloc, conn, number)) {
+        Some(version) => needs_numbered(alloc, conn, number, &version, environment),
+        None => Ok(Vec::new(alloc)),
+    }
+}
