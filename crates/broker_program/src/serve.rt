@@ -172,8 +172,8 @@ pub fn serve_each<S: Start, P: Peers>(
     requires runs { broker.is_stopped ≡ false }
     requires opened { OpensBroker (image_at S.Start) broker }
     requires fresh { IsNewQueue (P.queue peers.old) }
-    ensures ok { IfOk result (λ service. ServesQueue ⟦<FileFrom<S> as Disk>⟧ ⟦<FileFrom<Unknown> as Disk>⟧
-        (image_at S.Start) (P.queue peers.old) (P.queue peers.new) service.files) }
+    ensures ok { IfOk result (λ it. ServesQueue ⟦<FileFrom<S> as Disk>⟧ ⟦<FileFrom<Unknown> as Disk>⟧
+        (image_at S.Start) (P.queue peers.old) (P.queue peers.new) it.files) }
     ensures counts { IfOk result (λ service. (service.served ≡ length (P.queue peers.new).went)
         × (service.lost ≡ (P.queue peers.new).lost)) }
     ensures cause { IfErr result (λ failed. CutsService failed.0 failed.1) }
