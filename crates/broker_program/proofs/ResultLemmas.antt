@@ -30,5 +30,5 @@ ok_with (Ok x) P Q R both p q = both x p q
 ok_with (Err y) P Q R both p q = tt
 
 pub none_if : {T : Type 0} (found : Option T) (test : Bool) → is_some found ≡ not test → test ≡ true → found ≡ None
-none_if None test is yes = refl
-none_if (Some x) test is yes = absurd (true≢false (is ∙ ap not yes))
+none_if None test is true_is = refl
+none_if (Some x) test is true_is = absurd (true≢false (is ∙ ap not true_is))

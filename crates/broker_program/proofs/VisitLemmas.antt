@@ -1,5 +1,5 @@
 -- peers that are let in and let go, one after another
-use Rattle.std.proofs.Common.{◌≡◌, ◌<◌, ◌+◌, ℕ, List, [], ◌∷◌, ◌++◌, length, map, append_assoc, append-nil, length-append, refl, sym, ap, ◌∙◌, arith}
+use Rattle.std.proofs.Common.{◌≡◌, ◌<◌, ◌+◌, ℕ, List, [], ◌∷◌, ◌++◌, length, map, append_assoc, append-nil, length-append, sym, ap, ◌∙◌, arith}
 use Rattle.std.proofs.lemmas.List.{length-map, length-replicate, map-append}
 use Rattle.program_io.specs.Entrance.{AreVisited, IsLetIn, NoneIsIn, IsLost, IsNewQueue, IsVisited, Peer, Queue, Visit, queue_of, stranger}
 
