@@ -14,6 +14,7 @@
 #include <errno.h>
 #include <fcntl.h>
 #include <netinet/in.h>
+#include <stdarg.h>
 #include <stdio.h>
 #include <stdlib.h>
 #include <string.h>
@@ -214,10 +215,39 @@ int setsockopt(int fd, int level, int name, const void *value, socklen_t length)
   return 0;
 }
 
+/* Another number for the same file, which is of the same peer. */
+static int same(int fd, int other) {
+  if (other >= OPEN_FILES)
+    abort();
+  if (fd >= 0 && fd < OPEN_FILES && other >= 0)
+    peer_of[other] = peer_of[fd];
+  return other;
+}
+
+int fcntl(int fd, int command, ...) {
+  va_list rest;
+  va_start(rest, command);
+  long value = va_arg(rest, long);
+  va_end(rest);
+  int result = syscall(SYS_fcntl, fd, command, value);
+  return command == F_DUPFD || command == F_DUPFD_CLOEXEC ? same(fd, result) : result;
+}
+int fcntl64(int fd, int command, ...) {
+  va_list rest;
+  va_start(rest, command);
+  long value = va_arg(rest, long);
+  va_end(rest);
+  return fcntl(fd, command, value);
+}
+int dup(int fd) { return same(fd, syscall(SYS_dup, fd)); }
+
+/* A connection is closed with the last of its numbers. */
 int close(int fd) {
   if (peer_at(fd)) {
-    report(peer_of[fd]);
+    int number = peer_of[fd];
     peer_of[fd] = 0;
+    if (!memchr(peer_of, number, sizeof peer_of))
+      report(number);
   }
   return syscall(SYS_close, fd);
 }
