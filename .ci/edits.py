@@ -63,8 +63,19 @@ def texts_with(crate, edits):
     return (texts, None) if texts else ({}, "it names no file")
 
 
+def not_read(edit):
+    """The lines of an edit behind its first `file:` that aren't read: a text is one line."""
+    lines = text_of(edit).split("\n")
+    first = next((place for place, line in enumerate(lines) if line.startswith("file: ")), len(lines))
+    return [line for line in lines[first:] if line and not line.startswith(("file: ", "old: ", "new:", "seen: "))]
+
+
 def why_not(crate, edit, home):
     """Why the edit can't be made, if it can't."""
+    if not_read(edit):
+        return f"a line isn't read, as a text is one line: {not_read(edit)[0]}"
+    if any(old == new for _, old, new in pairs_of(edit)):
+        return "an old text is the new one"
     if home == BODIES and f"{TOP}/crates/{crate}/must-fail/{os.path.basename(edit)}" in in_gate(crate):
         return "the crate's must-fail/ has one of this name"
     return texts_with(crate, [edit])[1]
