@@ -72,8 +72,8 @@ def not_read(edit):
 
 def why_not(crate, edit, home):
     """Why the edit can't be made, if it can't."""
-    if not_read(edit):
-        return f"a line isn't read, as a text is one line: {not_read(edit)[0]}"
+    if unread := not_read(edit):
+        return f"a line isn't read, as a text is one line: {unread[0]}"
     if any(old == new for _, old, new in pairs_of(edit)):
         return "an old text is the new one"
     if home == BODIES and f"{TOP}/crates/{crate}/must-fail/{os.path.basename(edit)}" in in_gate(crate):

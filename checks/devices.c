@@ -215,31 +215,19 @@ int setsockopt(int fd, int level, int name, const void *value, socklen_t length)
   return 0;
 }
 
-/* Another number for the same file, which is of the same peer. */
-static int same(int fd, int other) {
-  if (other >= OPEN_FILES)
-    abort();
-  if (fd >= 0 && fd < OPEN_FILES && other >= 0)
-    peer_of[other] = peer_of[fd];
-  return other;
-}
-
+/* A further number for the same file is of the same peer. */
 int fcntl(int fd, int command, ...) {
   va_list rest;
   va_start(rest, command);
-  long value = va_arg(rest, long);
+  int result = syscall(SYS_fcntl, fd, command, va_arg(rest, long));
   va_end(rest);
-  int result = syscall(SYS_fcntl, fd, command, value);
-  return command == F_DUPFD || command == F_DUPFD_CLOEXEC ? same(fd, result) : result;
+  if (peer_at(fd) && command == F_DUPFD_CLOEXEC && result >= 0) {
+    if (result >= OPEN_FILES)
+      abort();
+    peer_of[result] = peer_of[fd];
+  }
+  return result;
 }
-int fcntl64(int fd, int command, ...) {
-  va_list rest;
-  va_start(rest, command);
-  long value = va_arg(rest, long);
-  va_end(rest);
-  return fcntl(fd, command, value);
-}
-int dup(int fd) { return same(fd, syscall(SYS_dup, fd)); }
 
 /* A connection is closed with the last of its numbers. */
 int close(int fd) {
