@@ -86,8 +86,9 @@ fn run<S: Alter>(conn: &mut Connection<S>) -> Result<Option<u32>, Failure>
 ///
 /// # Errors
 /// `NotABroker`: there is no table `meta` with its columns, its key and exactly one row; or its format is 1, and a
-/// table of that format isn't there, or has other columns or other keys. `Format`: the format in that row is this other
-/// one; today's is refused too. After both, and after `Memory`, the database is as it was.
+/// table of that format isn't there, or has other columns or other keys, or a column that compares texts otherwise than
+/// by their bytes (`COLLATE NOCASE`, `RTRIM`): a name would find another's row there. `Format`: the format in that row
+/// is this other one; today's is refused too. After both, and after `Memory`, the database is as it was.
 /// `Store`: the database refused the commit, or another call for another cause than memory, or the format isn't a number
 /// from 0 to 2^32 - 1; the last commit is the old one, and after a refused commit a crash may leave today's database,
 /// whole. On a connection as it is opened, and a database that a broker of format 1 left, that is only if the store

@@ -7,6 +7,7 @@ use Rattle.sqlite.specs.Order.{Row, column}
 use Rattle.sqlite.specs.declared.types.Value.TheVariants.{Int}
 use Rattle.sqlite.specs.Effect.{Database}
 use Rattle.sqlite.specs.State.{State, HasCleanDisk}
+use Rattle.sqlite.specs.Collation.TheVariants.{Binary}
 use Rattle.sqlite_schema.specs.Names.{table_named}
 use Rattle.sqlite_schema.specs.declared.schema.Column.{Column}
 use Rattle.sqlite_schema.specs.declared.schema.Kind.{Kind}
@@ -89,15 +90,22 @@ AreKeys = AllZip (λ wanted places. places ≡ wanted)
 abbrev pub HasKeys : Option ℕ → List ℕ → List (List ℕ) → Table → Type 0
 HasKeys key primary uniques table = (table.key ≡ key) × (table.primary ≡ primary) × AreKeys uniques table.uniques
 
--- a table has the columns and the keys of this one, in their order
+-- Each column compares texts by their bytes: neither letters without their case (NOCASE), nor without the blanks at
+-- their end (RTRIM). So a row is found by its own name alone.
+abbrev pub CompareBytes : List Column → Type 0
+CompareBytes = AllByRecursion (λ c. c.collation ≡ Binary)
+
+-- a table has the columns and the keys of this one, in their order, and each column compares bytes
 abbrev pub HasForm : Table → Table → Type 0
 HasForm wanted table =
-    AreLike wanted.columns table.columns × HasKeys wanted.key wanted.primary wanted.uniques table
+    AreLike wanted.columns table.columns × CompareBytes table.columns
+    × HasKeys wanted.key wanted.primary wanted.uniques table
 
 abbrev pub HasTable : Schema → Table → Type 0
 HasTable schema wanted = IsSomeAnd (table_of wanted.name schema) (HasForm wanted)
 
--- each table of format 1 is there, with its columns and its keys, wherever it is and however it is declared
+-- Each table of format 1 is there, with its columns, which compare bytes, and its keys, wherever it is: with STRICT,
+-- NOT NULL, CHECKs and defaults, or without.
 abbrev pub HasFormerTables : Schema → Type 0
 HasFormerTables schema = AllByRecursion (HasTable schema) former_tables
 
