@@ -16,7 +16,7 @@ use Rattle.broker_tables.{specs.Former.{HoldsFormer, IsUnmarked, former_tables, 
 use Rattle.registry_tables.specs.Format.{AreLike, AreKeys, CompareBytes, HasForm, HasFormerTables, HasNoFormat, SharesTree, IsOfFormat, FindsFormer}
 use Rattle.command_facts.specs.Primitives.{broker_primitives}
 use Rattle.broker_database.specs.{Calls.{Migrated}, Ends.{IsUnchangedUnless}}
-use Rattle.broker_database.specs.Migration.{StoresFormer, BringsUpOrNot, MigratesOrRefuses, WasGood, WasPermitted, WasFault, WasJudged, Showed, JudgesAsBefore, former_kind, former_fault, former_marks}
+use Rattle.broker_database.specs.Migration.{StoresFormer, BringsUpOrNot, KeepsFormerRoom, MigratesOrRefuses, WasGood, WasPermitted, WasFault, WasJudged, Showed, JudgesAsBefore, former_kind, former_fault, former_marks}
 use Rattle.broker_database.specs.{Opening.{Refuses, IsUnchangedUnlessStore, judgement, open_fault}, Stored.{Stores, HoldsState}}
 use Rattle.broker_database.specs.{declared.opening.OpenFault.{OpenFault}, declared.opening.OpenFault.TheVariants.{Format}}
 use Rattle.broker_database.proofs.{Judgements.{one_told, meta_is, blank_none, marked_some}, OpenFailures.{judgement_is_none}}
@@ -217,6 +217,7 @@ refused_other old new (Some n) it = go (n == former_format) refl
 pub migrated : {X : Type 0} (shown : Held X → State) (old new : Held X) (found : Option ℕ) → BringsUpOrNot shown old new (Ok found) → Migrated shown old new (judgement former_format found)
 migrated shown old new found up = record {
   migrates = λ clean s keeps. always (judgement former_format found) (HoldsState s (shown new)) (up.ends clean s keeps).1;
+  room = λ clean s keeps. always (judgement former_format found) (KeepsFormerRoom (shown old) (shown new)) (up.ends clean s keeps).2;
   refuses = λ clean s keeps.
       let is : Ok tt ≡ judgement former_format found = sym (ap (judgement former_format) (up.ends clean s keeps).0) in
       subst (λ (r : Result (Unit {0}) OpenFault). IfErr r (Refuses (λ db. StoresFormer db s) (λ db. Stores db s) (shown new))) is tt;
@@ -239,6 +240,7 @@ migrated shown old new found up = record {
 pub unmigrated : {X : Type 0} (shown : Held X → State) (old new : Held X) (why : StoreFault) → BringsUpOrNot shown old new (Err why) → Migrated shown old new (Err (open_fault why))
 unmigrated shown old new store_fault.Memory up = record {
   migrates = λ _ _ _. tt;
+  room = λ _ _ _. tt;
   refuses = up.ends;
   judges = λ _. tt;
   calm = λ clean fresh is. absurd (cc);
@@ -252,6 +254,7 @@ unmigrated shown old new store_fault.Memory up = record {
 }
 unmigrated shown old new store_fault.Store up = record {
   migrates = λ _ _ _. tt;
+  room = λ _ _ _. tt;
   refuses = up.ends;
   judges = λ _. tt;
   calm = λ clean fresh is. up.calm clean fresh refl;

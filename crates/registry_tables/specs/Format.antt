@@ -14,7 +14,7 @@ use Rattle.sqlite_schema.specs.declared.schema.Kind.{Kind}
 use Rattle.table_access.specs.declared.StoreFault.{StoreFault}
 use Rattle.table_access.specs.declared.StoreFault.TheVariants.{Store}
 use Rattle.table_access.specs.Calls.{HasFailed}
-use Rattle.broker_tables.specs.Schema.{meta, in_meta}
+use Rattle.broker_tables.specs.Schema.{meta, in_meta, schema_of}
 use Rattle.broker_core.specs.State.{State as Broker}
 use Rattle.broker_tables.specs.Holds.{format}
 use Rattle.broker_tables.specs.Former.{HoldsUnmarked, former_format, former_tables, added_tables}
@@ -120,7 +120,13 @@ FindsFormer db found = MatchOption found
 abbrev pub CanBecomeFormat2 : List Table → Database → Type 0
 CanBecomeFormat2 more db = (s : Broker) × HoldsUnmarked former_format more db s × AreShort (s.office ∷ [])
 
--- the state of such a database is held in format 2
+-- each table of format 1 has the rows that it had, but for the one row of meta, which has the format
+abbrev pub KeepsFormerRows : Database → Database → Type 0
+KeepsFormerRows old new =
+    AllByRecursion (λ t. t.tree ≢ in_meta.tree → new.trees t.tree ≡ old.trees t.tree) (schema_of former_tables).tables
+
+-- the state of such a database is held in format 2, and the rows are kept, with their numbers
 abbrev pub BecomesFormat2 : List Table → Database → Database → Type 0
 BecomesFormat2 more old new =
-    (s : Broker) → HoldsUnmarked former_format more old s → HoldsUnmarked format added_tables new s
+    (s : Broker) → HoldsUnmarked former_format more old s
+    → HoldsUnmarked format added_tables new s × KeepsFormerRows old new
