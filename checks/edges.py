@@ -382,7 +382,7 @@ def loose(text):
     return "\n".join(["CREATE TABLE notes (line TEXT);", *made[::-1], *rows])
 
 
-@case("another's file of format 1 is migrated if its tables have the columns and the keys; else it is `open 2`, and as it was")
+@case("another's file of format 1 is migrated if its tables have the columns, by bytes, and the keys; else it is `open 2`, and as it was")
 def declared_former(room):
     with open(f"{TOP}/checks/lines/former.sql", encoding="utf-8") as it:
         former = it.read()
@@ -396,6 +396,8 @@ def declared_former(room):
         released.replace(", PRIMARY KEY (environment, version_number)", ""),
         released.replace("(environment, version_number))", "(environment, version_number), UNIQUE (version_number))"),
         "CREATE VIEW released AS SELECT environment, version_number FROM deployed",
+        released.replace("environment TEXT,", "environment TEXT COLLATE NOCASE,"),
+        released.replace("environment TEXT,", "environment TEXT COLLATE RTRIM,"),
     ]
     for number, text in enumerate(instead):
         file = f"{room}/{number}.db"

@@ -11,6 +11,7 @@ pub mod MakeLemmas
 pub mod ListedLemmas
 pub mod StoredLemmas
 pub mod FormerOpening
+pub mod FormerRoom
 pub mod LifeLemmas
 mod LifeExamples
 mod MigrationExamples

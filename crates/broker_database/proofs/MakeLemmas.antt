@@ -1,12 +1,12 @@
 -- What the transactions leave that make a broker's tables, look for a format, and bring a database up.
 use Rattle.broker_core.specs.{State.{State as Broker, opening}, Text.{Text}}
-use Rattle.broker_database.specs.Migration.{BringsUp, BringsUpOrNot, IsFormer, OnlyIfNotMigrated, StoresFormer}
+use Rattle.broker_database.specs.Migration.{BringsUp, BringsUpOrNot, HasFormerRoomFor, IsFormer, KeepsFormerRoom, OnlyIfNotMigrated, StoresFormer}
 use Rattle.broker_database.specs.Opening.{IsFresh, IsUncommitted, MakesOrFails, OnlyIfRefused, OnlyIfStoreFailed, Refuses, open_fault}
 use Rattle.broker_database.specs.{Stored.{HoldsState, Stores}, declared.ending.Failure.{Failure}, declared.ending.Failure.TheVariants.{Call, Commit}}
 use Rattle.broker_database.{specs.Transaction.{Concludes, EndsFor, told}, proofs.{MigrationLemmas.{former_found}, OpenFailures.{looking_fails, unbegun_fails}}}
 use Rattle.broker_database.proofs.{Sound.{opens_sound}, StoreFailures.{transaction_fails}}
 use Rattle.broker_database.proofs.Transaction.{WholeTransaction, adds_nothing, once_at_most, transaction_begun, transaction_ends, transaction_once, transaction_over, transaction_spares, transaction_told, transaction_unchanged, transaction_within, unbegun_ends, unbegun_over, unbegun_unchanged}
-use Rattle.broker_tables.specs.{Former.{former_format}, Holds.{Holds}, Making.{IsBlank, IsCalmOverBetween}, Room.{HasAllNumbers}}
+use Rattle.broker_tables.specs.{Former.{former_format}, Holds.{Holds}, Making.{IsBlank, IsCalmOverBetween}, Room.{HasAllNumbers, HasRoomFor}}
 use Rattle.registry_tables.specs.Format.{FailsToFind, FindsFormer, IsOfFormat}
 use Rattle.sqlite.specs.{Effect.{Database}, Held.{Held}, State.{HasCleanDisk, State, Survives}}
 use Rattle.std.proofs.Common.{Bool, Err, IfErr, IsOk, IsOkAnd, IsTrue, None, Ok, Option, Result, Some, ap, arith, false, inl, inr, is_ok, refl, subst, sym, ℕ, ◌↔◌, ◌∙◌, ◌≡◌, ◌≤◌, ◌⊎◌}
@@ -142,9 +142,14 @@ pub brought_up : {X : Type 0} (shown : Held X → State) (old mid done new : Hel
 brought_up shown old mid done new worked result keeps begun begins works kept concludes looks former = record {
   found = λ clean. IfOk-weaker result _ _ (λ found it. (it.0, subst (λ (db : Database). FindsFormer db found) it.1 it.2.0)) (transaction_told (shown old) (shown mid) (shown done) (shown new) _ _ result t clean);
   ends = λ clean s holds.
-      transaction_ends (shown old) (shown mid) (shown done) (shown new) _ _ result t (λ db. StoresFormer db s) (λ db. Stores db s) (λ found. (found ≡ Some former_format) × HoldsState s (shown new)) clean holds
+      let begun = transaction_begun (shown old) (shown mid) (shown done) (shown new) _ _ result t clean in
+      transaction_ends (shown old) (shown mid) (shown done) (shown new) _ _ result t (λ db. StoresFormer db s) (λ db. Stores db s) (λ found. (found ≡ Some former_format) × HoldsState s (shown new) × KeepsFormerRoom (shown old) (shown new)) clean holds
       (λ found was up is. stored s found was up is)
-      (λ found was up is commit. (is, commit (λ db. Stores db s) (stored s found was up is)))
+      (λ found was up is commit. (
+        is,
+        commit (λ db. Stores db s) (stored s found was up is),
+        λ n room. commit (HasRoomFor n) ((up.1 is s was.tables).1 n (subst (HasFormerRoomFor n) (sym begun.1.now_is) room)),
+      ))
       (λ found was up other kept. absurd (other (former_found (shown mid).now s found was.tables up.0)));
   unchanged = transaction_unchanged (shown old) (shown mid) (shown done) (shown new) _ _ result t;
   over = transaction_over (shown old) (shown mid) (shown done) (shown new) _ _ result t;
@@ -158,14 +163,14 @@ brought_up shown old mid done new worked result keeps begun begins works kept co
     t = going_up (shown old) (shown mid) (shown done) (shown new) worked result keeps begun begins works kept concludes
 
     stored : (s : Broker) (found : Option ℕ) → StoresFormer (shown mid).now s → IsBroughtUp (shown mid) (shown done) found → found ≡ Some former_format → Stores (shown done).now s
-    stored s found was up is = record { tables = up.1 is s was.tables; contents = was.contents }
+    stored s found was up is = record { tables = (up.1 is s was.tables).0; contents = was.contents }
 
 -- where BEGIN was refused
 pub not_brought_up : {X : Type 0} (shown : Held X → State) (old new : Held X) (why : StoreFault) → (HasCleanDisk (shown new) → IsLeft (shown old) (shown new)) → (HasCleanDisk (shown new) → FailsToBegin (shown old) (shown new) why) → Survives (shown old) (shown new) (λ _. ⊥)
     → BringsUpOrNot shown old new (Err why)
 not_brought_up shown old new why refused cause begins = record {
   found = λ clean. tt;
-  ends = λ clean s holds. unbegun_ends (shown old) (shown new) why refused begins (λ db. StoresFormer db s) (λ db. Stores db s) (λ found. (found ≡ Some former_format) × HoldsState s (shown new)) clean holds;
+  ends = λ clean s holds. unbegun_ends (shown old) (shown new) why refused begins (λ db. StoresFormer db s) (λ db. Stores db s) (λ found. (found ≡ Some former_format) × HoldsState s (shown new) × KeepsFormerRoom (shown old) (shown new)) clean holds;
   unchanged = unbegun_unchanged (shown old) (shown new) why refused begins (λ found. found ≡ Some former_format);
   over = unbegun_over (shown old) (shown new) refused;
   survives = once_at_most (shown old) (shown new) begins;

@@ -13,10 +13,10 @@ use Rattle.broker_core.specs.{Gate.{IsGood, IsPermitted, IsFault, Judges}, Machi
 use Rattle.sqlite_schema.specs.{declared.schema.Column.{Column}, Names.{same_name}}
 use Rattle.broker_tables.specs.{Schema.{no_schema, schema_of, in_meta}, Holds.{IsMeta}, Making.{IsBlank, IsMarked}}
 use Rattle.broker_tables.{specs.Former.{HoldsFormer, IsUnmarked, former_tables, former_format}, proofs.Former.{unmarked}}
-use Rattle.registry_tables.specs.Format.{AreLike, AreKeys, HasForm, HasFormerTables, HasNoFormat, SharesTree, IsOfFormat, FindsFormer}
+use Rattle.registry_tables.specs.Format.{AreLike, AreKeys, CompareBytes, HasForm, HasFormerTables, HasNoFormat, SharesTree, IsOfFormat, FindsFormer}
 use Rattle.command_facts.specs.Primitives.{broker_primitives}
 use Rattle.broker_database.specs.{Calls.{Migrated}, Ends.{IsUnchangedUnless}}
-use Rattle.broker_database.specs.Migration.{StoresFormer, BringsUpOrNot, MigratesOrRefuses, WasGood, WasPermitted, WasFault, WasJudged, Showed, JudgesAsBefore, former_kind, former_fault, former_marks}
+use Rattle.broker_database.specs.Migration.{StoresFormer, BringsUpOrNot, KeepsFormerRoom, MigratesOrRefuses, WasGood, WasPermitted, WasFault, WasJudged, Showed, JudgesAsBefore, former_kind, former_fault, former_marks}
 use Rattle.broker_database.specs.{Opening.{Refuses, IsUnchangedUnlessStore, judgement, open_fault}, Stored.{Stores, HoldsState}}
 use Rattle.broker_database.specs.{declared.opening.OpenFault.{OpenFault}, declared.opening.OpenFault.TheVariants.{Format}}
 use Rattle.broker_database.proofs.{Judgements.{one_told, meta_is, blank_none, marked_some}, OpenFailures.{judgement_is_none}}
@@ -42,34 +42,13 @@ keys_themselves : (keys : List (List ℕ)) → AreKeys keys keys
 keys_themselves [] = tt
 keys_themselves (places ∷ keys) = (refl, keys_themselves keys)
 
--- a table has its own form, whichever tree has its rows
-form : (t : Table) (tree : ℕ) → HasForm t (record t { tree = tree })
-form t tree = (like_itself t.columns, (refl, refl, keys_themselves t.uniques))
+-- a table has its own form, whichever tree has its rows, if its columns compare bytes
+form : (t : Table) (tree : ℕ) → CompareBytes t.columns → HasForm t (record t { tree = tree })
+form t tree bytes = (like_itself t.columns, bytes, (refl, refl, keys_themselves t.uniques))
 
 former_schema : HasFormerTables (schema_of former_tables)
 unfolding same_name
-former_schema = (
-  form tables.meta 0,
-  (
-    form tables.teams 1,
-    (
-      form tables.pacticipants 4,
-      (
-        form tables.versions 6,
-        (
-          form tables.branches 8,
-          (
-            form tables.environments 10,
-            (
-              form tables.grants 12,
-              (form tables.contents 14, (form tables.contracts 15, (form tables.results 17, (form tables.latest 19, (form tables.deployed 21, (form tables.released 23, tt)))))),
-            ),
-          ),
-        ),
-      ),
-    ),
-  ),
-)
+former_schema = (form tables.meta 0 (refl, (refl, (refl, tt))), (form tables.teams 1 (refl, (refl, tt)), (form tables.pacticipants 4 (refl, (refl, tt)), (form tables.versions 6 (refl, (refl, (refl, tt))), (form tables.branches 8 (refl, (refl, tt)), (form tables.environments 10 (refl, (refl, tt)), (form tables.grants 12 (refl, (refl, tt)), (form tables.contents 14 (refl, (refl, (refl, tt))), (form tables.contracts 15 (refl, (refl, (refl, tt))), (form tables.results 17 (refl, (refl, (refl, (refl, (refl, (refl, tt)))))), (form tables.latest 19 (refl, (refl, (refl, tt))), (form tables.deployed 21 (refl, (refl, (refl, (refl, tt)))), (form tables.released 23 (refl, (refl, tt)), tt)))))))))))))
 
 pub former_tables_there : (db : Database) (s : Broker) → HoldsFormer db s → HasFormerTables db.schema
 former_tables_there db s held = subst HasFormerTables (sym held.schema) former_schema
@@ -238,6 +217,7 @@ refused_other old new (Some n) it = go (n == former_format) refl
 pub migrated : {X : Type 0} (shown : Held X → State) (old new : Held X) (found : Option ℕ) → BringsUpOrNot shown old new (Ok found) → Migrated shown old new (judgement former_format found)
 migrated shown old new found up = record {
   migrates = λ clean s keeps. always (judgement former_format found) (HoldsState s (shown new)) (up.ends clean s keeps).1;
+  room = λ clean s keeps. always (judgement former_format found) (KeepsFormerRoom (shown old) (shown new)) (up.ends clean s keeps).2;
   refuses = λ clean s keeps.
       let is : Ok tt ≡ judgement former_format found = sym (ap (judgement former_format) (up.ends clean s keeps).0) in
       subst (λ (r : Result (Unit {0}) OpenFault). IfErr r (Refuses (λ db. StoresFormer db s) (λ db. Stores db s) (shown new))) is tt;
@@ -260,6 +240,7 @@ migrated shown old new found up = record {
 pub unmigrated : {X : Type 0} (shown : Held X → State) (old new : Held X) (why : StoreFault) → BringsUpOrNot shown old new (Err why) → Migrated shown old new (Err (open_fault why))
 unmigrated shown old new store_fault.Memory up = record {
   migrates = λ _ _ _. tt;
+  room = λ _ _ _. tt;
   refuses = up.ends;
   judges = λ _. tt;
   calm = λ clean fresh is. absurd (cc);
@@ -273,6 +254,7 @@ unmigrated shown old new store_fault.Memory up = record {
 }
 unmigrated shown old new store_fault.Store up = record {
   migrates = λ _ _ _. tt;
+  room = λ _ _ _. tt;
   refuses = up.ends;
   judges = λ _. tt;
   calm = λ clean fresh is. up.calm clean fresh refl;

@@ -18,13 +18,14 @@ use Rattle.broker_core.specs.declared.command.Version.{Version}
 use Rattle.broker_tables.specs.Former.{former_format}
 use Rattle.broker_tables.specs.Holds.{format}
 use Rattle.broker_tables.specs.Making.{IsBlank, IsMarked}
+use Rattle.broker_tables.specs.Room.{HasRoomFor}
 use Rattle.broker_tables.specs.Schema.{no_schema}
 use Rattle.broker_database.specs.BrokerView.{BrokerView}
 use Rattle.broker_database.specs.Causes.{HoldsReadable, IsNotKept, KeepsRoom, StaysReadable}
 use Rattle.broker_database.specs.Ends.{Applies, IsAsBefore, AddsNoCrashState, CommitsAtMostOnce, LeavesNoTransaction}
 use Rattle.broker_database.specs.Handed.{left_by, verdict}
 use Rattle.broker_database.specs.Headline.{RecordsExactly}
-use Rattle.broker_database.specs.Migration.{StoresFormer, HoldsFormerState, MigratesOrRefuses, IsFormer, OnlyIfNotMigrated}
+use Rattle.broker_database.specs.Migration.{StoresFormer, HoldsFormerState, KeepsFormerRoom, MigratesOrRefuses, IsFormer, OnlyIfNotMigrated}
 use Rattle.broker_database.specs.Opening.{Refuses, MakesNew, RefusesNew, IsUnchangedUnlessStore, OpensOrRefuses, Judged, IsFresh, TellsNothing, OnlyIfUntold, OnlyIfStoreFailed}
 use Rattle.broker_database.specs.Stored.{Stores, HoldsState}
 use Rattle.broker_database.specs.declared.opening.Refused.{Refused}
@@ -119,6 +120,9 @@ module _ {X : Type 0} (shown : Held X → State) where
     -- so that the broker holds the state that was held
     pub holds : IfOk given (λ b. HasCleanDisk (shown b.connection) → (s : Broker) → HoldsState s (shown old)
         → HoldsState s (shown b.connection))
+    -- and its tables have numbers for as many rows more as they had
+    pub room : IfOk given (λ b. HasCleanDisk (shown b.connection) → (n : ℕ) → HoldsDurably (HasRoomFor n) (shown old)
+        → HoldsDurably (HasRoomFor n) (shown b.connection))
     -- where no broker is opened, the database is as it was too, or after Store the last commit is the old one
     pub unchanged : IfErr given (λ r. HasCleanDisk (shown r.connection)
         → IsUnchangedUnlessStore (shown old) (shown r.connection) r.fault)
@@ -135,6 +139,9 @@ module _ {X : Type 0} (shown : Held X → State) where
     -- (the law `former_gate`)
     pub migrates : HasCleanDisk (shown new) → (s : Broker) → HoldsFormerState s (shown old)
         → OnOk given (HoldsState s (shown new))
+    -- and its tables have numbers for as many rows more as those of format 1 had: none is taken
+    pub room : HasCleanDisk (shown new) → (s : Broker) → HoldsFormerState s (shown old)
+        → OnOk given (KeepsFormerRoom (shown old) (shown new))
     -- or a failure: it is of format 1 with that state, and after Store a crash may leave today's
     pub refuses : HasCleanDisk (shown new) → (s : Broker) → HoldsFormerState s (shown old)
         → IfErr given (Refuses (λ db. StoresFormer db s) (λ db. Stores db s) (shown new))

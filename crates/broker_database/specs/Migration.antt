@@ -1,5 +1,6 @@
 -- how a broker's database of format 1 becomes one of today's, and what was said of a version before
-use Rattle.std.specs.Prelude.{◌≡◌, ◌≢◌, ◌⊎◌, ◌↔◌, ℕ, List, [], ◌∷◌, Bool, false, if◌then◌else◌, IsTrue, IsFalse, IsSome, IsSomeAnd, Option, Some, None, option_map, Result, Ok, Err, IfOk}
+use Rattle.std.specs.Prelude.{◌≡◌, ◌≢◌, ◌⊎◌, ◌↔◌, ℕ, List, [], ◌∷◌, Bool, false, if◌then◌else◌, IsTrue, IsFalse, IsSome, IsSomeAnd, Option, Some, None, option_map, Result, Ok, Err, IfOk, codes, filter, not}
+use Rattle.std.specs.List.{AllByRecursion}
 use Rattle.sqlite.specs.Effect.{Database}
 use Rattle.sqlite.specs.Held.{Held}
 use Rattle.sqlite.specs.State.{State, HasCleanDisk}
@@ -23,11 +24,13 @@ use Rattle.broker_core.specs.Gate.{IsNeed, IsPermitted, IsFault}
 use Rattle.broker_core.specs.Listing.{Lists}
 use Rattle.broker_core.specs.Machine.{TakesEffect}
 use Rattle.broker_core.specs.State.{State as Broker, is_gated}
-use Rattle.broker_core.specs.Text.{Text}
+use Rattle.broker_core.specs.Text.{Text, same_text}
 use Rattle.broker_tables.specs.Holds.{Holds}
 use Rattle.broker_tables.specs.Former.{HoldsFormer, IsUnmarked, former_format}
 use Rattle.broker_tables.specs.Readable.{IsReadable}
 use Rattle.broker_tables.specs.Refusals.{AreShort}
+use Rattle.broker_tables.specs.Room.{HasRoomFor, LeaveNumbers, counted_tables}
+use Rattle.broker_tables.specs.Rows.{rows_of}
 use Rattle.registry_tables.specs.Format.{IsOfFormat, IsForeign, HasFormerTables, FindsFormer, FailsToFind}
 use Rattle.command_facts.specs.Primitives.{broker_primitives}
 use Rattle.broker_database.specs.Ends.{AddsNoCrashState, CommitsAtMostOnce, IsUnchangedUnless, LeavesNoTransaction}
@@ -100,9 +103,27 @@ pub record JudgesAsBefore (s : Broker) : Type 0 where
   pub shows : (v : Version) (e : Text) (out : Transition)
       → TakesEffect broker_primitives s (CanIDeploy v e) out ↔ Showed s v e out
 
--- for private clauses: a database of format 1 becomes one of today's with the same state
+-- ---- the numbers of rows
+
+-- the tables of format 1 to whose rows SQLite gives numbers: today's, but for the one that a migration adds
+abbrev pub former_counted : List (List ℕ)
+former_counted = filter (λ name. not (same_text name (codes "strict_environments"))) counted_tables
+
+-- each of them has numbers for so many rows more
+abbrev pub HasFormerRoomFor : ℕ → Database → Type 0
+HasFormerRoomFor n db = AllByRecursion (λ name. LeaveNumbers n (rows_of db name)) former_counted
+
+-- no number is taken: for as many rows more as each of them had numbers each of today's tables has
+abbrev pub TakesNoFormerRoom : Database → Database → Type 0
+TakesNoFormerRoom old new = (n : ℕ) → HasFormerRoomFor n old → HasRoomFor n new
+
+-- and so it is durably
+abbrev pub KeepsFormerRoom : State → State → Type 0
+KeepsFormerRoom old new = (n : ℕ) → HasFormerRoomFor n old.now → HoldsDurably (HasRoomFor n) new
+
+-- for private clauses: a database of format 1 becomes one of today's with the same state, and no row number is taken
 abbrev pub BringsUp : Database → Database → Type 0
-BringsUp old new = (s : Broker) → HoldsFormer old s → Holds new s
+BringsUp old new = (s : Broker) → HoldsFormer old s → Holds new s × TakesNoFormerRoom old new
 
 -- of format 1, and with its tables: what is migrated
 abbrev pub IsFormer : Database → Type 0
@@ -140,9 +161,10 @@ MigratesOrRefuses db (Err Store) = Unit {0}
 -- ---- for private clauses: the transaction of a migration
 
 -- What its transaction leaves: the format that was found is 1, and the database is today's; or it failed.
-abbrev pub MigratesOrFails : Broker → State → Result (Option ℕ) StoreFault → Type 0
-MigratesOrFails s new =
-    EndsOrFails (λ db. StoresFormer db s) (λ db. Stores db s) (λ found. (found ≡ Some former_format) × HoldsState s new) new
+abbrev pub MigratesOrFails : Broker → State → State → Result (Option ℕ) StoreFault → Type 0
+MigratesOrFails s old new =
+    EndsOrFails (λ db. StoresFormer db s) (λ db. Stores db s)
+    (λ found. (found ≡ Some former_format) × HoldsState s new × KeepsFormerRoom old new) new
 
 -- and what that is on any database; shown is what a connection shows
 pub record BringsUpOrNot {X : Type 0} (shown : Held X → State) (old new : Held X)
@@ -150,7 +172,7 @@ pub record BringsUpOrNot {X : Type 0} (shown : Held X → State) (old new : Held
   pub found : HasCleanDisk (shown new)
       → IfOk result (λ found. IsTrue (shown old).is_open × FindsFormer (shown old).now found)
   pub ends : HasCleanDisk (shown new) → (s : Broker) → HoldsFormerState s (shown old)
-      → MigratesOrFails s (shown new) result
+      → MigratesOrFails s (shown old) (shown new) result
   pub unchanged : HasCleanDisk (shown new)
       → IsUnchangedUnless (λ found. found ≡ Some former_format) (shown old) (shown new) result
   pub over : LeavesNoTransaction (shown old) (shown new)

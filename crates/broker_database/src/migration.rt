@@ -1,12 +1,11 @@
 //! Making today's database of one that a broker of format 1 left.
-ghost use Rattle.std.specs.Prelude.{◌≡◌, ◌↔◌, Some, None, IsTrue, IsOkAnd};
+ghost use Rattle.std.specs.Prelude.{◌≡◌, ◌↔◌, [], Some, None, IsTrue, IsOkAnd};
 ghost use Rattle.sqlite.specs.Held.{state};
 ghost use Rattle.table_access.specs.Calls.{CallsStore};
 ghost use Rattle.broker_core.specs.State.{State as BrokerState};
-ghost use Rattle.broker_tables.specs.Holds.{format};
 ghost use Rattle.broker_tables.specs.Making.{IsCalmOver};
-ghost use Rattle.broker_tables.specs.Former.{HoldsFormer, HoldsUnmarked, former_format, added_tables};
-ghost use Rattle.registry_tables.specs.Format.{FindsFormer, FailsOnlyFor};
+ghost use Rattle.broker_tables.specs.Former.{former_format};
+ghost use Rattle.registry_tables.specs.Format.{BecomesFormat2, FindsFormer, FailsOnlyFor};
 ghost use Rattle.broker_database.specs.Calls.{Migrated};
 ghost use Rattle.broker_database.specs.Migration.{BringsUp, BringsUpOrNot, CanBeMigrated, CanBeStoredAgain};
 ghost use Rattle.broker_database.specs.Migration.{FailsToBringUp, StoresFormer};
@@ -22,8 +21,7 @@ use table_access::{StoreFault, begin};
 /// Makes the tables that format 1 has not, and sets the format.
 fn add_tables<S: Alter>(conn: &mut Connection<S>) -> Result<(), StoreFault>
     ensures adds { CallsStore S.Store conn.old conn.new result
-        (λ _ old new. (s : BrokerState) → HoldsFormer old.now s
-        → HoldsUnmarked format added_tables new.now s) }
+        (λ _ old new. BecomesFormat2 [] old.now new.now) }
     ensures calm { IsCalmOver S.Store conn.old conn.new result CanBeMigrated }
 {
     done!(contract_tables::to_format_2(conn));
@@ -86,8 +84,9 @@ fn run<S: Alter>(conn: &mut Connection<S>) -> Result<Option<u32>, Failure>
 ///
 /// # Errors
 /// `NotABroker`: there is no table `meta` with its columns, its key and exactly one row; or its format is 1, and a
-/// table of that format isn't there, or has other columns or other keys. `Format`: the format in that row is this other
-/// one; today's is refused too. After both, and after `Memory`, the database is as it was.
+/// table of that format isn't there, or has other columns or other keys, or a column that compares texts otherwise than
+/// by their bytes (`COLLATE NOCASE`, `RTRIM`): a name would find another's row there. `Format`: the format in that row
+/// is this other one; today's is refused too. After both, and after `Memory`, the database is as it was.
 /// `Store`: the database refused the commit, or another call for another cause than memory, or the format isn't a number
 /// from 0 to 2^32 - 1; the last commit is the old one, and after a refused commit a crash may leave today's database,
 /// whole. On a connection as it is opened, and a database that a broker of format 1 left, that is only if the store

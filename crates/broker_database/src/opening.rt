@@ -34,7 +34,8 @@ pub enum OpenFault {
     #[error("the database has tables")]
     NotEmpty,
     /// There is no table `meta` with its columns, its key and exactly one row; or, of a database that is to be
-    /// migrated, a table of format 1 isn't there with its columns and its keys.
+    /// migrated, a table of format 1 isn't there with its columns and its keys, or compares texts otherwise than by
+    /// their bytes.
     #[error("not a broker's database")]
     NotABroker,
     /// The tables are of this other format.

@@ -2,3 +2,4 @@ pub mod Verified
 pub mod Listings
 pub mod VersionResults
 pub mod ToldVersions
+pub mod CheckedTable

@@ -1,10 +1,9 @@
 //! The tables of a broker of format 1, as they become today's.
-ghost use Rattle.std.specs.Prelude.{◌∷◌, []};
 ghost use Rattle.table_access.specs.Calls.{CallsStore};
 ghost use Rattle.broker_core.specs.State.{State as Broker};
-ghost use Rattle.broker_tables.specs.Schema.{checked_results};
 ghost use Rattle.broker_tables.specs.Making.{IsCalmOver};
-ghost use Rattle.broker_tables.specs.Former.{HoldsFormer, HoldsUnmarked, former_format};
+ghost use Rattle.broker_tables.specs.Former.{HoldsFormer};
+ghost use Rattle.contract_tables.specs.CheckedTable.{GetsCheckedTable};
 
 use crate::making::make_checked_results;
 use sqlite::{Alter, Connection};
@@ -18,8 +17,7 @@ use table_access::StoreFault;
 /// which of a database of format 1 that holds a state is only if the store failed.
 pub fn to_format_2<S: Alter>(conn: &mut Connection<S>) -> Result<(), StoreFault>
     ensures makes { CallsStore S.Store conn.old conn.new result
-        (λ _ old new. (s : Broker) → HoldsFormer old.now s →
-        HoldsUnmarked former_format (checked_results ∷ []) new.now s) }
+        (λ _ old new. GetsCheckedTable old.now new.now) }
     ensures calm { IsCalmOver S.Store conn.old conn.new result (λ db. (s : Broker) × HoldsFormer db s) }
 {
     make_checked_results(conn)

@@ -1,5 +1,6 @@
 -- The statement that sets the format in meta's row: what it makes of the row, and why it fails.
-use Rattle.broker_tables.specs.{Schema.{in_meta, schema_of, all_tables}, Holds.{IsMeta, format}, Former.{HoldsUnmarked, former_format, added_tables}}
+use Rattle.broker_tables.specs.Schema.{in_meta, in_checked_results, in_strict_environments, checked_results, strict_environments, schema_of, all_tables}
+use Rattle.broker_tables.specs.{Holds.{IsMeta, format}, Former.{HoldsUnmarked, former_format, former_tables, added_tables}}
 use Rattle.broker_tables.proofs.{Former.{KeepsOthers, format_told}, Placed.{meta, all_calm}}
 use Rattle.std.specs.List.{AllByRecursion}
 use Rattle.std.proofs.Common.{◌≡◌, ◌≤◌, ◌^◌, ℕ, ℤ, pos, codes, List, [], ◌∷◌, length, map, not, inl, inr, filter, refl, sym, ap, subst, ◌∙◌, slice_get, Option, Some, None, Ok, Err}
@@ -12,11 +13,11 @@ use Rattle.sqlite_schema.specs.Rules.{Refers}
 use Rattle.sqlite_rules.{specs.{Lists.{Has}, Calls.{ids_of}}, proofs.TableLemmas.{int_is}}
 use Rattle.sqlite_keyed.proofs.ListLemmas.{IsPermutation-same}
 use Rattle.sqlite_tied.specs.Compute.{everything}
-use Rattle.table_access.specs.{Columns.{text, whole_at}, Sound.{IsNumbered}, Statements.{from_table, keeps, shows, IsCalm}}
+use Rattle.table_access.{specs.{Columns.{text, whole_at}, Sound.{IsNumbered}, Statements.{from_table, keeps, shows, IsCalm}}, proofs.Creation.{all_front}}
 use Rattle.table_access.proofs.{Steps.{Means, updates, went, same_value, shown_one}, SoundLemmas.{at_has, text_at, has_place}, Removal.{left}}
 use Rattle.table_access.proofs.{Answered.{Runs, never_refused}, Edits.{Suits, goes, refers}, Refused.{stopped, change_fails, caused_by}}
 use Rattle.broker_core.specs.State.{State as Broker}
-use Rattle.registry_tables.proofs.{MetaRow.{alone, row_of, as_cast}, MetaFails.{TakesMeta, suits}}
+use Rattle.registry_tables.{specs.Format.{KeepsFormerRows}, proofs.{MetaRow.{alone, row_of, as_cast}, MetaFails.{TakesMeta, suits}}}
 
 abbrev pub set_sql : List ℕ
 set_sql = codes "UPDATE meta SET format = 2"
@@ -79,14 +80,16 @@ module _ (old new : State) (s : Broker) (held : HoldsUnmarked former_format adde
       let digest : column r in_meta.office_digest ≡ Text s.office = text_at old.now held.kept.sound meta (has_place _ 0 meta there) r has 2 _ refl refl refl refl refl ∙ ap Text one.3 in
       (r, one.1, λ i. number i ∷ Null ∷ Int (pos format) ∷ digest i ∷ [])
 
-  pub format_set : (count : ℕ) → Executes set_sql [] old new (Ok count) → HoldsUnmarked format added_tables new.now s
+  pub format_set : (count : ℕ) → Executes set_sql [] old new (Ok count) → HoldsUnmarked format added_tables new.now s × KeepsFormerRows old.now new.now
   format_set count h =
       let calm : IsCalm old.now.schema.tables = subst (λ (c : Schema). IsCalm c.tables) (sym held.schema) all_calm in
       let it = updates (codes "meta") 0 meta.columns (Some 0) (0 ∷ []) meta.uniques meta.orders meta.checks [] set_sql [] old new 0 there [] project is.0 calm numbered sets.0 made
       (ap (filter (keeps [] [])) sets.1) (ap (cast_row meta) sets.2 ∙ as_cast format s.office) count h in
       let row : new.now.trees in_meta.tree ≡ made ∷ [] = alone (filter (λ x. not (keeps [] [] x)) rows) (new.now.trees in_meta.tree) made it.1 (ap (filter (λ x. not (keeps [] [] x))) sets.1) in
-      format_told former_format old.now new.now s format held it.0.schema (it.0.kept held.kept)
-      (subst (λ (c : Schema). AllByRecursion (KeepsOthers old.now.trees new.now.trees) c.tables) held.schema it.0.others) (subst (IsMeta format s.office) (sym row) refl)
+      let others = subst (λ (c : Schema). AllByRecursion (KeepsOthers old.now.trees new.now.trees) c.tables) held.schema it.0.others in (
+        format_told former_format old.now new.now s format held it.0.schema (it.0.kept held.kept) others (subst (IsMeta format s.office) (sym row) refl),
+        all_front (KeepsOthers old.now.trees new.now.trees) (schema_of former_tables).tables (record checked_results { tree = in_checked_results.tree } ∷ record strict_environments { tree = in_strict_environments.tree } ∷ []) others,
+      )
 
   -- ---- why it fails
 

@@ -11,5 +11,6 @@ pub mod FormatRuns
 pub mod FoundFormat
 pub mod BranchNumbers
 pub mod FormatRow
+pub mod FormerRows
 mod MarkText
 mod MetaFails

@@ -7,13 +7,14 @@ use Rattle.sqlite.specs.Order.{Row, column}
 use Rattle.sqlite.specs.declared.types.Value.TheVariants.{Int}
 use Rattle.sqlite.specs.Effect.{Database}
 use Rattle.sqlite.specs.State.{State, HasCleanDisk}
+use Rattle.sqlite.specs.Collation.TheVariants.{Binary}
 use Rattle.sqlite_schema.specs.Names.{table_named}
 use Rattle.sqlite_schema.specs.declared.schema.Column.{Column}
 use Rattle.sqlite_schema.specs.declared.schema.Kind.{Kind}
 use Rattle.table_access.specs.declared.StoreFault.{StoreFault}
 use Rattle.table_access.specs.declared.StoreFault.TheVariants.{Store}
 use Rattle.table_access.specs.Calls.{HasFailed}
-use Rattle.broker_tables.specs.Schema.{meta, in_meta}
+use Rattle.broker_tables.specs.Schema.{meta, in_meta, schema_of}
 use Rattle.broker_core.specs.State.{State as Broker}
 use Rattle.broker_tables.specs.Holds.{format}
 use Rattle.broker_tables.specs.Former.{HoldsUnmarked, former_format, former_tables, added_tables}
@@ -89,15 +90,22 @@ AreKeys = AllZip (λ wanted places. places ≡ wanted)
 abbrev pub HasKeys : Option ℕ → List ℕ → List (List ℕ) → Table → Type 0
 HasKeys key primary uniques table = (table.key ≡ key) × (table.primary ≡ primary) × AreKeys uniques table.uniques
 
--- a table has the columns and the keys of this one, in their order
+-- Each column compares texts by their bytes: neither letters without their case (NOCASE), nor without the blanks at
+-- their end (RTRIM). So a row is found by its own name alone.
+abbrev pub CompareBytes : List Column → Type 0
+CompareBytes = AllByRecursion (λ c. c.collation ≡ Binary)
+
+-- a table has the columns and the keys of this one, in their order, and each column compares bytes
 abbrev pub HasForm : Table → Table → Type 0
 HasForm wanted table =
-    AreLike wanted.columns table.columns × HasKeys wanted.key wanted.primary wanted.uniques table
+    AreLike wanted.columns table.columns × CompareBytes table.columns
+    × HasKeys wanted.key wanted.primary wanted.uniques table
 
 abbrev pub HasTable : Schema → Table → Type 0
 HasTable schema wanted = IsSomeAnd (table_of wanted.name schema) (HasForm wanted)
 
--- each table of format 1 is there, with its columns and its keys, wherever it is and however it is declared
+-- Each table of format 1 is there, with its columns, which compare bytes, and its keys, wherever it is: with STRICT,
+-- NOT NULL, CHECKs and defaults, or without.
 abbrev pub HasFormerTables : Schema → Type 0
 HasFormerTables schema = AllByRecursion (HasTable schema) former_tables
 
@@ -112,7 +120,13 @@ FindsFormer db found = MatchOption found
 abbrev pub CanBecomeFormat2 : List Table → Database → Type 0
 CanBecomeFormat2 more db = (s : Broker) × HoldsUnmarked former_format more db s × AreShort (s.office ∷ [])
 
--- the state of such a database is held in format 2
+-- each table of format 1 has the rows that it had, but for the one row of meta, which has the format
+abbrev pub KeepsFormerRows : Database → Database → Type 0
+KeepsFormerRows old new =
+    AllByRecursion (λ t. t.tree ≢ in_meta.tree → new.trees t.tree ≡ old.trees t.tree) (schema_of former_tables).tables
+
+-- the state of such a database is held in format 2, and the rows are kept, with their numbers
 abbrev pub BecomesFormat2 : List Table → Database → Database → Type 0
 BecomesFormat2 more old new =
-    (s : Broker) → HoldsUnmarked former_format more old s → HoldsUnmarked format added_tables new s
+    (s : Broker) → HoldsUnmarked former_format more old s
+    → HoldsUnmarked format added_tables new s × KeepsFormerRows old new

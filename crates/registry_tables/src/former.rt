@@ -1,16 +1,17 @@
-//! Whether a database has the tables of format 1: each by its name, with its columns and its keys, wherever it is and
-//! however it is declared.
+//! Whether a database has the tables of format 1: each by its name, with its columns, which compare texts by their
+//! bytes, and its keys, wherever it is. STRICT, NOT NULL, CHECKs and defaults make no difference.
 ghost use Rattle.std.specs.Prelude.{◌≡◌, ◌↔◌, IsTrue};
 ghost use Rattle.std.specs.List.{AllByRecursion};
 ghost use Rattle.sqlite.specs.Held.{state};
 ghost use Rattle.registry_tables.specs.Form.{HasTableOf, IsOfForm, keys_of};
-ghost use Rattle.registry_tables.specs.Format.{AreKeys, HasFormerTables};
+ghost use Rattle.registry_tables.specs.Format.{AreKeys, CompareBytes, HasFormerTables};
 
 use crate::format::{Form, META, are_columns, table_named};
 use sqlite::{Alter, Connection};
 use sqlite_items::Items;
 use sqlite_schema::schema::Kind::{Integer, Text};
-use sqlite_schema::schema::{Schema, Table};
+use sqlite_schema::schema::{Column, Schema, Table};
+use sqlite_value::keys::Collation;
 
 /// The tables of format 1, in the order in which they were made.
 const FORMER: [Form; 13] = [
@@ -145,17 +146,28 @@ fn are_keys(keys: &[Items<usize>], wanted: &[&[usize]]) -> bool
     }
 }
 
-/// Whether a table has these columns and these keys.
+/// Whether each column compares texts by their bytes, so that a row is found by its own name alone.
+fn compare_bytes(columns: &[Column]) -> bool
+    ensures { IsTrue result ↔ CompareBytes columns.now }
+{
+    match columns {
+        [] => true,
+        [column, columns @ ..] => column.collation == Collation::Binary && compare_bytes(columns),
+    }
+}
+
+/// Whether a table has these columns, which compare texts by their bytes, and these keys.
 fn has_form(table: &Table, form: &Form) -> bool
     ensures { IsTrue result ↔ IsOfForm form.now table.now }
 {
     are_columns(table.columns.as_slice(), form.columns)
+        && compare_bytes(table.columns.as_slice())
         && table.key == form.key
         && is_key(table.primary.as_slice(), form.primary)
         && are_keys(table.uniques.as_slice(), form.uniques)
 }
 
-/// Whether a table is found by this name, and has these columns and these keys.
+/// Whether a table is found by this name, and has these columns, which compare texts by their bytes, and these keys.
 fn has_table(schema: &Schema, form: &Form) -> bool
     ensures { IsTrue result ↔ HasTableOf schema.now form.now }
 {

@@ -14,7 +14,8 @@ use sqlite::{Alter, Connection};
 use table_access::{StoreFault, change};
 
 /// The format of a database that is to be migrated, as [`format_of`] finds it; but `None` too if that is 1 and a table
-/// of format 1 isn't there, or has other columns or other keys. Nothing changes.
+/// of format 1 isn't there, or has other columns or other keys, or a column that compares texts otherwise than by their
+/// bytes (`COLLATE NOCASE`, `RTRIM`). Nothing changes.
 ///
 /// # Errors
 /// As `format_of`.

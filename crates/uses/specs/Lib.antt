@@ -1,3 +1,4 @@
+pub mod Asking
 pub mod Deploying
 pub mod Pacts
 pub mod Reopening

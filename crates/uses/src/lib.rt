@@ -2,6 +2,7 @@
 //! everybody: from their contracts, and from no lemma of theirs.
 #![tactic(auto)]
 
+mod asking;
 mod deploying;
 mod pacts;
 mod reopening;
@@ -9,6 +10,7 @@ mod replies;
 mod streams;
 mod tables;
 
+pub use asking::ask;
 pub use deploying::{deploy, deployment};
 pub use pacts::normal_text;
 pub use reopening::{NotReopened, reopen};

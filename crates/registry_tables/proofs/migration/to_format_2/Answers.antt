@@ -1,12 +1,18 @@
 use Rattle.broker_tables.{specs.{Former.{added_tables, former_format}, Schema.{checked_results}}, proofs.{Former.{strict_made}, MakingFails.{calm_then}}}
-use Rattle.registry_tables.specs.Format.{CanBecomeFormat2}
+use Rattle.registry_tables.{specs.Format.{CanBecomeFormat2}, proofs.FormerRows.{rows_stay_strict}}
+use Rattle.sqlite.specs.Held.{state}
 use Rattle.std.proofs.Common.{[], ◌∷◌}
 use Rattle.table_access.proofs.CallLemmas.{seq}
 use Rattle.registry_tables.proofs.migration.to_format_2.Goals as goal
 
 pub returns-clause-makes : goal.returns-clause-makes
 returns-clause-makes g c =
-    seq _ _ _ c.in-Ok.value c.set_format.result _ _ _ (λ made _ sets s held. sets s (strict_made former_format _ _ s held (made held.schema))) c.in-Ok.ensures.makes c.set_format.ensures.sets
+    let old = state g.S.Store c.args.conn.now in
+    let mid = state g.S.Store c.make_strict_environments.new.conn in
+    let new = state g.S.Store c.set_format.new.conn in
+    seq _ _ _ c.in-Ok.value c.set_format.result _ _ _
+    (λ made _ sets s held. let it = sets s (strict_made former_format _ _ s held (made held.schema)) in (it.0, rows_stay_strict old.now mid.now new.now held.schema (made held.schema) it.1))
+    c.in-Ok.ensures.makes c.set_format.ensures.sets
 
 pub returns-clause-calm : goal.returns-clause-calm
 returns-clause-calm g c =
