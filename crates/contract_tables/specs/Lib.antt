@@ -1,4 +1,5 @@
 pub mod Verified
 pub mod Listings
 pub mod VersionResults
+pub mod LatestRows
 pub mod ToldVersions
