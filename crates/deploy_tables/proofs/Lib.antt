@@ -1,5 +1,6 @@
 pub mod DeployedRows
 pub mod DeployedState
+pub mod LeftRows
 pub mod VersionRows
 pub mod ReleasedRows
 pub mod Removals

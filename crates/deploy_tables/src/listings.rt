@@ -89,7 +89,7 @@ pub fn deployed<S: Alter>(
     list_of::<DeployedRow, S>(
         alloc,
         conn,
-        "SELECT d.pacticipant, d.instance, v.version FROM deployed d JOIN versions v ON v.number = d.version_number WHERE d.environment = ?1 ORDER BY d.pacticipant, d.instance",
+        "SELECT d.pacticipant, d.instance, v.version FROM deployed d LEFT JOIN versions v ON v.number = d.version_number WHERE d.environment = ?1 ORDER BY d.pacticipant, d.instance",
         params![environment],
     )
 }
@@ -110,7 +110,7 @@ pub fn released<S: Alter>(
     list_of::<VersionRow, S>(
         alloc,
         conn,
-        "SELECT v.pacticipant, v.version FROM released r JOIN versions v ON v.number = r.version_number WHERE r.environment = ?1 ORDER BY v.pacticipant, v.version",
+        "SELECT v.pacticipant, v.version FROM released r LEFT JOIN versions v ON v.number = r.version_number WHERE r.environment = ?1 ORDER BY v.pacticipant, v.version",
         params![environment],
     )
 }
