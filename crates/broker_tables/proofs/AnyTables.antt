@@ -1,11 +1,11 @@
 -- A schema that has the broker's tables consists of them, with whatever else tables have; and what a text asks of it.
-use Rattle.std.specs.List.{AllZip}
-use Rattle.std.proofs.Common.{◌≡◌, ◌∙◌, ◌≤◌, ℕ, zero, suc, List, [], ◌∷◌, IsTrue, None, refl, sym, subst, arith}
-use Rattle.sqlite.specs.{Table.{Table}, Schema.{Schema}, Order.{Row}, Query.{Query}, Command.TheVariants.{Select}, State.{State, Shown, IsUnchanged, HasCause}, Effect.{Database, Answers}}
+use Rattle.std.{specs.List.{AllZip}, proofs.Common.{◌≡◌, ◌∙◌, ◌≤◌, ℕ, zero, suc, List, [], ◌∷◌, IsTrue, None, refl, sym, subst, arith}}
+use Rattle.sqlite.specs.{Table.{Table}, Schema.{Schema}, Order.{Row}, Query.{Query}, Command.TheVariants.{Select}, State.{State, Shown, IsUnchanged, HasCause}}
+use Rattle.sqlite.specs.Effect.{Database, Answers}
 use Rattle.sqlite_trees.specs.{declared.error.StoreError.{StoreError}, declared.error.StoreError.TheVariants.{OutOfMemory, Broken, Unstorable}}
 use Rattle.sqlite_schema.specs.declared.schema.Column.{Column}
-use Rattle.table_access.specs.{declared.StoreFault.{StoreFault}, Calls.{HasFailed}, Reading.{IsRefusedAs}}
-use Rattle.table_access.proofs.{Answered.{Runs, refusal_ends}, Steps.{Means, shown_answers, shown_unchanged}}
+use Rattle.table_access.{specs.{declared.StoreFault.{StoreFault}, Calls.{HasFailed}, Reading.{IsRefusedAs}}, proofs.Answered.{Runs, refusal_ends}}
+use Rattle.table_access.proofs.Steps.{Means, shown_answers, shown_unchanged}
 use Rattle.broker_tables.specs.{Schema.{environments, numbers}, Asking.{IsColumnLike, HasColumns, HasBrokerTables, CanBeAsked}}
 
 -- ---- the tables

@@ -5,16 +5,18 @@ use Rattle.std.proofs.Common.{◌≡◌, ◌≤◌, ◌∙◌, inl, inr, ℕ, ze
 use Rattle.std.proofs.lemmas.List.Sorted.{Contains-permutation}
 use Rattle.sqlite.specs.{declared.types.Value.{Value}, declared.types.Value.TheVariants.{Int}, Order.{Row, column}, Term.{Term, Env, col, eval, eval_all}}
 use Rattle.sqlite.specs.{Collation.TheVariants.{Binary}, Effect.{Database}, State.{State, Shown, IsUnchanged}}
-use Rattle.sqlite_sql.specs.{declared.ops.BinaryOp.TheVariants.{Compare}, declared.ops.CompareOp.TheVariants.{Eq}, declared.ops.UnaryOp.TheVariants.{ToNumeric}, Ops.{binary, unary, is_true}}
+use Rattle.sqlite_sql.specs.{declared.ops.BinaryOp.TheVariants.{Compare}, declared.ops.CompareOp.TheVariants.{Eq}, declared.ops.UnaryOp.TheVariants.{ToNumeric}}
+use Rattle.sqlite_sql.specs.Ops.{binary, unary, is_true}
 use Rattle.sqlite_rules.specs.Lists.{Has}
-use Rattle.table_access.specs.{declared.StoreFault.{StoreFault}, Reading.{AreRead, IsNumberAt, IsNumberRow, TellsNumber, FailsToRead}, Statements.{keeps, keeps_both, shows}}
-use Rattle.table_access.proofs.{Answered.{first_has, shown_of, pair_shown}, Steps.{selects}}
+use Rattle.table_access.specs.{declared.StoreFault.{StoreFault}, Reading.{AreRead, IsNumberAt, IsNumberRow, TellsNumber, FailsToRead}}
+use Rattle.table_access.{specs.Statements.{keeps, keeps_both, shows}, proofs.{Answered.{first_has, shown_of, pair_shown}, Steps.{selects}}}
 use Rattle.table_access.proofs.Members.{has_pair, has_map, has_filter, has_contains, contains_has}
-use Rattle.broker_tables.specs.{Schema.{in_results, in_latest, in_checked_results}, Rows.{truth, truth_in, mark_of, IsTruthAt}, Asking.{HasBrokerTables, CanBeAsked}}
-use Rattle.broker_tables.proofs.{AnyTables.{is_answer_of, refused_ends, failed_since_query}, Listed.{read_has, has_read}, VersionRows.{whole_test}}
-use Rattle.contract_tables.specs.{declared.version_results.ContentPass.{ContentPass}, declared.version_results.LatestResult.{LatestResult}, Verified.{PassCells, pass_cells, pass_of}}
-use Rattle.contract_tables.specs.VersionResults.{IsOfItsPair, IsPassRow, ReadsAsLatest, FailsAsLatest, marked}
-use Rattle.contract_tables.specs.LatestRows.{AreEqual, NamesFor, NamesResult, IsResultOf, IsSound, IsPassIn, IsMarkedChecked, NamesChecked, IsCheckedFor, NamesPass, ArePassesIn, AreLatestIn, IsUnsoundFor, FailsAsListed, IsMarkedOf}
+use Rattle.broker_tables.specs.{Schema.{in_results, in_latest, in_checked_results}, Rows.{truth, truth_in, mark_of, IsTruthAt}}
+use Rattle.broker_tables.{specs.Asking.{HasBrokerTables, CanBeAsked}, proofs.AnyTables.{is_answer_of, refused_ends, failed_since_query}}
+use Rattle.broker_tables.proofs.{Listed.{read_has, has_read}, VersionRows.{whole_test}}
+use Rattle.contract_tables.specs.{declared.version_results.ContentPass.{ContentPass}, declared.version_results.LatestResult.{LatestResult}}
+use Rattle.contract_tables.specs.{Verified.{PassCells, pass_cells, pass_of}, VersionResults.{IsOfItsPair, IsPassRow, ReadsAsLatest, FailsAsLatest, marked}}
+use Rattle.contract_tables.specs.LatestRows.{AreEqual, NamesFor, NamesResult, IsResultOf, IsSoundPair, IsPassIn, IsMarkedChecked, NamesChecked, IsCheckedFor, NamesPass, ArePassesIn, AreLatestIn, IsUnsoundFor, FailsAsListed, IsMarkedOf}
 use Rattle.contract_tables.proofs.{ItemLists.{and_tests, last_test}, JoinRows.{pair_shown as shows_pair}, VersionResults.{passes_project, marks_project, order}}
 use Rattle.contract_tables.proofs.AnyTexts.{given_to, pair_terms, version_terms, pair_sql, passes_sql, marks_sql, checked_sql, pair_params, one_param, pair_asks, passes_asks, marks_asks, checked_asks, checked_terms, is_strict}
 
@@ -68,7 +70,7 @@ result_read params l r row c n number pass is numbered says mark pair content ve
     )
 
 -- what is sound reads
-sound_reads : (params l r : Row) → IsSound l r → ReadsAsLatest (eval_all passes_project (params ∷ l ∷ r ∷ []))
+sound_reads : (params l r : Row) → IsSoundPair l r → ReadsAsLatest (eval_all passes_project (params ∷ l ∷ r ∷ []))
 sound_reads params l r s = (
   ((omega arith, s.0.1), (omega arith, s.1.1)),
   ((omega arith, s.2.0.1), (omega arith, s.2.1.1), s.2.2),
@@ -116,7 +118,7 @@ module _ (c n : ℕ) (old new : State) (h : HasBrokerTables old.now.schema) (row
           (it.0, it.1, it.2, result_read (pair_params c n) it.0 it.1 row c n p.result p.pass it.3 (sym (ap (λ (q : PassCells). q.0) cells)) (sym (ap (λ (q : PassCells). q.1) cells)) both.0 both.1 it.2.1 it.2.0.3)
       go _ _ head same = absurd cc
 
-  pub pair_lost : (row : Row) → slice_get rows 0 ≡ Some row → (¬ ReadsAsLatest row) → (l r : Row) × NamesResult c n old.now l r × (¬ IsSound l r)
+  pub pair_lost : (row : Row) → slice_get rows 0 ≡ Some row → (¬ ReadsAsLatest row) → (l r : Row) × NamesResult c n old.now l r × (¬ IsSoundPair l r)
   pair_lost row head none =
       let it = pair_row row (first_has rows row head) in
       (it.0, it.1, it.2, λ sound. none (subst ReadsAsLatest (sym it.3) (sound_reads (pair_params c n) it.0 it.1 sound)))
@@ -168,7 +170,8 @@ module _ (n : ℕ) (old new : State) (h : HasBrokerTables old.now.schema) (rows 
     λ p c.
         let row = read_has IsPassRow rows items p read c in
         let it = passes_row row.0 row.1 in
-        let content : column it.0 in_latest.content ≡ Int (pos p.content) = sym (ap (λ z. column z 2) it.3) ∙ row.2.0 in
+        let at : (k : ℕ) → column row.0 k ≡ column (eval_all passes_project (one_param n ∷ it.0 ∷ it.1 ∷ [])) k = λ k. ap (λ z. column z k) it.3 in
+        let content : column it.0 in_latest.content ≡ Int (pos p.content) = sym (at 2) ∙ row.2.0 in
         let equal = itself (column it.0 in_latest.content) p.content content in
         (it.0, it.1, (it.2, equal), result_read (one_param n) it.0 it.1 row.0 p.content n p.result p.pass it.3 row.2.1 row.2.2 row.2.3 row.2.4 equal it.2.3),
     λ l r named.
@@ -176,7 +179,7 @@ module _ (n : ℕ) (old new : State) (h : HasBrokerTables old.now.schema) (rows 
         (it.0, it.1, it.2.0),
   )
 
-  pub passes_lost : (row : Row) → Has rows row → (¬ ReadsAsLatest row) → (l r : Row) × NamesFor n old.now l r × (¬ IsSound l r)
+  pub passes_lost : (row : Row) → Has rows row → (¬ ReadsAsLatest row) → (l r : Row) × NamesFor n old.now l r × (¬ IsSoundPair l r)
   passes_lost row has none =
       let it = passes_row row has in
       (it.0, it.1, it.2, λ sound. none (subst ReadsAsLatest (sym it.3) (sound_reads (one_param n) it.0 it.1 sound)))

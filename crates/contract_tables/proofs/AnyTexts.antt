@@ -2,8 +2,8 @@
 -- references, STRICT or not: beside a column that isn't, SQLite takes a parameter as a number if it can.
 use Rattle.std.specs.{Prelude.{if◌then◌else◌}, List.{AllZip}}
 use Rattle.std.proofs.Common.{◌≡◌, ◌==◌, ◌∙◌, ℕ, pos, codes, List, [], ◌∷◌, Bool, true, false, Some, None, refl, sym, ap, subst}
-use Rattle.sqlite.specs.{declared.types.Value.TheVariants.{Int}, Order.{Row}, Term.{Term, col, op1, op2}, Query.{Query}, Table.{Table}}
-use Rattle.sqlite.specs.{Schema.{Schema}, Collation.TheVariants.{Binary}, Listing.{understood}}
+use Rattle.sqlite.specs.{declared.types.Value.TheVariants.{Int}, Order.{Row}, Term.{Term, col, op1, op2}, Query.{Query}, Table.{Table}, Schema.{Schema}}
+use Rattle.sqlite.specs.{Collation.TheVariants.{Binary}, Listing.{understood}}
 use Rattle.sqlite_sql.specs.{declared.ops.BinaryOp.TheVariants.{Compare}, declared.ops.CompareOp.TheVariants.{Eq}, declared.ops.UnaryOp.TheVariants.{ToNumeric}}
 use Rattle.sqlite_schema.specs.declared.schema.Column.{Column}
 use Rattle.sqlite_tied.specs.Compute.{everything}

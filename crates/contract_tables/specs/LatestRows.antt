@@ -52,8 +52,8 @@ abbrev pub HaveOneNumber : ℕ → Row → ℕ → Row → Type 0
 HaveOneNumber p l q r = IsNumberAt p l × IsNumberAt q r × (column l p ≡ column r q)
 
 -- the result has a number and a mark, and it is of the content and the version that the row of `latest` says
-abbrev pub IsSound : Row → Row → Type 0
-IsSound l r = IsNumberAt in_results.number r × IsTruthAt in_results.pass r
+abbrev pub IsSoundPair : Row → Row → Type 0
+IsSoundPair l r = IsNumberAt in_results.number r × IsTruthAt in_results.pass r
     × HaveOneNumber in_latest.content l in_results.content r
     × HaveOneNumber in_latest.provider_version l in_results.provider_version r
 
@@ -83,7 +83,7 @@ IsPassIn content version found db = MatchOption found ((l r : Row) → ¬ NamesR
 -- the store failed, which ended the transaction; or Store, since a result is named that isn't sound
 abbrev pub FailsAsNamed : ℕ → ℕ → State → State → StoreFault → Type 0
 FailsAsNamed content version old new fault = HasFailed old new fault
-    ⊎ ((fault ≡ Store) × ((l r : Row) × NamesResult content version old.now l r × (¬ IsSound l r)))
+    ⊎ ((fault ≡ Store) × ((l r : Row) × NamesResult content version old.now l r × (¬ IsSoundPair l r)))
 
 -- ---- the latest results of a version
 
@@ -118,7 +118,7 @@ ArePassesIn version found db =
 
 -- a result is named for the version that isn't sound, or one that was checked for what is no number of a content
 abbrev pub IsUnsoundFor : ℕ → Database → Type 0
-IsUnsoundFor version db = ((l r : Row) × NamesFor version db l r × (¬ IsSound l r))
+IsUnsoundFor version db = ((l r : Row) × NamesFor version db l r × (¬ IsSoundPair l r))
     ⊎ ((l c : Row) × NamesChecked version db l c × (¬ IsNumberAt in_latest.content l))
 
 -- the store failed, which ended the transaction, or a growth was refused; or Store, since a row isn't sound

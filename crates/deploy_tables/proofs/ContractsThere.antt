@@ -5,15 +5,15 @@ use Rattle.std.proofs.Common.{◌≡◌, ◌++◌, inl, inr, ℕ, ℤ, false, po
 use Rattle.sqlite_rules.specs.Lists.{Has}
 use Rattle.sqlite_tied.specs.Compute.{everything}
 use Rattle.broker_tables.specs.{Schema.{in_versions, in_contracts, in_deployed, in_released}, Rows.{value_at}, Numbers.{number_of}, Holds.{Holds, IsBroker}}
-use Rattle.broker_tables.proofs.{Asked.{Asked, IsShown, EachShown, of_table}, Orders.{marked_total, exact_marked}, VersionRows.{whole_test, text_test, all_three, row_number}}
-use Rattle.broker_tables.proofs.{References.{refers_version}, Placed.{contracts, contracts_there}}
+use Rattle.broker_tables.proofs.{Asked.{Asked, IsShown, EachShown, of_table}, Orders.{marked_total, exact_marked}}
+use Rattle.broker_tables.proofs.{VersionRows.{whole_test, text_test, all_three, row_number}, References.{refers_version}, Placed.{contracts, contracts_there}}
 use Rattle.deploy_tables.specs.declared.contracts_there.NumberedContract.{NumberedContract}
 use Rattle.deploy_tables.{specs.ContractsThere.{IsDeployedIn, IsReleasedIn, TellsContracts, IsNumberedRow}, proofs.DeployedState.{deployed_in}}
 use Rattle.deploy_tables.proofs.{ReleasedRows.{released_in}, VersionRows.{same_pos, Names}, MatrixLoop.{both_ways, both_of}}
 use Rattle.contract_tables.proofs.JoinRows.{pair_of, item_of_pair}
-use Rattle.sqlite.specs.{Edit.{id_in}, declared.types.Value.{Value}, declared.types.Value.TheVariants.{Null, Int, Text}, Order.{Row, column, value_cmp}, Term.{Term, lit, col, op2}, Collation.TheVariants.{Binary}}
+use Rattle.sqlite.specs.{Edit.{id_in}, declared.types.Value.{Value}, declared.types.Value.TheVariants.{Null, Int, Text}, Order.{Row, column, value_cmp}}
+use Rattle.sqlite.specs.{Term.{Term, lit, col, op2}, Collation.TheVariants.{Binary}, Effect.{Database, Answers}, Listing.{understood}}
 use Rattle.sqlite_keyed.proofs.RuleLemmas.{first_of_both, second_of_both}
-use Rattle.sqlite.specs.{Effect.{Database, Answers}, Listing.{understood}}
 use Rattle.sqlite_sql.specs.{declared.ops.BinaryOp.TheVariants.{Compare, Is}, declared.ops.CompareOp.TheVariants.{Eq}, Ops.{binary, is_true}}
 use Rattle.table_access.specs.{Columns.{text, text_cmp, whole_at, by_both}, Statements.{from_both, from_table, keeps_both}, Reading.{AreRead}}
 use Rattle.table_access.proofs.{ReadLemmas.{same_numbers}, SoundLemmas.{has_place}, Maps.{find_has, has_find}, Members.{pair_has, has_pair}}
@@ -46,8 +46,11 @@ of_released e p = record { names = _; means = record { is = refl; plain = (refl,
 
 -- ---- a row without a version
 
+abbrev pub unnumbered_terms : List Term
+unnumbered_terms = op2 (Compare Eq Binary) (col 1 in_deployed.environment) (col 0 0) ∷ op2 (Is Binary) (col 1 in_deployed.version_number) (lit Null) ∷ []
+
 pub unnumbered : (e : Words) → Asked (codes "SELECT environment FROM deployed WHERE environment = ?1 AND version_number IS NULL")
-    (Text e ∷ []) (from_table in_deployed.tree (op2 (Compare Eq Binary) (col 1 in_deployed.environment) (col 0 0) ∷ op2 (Is Binary) (col 1 in_deployed.version_number) (lit Null) ∷ []) (col 1 in_deployed.environment ∷ []) [])
+    (Text e ∷ []) (from_table in_deployed.tree unnumbered_terms (col 1 in_deployed.environment ∷ []) [])
 unfolding understood everything
 unnumbered e = record { names = _; means = record { is = refl; plain = (refl, refl); unlisted = refl }; runs = record { whole = refl; typed = refl; sumless = refl } }
 

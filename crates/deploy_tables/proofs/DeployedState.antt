@@ -142,10 +142,10 @@ module _ (e p i : Words) (n : ℕ) (old new : State) (count : ℕ) (s : Broker) 
 
 -- ---- the list
 
-abbrev list_order : List (Term × Key)
+abbrev pub list_order : List (Term × Key)
 list_order = (col 1 in_deployed.pacticipant, ascending Binary) ∷ (col 1 in_deployed.instance, ascending Binary) ∷ []
 
-abbrev list_project : List Term
+abbrev pub list_project : List Term
 list_project = col 1 in_deployed.pacticipant ∷ col 1 in_deployed.instance ∷ col 2 in_versions.version ∷ []
 
 pub deployments : (e : List ℕ)

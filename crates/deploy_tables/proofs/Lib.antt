@@ -13,3 +13,4 @@ pub mod MatrixLemmas
 pub mod MatrixLoop
 pub mod ReadableRows
 pub mod VersionsThere
+pub mod AnyThere

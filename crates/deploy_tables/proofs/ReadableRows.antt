@@ -1,7 +1,8 @@
 -- The rows of each query of these tables can be read, if the state that the database holds can.
 use Rattle.std.{specs.Prelude.{IsUtf8}, proofs.Common.{◌≡◌, inl, inr, ℕ, List, [], ◌∷◌, true, refl, sym, subst, arith}}
 use Rattle.sqlite_rules.specs.Lists.{Has}
-use Rattle.table_access.{specs.{Columns.{text, whole_at}, Reading.{IsNumberRow}, Statements.{shows, from_both, keeps_both}}, proofs.{SoundLemmas.{whole_in, has_place}, Answered.{pair_shown}}}
+use Rattle.table_access.specs.{Columns.{text, whole_at}, Reading.{IsNumberRow}, Statements.{shows, from_both, keeps_both}}
+use Rattle.table_access.proofs.{SoundLemmas.{whole_in, has_place}, Answered.{pair_shown}}
 use Rattle.broker_core.specs.State.{State as Broker}
 use Rattle.broker_tables.specs.{Schema.{in_versions, in_contracts, in_deployed, in_released}, Holds.{Holds}, Readable.{IsReadable, IsNamed}}
 use Rattle.broker_tables.proofs.Asked.{Asked, IsShown, EachShown, EachReads, of_both, of_table, number_reads}

@@ -30,10 +30,10 @@ use Rattle.sqlite_typing.specs.Types.{accepts_program}
 use Rattle.contract_tables.proofs.JoinRows.{pair_of, item_of_pair}
 use Rattle.sqlite_value.specs.{declared.keys.Key.{Key}, Keys.{ascending}}
 
-abbrev list_order : List (Term × Key)
+abbrev pub list_order : List (Term × Key)
 list_order = (col 2 in_versions.pacticipant, ascending Binary) ∷ (col 2 in_versions.version, ascending Binary) ∷ []
 
-abbrev list_project : List Term
+abbrev pub list_project : List Term
 list_project = col 2 in_versions.pacticipant ∷ col 2 in_versions.version ∷ []
 
 pub releases : (e : List ℕ)

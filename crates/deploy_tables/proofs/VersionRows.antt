@@ -8,8 +8,8 @@ use Rattle.sqlite_rules.specs.Lists.{Has}
 use Rattle.broker_tables.specs.{Schema.{in_versions, in_deployed, to}, Numbers.{number_of}, Holds.{IsBroker, Holds}}
 use Rattle.broker_tables.proofs.VersionRows.{whole_test, text_test, false_if, row_number, find_version, versions_numbered, version_number}
 use Rattle.broker_tables.proofs.{Listed.{read_has, has_read, sorts}, Orders.{exact_pair}, References.{refers_version}}
-use Rattle.sqlite.specs.{declared.types.Value.{Value}, declared.types.Value.TheVariants.{Int, Text}, Order.{Row, column, value_cmp}, Term.{Term, col, op2, holds}, Table.{Table}}
-use Rattle.sqlite.specs.{Tree.{IsAscending}, Collation.TheVariants.{Binary}, Effect.{Database, Answers}}
+use Rattle.sqlite.specs.{declared.types.Value.{Value}, declared.types.Value.TheVariants.{Int, Text}, Order.{Row, column, value_cmp}}
+use Rattle.sqlite.specs.{Term.{Term, col, op2, holds}, Table.{Table}, Tree.{IsAscending}, Collation.TheVariants.{Binary}, Effect.{Database, Answers}}
 use Rattle.sqlite_sql.specs.{declared.ops.BinaryOp.TheVariants.{Compare}, declared.ops.CompareOp.TheVariants.{Eq}, Ops.{binary, is_true}}
 use Rattle.table_access.specs.{Columns.{text, whole_at, pair_cmp}, Statements.{keeps_both, pairs_kept, from_table, keeps, shows}, Reading.{AreRead}}
 use Rattle.table_access.proofs.Parts.{numbers_once}

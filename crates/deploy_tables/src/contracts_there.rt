@@ -1,5 +1,8 @@
 //! The contracts with one provider of all versions that are in an environment, by the numbers of the versions.
-ghost use Rattle.std.specs.Prelude.{◌≡◌, ◌++◌, false, ⊤, IfOk, IfErr};
+ghost use Rattle.std.specs.Prelude.{◌≡◌, ◌++◌, ◌↔◌, false, IsTrue, ⊤, IfOk, IfErr};
+ghost use Rattle.table_access.specs.Calls.{HasFailed};
+ghost use Rattle.broker_tables.specs.Asking.{TellsOfAny};
+ghost use Rattle.deploy_tables.specs.AnyThere.{AnswersOnlyIf, HasNull};
 ghost use Rattle.broker_core.specs.Gate.{Stands};
 ghost use Rattle.broker_tables.specs.Calm.{CalmQueries, CalmQueriesInPlace};
 ghost use Rattle.contract_tables.specs.Listings.{FailsAsNumbers};
@@ -87,7 +90,9 @@ fn in_one(
 /// Whether a row of what is deployed in the environment has NULL in place of a version, as in a table that was declared
 /// without NOT NULL. A JOIN would leave it out.
 fn has_unnumbered<S: Alter>(conn: &mut Connection<S>, environment: &str) -> Result<bool, StoreFault>
-    ensures { CalmQueriesInPlace S.Store conn.old conn.new result (λ found s. found ≡ false) }
+    ensures answers { CalmQueriesInPlace S.Store conn.old conn.new result (λ found s. found ≡ false) }
+    ensures null { TellsOfAny S.Store conn.old conn.new result
+        (λ found db. IsTrue found ↔ HasNull environment.now db) HasFailed }
 {
     has_row(
         conn,
@@ -98,7 +103,8 @@ fn has_unnumbered<S: Alter>(conn: &mut Connection<S>, environment: &str) -> Resu
 
 /// That each row of what is deployed in the environment has a version. `StoreFault::Store` if one hasn't.
 fn each_is_numbered<S: Alter>(conn: &mut Connection<S>, environment: &str) -> Result<(), StoreFault>
-    ensures { CalmQueries S.Store conn.old conn.new result (λ _ s. ⊤) }
+    ensures answers { CalmQueries S.Store conn.old conn.new result (λ _ s. ⊤) }
+    ensures null { AnswersOnlyIf S.Store conn.old conn.new result (λ db. ¬ (HasNull environment.now db)) }
 {
     if done!(has_unnumbered(conn, environment)) {
         return Err(StoreFault::Store);
@@ -133,8 +139,9 @@ pub(crate) fn contracts_there<S: Alter>(
     environment: &str,
     provider: &str,
 ) -> Result<Vec<NumberedContract>, StoreFault>
-    ensures { CalmQueries S.Store conn.old conn.new result
+    ensures answers { CalmQueries S.Store conn.old conn.new result
         (λ found s. TellsContracts s provider.now (Stands s environment.now) found.items) }
+    ensures null { AnswersOnlyIf S.Store conn.old conn.new result (λ db. ¬ (HasNull environment.now db)) }
 {
     done!(each_is_numbered(conn, environment));
     both_contracts(alloc, conn, environment, provider)

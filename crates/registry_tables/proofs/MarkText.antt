@@ -11,8 +11,8 @@ use Rattle.sqlite_tied.specs.Compute.{everything}
 use Rattle.sqlite_keyed.proofs.RuleLemmas.{first_of_both}
 use Rattle.table_access.{specs.Statements.{from_table, keeps, shows}, proofs.Answered.{Runs, shown_of, first_has}}
 use Rattle.table_access.proofs.{Members.{has_map, has_filter, has_contains, contains_has}, Steps.{Means, selects}, Values.{same_texts, equal_text}}
-use Rattle.broker_tables.specs.{Schema.{in_environments, broker_schema, environments}, Rows.{mark_of, IsTruthAt}}
-use Rattle.broker_tables.{specs.Asking.{HasColumns, HasBrokerTables}, proofs.AnyTables.{laid_out, lays, sets_out}}
+use Rattle.broker_tables.specs.{Schema.{in_environments, broker_schema, environments}, Rows.{mark_of, IsTruthAt}, Asking.{HasColumns, HasBrokerTables}}
+use Rattle.broker_tables.proofs.AnyTables.{laid_out, lays, sets_out}
 use Rattle.registry_tables.specs.Marks.{IsMarkIn, HasNoMark, IsEnvironmentRow}
 use Rattle.sqlite.specs.Kind.TheVariants as kind
 

@@ -1,5 +1,4 @@
-use Rattle.std.specs.Prelude.{IsTrue, ◌↔◌}
-use Rattle.std.proofs.Common.{Some, refl, inl, arith, subst}
+use Rattle.std.{specs.Prelude.{IsTrue, ◌↔◌}, proofs.Common.{Some, refl, inl, arith, subst}}
 use Rattle.sqlite.specs.{Held.{state}, State.{HasCleanDisk}, Effect.{Database}}
 use Rattle.broker_core.specs.{State.{latest_result}, declared.need.Latest.{Latest}}
 use Rattle.broker_tables.proofs.{QueryLemmas.{calm_both}, AnyTables.{failed_since_query, still_asked}}

@@ -1,8 +1,10 @@
 use Rattle.std.proofs.{Common.{inl, inr}, lemmas.Result.{IfOk-weaker, IfErr-weaker, MatchResult-from_both}}
 use Rattle.sqlite.specs.Held.{state}
 use Rattle.table_access.proofs.Answered.{first_has}
-use Rattle.broker_tables.proofs.{QueryLemmas.{read_result, read_err}, Asked.{reads, still, why_refused}, NoVersion.{no_answer}, AnyTables.{refused_ends, leaves_all}}
-use Rattle.contract_tables.{specs.Verified.{pass_of, pass_cells}, proofs.{VersionResults.{join, join_found}, ReadableRows.{join_reads, join_none}, AnyTexts.{pair_asks}, AnyLatest.{pair_found, pair_lost, ok_both}}}
+use Rattle.broker_tables.proofs.{QueryLemmas.{read_result, read_err}, Asked.{reads, still, why_refused}, NoVersion.{no_answer}}
+use Rattle.broker_tables.proofs.AnyTables.{refused_ends, leaves_all}
+use Rattle.contract_tables.{specs.Verified.{pass_of, pass_cells}, proofs.{VersionResults.{join, join_found}, ReadableRows.{join_reads, join_none}}}
+use Rattle.contract_tables.proofs.{AnyTexts.{pair_asks}, AnyLatest.{pair_found, pair_lost, ok_both}}
 use Rattle.contract_tables.proofs.lookups.latest_pass.Goals as goal
 
 pub returns-clause-answers : goal.returns-clause-answers

@@ -1,4 +1,5 @@
-use Rattle.std.{specs.{List.Sorted.{IsBinarySearchResult}, Ordering.{nat_cmp}}, proofs.{Common.{rules, Ok, Err, false, refl}, lemmas.List.Sorted.{answers_always}}}
+use Rattle.std.{specs.{List.Sorted.{IsBinarySearchResult}, Ordering.{nat_cmp}}, proofs.Common.{rules, Ok, Err, false, refl}}
+use Rattle.std.proofs.lemmas.List.Sorted.{answers_always}
 use Rattle.table_access.proofs.{Members.{has_contains}, ReadLemmas.{has_get}}
 use Rattle.contract_tables.{specs.declared.version_results.LatestResult.{LatestResult}, proofs.Rising.{sorted, found_at, missing}}
 use Rattle.contract_tables.proofs.VersionResults.{said_at, none_said}

@@ -3,9 +3,8 @@ use Rattle.std.proofs.Common.{refl, sym, subst, inl, inr, ℕ, ◌≡◌, ◌∙
 use Rattle.sqlite.specs.{Held.{state}, State.{HasCleanDisk}, Effect.{Database}}
 use Rattle.broker_core.specs.{declared.command.Version.{Version}, Listing.{Lists}, State.{latest_result}}
 use Rattle.broker_tables.{specs.{Numbers.{number_of}, Holds.{Holds}}, proofs.{QueryLemmas.{query_stop, query_failed, calm_then}, AnyTables.{still_asked}}}
-use Rattle.contract_tables.{specs.{VersionResults.{pass_cmp, IsPassOf, marked}, LatestRows.{IsCheckedFor}}, proofs.{Rising.{sorted}, QueryLemmas.{calm_computed}}}
-use Rattle.contract_tables.proofs.AnyLatest.{mapped, latest_found, listed_since}
-use Rattle.contract_tables.proofs.VersionResults.{latest_listed}
+use Rattle.contract_tables.{specs.{VersionResults.{pass_cmp, IsPassOf, marked}, LatestRows.{IsCheckedFor}}, proofs.Rising.{sorted}}
+use Rattle.contract_tables.proofs.{QueryLemmas.{calm_computed}, AnyLatest.{mapped, latest_found, listed_since}, VersionResults.{latest_listed}}
 use Rattle.contract_tables.proofs.version_results.latest_results.Goals as goal
 
 pub returns-in-Ok-with_marks-clause-answers : goal.returns-in-Ok-with_marks-clause-answers

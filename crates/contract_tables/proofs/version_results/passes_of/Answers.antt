@@ -1,8 +1,8 @@
 use Rattle.std.proofs.lemmas.Result.{IfOk-weaker, IfErr-weaker, MatchResult-from_both}
 use Rattle.sqlite.specs.Held.{state}
 use Rattle.broker_tables.proofs.{Asked.{lists, lists_none}, AnyTables.{leaves_all}}
-use Rattle.contract_tables.proofs.{VersionResults.{passes, passes_listed}, ReadableRows.{passes_reads, passes_none}}
-use Rattle.contract_tables.proofs.{AnyTexts.{passes_asks}, AnyLatest.{passes_found, passes_fail}}
+use Rattle.contract_tables.proofs.{VersionResults.{passes, passes_listed}, ReadableRows.{passes_reads, passes_none}, AnyTexts.{passes_asks}}
+use Rattle.contract_tables.proofs.AnyLatest.{passes_found, passes_fail}
 use Rattle.contract_tables.proofs.version_results.passes_of.Goals as goal
 
 pub returns-clause-answers : goal.returns-clause-answers
