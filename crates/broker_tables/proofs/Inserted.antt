@@ -2,8 +2,7 @@
 use Rattle.broker_core.specs.{State.{State as Broker}, declared.command.Version.{Version}}
 use Rattle.broker_tables.specs.{Holds.{Holds, IsBroker, marks_in}, Numbers.{number_of, numbered}, Refusals.{AreShort}, Rows.{rows_of, stands_at, value_at}}
 use Rattle.broker_tables.{specs.Schema.{broker_schema, in_environments, in_pacticipants, in_teams, in_versions, to}, proofs.Frames.{meant}}
-use Rattle.broker_tables.proofs.{Orders.{exact_texts}, Placed.{calm, environments, pacticipants, teams}}
-use Rattle.broker_tables.proofs.References.{LeadsTo, environment_names, leads, pacticipant_names, row_number, team_names}
+use Rattle.broker_tables.proofs.{Orders.{exact_texts}, Placed.{calm}, References.{LeadsTo, environment_names, leads, pacticipant_names, row_number, team_names}}
 use Rattle.broker_tables.proofs.VersionRows.{find_version, version_number}
 use Rattle.sqlite.specs.{Cast.{cast_row}, Collation.TheVariants.{Binary}, Command.TheVariants.{Insert}, Does.{due}, Edit.{next_rowid, with_rowid}}
 use Rattle.sqlite.specs.{Effect.{Database, value_rows}, Listing.{understood}, Order.{Row, column, value_cmp}, Rows.{Edited, Inserts, Written}, Schema.{Schema}}

@@ -2,6 +2,7 @@ pub mod Definitions
 pub mod Frames
 pub mod QueryLemmas
 pub mod Asked
+pub mod AnyTables
 pub mod TruthLemmas
 pub mod ReadableRows
 pub mod ReadableSteps

@@ -1,6 +1,6 @@
 -- Texts that make tables or indexes fail only as the store fails, where they are those that come next.
 use Rattle.std.specs.List.{AllByRecursion}
-use Rattle.std.proofs.Common.{Ok, Result, arith, ◌≡◌, inl, inr, ℕ, List, [], ◌∷◌, ◌++◌, ◌+◌, take, drop, refl, sym, ap, subst, ◌∙◌, Err}
+use Rattle.std.proofs.Common.{Ok, Result, arith, ◌≡◌, inl, inr, ℕ, List, [], ◌∷◌, ◌++◌, take, drop, refl, sym, ap, subst, ◌∙◌, Err}
 use Rattle.std.proofs.{lemmas.List.{append_assoc, take-append-drop, take-map}, lemmas.Result.{IfErr-weaker}}
 use Rattle.sqlite.specs.{Table.{Table}, Schema.{Schema}, declared.error.Error.{Error}, Change.{created, KeepsRows}, Order.{Row}, Effect.{Database}}
 use Rattle.sqlite.specs.State.{State, Executes, Fails, HasCleanDisk}

@@ -10,7 +10,7 @@ use Rattle.table_access.proofs.SoundLemmas.{whole_in, checks_hold, has_place}
 use Rattle.broker_core.specs.{declared.command.Version.{Version}, Limit.{limit}, Text.{Text, version}, State.{State as Broker}}
 use Rattle.broker_tables.specs.{Schema.{to, in_pacticipants, in_versions, in_contents, in_results, in_checked_results}, Rows.{IsTruthAt}, Names.{IsNameAt}}
 use Rattle.broker_tables.specs.{Numbers.{numbered}, Holds.{Holds, with_digest, result_in, result_of}, Readable.{IsReadable, IsNamed, AreFew}}
-use Rattle.broker_tables.proofs.{Orders.{exact_texts}, Placed.{pacticipants, results, results_there}}
+use Rattle.broker_tables.proofs.{Orders.{exact_texts}, Placed.{results, results_there}}
 use Rattle.broker_tables.proofs.References.{row_number, row_entry, refers_version, refers_content, refers_result, refers_pacticipant, pacticipant_keys}
 use Rattle.broker_tables.proofs.TruthLemmas.{is_low}
 

@@ -1,4 +1,5 @@
 pub mod Schema
+pub mod Asking
 pub mod Rows
 pub mod Room
 pub mod Names

@@ -12,3 +12,5 @@ pub mod QueryLemmas
 pub mod JoinRows
 pub mod ToldResults
 pub mod ReadableRows
+pub mod AnyTexts
+pub mod AnyLatest

@@ -1,6 +1,6 @@
 -- The rows of each query of these tables can be read, if the state that the database holds can; and there is none for a
 -- number that no version has.
-use Rattle.std.proofs.Common.{◌≡◌, ◌∙◌, ◌<◌, ◌≤◌, inl, inr, ℕ, pos, List, [], ◌∷◌, Some, true, refl, sym, ap, subst, arith}
+use Rattle.std.proofs.Common.{◌≡◌, ◌∙◌, ◌≤◌, inl, inr, ℕ, pos, List, [], ◌∷◌, Some, true, refl, sym, ap, subst, arith}
 use Rattle.sqlite.specs.{declared.types.Value.TheVariants.{Int}, Order.{Row, column}, Term.{col, eval_all}, Effect.{Database}, Collation.TheVariants.{Binary}}
 use Rattle.sqlite_rules.{specs.Lists.{Has}, proofs.TableLemmas.{int_is}}
 use Rattle.sqlite_sql.specs.{declared.ops.BinaryOp.TheVariants.{Compare}, declared.ops.CompareOp.TheVariants.{Eq}, Ops.{binary, is_true}}

@@ -1,14 +1,19 @@
 //! What the results say: the latest one for a content and a version of its provider, and each by its number.
-ghost use Rattle.std.specs.Prelude.{◌≡◌, option_map, Some, length, IfOk, IfErr, slice_get, None};
+ghost use Rattle.std.specs.Prelude.{◌≡◌, ◌↔◌, option_map, Some, length, IsTrue, IfOk, IfErr, slice_get, None};
+ghost use Rattle.sqlite.specs.Held.{state};
+ghost use Rattle.sqlite.specs.State.{HasCleanDisk, IsUnchanged};
+ghost use Rattle.table_access.specs.Calls.{HasFailed};
 ghost use Rattle.broker_core.specs.declared.command.Version.{Version as VersionModel};
 ghost use Rattle.broker_core.specs.State.{Verification, latest_result, latest};
 ghost use Rattle.broker_core.specs.Change.{result_of_run as run_result};
 ghost use Rattle.broker_tables.specs.Numbers.{number_of as number_in};
 ghost use Rattle.broker_tables.specs.Calm.{CalmQueriesInPlace, IfNoVersion};
+ghost use Rattle.broker_tables.specs.Asking.{TellsOfAny, CanBeAsked};
 ghost use Rattle.broker_tables.specs.Rows.{IsTruthAt};
 ghost use Rattle.sqlite.specs.Order.{Row as SqlRow};
 ghost use Rattle.contract_tables.specs.Verified.{result_with, cells, cells_of, ReadsAsResult, pass_cells, pass_of, passed_of, passed_as, by_numbers, numbers_are, told_of, told};
 ghost use Rattle.contract_tables.specs.VersionResults.{IsOfItsPair, ReadsAsLatest};
+ghost use Rattle.contract_tables.specs.LatestRows.{IsLatestIn, IsPassIn, IsMarkedChecked, FailsAsNamed};
 
 use crate::version_results::{ContentPass, read_latest};
 use broker_core::need::Latest;
@@ -34,8 +39,10 @@ pub fn result_count<S: Alter>(conn: &mut Connection<S>) -> Result<u64, StoreFaul
 
 /// Whether the broker checked the result with this number, which is there.
 fn is_checked<S: Alter>(conn: &mut Connection<S>, number: u32) -> Result<bool, StoreFault>
-    ensures { CalmQueriesInPlace S.Store conn.old conn.new result
+    ensures answers { CalmQueriesInPlace S.Store conn.old conn.new result
         (λ checked s. (r : Verification) → result_with s number ≡ Some r → checked ≡ r.checked) }
+    ensures mark { TellsOfAny S.Store conn.old conn.new result
+        (λ checked db. IsTrue checked ↔ IsMarkedChecked number db) HasFailed }
 {
     has_row(
         conn,
@@ -71,6 +78,10 @@ fn latest_pass<S: Alter>(
         (λ found s. (v : VersionModel) → number_in s.versions v ≡ Some provider_version →
         option_map (λ r. passed_as r.result r.pass) found ≡ option_map passed_of (latest_result s content v)) }
     ensures unknown { IfNoVersion S.Store conn.old conn.new result provider_version (λ found. found ≡ None) }
+    ensures mark { TellsOfAny S.Store conn.old conn.new result
+        (IsPassIn content provider_version) (FailsAsNamed content provider_version) }
+    ensures stays { HasCleanDisk (state S.Store conn.new) → CanBeAsked (state S.Store conn.old) →
+        IfOk result (λ _. IsUnchanged (state S.Store conn.old) (state S.Store conn.new)) }
 {
     let rows = done!(select(
         conn,
@@ -80,7 +91,9 @@ fn latest_pass<S: Alter>(
     first_pass(&rows)
 }
 
-/// What the latest result for a content and the version of this number says, or `None` if there is none.
+/// What the latest result for a content and the version of this number says, or `None` if there is none. A mark that is
+/// neither 0 nor 1 is never taken for a pass, nor the result of another content or version, whatever CHECKs and
+/// references the tables have.
 ///
 /// # Errors
 /// `StoreFault::Memory` if the database is out of memory; `StoreFault::Store` if it refused a query, or holds no number
@@ -94,6 +107,8 @@ pub fn latest_of<S: Alter>(
         (λ found s. (v : VersionModel) → number_in s.versions v ≡ Some version_number →
         found ≡ latest s content v) }
     ensures unknown { IfNoVersion S.Store conn.old conn.new result version_number (λ found. found ≡ None) }
+    ensures mark { TellsOfAny S.Store conn.old conn.new result
+        (IsLatestIn content version_number) (FailsAsNamed content version_number) }
 {
     match done!(latest_pass(conn, content, version_number)) {
         Some(found) => {

@@ -1,15 +1,20 @@
 //! The latest results of one version of a provider, for every content at once.
-ghost use Rattle.std.specs.Prelude.{◌≡◌, Some, IfOk, IfErr, IsSorted, map, option_map, pos, true, []};
+ghost use Rattle.std.specs.Prelude.{◌≡◌, ℕ, Some, IfOk, IfErr, IfSome, IsTrue, IsSorted, Contains, option_map, pos, true, []};
 ghost use Rattle.std.specs.Ordering.{nat_cmp};
+ghost use Rattle.sqlite.specs.Held.{state};
+ghost use Rattle.sqlite.specs.State.{HasCleanDisk, IsUnchanged};
 ghost use Rattle.sqlite.specs.Order.{column};
 ghost use Rattle.sqlite.specs.declared.types.Value.TheVariants.{Int};
-ghost use Rattle.table_access.specs.Reading.{TellsNumber};
+ghost use Rattle.table_access.specs.Reading.{TellsNumber, AreRead};
 ghost use Rattle.broker_core.specs.declared.command.Version.{Version as VersionModel};
 ghost use Rattle.broker_core.specs.Listing.{Lists};
 ghost use Rattle.broker_core.specs.State.{State as Broker, latest_result, latest};
 ghost use Rattle.broker_tables.specs.Numbers.{number_of as number_known};
 ghost use Rattle.broker_tables.specs.Calm.{CalmQueries, IfNoVersion};
-ghost use Rattle.contract_tables.specs.VersionResults.{pass_cmp, latest_cmp, IsPassOf, IsLatestOf, IsPassRow, AreSame, FailsAsLatest, is_among, marked};
+ghost use Rattle.broker_tables.specs.Asking.{TellsOfAny, CanBeAsked};
+ghost use Rattle.contract_tables.specs.VersionResults.{pass_cmp, latest_cmp, IsPassOf, IsLatestOf, IsPassRow, AreSame, FailsAsLatest, is_among};
+ghost use Rattle.contract_tables.specs.LatestRows.{ArePassesIn, IsCheckedFor, AreLatestIn, IsMarkedOf, FailsAsListed};
+ghost use Rattle.contract_tables.specs.declared.version_results.LatestResult.{LatestResult as LatestModel};
 
 use broker_core::need::Latest;
 use broker_tables::truth_at;
@@ -104,6 +109,10 @@ fn passes_of<S: Alter>(
         (λ found s. (v : VersionModel) → number_known s.versions v ≡ Some version_number →
         Lists pass_cmp (IsPassOf s v) found.items) }
     ensures unknown { IfNoVersion S.Store conn.old conn.new result version_number (λ found. found.items ≡ []) }
+    ensures mark { TellsOfAny S.Store conn.old conn.new result
+        (λ found db. ArePassesIn version_number found.items db) (FailsAsListed version_number) }
+    ensures stays { HasCleanDisk (state S.Store conn.new) → CanBeAsked (state S.Store conn.old) →
+        IfOk result (λ _. IsUnchanged (state S.Store conn.old) (state S.Store conn.new)) }
 {
     list_of::<PassRow, S>(
         alloc,
@@ -125,6 +134,8 @@ fn checked_of<S: Alter>(
         Lists nat_cmp
         (λ content. option_map (λ e. e.1.checked) (latest_result s content v) ≡ Some true) found.items) }
     ensures unknown { IfNoVersion S.Store conn.old conn.new result version_number (λ found. found.items ≡ []) }
+    ensures mark { TellsOfAny S.Store conn.old conn.new result
+        (λ found db. (k : ℕ) → Contains found.items k → IsCheckedFor version_number db k) (FailsAsListed version_number) }
 {
     list_of::<NumberRow, S>(
         alloc,
@@ -136,37 +147,46 @@ fn checked_of<S: Alter>(
 
 /// Whether the number is one of these, which are in order.
 pub(crate) fn is_among(numbers: &[u32], number: u32) -> bool
-    ensures { IsSorted nat_cmp numbers.now → result ≡ is_among numbers.now number }
+    ensures answers { IsSorted nat_cmp numbers.now → result ≡ is_among numbers.now number }
+    ensures found { IsTrue result → Contains numbers.now number }
 {
     numbers.binary_search(&number).is_ok()
 }
 
-/// What the results say: whether each is a pass, and whether its content is one of those that were checked, which are in order.
+/// What the result says: whether it is a pass, and whether its content is one of those that were checked, which are in
+/// order.
+fn with_its_mark(one: &ContentPass, checked: &[u32]) -> LatestResult
+    ensures { IsMarkedOf checked.now one.now result }
+{
+    let latest = Latest {
+        pass: one.pass,
+        checked: is_among(checked, one.content),
+    };
+    LatestResult {
+        content: one.content,
+        result: one.result,
+        latest,
+    }
+}
+
+/// What each of the results says.
 fn with_marks(
     alloc: Global,
     passes: &[ContentPass],
     checked: &[u32],
 ) -> Result<Vec<LatestResult>, AllocError>
-    ensures { IfOk result
-        (λ found. IsSorted nat_cmp checked.now → found.items ≡ map (marked checked.now) passes.now) }
+    ensures { IfOk result (λ found. AreRead (IsMarkedOf checked.now) passes.now found.items) }
 {
     let mut found = Vec::new(alloc);
     for one in passes {
-        let latest = Latest {
-            pass: one.pass,
-            checked: is_among(checked, one.content),
-        };
-        found.push(LatestResult {
-            content: one.content,
-            result: one.result,
-            latest,
-        })?;
+        found.push(with_its_mark(one, checked))?;
     }
     Ok(found)
 }
 
 /// The contents for which the version of this number has a result, each once, in the order of their numbers, with the
-/// number of the latest result and what it says.
+/// number of the latest result and what it says. A mark that is neither 0 nor 1 is never taken for a pass, nor the
+/// result of another content or version, whatever CHECKs and references the tables have.
 ///
 /// # Errors
 /// `StoreFault::Memory` if the database is out of memory, or there is none for the answer; `StoreFault::Store` if it
@@ -180,6 +200,8 @@ pub fn latest_results<S: Alter>(
         (λ found s. (v : VersionModel) → number_known s.versions v ≡ Some version_number →
         Lists latest_cmp (IsLatestOf s v) found.items) }
     ensures unknown { IfNoVersion S.Store conn.old conn.new result version_number (λ found. found.items ≡ []) }
+    ensures mark { TellsOfAny S.Store conn.old conn.new result
+        (λ found db. AreLatestIn version_number found.items db) (FailsAsListed version_number) }
 {
     let passes = done!(passes_of(alloc, conn, version_number));
     let checked = done!(checked_of(alloc, conn, version_number));
@@ -189,10 +211,13 @@ pub fn latest_results<S: Alter>(
     }
 }
 
-/// What the latest result for the content says, found among all of a version: the list that `latest_results` answers.
+/// What the latest result for the content says, found among all of a version: the list that `latest_results` answers. Of
+/// any other list it tells only what one of it says that is for this content.
 pub fn latest_among(results: &[LatestResult], content: u32) -> Option<Latest>
-    ensures { (s : Broker) (v : VersionModel) →
+    ensures answers { (s : Broker) (v : VersionModel) →
         Lists latest_cmp (IsLatestOf s v) results.now → result ≡ latest s content v }
+    ensures found { IfSome result (λ latest. (x : LatestModel) × Contains results.now x
+        × (x.content ≡ content) × (x.latest ≡ latest)) }
 {
     match results.binary_search_by_key(&content, |one| one.content) {
         Ok(at) => Some(results[at].latest),

@@ -1,23 +1,25 @@
 -- The contracts with a provider of the versions that stand in an environment: rows of deployed and of released, each
 -- joined with the contracts of its version.
 use Rattle.std.specs.{Prelude.{Contains, option_map, ◌↔◌}, Ordering.{int_cmp}}
-use Rattle.std.proofs.Common.{◌≡◌, ◌++◌, inl, inr, ℕ, pos, codes, List, [], ◌∷◌, Bool, true, refl, sym, ap, subst, ◌∙◌, Some}
+use Rattle.std.proofs.Common.{◌≡◌, ◌++◌, inl, inr, ℕ, ℤ, false, pos, codes, List, [], ◌∷◌, Bool, true, refl, sym, ap, subst, ◌∙◌, Some}
 use Rattle.sqlite_rules.specs.Lists.{Has}
 use Rattle.sqlite_tied.specs.Compute.{everything}
-use Rattle.broker_tables.specs.{Schema.{in_versions, in_contracts, in_deployed, in_released}, Rows.{value_at}, Numbers.{number_of}, Holds.{Holds}}
-use Rattle.broker_tables.proofs.{Asked.{Asked, IsShown}, Orders.{marked_total, exact_marked}, VersionRows.{whole_test, text_test, all_three, row_number}}
-use Rattle.broker_tables.proofs.{References.{refers_version}, Placed.{contracts, contracts_there}}
+use Rattle.broker_tables.specs.{Schema.{in_versions, in_contracts, in_deployed, in_released}, Rows.{value_at}, Numbers.{number_of}, Holds.{Holds, IsBroker}}
+use Rattle.broker_tables.proofs.{Asked.{Asked, IsShown, EachShown, of_table}, Orders.{marked_total, exact_marked}}
+use Rattle.broker_tables.proofs.{VersionRows.{whole_test, text_test, all_three, row_number}, References.{refers_version}, Placed.{contracts, contracts_there}}
 use Rattle.deploy_tables.specs.declared.contracts_there.NumberedContract.{NumberedContract}
 use Rattle.deploy_tables.{specs.ContractsThere.{IsDeployedIn, IsReleasedIn, TellsContracts, IsNumberedRow}, proofs.DeployedState.{deployed_in}}
 use Rattle.deploy_tables.proofs.{ReleasedRows.{released_in}, VersionRows.{same_pos, Names}, MatrixLoop.{both_ways, both_of}}
 use Rattle.contract_tables.proofs.JoinRows.{pair_of, item_of_pair}
-use Rattle.sqlite.specs.{Edit.{id_in}, declared.types.Value.TheVariants.{Text}, Order.{Row, column}, Term.{Term, col, op2}, Collation.TheVariants.{Binary}}
-use Rattle.sqlite.specs.{Effect.{Database, Answers}, Listing.{understood}}
-use Rattle.sqlite_sql.specs.{declared.ops.BinaryOp.TheVariants.{Compare}, declared.ops.CompareOp.TheVariants.{Eq}, Ops.{binary, is_true}}
-use Rattle.table_access.specs.{Columns.{text, text_cmp, whole_at, by_both}, Statements.{from_both, keeps_both}, Reading.{AreRead}}
+use Rattle.sqlite.specs.{Edit.{id_in}, declared.types.Value.{Value}, declared.types.Value.TheVariants.{Null, Int, Text}, Order.{Row, column, value_cmp}}
+use Rattle.sqlite.specs.{Term.{Term, lit, col, op2}, Collation.TheVariants.{Binary}, Effect.{Database, Answers}, Listing.{understood}}
+use Rattle.sqlite_keyed.proofs.RuleLemmas.{first_of_both, second_of_both}
+use Rattle.sqlite_sql.specs.{declared.ops.BinaryOp.TheVariants.{Compare, Is}, declared.ops.CompareOp.TheVariants.{Eq}, Ops.{binary, is_true}}
+use Rattle.table_access.specs.{Columns.{text, text_cmp, whole_at, by_both}, Statements.{from_both, from_table, keeps_both}, Reading.{AreRead}}
 use Rattle.table_access.proofs.{ReadLemmas.{same_numbers}, SoundLemmas.{has_place}, Maps.{find_has, has_find}, Members.{pair_has, has_pair}}
 use Rattle.broker_core.specs.{declared.command.Version.{Version}, Text.{Text as Words, version}, State.{State as Broker}, Gate.{Stands}}
 use Rattle.contract_tables.proofs.ContractRows as contract_rows
+use Rattle.deploy_tables.proofs.DeployedRows as deployed_rows
 
 -- ---- the two statements
 
@@ -41,6 +43,25 @@ pub of_released : (e p : Words)
     (Text e ∷ Text p ∷ []) (from_both in_released.tree in_contracts.tree (terms in_released.version_number) project [])
 unfolding understood everything
 of_released e p = record { names = _; means = record { is = refl; plain = (refl, refl); unlisted = refl }; runs = record { whole = refl; typed = refl; sumless = refl } }
+
+-- ---- a row without a version
+
+abbrev pub unnumbered_terms : List Term
+unnumbered_terms = op2 (Compare Eq Binary) (col 1 in_deployed.environment) (col 0 0) ∷ op2 (Is Binary) (col 1 in_deployed.version_number) (lit Null) ∷ []
+
+pub unnumbered : (e : Words) → Asked (codes "SELECT environment FROM deployed WHERE environment = ?1 AND version_number IS NULL")
+    (Text e ∷ []) (from_table in_deployed.tree unnumbered_terms (col 1 in_deployed.environment ∷ []) [])
+unfolding understood everything
+unnumbered e = record { names = _; means = record { is = refl; plain = (refl, refl); unlisted = refl }; runs = record { whole = refl; typed = refl; sumless = refl } }
+
+never_null : (v : Value) (z : ℤ) → v ≡ Int z → is_true (binary (Is Binary) v Null) ≡ true → ⊥
+unfolding binary value_cmp
+never_null v z is h = let clash : false ≡ true = subst (λ w. is_true (binary (Is Binary) w Null) ≡ true) is h in cc
+
+-- no held state has one
+pub none_unnumbered : (e : Words) (db : Database) → IsBroker db → EachShown (unnumbered e) db (λ row. ⊥)
+none_unnumbered e db broker = of_table (unnumbered e) db (λ row. ⊥) (λ r has kept.
+    never_null (column r in_deployed.version_number) (whole_at in_deployed.version_number r) ((deployed_rows.numbers db broker).typed r has) (first_of_both _ true (second_of_both _ _ kept)))
 
 -- ---- rows of a table that name an environment and a version, joined with the contracts
 

@@ -1,7 +1,7 @@
 -- What the rows of the deployed versions say of the state, and their list.
 use Rattle.std.specs.{Prelude.{option_map, is_some, if◌then◌else◌}, Option.{option_map_or}, Ordering.{eq_by_cmp, int_cmp}, Cmp.{eq_by_cmp_equiv, Equal-is}}
 use Rattle.std.specs.{FinMap.{int_cmp-IsAntisymmetric}, Cmp.Lexicographic.{texts_ties}}
-use Rattle.std.proofs.Common.{◌≡◌, ◌==◌, ℕ, ℤ, pos, codes, List, [], ◌∷◌, Bool, true, false, ◌&&◌, refl, sym, ap, ◌∙◌, cond, nat_lt, Some, None, Option, Ok, IsTrue, subst, arith}
+use Rattle.std.proofs.Common.{◌≡◌, ◌==◌, inl, inr, ℕ, ℤ, pos, codes, List, [], ◌∷◌, Bool, true, false, ◌&&◌, refl, sym, ap, ◌∙◌, cond, nat_lt, Some, None, Option, Ok, IsTrue, subst, arith}
 use Rattle.std.proofs.lemmas.Cmp.{int_cmp_total}
 use Rattle.broker_core.specs.{State.{State as Broker}, Machine.{deployed_cmp}, declared.command.Version.{Version}}
 use Rattle.broker_core.specs.{Text.{Text as Words, same_text, same_place, put_at, version}, Change.{is_text}, declared.answer.DeployedItem.{DeployedItem}}
@@ -10,18 +10,20 @@ use Rattle.contract_tables.proofs.ReferredRows.{has_owner}
 use Rattle.deploy_tables.specs.{Deployments.{MayBeDeployed, IsVersionOf, TakesOutAndTells, FindsNothing, without_instance}, Listings.{IsDeployedRow}}
 use Rattle.deploy_tables.specs.ContractsThere.{IsDeployedIn}
 use Rattle.deploy_tables.proofs.DeployedRows.{Place, place_of, place_cmp, record_sql, row_for, recording, stored, set, recorded, end_sql, is_number, number_in, at_place, ended, environments, pacticipants, instances, numbers, keys}
-use Rattle.deploy_tables.proofs.VersionRows.{same_pos, joined_by, still_less, two_texts, tied_texts, Names, has_kept, is_kept, pairs_apart}
-use Rattle.broker_tables.specs.{Schema.{in_versions, in_deployed}, Numbers.{number_of}, Holds.{Holds, HoldsAfter}, Refusals.{HaveNumbers}}
+use Rattle.deploy_tables.proofs.VersionRows.{same_pos, joined_by, on_number, in_environment, named_version, still_less, two_texts, tied_texts, Names, has_kept, is_kept, pairs_apart}
+use Rattle.deploy_tables.proofs.LeftRows.{from_left, as_join}
+use Rattle.sqlite_typing.specs.Types.{accepts_program}
+use Rattle.broker_tables.specs.{Schema.{in_versions, in_deployed, broker_schema}, Numbers.{number_of}, Holds.{Holds, HoldsAfter}, Refusals.{HaveNumbers}}
 use Rattle.broker_tables.proofs.{VersionRows.{false_if, find_version, row_number, numbered_as}, Listed.{lists_join}, NumberLemmas.{one_version, number_ties}}
 use Rattle.broker_tables.proofs.{Frames.{Frame, frame_of, deployed_change}, Inserted.{EndsOnly, environment_there, pacticipant_there, version_there}}
-use Rattle.broker_tables.proofs.{Placed.{deployed_there}, RoomLemmas.{Grows, after_one}, Upserted.{upsert_ends}, Orders.{exact_triple, triples_total}}
+use Rattle.broker_tables.proofs.{Placed.{deployed, deployed_there}, RoomLemmas.{Grows, after_one}, Upserted.{upsert_ends}, Orders.{exact_triple, triples_total}}
 use Rattle.broker_tables.proofs.{Ties.{two_tests, both_eq, nat_ties}, Asked.{Asked, IsShown}}
 use Rattle.sqlite_rules.specs.Lists.{Has}
 use Rattle.sqlite_tied.specs.Compute.{everything}
 use Rattle.table_access.specs.{Columns.{text, text_cmp, whole_at, by_both}, Sound.{text_in}, Statements.{from_both, ChangesOnly}, Reading.{AreRead}}
-use Rattle.table_access.proofs.Maps.{find_has, has_find}
+use Rattle.table_access.proofs.{Maps.{find_has, has_find}, SoundLemmas.{has_place}}
 use Rattle.sqlite.specs.{declared.types.Value.TheVariants.{Int, Text}, State.{State, Executes}, Order.{Row}, Term.{Term, col}, Collation.TheVariants.{Binary}}
-use Rattle.sqlite.specs.{Effect.{Database}, Listing.{understood}}
+use Rattle.sqlite.specs.{Effect.{Database, Answers}, Query.{Query}, Listing.{understood}}
 use Rattle.sqlite_value.specs.{declared.keys.Key.{Key}, Keys.{ascending}}
 
 -- the number in a row is that of the version that is there, or there is neither
@@ -140,17 +142,24 @@ module _ (e p i : Words) (n : ℕ) (old new : State) (count : ℕ) (s : Broker) 
 
 -- ---- the list
 
-abbrev list_order : List (Term × Key)
+abbrev pub list_order : List (Term × Key)
 list_order = (col 1 in_deployed.pacticipant, ascending Binary) ∷ (col 1 in_deployed.instance, ascending Binary) ∷ []
 
-abbrev list_project : List Term
+abbrev pub list_project : List Term
 list_project = col 1 in_deployed.pacticipant ∷ col 1 in_deployed.instance ∷ col 2 in_versions.version ∷ []
 
 pub deployments : (e : List ℕ)
-    → Asked (codes "SELECT d.pacticipant, d.instance, v.version FROM deployed d JOIN versions v ON v.number = d.version_number WHERE d.environment = ?1 ORDER BY d.pacticipant, d.instance")
-    (Text e ∷ []) (from_both in_deployed.tree in_versions.tree (joined_by in_deployed.version_number) list_project list_order)
+    → Asked (codes "SELECT d.pacticipant, d.instance, v.version FROM deployed d LEFT JOIN versions v ON v.number = d.version_number WHERE d.environment = ?1 ORDER BY d.pacticipant, d.instance")
+    (Text e ∷ []) (from_left in_deployed.tree in_versions.tree (on_number in_deployed.version_number) in_environment list_project list_order)
 unfolding understood everything
 deployments e = record { names = _; means = record { is = refl; plain = (refl, refl); unlisted = refl }; runs = record { whole = refl; typed = refl; sumless = refl } }
+
+abbrev joined_query : Query
+joined_query = from_both in_deployed.tree in_versions.tree (joined_by in_deployed.version_number) list_project list_order
+
+join_typed : (e : List ℕ) → accepts_program broker_schema [] joined_query (Text e ∷ []) ≡ true
+unfolding understood everything
+join_typed e = refl
 
 -- ---- the rows of an environment, and what they say
 
@@ -193,9 +202,17 @@ module _ (db : Database) (s : Broker) (held : Holds db s) (e : Words) where
         (at.2.0, at.2.1, at.2.2, at.2.5 ∙ ap pos (some_is at.0 n (sym at.1 ∙ known)));
   }
 
-  pub deployed_listed : (rows : List Row) (items : List DeployedItem) → IsShown (deployments e) db rows → AreRead IsDeployedRow rows items
+  -- each row names a version, so that what is shown is what the JOIN shows
+  pub deployed_joined : (rows : List Row) → IsShown (deployments e) db rows → Answers db (record { lets = []; body = joined_query }) (Text e ∷ []) rows
+  deployed_joined rows h =
+      as_join db (Text e ∷ []) in_deployed.tree in_versions.tree (on_number in_deployed.version_number) in_environment list_project list_order rows
+      (subst (λ x. accepts_program x [] joined_query (Text e ∷ []) ≡ true) (sym held.broker.schema) (join_typed e))
+      (named_version db held.broker in_deployed.tree in_deployed.version_number (environments db held.broker).typed (numbers db held.broker).typed e
+      deployed (has_place _ 11 deployed (deployed_there db held.broker)) refl (inr (inr (inl refl)))) h
+
+  joined_listed : (rows : List Row) (items : List DeployedItem) → Answers db (record { lets = []; body = joined_query }) (Text e ∷ []) rows → AreRead IsDeployedRow rows items
       → Lists deployed_cmp (λ x. s.deployed (e, x.pacticipant, x.instance) ≡ Some x.version) items
-  deployed_listed = lists_join db (Text e ∷ []) (joined_by in_deployed.version_number) list_project list_order IsDeployedRow deployed_cmp (λ x. s.deployed (e, x.pacticipant, x.instance) ≡ Some x.version) in_deployed.tree in_versions.tree
+  joined_listed = lists_join db (Text e ∷ []) (joined_by in_deployed.version_number) list_project list_order IsDeployedRow deployed_cmp (λ x. s.deployed (e, x.pacticipant, x.instance) ≡ Some x.version) in_deployed.tree in_versions.tree
       (pairs_apart db held.broker in_deployed.tree in_deployed.version_number (environments db held.broker).typed (numbers db held.broker).typed e triples_total place_of list_order
       (keys db held.broker) (λ p q hp hq tied.
       let a = has_kept db held.broker in_deployed.tree in_deployed.version_number (environments db held.broker).typed (numbers db held.broker).typed e p hp in
@@ -218,3 +235,7 @@ module _ (db : Database) (s : Broker) (held : Holds db s) (e : Words) where
       let v = find_version db held.broker s.versions (version x.pacticipant x.version) at.0 held.versions at.1 in
       let kept = is_kept db held.broker in_deployed.tree in_deployed.version_number (environments db held.broker).typed (numbers db held.broker).typed e d.0 v.0 d.1 v.1 (v.4 ∙ sym d.5) d.2 in
       (_, kept, λ y read i. record { pacticipant = (sym (ap text_in read.0) ∙ d.3) i; instance = (sym (ap text_in read.1) ∙ d.4) i; version = (sym (ap text_in read.2) ∙ v.3) i }))
+
+  pub deployed_listed : (rows : List Row) (items : List DeployedItem) → IsShown (deployments e) db rows → AreRead IsDeployedRow rows items
+      → Lists deployed_cmp (λ x. s.deployed (e, x.pacticipant, x.instance) ≡ Some x.version) items
+  deployed_listed rows items h = joined_listed rows items (deployed_joined rows h)

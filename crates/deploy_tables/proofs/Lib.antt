@@ -1,5 +1,6 @@
 pub mod DeployedRows
 pub mod DeployedState
+pub mod LeftRows
 pub mod VersionRows
 pub mod ReleasedRows
 pub mod Removals
@@ -12,3 +13,4 @@ pub mod MatrixLemmas
 pub mod MatrixLoop
 pub mod ReadableRows
 pub mod VersionsThere
+pub mod AnyThere

@@ -1,16 +1,18 @@
 -- The rows of each query of these tables can be read, if the state that the database holds can.
-use Rattle.std.{specs.Prelude.{IsUtf8}, proofs.Common.{◌≡◌, inl, inr, ℕ, List, [], ◌∷◌, refl, arith}}
+use Rattle.std.{specs.Prelude.{IsUtf8}, proofs.Common.{◌≡◌, inl, inr, ℕ, List, [], ◌∷◌, true, refl, sym, subst, arith}}
 use Rattle.sqlite_rules.specs.Lists.{Has}
-use Rattle.table_access.{specs.{Columns.{text, whole_at}, Reading.{IsNumberRow}, Statements.{shows}}, proofs.SoundLemmas.{whole_in, has_place}}
+use Rattle.table_access.specs.{Columns.{text, whole_at}, Reading.{IsNumberRow}, Statements.{shows, from_both, keeps_both}}
+use Rattle.table_access.proofs.{SoundLemmas.{whole_in, has_place}, Answered.{pair_shown}}
 use Rattle.broker_core.specs.State.{State as Broker}
 use Rattle.broker_tables.specs.{Schema.{in_versions, in_contracts, in_deployed, in_released}, Holds.{Holds}, Readable.{IsReadable, IsNamed}}
-use Rattle.broker_tables.proofs.Asked.{EachReads, of_both, of_table, number_reads}
+use Rattle.broker_tables.proofs.Asked.{Asked, IsShown, EachShown, EachReads, of_both, of_table, number_reads}
 use Rattle.broker_tables.proofs.Placed.{contracts, contracts_there, deployed, deployed_there, released, released_there}
 use Rattle.broker_tables.proofs.ReadableRows.{IsLow, number_cell, name_cell, to_version_low, to_content_low, version_named, to_pacticipant_named}
 use Rattle.broker_tables.proofs.VersionRows.{owners, names}
 use Rattle.deploy_tables.{specs.Listings.{ReadsAsDeployed, ReadsAsReleased}, proofs.{ContractsThere.{of_deployed, of_released}, PartnerRows.{numbers_of}}}
 use Rattle.deploy_tables.proofs.VersionNames.{names_of, name_project}
-use Rattle.sqlite.specs.{declared.types.Value.TheVariants.{Int}, Order.{Row, column}, Term.{col, eval_all}, Effect.{Database}}
+use Rattle.sqlite.specs.{declared.types.Value.TheVariants.{Int}, Order.{Row, column}, Term.{Term, col, eval_all}, Query.{Query}, Effect.{Database, Answers}}
+use Rattle.sqlite_value.specs.declared.keys.Key.{Key}
 use Rattle.contract_tables.specs.Listings.{ReadsAsNumbers, ReadsAsMarked}
 use Rattle.deploy_tables.proofs.DeployedRows as deployed_rows
 use Rattle.deploy_tables.proofs.DeployedState as deployed_list
@@ -53,13 +55,22 @@ module _ (db : Database) (s : Broker) (held : Holds db s) (readable : IsReadable
       let typed : column r in_contracts.content ≡ Int (whole_at in_contracts.content r) = whole_in db held.broker.kept.sound contracts listed r has 2 _ refl refl refl refl refl in
       (typed, to_content_low db s held readable contracts listed 3 r has typed (inr (inr (inl refl))))
 
+-- ---- of a LEFT JOIN that shows what the JOIN shows
+
+of_joined : {sql : List ℕ} {params : Row} {query : Query} {terms project : List Term} {order : List (Term × Key)} {t u : ℕ} (asked : Asked sql params query) (db : Database) (Is : Row → Type 0)
+    → ((rows : List Row) → IsShown asked db rows → Answers db (record { lets = []; body = from_both t u terms project order }) params rows)
+    → ((r q : Row) → Has (db.trees t) r → Has (db.trees u) q → keeps_both terms params r q ≡ true → Is (eval_all project (params ∷ r ∷ q ∷ []))) → EachShown asked db Is
+of_joined {params = params} {terms = terms} {project = project} {order = order} {t = t} {u = u} asked db Is joined is rows h row has =
+    let it = pair_shown db params t u terms project order rows (joined rows h) row has in
+    subst Is (sym it.4) (is it.0 it.1 it.2 it.3 it.5)
+
 -- ---- what is deployed
 
 pub number_at_reads : (e p i : List ℕ) (db : Database) → EachReads (deployed_rows.number_at e p i) db IsNumberRow
 number_at_reads e p i db s held readable = number_reads (deployed_rows.number_at e p i) db (deployed_number db s held readable)
 
 pub deployments_reads : (e : List ℕ) (db : Database) → EachReads (deployed_list.deployments e) db ReadsAsDeployed
-deployments_reads e db s held readable = of_both (deployed_list.deployments e) db _ (λ d v hd hv kept.
+deployments_reads e db s held readable = of_joined (deployed_list.deployments e) db _ (λ rows h. deployed_list.deployed_joined db s held e rows h) (λ d v hd hv kept.
     let shown : Row = eval_all (col 1 in_deployed.pacticipant ∷ col 1 in_deployed.instance ∷ col 2 in_versions.version ∷ []) ([] ∷ d ∷ v ∷ []) in (
       name_cell shown 0 (text in_deployed.pacticipant d) (omega arith) ((deployed_rows.pacticipants db held.broker).typed d hd) (deployed_named db s held readable d hd),
       (omega arith, (text in_deployed.instance d, (deployed_rows.instances db held.broker).typed d hd, deployed_instance db s held readable d hd)),
@@ -72,13 +83,13 @@ partners_reads e p db s held readable = number_reads (numbers_of e p) db (deploy
 -- ---- what is released
 
 pub releases_reads : (e : List ℕ) (db : Database) → EachReads (released_list.releases e) db ReadsAsReleased
-releases_reads e db s held readable = of_both (released_list.releases e) db _ (λ r v hr hv kept.
+releases_reads e db s held readable = of_joined (released_list.releases e) db _ (λ rows h. released_list.released_joined db s held e rows h) (λ r v hr hv kept.
     let named = version_named db s held readable v hv in
     let shown : Row = eval_all (col 2 in_versions.pacticipant ∷ col 2 in_versions.version ∷ []) ([] ∷ r ∷ v ∷ []) in
     (name_cell shown 0 (text in_versions.pacticipant v) (omega arith) (owners db held.broker v hv) named.0, name_cell shown 1 (text in_versions.version v) (omega arith) (names db held.broker v hv) named.1))
 
 pub numbers_reads : (e : List ℕ) (db : Database) → EachReads (released_list.release_numbers e) db ReadsAsMarked
-numbers_reads e db s held readable = of_both (released_list.release_numbers e) db _ (λ r v hr hv kept.
+numbers_reads e db s held readable = of_joined (released_list.release_numbers e) db _ (λ rows h. released_list.numbers_joined db s held e rows h) (λ r v hr hv kept.
     let number = released_number db s held readable r hr in
     let shown : Row = eval_all (col 1 in_released.version_number ∷ col 2 in_versions.pacticipant ∷ []) ([] ∷ r ∷ v ∷ []) in
     (number_cell shown 0 (whole_at in_released.version_number r) (omega arith) number.0 number.1, name_cell shown 1 (text in_versions.pacticipant v) (omega arith) (owners db held.broker v hv) (version_named db s held readable v hv).0))

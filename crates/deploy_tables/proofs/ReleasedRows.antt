@@ -11,7 +11,7 @@ use Rattle.table_access.proofs.{Keys.{apart_by}, Parts.{text_part, whole_part, a
 use Rattle.table_access.proofs.{Steps.{answered}, CountLemmas.{some_counted, same_any}, Maps.{looks_up_at}}
 use Rattle.broker_core.specs.{State.{State as Broker}, declared.command.Version.{Version}}
 use Rattle.broker_core.specs.{Text.{Text as Words, version, put_at, same_text, same_pair, same_version}, Listing.{Lists}, Machine.{version_cmp}}
-use Rattle.broker_tables.specs.{Schema.{in_versions, in_released}, Rows.{stands_at}, Numbers.{number_of}, Holds.{Holds, IsBroker, HoldsAfter}}
+use Rattle.broker_tables.specs.{Schema.{in_versions, in_released, broker_schema}, Rows.{stands_at}, Numbers.{number_of}, Holds.{Holds, IsBroker, HoldsAfter}}
 use Rattle.broker_tables.{specs.Refusals.{HaveNumbers}, proofs.{Asked.{Asked, IsShown, of_table}, Listed.{lists_join}}}
 use Rattle.broker_tables.proofs.Inserted.{EndsOnly, Puts, inserted, next_ends, new_text, new_whole, free_two, environment_there, version_there}
 use Rattle.broker_tables.proofs.{VersionRows.{owners, names, same_version as same_row}, Orders.{placed_total, exact_placed}, NoVersion.{no_row, no_first}}
@@ -19,24 +19,26 @@ use Rattle.broker_tables.proofs.{Frames.{frame_of, released_change}, NumberLemma
 use Rattle.broker_tables.proofs.{RoomLemmas.{after_one, grows_added, grows_kept, number_for}, Standing.{stands_found, stands_set, stands_out}}
 use Rattle.broker_tables.proofs.{Ties.{two_tests, both_eq}, Placed.{released, released_there}, Removed.{TakesFrom, taken_from}}
 use Rattle.sqlite.specs.{Listing.{understood}, Tree.{IsAscending}, Edit.{id_in, next_rowid, with_rowid}, declared.types.Value.TheVariants.{Int, Text, Null}}
-use Rattle.sqlite.specs.{Order.{Row, column}, Term.{Term, col, lit}, Collation.TheVariants.{Binary}, Effect.{Database}, Schema.{Schema}}
+use Rattle.sqlite.specs.{Order.{Row, column}, Term.{Term, col, lit}, Collation.TheVariants.{Binary}, Effect.{Database, Answers}, Query.{Query}, Schema.{Schema}}
 use Rattle.sqlite.specs.{Rowids.TheVariants.{Chosen}, Cast.{cast_row}, State.{State, Executes}}
 use Rattle.sqlite_keyed.proofs.RuleLemmas.{first_of_both, second_of_both}
 use Rattle.deploy_tables.specs.{Releases.{IsVersion, MayBeReleased}, declared.partners.ReleasedNumber.{ReleasedNumber}, Listings.{IsReleasedRow}}
 use Rattle.deploy_tables.specs.{ContractsThere.{IsReleasedIn}, Partners.{IsNumberOfReleased, AreReleasedNumbers}}
-use Rattle.deploy_tables.proofs.VersionRows.{joined_by, same_pos, two_texts, tied_texts, Names, has_kept, pairs_apart, pair_is, is_pair}
+use Rattle.deploy_tables.proofs.VersionRows.{joined_by, on_number, in_environment, named_version, same_pos, two_texts, tied_texts, Names, has_kept, pairs_apart, pair_is, is_pair}
+use Rattle.deploy_tables.proofs.LeftRows.{from_left, as_join}
+use Rattle.sqlite_typing.specs.Types.{accepts_program}
 use Rattle.contract_tables.proofs.JoinRows.{pair_of, item_of_pair}
 use Rattle.sqlite_value.specs.{declared.keys.Key.{Key}, Keys.{ascending}}
 
-abbrev list_order : List (Term × Key)
+abbrev pub list_order : List (Term × Key)
 list_order = (col 2 in_versions.pacticipant, ascending Binary) ∷ (col 2 in_versions.version, ascending Binary) ∷ []
 
-abbrev list_project : List Term
+abbrev pub list_project : List Term
 list_project = col 2 in_versions.pacticipant ∷ col 2 in_versions.version ∷ []
 
 pub releases : (e : List ℕ)
-    → Asked (codes "SELECT v.pacticipant, v.version FROM released r JOIN versions v ON v.number = r.version_number WHERE r.environment = ?1 ORDER BY v.pacticipant, v.version")
-    (Text e ∷ []) (from_both in_released.tree in_versions.tree (joined_by in_released.version_number) list_project list_order)
+    → Asked (codes "SELECT v.pacticipant, v.version FROM released r LEFT JOIN versions v ON v.number = r.version_number WHERE r.environment = ?1 ORDER BY v.pacticipant, v.version")
+    (Text e ∷ []) (from_left in_released.tree in_versions.tree (on_number in_released.version_number) in_environment list_project list_order)
 unfolding understood everything
 releases e = record { names = _; means = record { is = refl; plain = (refl, refl); unlisted = refl }; runs = record { whole = refl; typed = refl; sumless = refl } }
 
@@ -46,10 +48,23 @@ abbrev number_project : List Term
 number_project = col 1 in_released.version_number ∷ col 2 in_versions.pacticipant ∷ []
 
 pub release_numbers : (e : List ℕ)
-    → Asked (codes "SELECT r.version_number, v.pacticipant FROM released r JOIN versions v ON v.number = r.version_number WHERE r.environment = ?1")
-    (Text e ∷ []) (from_both in_released.tree in_versions.tree (joined_by in_released.version_number) number_project [])
+    → Asked (codes "SELECT r.version_number, v.pacticipant FROM released r LEFT JOIN versions v ON v.number = r.version_number WHERE r.environment = ?1")
+    (Text e ∷ []) (from_left in_released.tree in_versions.tree (on_number in_released.version_number) in_environment number_project [])
 unfolding understood everything
 release_numbers e = record { names = _; means = record { is = refl; plain = (refl, refl); unlisted = refl }; runs = record { whole = refl; typed = refl; sumless = refl } }
+
+-- ---- the JOINs
+
+abbrev joined_query : List Term → List (Term × Key) → Query
+joined_query project order = from_both in_released.tree in_versions.tree (joined_by in_released.version_number) project order
+
+list_typed : (e : List ℕ) → accepts_program broker_schema [] (joined_query list_project list_order) (Text e ∷ []) ≡ true
+unfolding understood everything
+list_typed e = refl
+
+numbers_typed : (e : List ℕ) → accepts_program broker_schema [] (joined_query number_project []) (Text e ∷ []) ≡ true
+unfolding understood everything
+numbers_typed e = refl
 
 -- ---- the columns
 
@@ -103,9 +118,25 @@ module _ (db : Database) (s : Broker) (held : Holds db s) (e : Words) where
       go None h = absurd cc
       go (Some n) h = (n, refl)
 
+  -- each row names a version, so that what is shown is what the JOIN shows
+  as_joined : (project : List Term) (order : List (Term × Key)) → accepts_program broker_schema [] (joined_query project order) (Text e ∷ []) ≡ true → (rows : List Row)
+      → Answers db (record { lets = []; body = from_left in_released.tree in_versions.tree (on_number in_released.version_number) in_environment project order }) (Text e ∷ []) rows
+      → Answers db (record { lets = []; body = joined_query project order }) (Text e ∷ []) rows
+  as_joined project order typed rows =
+      as_join db (Text e ∷ []) in_released.tree in_versions.tree (on_number in_released.version_number) in_environment project order rows
+      (subst (λ x. accepts_program x [] (joined_query project order) (Text e ∷ []) ≡ true) (sym held.broker.schema) typed)
+      (named_version db held.broker in_released.tree in_released.version_number (environments db held.broker) (numbers db held.broker) e
+      released (has_place _ 12 released (released_there db held.broker)) refl (inr (inl refl)))
+
+  pub released_joined : (rows : List Row) → IsShown (releases e) db rows → Answers db (record { lets = []; body = joined_query list_project list_order }) (Text e ∷ []) rows
+  released_joined = as_joined list_project list_order (list_typed e)
+
+  pub numbers_joined : (rows : List Row) → IsShown (release_numbers e) db rows → Answers db (record { lets = []; body = joined_query number_project [] }) (Text e ∷ []) rows
+  numbers_joined = as_joined number_project [] (numbers_typed e)
+
   pub released_listed : (rows : List Row) (items : List Version) → IsShown (releases e) db rows → AreRead IsReleasedRow rows items
       → Lists version_cmp (λ v. IsTrue (s.released (e, v))) items
-  released_listed = lists_join db (Text e ∷ []) (joined_by in_released.version_number) list_project list_order IsReleasedRow version_cmp
+  released_listed rows items shown = lists_join db (Text e ∷ []) (joined_by in_released.version_number) list_project list_order IsReleasedRow version_cmp
       (λ v. IsTrue (s.released (e, v))) in_released.tree in_versions.tree
       (pairs_apart db held.broker in_released.tree in_released.version_number (environments db held.broker) (numbers db held.broker) e placed_total place_of list_order (keys db held.broker)
       (λ p q hp hq tied.
@@ -122,17 +153,20 @@ module _ (db : Database) (s : Broker) (held : Holds db s) (e : Words) where
       let n = released_numbered x there in
       let q = is_pair db s held in_released.tree in_released.version_number e (IsReleasedIn s e) released_in x n.0 n.1 there in
       (q.0, q.1, λ y read i. version ((sym (ap text_in read.0) ∙ q.2) i) ((sym (ap text_in read.1) ∙ q.3) i)))
+      rows items (released_joined rows shown)
 
   -- ---- with the numbers
 
   pub numbers_told : (rows : List Row) (items : List ReleasedNumber) → IsShown (release_numbers e) db rows → AreRead IsNumberOfReleased rows items → AreReleasedNumbers s e items
-  numbers_told rows items h read x = (
+  numbers_told rows items shown read x = (
     λ c.
+        let h = numbers_joined rows shown in
         let q = pair_of db (Text e ∷ []) (joined_by in_released.version_number) number_project IsNumberOfReleased rows items read in_released.tree in_versions.tree h x c in
         let it = pair_is db s held in_released.tree in_released.version_number e (IsReleasedIn s e) released_in q.0 q.1 in
         subst (λ p. (name : Words) × IsReleasedIn s e (version p name) × (number_of s.versions (version p name) ≡ Some x.number)) (ap text_in q.2.1)
         (text in_versions.version q.0.1, it.3, it.1 ∙ ap Some (same_pos it.0 x.number (sym it.2 ∙ ap id_in q.2.0))),
     λ there.
+        let h = numbers_joined rows shown in
         let q = is_pair db s held in_released.tree in_released.version_number e (IsReleasedIn s e) released_in (version x.pacticipant there.0) x.number there.2 there.1 in
         let y = item_of_pair db (Text e ∷ []) (joined_by in_released.version_number) number_project IsNumberOfReleased rows items read in_released.tree in_versions.tree h q.0 q.1 in
         let number : y.0.number ≡ x.number = same_pos y.0.number x.number (sym (ap id_in y.2.0) ∙ q.4) in

@@ -4,8 +4,7 @@ use Rattle.std.proofs.Common.{◌≡◌, ◌∙◌, ℕ, pos, codes, List, [], �
 use Rattle.std.proofs.{lemmas.List.Elements.{Contains-append_right}, Math.Bool.{and-true}}
 use Rattle.sqlite_rules.specs.Lists.{Has}
 use Rattle.sqlite_tied.specs.Compute.{everything}
-use Rattle.broker_core.specs.{declared.command.Version.{Version}, Text.{version}, State.{State as Broker}}
-use Rattle.broker_core.proofs.Lists.{some_is, contains_none, contains_here}
+use Rattle.broker_core.{specs.{declared.command.Version.{Version}, Text.{version}, State.{State as Broker}}, proofs.Lists.{contains_none, contains_here}}
 use Rattle.broker_tables.{specs.{Schema.{in_versions}, Numbers.{number_of}, Holds.{Holds}}, proofs.{Asked.{Asked, IsShown}, NumberLemmas.{one_version}}}
 use Rattle.broker_tables.proofs.VersionRows.{whole_test, version_number, row_number, find_version}
 use Rattle.deploy_tables.{specs.{Listings.{IsReleasedRow}, Releases.{IsVersion, IsOfNumber, FindsVersion}}, proofs.VersionRows.{same_pos, row_of, item_of}}

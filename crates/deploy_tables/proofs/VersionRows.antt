@@ -1,15 +1,15 @@
 -- What is read of the rows that a query shows, in whatever order; and rows of a table that name an environment and a
 -- version, with their JOIN with the versions.
 use Rattle.std.specs.{Prelude.{Contains, ◌↔◌}, Ordering.{ordering_then, eq_by_cmp, is_eq}, Cmp.{IsTotalOrder, int_cmp_total, eq_by_cmp_equiv, Equal-is}}
-use Rattle.std.proofs.Common.{true≢false, ◌≡◌, ◌∙◌, ℕ, pos, List, [], ◌∷◌, Bool, true, false, ◌&&◌, refl, sym, ap, Some, Ordering, Less, Equal, map, filter, subst}
+use Rattle.std.proofs.Common.{true≢false, ◌≡◌, ◌∙◌, ℕ, pos, codes, List, [], ◌∷◌, Bool, true, false, ◌&&◌, refl, sym, ap, Some, Ordering, Less, Equal, map, filter, subst}
 use Rattle.std.proofs.{lemmas.Bool.{and_parts, and_from}, lemmas.List.Sorted.{Contains-permutation}}
 use Rattle.sqlite_value.{specs.declared.keys.Key.{Key}, proofs.OrderLemmas.{value_cmp-Text, then-Equal}}
 use Rattle.sqlite_rules.specs.Lists.{Has}
-use Rattle.broker_tables.specs.{Schema.{in_versions, in_deployed}, Numbers.{number_of}, Holds.{IsBroker, Holds}}
+use Rattle.broker_tables.specs.{Schema.{in_versions, in_deployed, to}, Numbers.{number_of}, Holds.{IsBroker, Holds}}
 use Rattle.broker_tables.proofs.VersionRows.{whole_test, text_test, false_if, row_number, find_version, versions_numbered, version_number}
-use Rattle.broker_tables.proofs.{Listed.{read_has, has_read, sorts}, Orders.{exact_pair}}
-use Rattle.sqlite.specs.{declared.types.Value.{Value}, declared.types.Value.TheVariants.{Int, Text}, Order.{Row, column, value_cmp}, Term.{Term, col, op2}}
-use Rattle.sqlite.specs.{Tree.{IsAscending}, Collation.TheVariants.{Binary}, Effect.{Database, Answers}}
+use Rattle.broker_tables.proofs.{Listed.{read_has, has_read, sorts}, Orders.{exact_pair}, References.{refers_version}}
+use Rattle.sqlite.specs.{declared.types.Value.{Value}, declared.types.Value.TheVariants.{Int, Text}, Order.{Row, column, value_cmp}}
+use Rattle.sqlite.specs.{Term.{Term, col, op2, holds}, Table.{Table}, Tree.{IsAscending}, Collation.TheVariants.{Binary}, Effect.{Database, Answers}}
 use Rattle.sqlite_sql.specs.{declared.ops.BinaryOp.TheVariants.{Compare}, declared.ops.CompareOp.TheVariants.{Eq}, Ops.{binary, is_true}}
 use Rattle.table_access.specs.{Columns.{text, whole_at, pair_cmp}, Statements.{keeps_both, pairs_kept, from_table, keeps, shows}, Reading.{AreRead}}
 use Rattle.table_access.proofs.Parts.{numbers_once}
@@ -42,10 +42,16 @@ module _ {Y : Type 0} (db : Database) (params : Row) (terms project : List Term)
 
 -- ---- rows that name an environment and a version
 
--- ON v.number = the number at this place, WHERE the environment is the parameter. It is at the same place in deployed
--- and in released
+-- ON v.number = the number at this place
+abbrev pub on_number : ℕ → Term
+on_number place = op2 (Compare Eq Binary) (col 2 0) (col 1 place)
+
+-- WHERE the environment is the parameter. It is at the same place in deployed and in released
+abbrev pub in_environment : List Term
+in_environment = op2 (Compare Eq Binary) (col 1 in_deployed.environment) (col 0 0) ∷ []
+
 abbrev pub joined_by : ℕ → List Term
-joined_by place = op2 (Compare Eq Binary) (col 2 0) (col 1 place) ∷ op2 (Compare Eq Binary) (col 1 in_deployed.environment) (col 0 0) ∷ []
+joined_by place = on_number place ∷ in_environment
 
 pub same_pos : (m n : ℕ) → pos m ≡ pos n → m ≡ n
 same_pos m n h = cc
@@ -85,6 +91,13 @@ pub record Names (db : Database) (s : Broker) (t place : ℕ) (e : Words) (Is : 
 
 module _ (db : Database) (broker : IsBroker db) (t place : ℕ) (environments : (r : Row) → Has (db.trees t) r → column r in_deployed.environment ≡ Text (text in_deployed.environment r))
     (numbers : (r : Row) → Has (db.trees t) r → column r place ≡ Int (whole_at place r)) (e : Words) where
+  -- each row names a version, where the table has a reference for it
+  pub named_version : (table : Table) → Has db.schema.tables table → table.tree ≡ t → Has table.references (to place (codes "versions") (codes "number"))
+      → (r : Row) → Has (db.trees t) r → (v : Row) × Has (db.trees in_versions.tree) v × (holds ((Text e ∷ []) ∷ r ∷ v ∷ []) (on_number place) ≡ true)
+  named_version table listed here among r has =
+      let v = refers_version db broker table listed place among r (subst (λ n. Has (db.trees n) r) (sym here) has) (numbers r has) in
+      (v.0, v.1, (whole_test (column v.0 0) (column r place) (whole_at 0 v.0) (whole_at place r) (version_number db broker v.0 v.1) (numbers r has)).1 v.2)
+
   -- what ON and WHERE test
   joins : (d v : Row) → Has (db.trees t) d → Has (db.trees in_versions.tree) v
       → (keeps_both (joined_by place) (Text e ∷ []) d v ≡ true) ↔ ((whole_at 0 v ≡ whole_at place d) × (text in_deployed.environment d ≡ e))

@@ -5,3 +5,4 @@ pub mod ContractsThere
 pub mod Partners
 pub mod Needs
 pub mod Matrix
+pub mod AnyThere

@@ -1,14 +1,17 @@
 //! The contracts with one provider of all versions that are in an environment, by the numbers of the versions.
-ghost use Rattle.std.specs.Prelude.{◌≡◌, ◌++◌, IfOk, IfErr};
+ghost use Rattle.std.specs.Prelude.{◌≡◌, ◌++◌, ◌↔◌, false, IsTrue, ⊤, IfOk, IfErr};
+ghost use Rattle.table_access.specs.Calls.{HasFailed};
+ghost use Rattle.broker_tables.specs.Asking.{TellsOfAny};
+ghost use Rattle.deploy_tables.specs.AnyThere.{AnswersOnlyIf, HasNull};
 ghost use Rattle.broker_core.specs.Gate.{Stands};
-ghost use Rattle.broker_tables.specs.Calm.{CalmQueries};
+ghost use Rattle.broker_tables.specs.Calm.{CalmQueries, CalmQueriesInPlace};
 ghost use Rattle.contract_tables.specs.Listings.{FailsAsNumbers};
 ghost use Rattle.deploy_tables.specs.ContractsThere.{IsDeployedIn, IsReleasedIn, TellsContracts, IsNumberedRow};
 
 use crate::lists::add;
 use sqlite::{Alter, Connection, Row, params};
 use std::alloc::Global;
-use table_access::{ReadRow, StoreFault, list_of, number_at, number_in};
+use table_access::{ReadRow, StoreFault, has_row, list_of, number_at, number_in};
 
 /// The contract of a version with a provider: the version's number, and that of the content.
 #[derive(Clone, Copy, Debug)]
@@ -84,13 +87,33 @@ fn in_one(
     Ok(all)
 }
 
-/// The contracts with the provider of the versions that are in the environment, in no order. That of a version in two
-/// instances, or deployed and released, is there more than once.
-///
-/// # Errors
-/// `StoreFault::Memory` if the database is out of memory, or there is none for the answer; `StoreFault::Store` if it
-/// refused a query, or if a row doesn't read.
-pub(crate) fn contracts_there<S: Alter>(
+/// Whether a row of what is deployed in the environment has NULL in place of a version, as in a table that was declared
+/// without NOT NULL. A JOIN would leave it out.
+fn has_unnumbered<S: Alter>(conn: &mut Connection<S>, environment: &str) -> Result<bool, StoreFault>
+    ensures answers { CalmQueriesInPlace S.Store conn.old conn.new result (λ found s. found ≡ false) }
+    ensures null { TellsOfAny S.Store conn.old conn.new result
+        (λ found db. IsTrue found ↔ HasNull environment.now db) HasFailed }
+{
+    has_row(
+        conn,
+        "SELECT environment FROM deployed WHERE environment = ?1 AND version_number IS NULL",
+        params![environment],
+    )
+}
+
+/// That each row of what is deployed in the environment has a version. `StoreFault::Store` if one hasn't.
+fn each_is_numbered<S: Alter>(conn: &mut Connection<S>, environment: &str) -> Result<(), StoreFault>
+    ensures answers { CalmQueries S.Store conn.old conn.new result (λ _ s. ⊤) }
+    ensures null { AnswersOnlyIf S.Store conn.old conn.new result (λ db. ¬ (HasNull environment.now db)) }
+{
+    if done!(has_unnumbered(conn, environment)) {
+        return Err(StoreFault::Store);
+    }
+    Ok(())
+}
+
+/// The contracts with the provider of the versions that are deployed and of those that are released.
+fn both_contracts<S: Alter>(
     alloc: Global,
     conn: &mut Connection<S>,
     environment: &str,
@@ -102,4 +125,24 @@ pub(crate) fn contracts_there<S: Alter>(
     let deployed = done!(deployed_contracts(alloc, conn, environment, provider));
     let released = done!(released_contracts(alloc, conn, environment, provider));
     in_one(deployed, released)
+}
+
+/// The contracts with the provider of the versions that are in the environment, in no order. That of a version in two
+/// instances, or deployed and released, is there more than once.
+///
+/// # Errors
+/// `StoreFault::Memory` if the database is out of memory, or there is none for the answer; `StoreFault::Store` if it
+/// refused a query, if a row doesn't read, or if one of what is deployed there has no version.
+pub(crate) fn contracts_there<S: Alter>(
+    alloc: Global,
+    conn: &mut Connection<S>,
+    environment: &str,
+    provider: &str,
+) -> Result<Vec<NumberedContract>, StoreFault>
+    ensures answers { CalmQueries S.Store conn.old conn.new result
+        (λ found s. TellsContracts s provider.now (Stands s environment.now) found.items) }
+    ensures null { AnswersOnlyIf S.Store conn.old conn.new result (λ db. ¬ (HasNull environment.now db)) }
+{
+    done!(each_is_numbered(conn, environment));
+    both_contracts(alloc, conn, environment, provider)
 }

@@ -3,6 +3,7 @@ ghost use Rattle.std.specs.Prelude.{◌≡◌, ◌↔◌, IsTrue, Some};
 ghost use Rattle.broker_core.specs.Listing.{Lists};
 ghost use Rattle.broker_core.specs.Machine.{deployed_cmp, version_cmp};
 ghost use Rattle.broker_tables.specs.Calm.{CalmQueries};
+ghost use Rattle.deploy_tables.specs.AnyThere.{AnswersOnlyIf, EachDeployedIsThere, EachReleasedIsThere};
 ghost use Rattle.deploy_tables.specs.Listings.{IsDeployedRow, IsReleasedRow, ReadsAsDeployed, ReadsAsReleased, FailsAsDeployed, FailsAsReleased};
 
 use broker_core::answer::DeployedItem;
@@ -72,45 +73,49 @@ impl ReadRow for VersionRow {
     }
 }
 
-/// What is deployed in the environment, each once, in the order of pacticipants and instances.
+/// What is deployed in the environment, each once, in the order of pacticipants and instances. A row of it that
+/// names no version is never left out, whatever CHECKs and references the tables have.
 ///
 /// # Errors
 /// `StoreFault::Memory` if the database is out of memory, or there is none for the answer; `StoreFault::Store` if it
-/// refused the query, or if a row holds a text that is no name.
+/// refused the query, or if a row holds a text that is no name, or names no version.
 pub fn deployed<S: Alter>(
     alloc: Global,
     conn: &mut Connection<S>,
     environment: &str,
 ) -> Result<Vec<DeployedItem>, StoreFault>
-    ensures { CalmQueries S.Store conn.old conn.new result
+    ensures answers { CalmQueries S.Store conn.old conn.new result
         (λ items s. Lists deployed_cmp
         (λ x. s.deployed (environment.now, x.pacticipant, x.instance) ≡ Some x.version) items.items) }
+    ensures named { AnswersOnlyIf S.Store conn.old conn.new result (EachDeployedIsThere environment.now) }
 {
     list_of::<DeployedRow, S>(
         alloc,
         conn,
-        "SELECT d.pacticipant, d.instance, v.version FROM deployed d JOIN versions v ON v.number = d.version_number WHERE d.environment = ?1 ORDER BY d.pacticipant, d.instance",
+        "SELECT d.pacticipant, d.instance, v.version FROM deployed d LEFT JOIN versions v ON v.number = d.version_number WHERE d.environment = ?1 ORDER BY d.pacticipant, d.instance",
         params![environment],
     )
 }
 
-/// The versions that are released in the environment, each once, in the order of pacticipants and versions.
+/// The versions that are released in the environment, each once, in the order of pacticipants and versions. A row
+/// of it that names no version is never left out, whatever CHECKs and references the tables have.
 ///
 /// # Errors
 /// `StoreFault::Memory` if the database is out of memory, or there is none for the answer; `StoreFault::Store` if it
-/// refused the query, or if a row holds a text that is no name.
+/// refused the query, or if a row holds a text that is no name, or names no version.
 pub fn released<S: Alter>(
     alloc: Global,
     conn: &mut Connection<S>,
     environment: &str,
 ) -> Result<Vec<Version>, StoreFault>
-    ensures { CalmQueries S.Store conn.old conn.new result
+    ensures answers { CalmQueries S.Store conn.old conn.new result
         (λ items s. Lists version_cmp (λ v. IsTrue (s.released (environment.now, v))) items.items) }
+    ensures named { AnswersOnlyIf S.Store conn.old conn.new result (EachReleasedIsThere environment.now) }
 {
     list_of::<VersionRow, S>(
         alloc,
         conn,
-        "SELECT v.pacticipant, v.version FROM released r JOIN versions v ON v.number = r.version_number WHERE r.environment = ?1 ORDER BY v.pacticipant, v.version",
+        "SELECT v.pacticipant, v.version FROM released r LEFT JOIN versions v ON v.number = r.version_number WHERE r.environment = ?1 ORDER BY v.pacticipant, v.version",
         params![environment],
     )
 }

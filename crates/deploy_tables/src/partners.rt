@@ -89,7 +89,7 @@ pub(crate) fn released_numbers<S: Alter>(
     list_of::<ReleasedNumberRow, S>(
         alloc,
         conn,
-        "SELECT r.version_number, v.pacticipant FROM released r JOIN versions v ON v.number = r.version_number WHERE r.environment = ?1",
+        "SELECT r.version_number, v.pacticipant FROM released r LEFT JOIN versions v ON v.number = r.version_number WHERE r.environment = ?1",
         params![environment],
     )
 }

@@ -1,6 +1,6 @@
 -- What the query for an environment's mark shows wherever the broker's tables are there, with any CHECKs.
 use Rattle.std.specs.{Prelude.{option_map, ◌<◌, ◌≤◌}, List.{AllZip}, Cmp.{eq_by_cmp_equiv}, Cmp.Lexicographic.{nat_list_cmp_total}}
-use Rattle.std.proofs.Common.{◌≡◌, ℕ, zero, suc, pos, codes, List, [], ◌∷◌, if◌then◌else◌, ◌==◌, refl, sym, ap, subst, ◌∙◌, slice_get, Some, None, Option, Bool, true, false, arith, ◌&&◌}
+use Rattle.std.proofs.Common.{◌≡◌, ℕ, pos, codes, List, [], ◌∷◌, if◌then◌else◌, ◌==◌, refl, sym, ap, subst, ◌∙◌, slice_get, Some, None, Option, Bool, true, false, arith, ◌&&◌}
 use Rattle.std.proofs.lemmas.List.Sorted.{Contains-permutation}
 use Rattle.sqlite.specs.{declared.types.Value.TheVariants.{Int, Text}, Order.{Row, column}, Table.{Table}, Schema.{Schema}, Query.{Query}, Command.{Command}}
 use Rattle.sqlite.specs.{Command.TheVariants.{Select}, State.{State, Shown}, Collation.TheVariants.{Binary}, Term.{Term, col, op2}, Listing.{understood}}
@@ -11,8 +11,9 @@ use Rattle.sqlite_tied.specs.Compute.{everything}
 use Rattle.sqlite_keyed.proofs.RuleLemmas.{first_of_both}
 use Rattle.table_access.{specs.Statements.{from_table, keeps, shows}, proofs.Answered.{Runs, shown_of, first_has}}
 use Rattle.table_access.proofs.{Members.{has_map, has_filter, has_contains, contains_has}, Steps.{Means, selects}, Values.{same_texts, equal_text}}
-use Rattle.broker_tables.specs.{Schema.{in_environments, broker_schema, environments, texts, numbers}, Rows.{mark_of, IsTruthAt}}
-use Rattle.registry_tables.specs.Marks.{IsColumnLike, HasColumns, HasBrokerTables, IsMarkIn, HasNoMark, IsEnvironmentRow}
+use Rattle.broker_tables.specs.{Schema.{in_environments, broker_schema, environments}, Rows.{mark_of, IsTruthAt}, Asking.{HasColumns, HasBrokerTables}}
+use Rattle.broker_tables.proofs.AnyTables.{laid_out, lays, sets_out}
+use Rattle.registry_tables.specs.Marks.{IsMarkIn, HasNoMark, IsEnvironmentRow}
 use Rattle.sqlite.specs.Kind.TheVariants as kind
 
 -- ---- the text
@@ -27,11 +28,6 @@ abbrev pub gated_command : Command
 gated_command = Select (record { lets = []; body = gated_query }) (codes "gated" ∷ [])
 
 -- ---- the schema
-
--- tables with the names and the places of these
-abbrev laid_out : List Table → (ℕ → Table) → List Table
-laid_out [] given = []
-laid_out (t ∷ ts) given = record (given zero) { name = t.name; tree = t.tree } ∷ laid_out ts (λ n. given (suc n))
 
 -- the columns of environments, strict or not
 abbrev marked : Column → Column → Bool → Bool → List Column
@@ -56,34 +52,13 @@ asks_declared s given a b _ _ = (record { is = refl; plain = (refl, refl); unlis
 
 -- ---- a schema that has the tables is such a one
 
-abbrev put_first : Table → (ℕ → Table) → ℕ → Table
-put_first t given zero = t
-put_first t given (suc n) = given n
-
-lays : (wanted ts : List Table) → AllZip HasColumns wanted ts → (given : ℕ → Table) × (ts ≡ laid_out wanted given)
-lays [] [] h = (λ n. environments, refl)
-lays (w ∷ ws) (t ∷ ts) h =
-    let more = lays ws ts h.1 in
-    (put_first t more.0, λ i. record t { name = h.0.0 i; tree = h.0.1 i } ∷ more.1 i)
-lays _ _ h = absurd h
-
-lays_column : (wanted c : Column) → IsColumnLike wanted c → c ≡ record c { name = wanted.name; kind = wanted.kind; collation = wanted.collation }
-lays_column wanted c h = λ i. record c { name = h.0.0 i; kind = h.0.1 i; collation = h.1 i }
-
-lays_columns : (p q : Column) (cs : List Column) → AllZip IsColumnLike (p ∷ q ∷ []) cs → (a b : Column)
-    × (cs ≡ record a { name = p.name; kind = p.kind; collation = p.collation } ∷ record b { name = q.name; kind = q.kind; collation = q.collation } ∷ [])
-lays_columns p q [] h = absurd h
-lays_columns p q (a ∷ []) h = absurd h.1
-lays_columns p q (a ∷ b ∷ []) h = (a, b, λ i. lays_column p a h.0 i ∷ lays_column q b h.1.0 i ∷ [])
-lays_columns p q (a ∷ b ∷ c ∷ cs) h = absurd h.1.1
-
 is_declared : (s : Schema) → HasBrokerTables s → (given : ℕ → Table) × (a b : Column) × (s ≡ declared s given a b a.is_strict b.is_strict)
 is_declared s h =
     let all = lays broker_schema.tables s.tables h in
     let t = all.0 5 in
     let here = (subst (AllZip HasColumns broker_schema.tables) all.1 h).1.1.1.1.1.0 in
-    let columns = lays_columns (texts (codes "name")) (numbers (codes "gated")) t.columns here.3 in
-    (all.0, columns.0, columns.1, ap (λ ts. record s { tables = ts }) all.1 ∙ (λ i. with_marks s all.0 (record t { columns = columns.2 i; key = here.2 i })))
+    let columns = sets_out environments.columns t.columns here.3 in
+    (all.0, columns.0 0, columns.0 1, ap (λ ts. record s { tables = ts }) all.1 ∙ (λ i. with_marks s all.0 (record t { columns = columns.1 i; key = here.2 i })))
 
 -- ---- the query
 

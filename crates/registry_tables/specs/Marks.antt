@@ -1,41 +1,18 @@
 -- What is told of an environment's mark, whether it is gated, in any database with the broker's tables and any CHECKs:
 -- a row may be there whose mark is neither 0 nor 1.
-use Rattle.std.specs.Prelude.{◌≡◌, ◌⊎◌, ◌<◌, ℕ, pos, Bool, codes, Option, Some, None, MatchOption, Result, MatchResult}
-use Rattle.std.specs.List.{AllZip}
+use Rattle.std.specs.Prelude.{◌≡◌, ◌⊎◌, ◌<◌, ℕ, pos, Bool, codes, Option, Some, MatchOption, Result, MatchResult}
 use Rattle.sqlite.specs.declared.types.Value.TheVariants as value
 use Rattle.sqlite.specs.Order.{Row, column}
-use Rattle.sqlite.specs.Table.{Table}
-use Rattle.sqlite.specs.Schema.{Schema}
 use Rattle.sqlite.specs.Effect.{Database}
 use Rattle.sqlite.specs.State.{State, HasCleanDisk}
 use Rattle.sqlite_rules.specs.Lists.{Has}
-use Rattle.sqlite_schema.specs.declared.schema.Column.{Column}
 use Rattle.table_access.specs.declared.StoreFault.{StoreFault}
 use Rattle.table_access.specs.declared.StoreFault.TheVariants.{Store}
 use Rattle.table_access.specs.Calls.{HasFailed}
 use Rattle.broker_core.specs.Text.{Text}
-use Rattle.broker_tables.specs.Schema.{broker_schema, in_environments}
+use Rattle.broker_tables.specs.Schema.{in_environments}
+use Rattle.broker_tables.specs.Asking.{CanBeAsked}
 use Rattle.broker_tables.specs.Rows.{rows_of, mark_of}
-use Rattle.registry_tables.specs.Format.{IsLike}
-
--- ---- the tables
-
--- a column has the name, the kind and the order of this one: with STRICT, NOT NULL or a default, or without
-abbrev pub IsColumnLike : Column → Column → Type 0
-IsColumnLike wanted c = IsLike wanted c × (c.collation ≡ wanted.collation)
-
--- a table has the name, the place, the key and the columns of this one
-abbrev pub HasColumns : Table → Table → Type 0
-HasColumns wanted t = (t.name ≡ wanted.name) × (t.tree ≡ wanted.tree) × (t.key ≡ wanted.key)
-    × AllZip IsColumnLike wanted.columns t.columns
-
--- the broker's tables are there, with what CHECKs, keys and references they may have
-abbrev pub HasBrokerTables : Schema → Type 0
-HasBrokerTables schema = AllZip HasColumns broker_schema.tables schema.tables
-
--- and no query has a limit of steps
-abbrev pub CanBeAsked : State → Type 0
-CanBeAsked c = (c.step_limit ≡ None) × HasBrokerTables c.now.schema
 
 -- ---- the mark
 

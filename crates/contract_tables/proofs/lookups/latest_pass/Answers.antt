@@ -1,7 +1,10 @@
-use Rattle.std.proofs.lemmas.Result.{IfOk-weaker, IfErr-weaker}
+use Rattle.std.proofs.{Common.{inl, inr}, lemmas.Result.{IfOk-weaker, IfErr-weaker, MatchResult-from_both}}
+use Rattle.sqlite.specs.Held.{state}
 use Rattle.table_access.proofs.Answered.{first_has}
 use Rattle.broker_tables.proofs.{QueryLemmas.{read_result, read_err}, Asked.{reads, still, why_refused}, NoVersion.{no_answer}}
+use Rattle.broker_tables.proofs.AnyTables.{refused_ends, leaves_all}
 use Rattle.contract_tables.{specs.Verified.{pass_of, pass_cells}, proofs.{VersionResults.{join, join_found}, ReadableRows.{join_reads, join_none}}}
+use Rattle.contract_tables.proofs.{AnyTexts.{pair_asks}, AnyLatest.{pair_found, pair_lost, ok_both}}
 use Rattle.contract_tables.proofs.lookups.latest_pass.Goals as goal
 
 pub returns-clause-answers : goal.returns-clause-answers
@@ -29,3 +32,28 @@ returns-clause-unknown g c clean s held none =
     let nothing = join_none c.args.content c.args.provider_version _ s held none _ (reads (join c.args.content c.args.provider_version) _ _ s held _ shown).0 in
     IfOk-weaker c.first_pass.result _ _ (λ found read. no_answer (λ r. pass_of r.result r.pass) pass_cells c.in-Ok.value.items found nothing read)
     (rw c.deref.ensures.value at c.first_pass.ensures.ok)
+
+pub returns-clause-mark : goal.returns-clause-mark
+returns-clause-mark g c clean asked =
+    let old = state g.S.Store c.args.conn.now in
+    let new = state g.S.Store c.select.new.conn in
+    let shown = (rw (c.params-to_sql.ensures, c.params-to_sql-2.ensures) at c.in-Ok.ensures.leaves).ok clean in
+    let reads = rw c.deref.ensures.value at c.first_pass.ensures in
+    MatchResult-from_both c.first_pass.result _ _
+    (IfOk-weaker c.first_pass.result _ _ (λ found both. pair_found c.args.content c.args.provider_version old new asked.1 c.in-Ok.value.items shown found both.0 both.1)
+    (ok_both c.first_pass.result _ _ reads.ok reads.reads))
+    (IfErr-weaker c.first_pass.result _ _ (λ fault why. inr (why.0, pair_lost c.args.content c.args.provider_version old new asked.1 c.in-Ok.value.items shown why.1 why.2 why.3)) reads.cause)
+
+pub returns-in-Err-clause-mark : goal.returns-in-Err-clause-mark
+returns-in-Err-clause-mark g c clean asked =
+    let old = state g.S.Store c.args.conn.now in
+    let new = state g.S.Store c.select.new.conn in
+    inl (refused_ends old new (pair_asks old.now.schema asked.1 c.args.content c.args.provider_version) asked.0 c.in-Err.fault
+    ((rw (c.params-to_sql.ensures, c.params-to_sql-2.ensures) at c.in-Err.ensures.cause) clean))
+
+pub returns-clause-stays : goal.returns-clause-stays
+returns-clause-stays g c clean asked =
+    let old = state g.S.Store c.args.conn.now in
+    let new = state g.S.Store c.select.new.conn in
+    let shown = (rw (c.params-to_sql.ensures, c.params-to_sql-2.ensures) at c.in-Ok.ensures.leaves).ok clean in
+    IfOk-weaker c.first_pass.result _ _ (λ found read. leaves_all old new (pair_asks old.now.schema asked.1 c.args.content c.args.provider_version) c.in-Ok.value.items shown) c.first_pass.ensures.ok

@@ -12,4 +12,4 @@ returns-in-Ok-is_checked g c =
     (λ a checked. (a.0, a.1, a.2, a.3, checked)) (λ a. a.0)
     (numbers_are stored.number stored.content stored.provider_version stored.pass) c.in-Ok-is_checked.value
     (λ e known. (last_stands (λ r. same_text r.version.pacticipant c.args.provider.now && is_text c.args.run.now r.run) s.results e known, refl)) one two)
-    (rw c.in-Some.is at c.in-Ok.ensures) c.in-Ok-is_checked.ensures
+    (rw c.in-Some.is at c.in-Ok.ensures) c.in-Ok-is_checked.ensures.answers

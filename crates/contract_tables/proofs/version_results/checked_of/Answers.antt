@@ -1,5 +1,7 @@
+use Rattle.std.proofs.lemmas.Result.{IfOk-weaker, IfErr-weaker, MatchResult-from_both}
+use Rattle.sqlite.specs.Held.{state}
 use Rattle.broker_tables.proofs.Asked.{lists, lists_none}
-use Rattle.contract_tables.proofs.{VersionResults.{marks, marks_listed}, ReadableRows.{marks_reads, marks_none}}
+use Rattle.contract_tables.proofs.{VersionResults.{marks, marks_listed}, ReadableRows.{marks_reads, marks_none}, AnyLatest.{marks_found, marks_fail}}
 use Rattle.contract_tables.proofs.version_results.checked_of.Goals as goal
 
 pub returns-clause-answers : goal.returns-clause-answers
@@ -10,3 +12,12 @@ returns-clause-answers g c =
 pub returns-clause-unknown : goal.returns-clause-unknown
 returns-clause-unknown g c =
     lists_none (marks c.args.version_number) _ _ (marks_none c.args.version_number _) (rw c.params-to_sql.ensures at c.list_of.ensures.leaves)
+
+pub returns-clause-mark : goal.returns-clause-mark
+returns-clause-mark g c clean asked =
+    let old = state g.S.Store c.args.conn.now in
+    let new = state g.S.Store c.list_of.new.conn in
+    let said = rw c.params-to_sql.ensures at c.list_of.ensures in
+    MatchResult-from_both c.list_of.result _ _
+    (IfOk-weaker c.list_of.result _ _ (λ list told. marks_found c.args.version_number old new asked.1 told.0 told.1 list.items told.2) (said.leaves.ok clean))
+    (IfErr-weaker c.list_of.result _ _ (marks_fail c.args.version_number old new asked) (said.cause clean))

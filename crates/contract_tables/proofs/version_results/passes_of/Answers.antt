@@ -1,5 +1,8 @@
-use Rattle.broker_tables.proofs.Asked.{lists, lists_none}
-use Rattle.contract_tables.proofs.{VersionResults.{passes, passes_listed}, ReadableRows.{passes_reads, passes_none}}
+use Rattle.std.proofs.lemmas.Result.{IfOk-weaker, IfErr-weaker, MatchResult-from_both}
+use Rattle.sqlite.specs.Held.{state}
+use Rattle.broker_tables.proofs.{Asked.{lists, lists_none}, AnyTables.{leaves_all}}
+use Rattle.contract_tables.proofs.{VersionResults.{passes, passes_listed}, ReadableRows.{passes_reads, passes_none}, AnyTexts.{passes_asks}}
+use Rattle.contract_tables.proofs.AnyLatest.{passes_found, passes_fail}
 use Rattle.contract_tables.proofs.version_results.passes_of.Goals as goal
 
 pub returns-clause-answers : goal.returns-clause-answers
@@ -10,3 +13,19 @@ returns-clause-answers g c =
 pub returns-clause-unknown : goal.returns-clause-unknown
 returns-clause-unknown g c =
     lists_none (passes c.args.version_number) _ _ (passes_none c.args.version_number _) (rw c.params-to_sql.ensures at c.list_of.ensures.leaves)
+
+pub returns-clause-mark : goal.returns-clause-mark
+returns-clause-mark g c clean asked =
+    let old = state g.S.Store c.args.conn.now in
+    let new = state g.S.Store c.list_of.new.conn in
+    let said = rw c.params-to_sql.ensures at c.list_of.ensures in
+    MatchResult-from_both c.list_of.result _ _
+    (IfOk-weaker c.list_of.result _ _ (λ list told. passes_found c.args.version_number old new asked.1 told.0 told.1 list.items told.2) (said.leaves.ok clean))
+    (IfErr-weaker c.list_of.result _ _ (passes_fail c.args.version_number old new asked) (said.cause clean))
+
+pub returns-clause-stays : goal.returns-clause-stays
+returns-clause-stays g c clean asked =
+    let old = state g.S.Store c.args.conn.now in
+    let new = state g.S.Store c.list_of.new.conn in
+    IfOk-weaker c.list_of.result _ _ (λ list told. leaves_all old new (passes_asks old.now.schema asked.1 c.args.version_number) told.0 told.1)
+    ((rw c.params-to_sql.ensures at c.list_of.ensures.leaves).ok clean)

@@ -1,7 +1,8 @@
-use Rattle.std.{specs.{Prelude.{IsSorted}, Ordering.{nat_cmp}}, proofs.Common.{◌≡◌, take, map}}
-use Rattle.contract_tables.specs.VersionResults.{marked}
+use Rattle.std.proofs.Common.{take}
+use Rattle.table_access.specs.Reading.{AreRead}
+use Rattle.contract_tables.specs.LatestRows.{IsMarkedOf}
 use Rattle.contract_tables.proofs.version_results.with_marks.Given as goal
 
 -- what the results say so far
 abbrev pub invariant-loop-one : goal.invariant-loop-one
-invariant-loop-one l = IsSorted nat_cmp l.checked → l.found.items ≡ map (marked l.checked) (take l.one-index l.passes)
+invariant-loop-one l = AreRead (IsMarkedOf l.checked) (take l.one-index l.passes) l.found.items

@@ -1,9 +1,17 @@
+use Rattle.std.proofs.lemmas.Result.{IfOk-weaker}
+use Rattle.sqlite.specs.Held.{state}
 use Rattle.broker_tables.proofs.Asked.{lists}
-use Rattle.deploy_tables.proofs.{ReleasedRows.{releases, released_listed}, ReadableRows.{releases_reads}}
+use Rattle.deploy_tables.proofs.{ReleasedRows.{releases, released_listed}, ReadableRows.{releases_reads}, AnyThere.{released_there}}
 use Rattle.deploy_tables.proofs.listings.released.Goals as goal
 
-pub returns : goal.returns
-returns g c =
+pub returns-clause-answers : goal.returns-clause-answers
+returns-clause-answers g c =
     let said = rw c.params-to_sql.ensures at c.list_of.ensures in
     lists (releases c.args.environment.now) _ _ (λ row fault why. why.0) (λ s held rows h list are. released_listed _ s held c.args.environment.now rows list.items h are)
     (releases_reads c.args.environment.now _) said.leaves said.cause
+
+pub returns-clause-named : goal.returns-clause-named
+returns-clause-named g c clean asked =
+    let old = state g.S.Store c.args.conn.now in
+    let new = state g.S.Store c.list_of.new.conn in
+    IfOk-weaker c.list_of.result _ _ (λ list told. released_there c.args.environment.now old new asked.1 told.0 list.items told.1 told.2) ((rw c.params-to_sql.ensures at c.list_of.ensures.leaves).ok clean)

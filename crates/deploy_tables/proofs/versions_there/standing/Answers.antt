@@ -7,7 +7,7 @@ returns g c =
     calm_answers _ _ _ c.each_version_once.result _ _
     (λ s both. stand_is s c.args.environment.now _ _ _ _ both.0 both.1
     (c.in-Ok-all_versions.ensures.all ∙ ap (λ items. map deployed_version items ++ c.in-Ok-released.value.items) c.deref.ensures.value) c.each_version_once.ensures)
-    (both_told _ _ _ _ _ _ _ c.in-Ok.ensures c.in-Ok-released.ensures)
+    (both_told _ _ _ _ _ _ _ c.in-Ok.ensures.answers c.in-Ok-released.ensures.answers)
 
 pub returns-in-Err-released : goal.returns-in-Err-released
-returns-in-Err-released g c = query_failed _ _ _ _ _ _ _ _ c.in-Ok.ensures c.in-Err-released.ensures
+returns-in-Err-released g c = query_failed _ _ _ _ _ _ _ _ c.in-Ok.ensures.answers c.in-Err-released.ensures.answers

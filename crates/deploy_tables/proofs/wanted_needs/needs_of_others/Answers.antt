@@ -9,9 +9,9 @@ returns g c =
     calm_allowed _ _ _ c.in-Ok-latest_results.value c.used_by_each.result _ _ _
     (λ s. AreOfVersions s c.in-Ok.value.items) (λ s read. are_of_versions s v e c.args.wanted v.pacticipant _ read.0)
     (λ s read found here number. provided_are s _ _ _ _ _ read.0 (here (read.1 v number)))
-    (both_told _ _ _ _ _ _ _ (rw c.as_str.ensures at c.in-Ok.ensures) c.in-Ok-latest_results.ensures.answers)
+    (both_told _ _ _ _ _ _ _ (rw c.as_str.ensures at c.in-Ok.ensures.answers) c.in-Ok-latest_results.ensures.answers)
     (rw (c.deref.ensures.value, c.deref-2.ensures.value) at c.used_by_each.ensures.answers)
     (rw c.deref-2.ensures.value at c.used_by_each.ensures.calm)
 
 pub returns-in-Err-latest_results : goal.returns-in-Err-latest_results
-returns-in-Err-latest_results g c = query_failed _ _ _ _ _ _ _ _ c.in-Ok.ensures c.in-Err-latest_results.ensures.answers
+returns-in-Err-latest_results g c = query_failed _ _ _ _ _ _ _ _ c.in-Ok.ensures.answers c.in-Err-latest_results.ensures.answers

@@ -7,4 +7,4 @@ returns-in-Ok-named_used-clause-answers g c =
     let v = c.args.version.now in
     answers_more _ _ c.in-Ok.value c.in-Ok-named_used.found _ _ (λ s known listed x.
     subst (λ xs. Contains xs x ↔ IsUsed s v c.args.wanted c.args.contract x) (sym c.in-Ok-named_used.ensures)
-    (open_used s v _ _ _ c.is_left_out.ensures c.args.contract c.if-is_left_out.false (c.latest_among-latest.ensures s v listed) _ known x)) c.in-Ok.ensures.answers
+    (open_used s v _ _ _ c.is_left_out.ensures c.args.contract c.if-is_left_out.false (c.latest_among-latest.ensures.answers s v listed) _ known x)) c.in-Ok.ensures.answers

@@ -1,0 +1,82 @@
+-- A schema that has the broker's tables consists of them, with whatever else tables have; and what a text asks of it.
+use Rattle.std.{specs.List.{AllZip}, proofs.Common.{◌≡◌, ◌∙◌, ◌≤◌, ℕ, zero, suc, List, [], ◌∷◌, IsTrue, None, refl, sym, subst, arith}}
+use Rattle.sqlite.specs.{Table.{Table}, Schema.{Schema}, Order.{Row}, Query.{Query}, Command.TheVariants.{Select}, State.{State, Shown, IsUnchanged, HasCause}}
+use Rattle.sqlite.specs.Effect.{Database, Answers}
+use Rattle.sqlite_trees.specs.{declared.error.StoreError.{StoreError}, declared.error.StoreError.TheVariants.{OutOfMemory, Broken, Unstorable}}
+use Rattle.sqlite_schema.specs.declared.schema.Column.{Column}
+use Rattle.table_access.{specs.{declared.StoreFault.{StoreFault}, Calls.{HasFailed}, Reading.{IsRefusedAs}}, proofs.Answered.{Runs, refusal_ends}}
+use Rattle.table_access.proofs.Steps.{Means, shown_answers, shown_unchanged}
+use Rattle.broker_tables.specs.{Schema.{environments, numbers}, Asking.{IsColumnLike, HasColumns, HasBrokerTables, CanBeAsked}}
+
+-- ---- the tables
+
+-- tables with the names and the places of these
+abbrev pub laid_out : List Table → (ℕ → Table) → List Table
+laid_out [] given = []
+laid_out (t ∷ ts) given = record (given zero) { name = t.name; tree = t.tree } ∷ laid_out ts (λ n. given (suc n))
+
+abbrev put_first : {X : Type 0} → X → (ℕ → X) → ℕ → X
+put_first x given zero = x
+put_first x given (suc n) = given n
+
+pub lays : (wanted ts : List Table) → AllZip HasColumns wanted ts → (given : ℕ → Table) × (ts ≡ laid_out wanted given)
+lays [] [] h = (λ n. environments, refl)
+lays (w ∷ ws) (t ∷ ts) h =
+    let more = lays ws ts h.1 in
+    (put_first t more.0, λ i. record t { name = h.0.0 i; tree = h.0.1 i } ∷ more.1 i)
+lays _ _ h = absurd h
+
+-- ---- the columns
+
+-- a column with the name, the kind and the order of this one
+abbrev pub named_as : Column → Column → Column
+named_as wanted c = record c { name = wanted.name; kind = wanted.kind; collation = wanted.collation }
+
+-- and such columns
+abbrev pub set_out : List Column → (ℕ → Column) → List Column
+set_out [] given = []
+set_out (c ∷ cs) given = named_as c (given zero) ∷ set_out cs (λ n. given (suc n))
+
+pub sets_out : (wanted cs : List Column) → AllZip IsColumnLike wanted cs → (given : ℕ → Column) × (cs ≡ set_out wanted given)
+sets_out [] [] h = (λ n. numbers [], refl)
+sets_out (w ∷ ws) (c ∷ cs) h =
+    let more = sets_out ws cs h.1 in
+    (put_first c more.0, λ i. record c { name = h.0.0 i; kind = h.0.1 i; collation = h.0.2 i } ∷ more.1 i)
+sets_out _ _ h = absurd h
+
+-- ---- what a text asks of a schema
+
+-- The text asks this query of the tables of this schema, and can be run with these parameters.
+pub record AsksOf (schema : Schema) (sql : List ℕ) (params : Row) (query : Query) : Type 0 where
+  pub names : List (List ℕ)
+  pub means : Means schema sql (Select (record { lets = []; body = query }) names)
+  pub runs : Runs schema sql params query
+
+module _ {sql : List ℕ} {params : Row} {query : Query} (old new : State) (asks : AsksOf old.now.schema sql params query) where
+  -- what is shown is its answer
+  pub is_answer_of : (rows : List Row) → Shown sql params old new rows → Answers old.now (record { lets = []; body = query }) params rows
+  is_answer_of rows shown = shown_answers sql params old new _ asks.names asks.means rows shown
+
+  -- nothing changes
+  pub leaves_all : (rows : List Row) → Shown sql params old new rows → IsUnchanged old new
+  leaves_all rows shown = shown_unchanged sql params old new rows asks.means.plain shown
+
+  -- it is refused only as the store fails
+  pub refused_ends : old.step_limit ≡ None → (fault : StoreFault) → IsRefusedAs sql params old new fault → HasFailed old new fault
+  refused_ends unlimited fault = refusal_ends sql params old new query asks.names asks.means asks.runs unlimited fault
+
+-- ---- one query after another
+
+cause_since : (a b c : State) (cause : StoreError) → IsTrue b.is_open → a.faults ≤ b.faults → HasCause b c ⊥ cause → HasCause a c ⊥ cause
+cause_since a b c OutOfMemory live up h = tt
+cause_since a b c Broken live up h = absurd (let e = live in cc)
+cause_since a b c Unstorable live up h = h
+cause_since a b c _ live up h = omega (arith, up, h)
+
+-- where a query left all as it was, a later failure of the store is one of both
+pub failed_since_query : (a b c : State) (e : StoreFault) → IsUnchanged a b → a.faults ≤ b.faults → HasFailed b c e → HasFailed a c e
+failed_since_query a b c e same up h = record { cause = h.cause; fault_is = h.fault_is; has = cause_since a b c h.cause same.0.is_open up h.has; over = h.over; blamed = h.blamed }
+
+-- and what can be asked still can
+pub still_asked : (a b : State) → IsUnchanged a b → b.step_limit ≡ a.step_limit → CanBeAsked a → CanBeAsked b
+still_asked a b same limit asked = (limit ∙ asked.0, subst (λ (db : Database). HasBrokerTables db.schema) (sym same.0.now_is) asked.1)
