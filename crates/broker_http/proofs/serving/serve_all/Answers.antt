@@ -1,4 +1,5 @@
-use Rattle.std.{specs.Io.KnownBytes.{Appends}, proofs.Common.{◌≡◌, ◌≢◌, ◌+◌, ◌-◌, ◌^◌, ◌++◌, length, drop, [], ◌∷◌, refl, sym, ◌∙◌, subst, arith, eqb-true, length-append}}
+use Rattle.std.specs.Io.KnownBytes.{Appends}
+use Rattle.std.proofs.Common.{◌≡◌, ◌≢◌, ◌+◌, ◌-◌, ◌^◌, ◌++◌, length, drop, [], ◌∷◌, refl, sym, ◌∙◌, subst, arith, eqb-true, length-append}
 use Rattle.std.proofs.{KnownBytes.{Consumes-kept, Consumes-nil, Consumes-trans, Appends-nil, Appends-trans}, lemmas.Result.{err_from_is_err_and}}
 use Rattle.std.proofs.lemmas.Bool.{eqb-false}
 use Rattle.http_messages.specs.Reading.{IsOutcome}

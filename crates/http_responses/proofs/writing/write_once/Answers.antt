@@ -1,4 +1,5 @@
-use Rattle.std.{specs.Io.KnownBytes.{Appends, Keeps, WriteAppends}, proofs.Common.{◌≡◌, ℕ, List, [], Some, None, Option, Result, Ok, Err, IfOk, IfErr, OnErr, take, append-nil, subst, ◌∙◌}}
+use Rattle.std.specs.Io.KnownBytes.{Appends, Keeps, WriteAppends}
+use Rattle.std.proofs.Common.{◌≡◌, ℕ, List, [], Some, None, Option, Result, Ok, Err, IfOk, IfErr, OnErr, take, append-nil, subst, ◌∙◌}
 use Rattle.http_responses.proofs.writing.write_once.Goals as goal
 
 -- a writer that took none is as it was
