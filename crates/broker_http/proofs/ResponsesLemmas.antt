@@ -63,12 +63,12 @@ texts-then (first ∷ responses) response = ap (λ l. first.text ++ l) (texts-th
 
 -- a fault of the reader leaves all responses out
 pub StreamCut-read : (fault : ReadFault) (responses : List Response) → AllOpen responses → StreamCut (fault_of_read fault) responses (texts responses)
-StreamCut-read reads.Reader responses opened = (opened, refl)
+StreamCut-read (reads.Reader failed) responses opened = (opened, refl)
 StreamCut-read reads.Memory responses opened = (opened, refl)
 
 -- what came before the fault
 came : (a b : Option (List ℕ)) (old new : List ℕ) (fault : ReadFault) → LeavesAtFault a b old new fault → (more : List ℕ) × Consumes a b more
-came a b old new reads.Reader p = (p.0, p.1)
+came a b old new (reads.Reader failed) p = (p.0, p.1)
 came a b old new reads.Memory p = (p.0 ++ p.1, p.2)
 
 -- nothing is left
@@ -91,7 +91,9 @@ module _ {S : Type 0} (Exchange : S → Message → Response → S → Type 0) w
       → Responses Exchange s stream responses t bytes → AllOpen responses → Appends first old (texts responses) → BeginsWithMessage bytes m after
       → ExchangeCut Exchange t m u old new fault
       → (more : List Response) × (rest : List ℕ) × (out : List ℕ) × Responses Exchange s stream more u rest × StreamCut fault more out × Appends first new out
-  Responses-broken s stream responses t bytes m after u first old new faults.Read so_far opened out begins broken = absurd broken
+  Responses-broken s stream responses t bytes m after u first old new (faults.Read failed) so_far opened out begins broken = absurd broken
+  Responses-broken s stream responses t bytes m after u first old new (faults.Turn over) so_far opened out begins broken = absurd broken
+  Responses-broken s stream responses t bytes m after u first old new faults.Count so_far opened out begins broken = absurd broken
   Responses-broken s stream responses t bytes m after u first old new faults.Memory so_far opened out begins broken = (
     responses,
     bytes,
@@ -100,7 +102,7 @@ module _ {S : Type 0} (Exchange : S → Message → Response → S → Type 0) w
     (opened, append-nil (texts responses)),
     Appends-trans first old new (texts responses) [] out broken.1,
   )
-  Responses-broken s stream responses t bytes m after u first old new faults.Write so_far opened out begins broken =
+  Responses-broken s stream responses t bytes m after u first old new (faults.Write fault) so_far opened out begins broken =
       let response = broken.0 in
       let part = broken.2 in (
         responses ++ response ∷ [],

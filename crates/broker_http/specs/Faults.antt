@@ -5,5 +5,5 @@ use Rattle.broker_http.specs.declared.served.ServeFault.{ServeFault}
 use Rattle.broker_http.specs.declared.served.ServeFault.TheVariants.{Read, Memory}
 
 abbrev pub fault_of_read : ReadFault → ServeFault
-fault_of_read reads.Reader = Read
+fault_of_read (reads.Reader failed) = Read failed
 fault_of_read reads.Memory = Memory

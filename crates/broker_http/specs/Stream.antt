@@ -1,5 +1,5 @@
 -- The responses to a stream.
-use Rattle.std.specs.Prelude.{◌≡◌, ℕ, ◌<◌, Bool, true, false, List, [], ◌∷◌, ◌++◌, length, take, Option}
+use Rattle.std.specs.Prelude.{◌≡◌, ℕ, ◌-◌, ◌^◌, ◌<◌, Bool, true, false, List, [], ◌∷◌, ◌++◌, length, take, Option}
 use Rattle.std.specs.List.{flat_map}
 use Rattle.std.specs.Io.KnownBytes.{Appends}
 use Rattle.http_messages.specs.Message.{Message}
@@ -32,11 +32,14 @@ StreamEnds Rest responses rest = AllOpen responses × (0 < length rest) × HasNo
 StreamEnds Closed responses rest = LastCloses responses
 
 -- What is out at a fault: with Write all responses but the last, and of that one a beginning that isn't the
--- whole; else all of them.
+-- whole; else all of them. With Count they are as many as can be counted.
 abbrev pub StreamCut : ServeFault → List Response → List ℕ → Type 0
-StreamCut faults.Read responses out = AllOpen responses × (out ≡ texts responses)
+StreamCut (faults.Read failed) responses out = AllOpen responses × (out ≡ texts responses)
+StreamCut (faults.Turn over) responses out = AllOpen responses × (out ≡ texts responses)
+StreamCut faults.Count responses out =
+    AllOpen responses × (out ≡ texts responses) × (length responses ≡ 2 ^ 64 - 1)
 StreamCut faults.Memory responses out = AllOpen responses × (out ≡ texts responses)
-StreamCut faults.Write responses out =
+StreamCut (faults.Write fault) responses out =
     (front : List Response) × (last : Response) × (n : ℕ)
     × (responses ≡ front ++ last ∷ []) × AllOpen front
     × (n < length last.text) × (out ≡ texts front ++ take n last.text)
@@ -59,8 +62,10 @@ module _ {S : Type 0} (Exchange : S → Message → Response → S → Type 0) w
   -- What a fault leaves of one message: with Memory nothing was done, with Write it is answered and a
   -- beginning of its response is out, but not the whole.
   abbrev pub ExchangeCut : S → Message → S → Option (List ℕ) → Option (List ℕ) → ServeFault → Type 0
-  ExchangeCut s m t old new faults.Read = ⊥
+  ExchangeCut s m t old new (faults.Read failed) = ⊥
+  ExchangeCut s m t old new (faults.Turn over) = ⊥
+  ExchangeCut s m t old new faults.Count = ⊥
   ExchangeCut s m t old new faults.Memory = (t ≡ s) × Appends old new []
-  ExchangeCut s m t old new faults.Write =
+  ExchangeCut s m t old new (faults.Write fault) =
       (response : Response) × Exchange s m response t
       × ((n : ℕ) × (n < length response.text) × Appends old new (take n response.text))

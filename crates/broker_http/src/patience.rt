@@ -5,6 +5,7 @@ use crate::served::{ServeFault, Served};
 use crate::serving::{Turn, serve_for};
 use broker_database::Service;
 use http_messages::patience::{Door, Incoming, Limits, Outgoing, PeerReader, PeerWriter, Wait};
+use http_messages::turn::TurnOver;
 use http_routes::RouteTable;
 use std::alloc::Global;
 use std::cell::Cell;
@@ -14,14 +15,14 @@ use std::time::Clock;
 struct InTurn;
 
 impl<R: PeerReader, D: Door, C: Clock> Turn<Incoming<'_, '_, R, D, C>> for InTurn {
-    fn is_over(reader: &mut Incoming<'_, '_, R, D, C>) -> bool {
+    fn is_over(reader: &mut Incoming<'_, '_, R, D, C>) -> Option<TurnOver> {
         reader.is_over()
     }
 }
 
 /// Answers what the peer asks, as `serve` does, and waits for it as the limits say. If one is over, the reader or the
-/// writer has failed to `serve`; if the peer's turn is over while others wait, the reader has, between two messages. It
-/// gives the peer's two sides back.
+/// writer has failed to `serve`. If the peer's turn is over while others wait, it ends with `ServeFault::Turn`, between
+/// two messages. It gives the peer's two sides back.
 pub fn serve_peer<'a, B: Service, R: PeerReader + Drop, W: PeerWriter + Drop, D: Door, C: Clock>(
     alloc: Global,
     routes: &RouteTable,
@@ -37,21 +38,8 @@ pub fn serve_peer<'a, B: Service, R: PeerReader + Drop, W: PeerWriter + Drop, D:
         (W.contents writer) (W.contents result.2) result.0 }
 {
     let wait = Cell::new(Wait::First);
-    let mut incoming = Incoming {
-        peer: reader,
-        door,
-        clock,
-        limits,
-        wanted: None,
-        wait: &wait,
-    };
-    let mut outgoing = Outgoing {
-        peer: writer,
-        clock,
-        limit: limits.answer,
-        look: limits.look,
-        wait: &wait,
-    };
+    let mut incoming = Incoming::new(reader, door, clock, limits, &wait);
+    let mut outgoing = Outgoing::new(writer, clock, limits, &wait);
     let served = serve_for::<InTurn, _, _, _>(alloc, routes, broker, &mut incoming, &mut outgoing);
     (served, incoming.peer, outgoing.peer)
 }

@@ -2,7 +2,9 @@
 ghost use Rattle.std.specs.Prelude.{◌≡◌};
 ghost use Rattle.broker_http.specs.Faults.{fault_of_read};
 
+use http_messages::device::ReaderFailed;
 use http_messages::reading::ReadFault;
+use http_messages::turn::TurnOver;
 use http_responses::WriteFault;
 use thiserror::Error;
 
@@ -28,13 +30,20 @@ pub struct Served {
 /// Why serving stopped.
 #[derive(Clone, Copy, Debug, PartialEq, Eq, Error)]
 pub enum ServeFault {
-    /// The reader failed, or 2^64-1 messages were answered. All answers are out.
+    /// The reader failed. All answers are out.
     #[error("the reader failed")]
-    Read,
+    Read(ReaderFailed),
+    /// The peer's turn is over, between two of its messages. All answers are out. Only a peer that others wait for has a
+    /// turn.
+    #[error("the peer's turn is over")]
+    Turn(TurnOver),
+    /// 2^64-1 messages were answered, and all answers are out.
+    #[error("no more messages can be counted")]
+    Count,
     /// The writer failed, or took none of the bytes that were left. The last answer is out in part or not at
     /// all.
     #[error("the writer failed")]
-    Write,
+    Write(WriteFault),
     /// There was no memory for a message or its answer, and nothing was done for it. All answers before are
     /// out.
     #[error("out of memory")]
@@ -46,7 +55,7 @@ impl From<ReadFault> for ServeFault {
 
     fn from(fault: ReadFault) -> ServeFault {
         match fault {
-            ReadFault::Reader => ServeFault::Read,
+            ReadFault::Reader(failed) => ServeFault::Read(failed),
             ReadFault::Memory => ServeFault::Memory,
         }
     }
@@ -55,9 +64,9 @@ impl From<ReadFault> for ServeFault {
 impl From<WriteFault> for ServeFault {
     ghost use Rattle.broker_http.specs.declared.served.ServeFault.{ServeFault};
 
-    ghost from_gives = { λ _ served. served ≡ ServeFault.Write };
+    ghost from_gives = { λ fault served. served ≡ ServeFault.Write fault };
 
-    fn from(_fault: WriteFault) -> ServeFault {
-        ServeFault::Write
+    fn from(fault: WriteFault) -> ServeFault {
+        ServeFault::Write(fault)
     }
 }

@@ -8,14 +8,15 @@ use crate::served::{Ended, ServeFault, Served};
 use broker_database::Service;
 use http_messages::buffer::{Buffer, drop_front};
 use http_messages::reading::{ReadOutcome, read_message};
+use http_messages::turn::TurnOver;
 use http_routes::RouteTable;
 use std::alloc::Global;
 use std::io::{Read, Write};
 
 /// When a stream ends between two of its messages, though its reader goes on.
 pub(crate) trait Turn<R: Read> {
-    /// Whether it ends now. What the reader gives stays.
-    fn is_over(reader: &mut R) -> bool
+    /// Its end, if it ends now. What the reader gives stays.
+    fn is_over(reader: &mut R) -> Option<TurnOver>
         ensures { Keeps (R.remaining reader.old) (R.remaining reader.new) };
 }
 
@@ -23,8 +24,8 @@ pub(crate) trait Turn<R: Read> {
 struct Endless;
 
 impl<R: Read> Turn<R> for Endless {
-    fn is_over(_reader: &mut R) -> bool {
-        false
+    fn is_over(_reader: &mut R) -> Option<TurnOver> {
+        None
     }
 }
 
@@ -54,8 +55,8 @@ fn serve_all<T: Turn<R>, R: Read, W: Write, B: Service>(
 {
     let mut buffer = Buffer::new(alloc);
     for answered in 0..u64::MAX {
-        if T::is_over(reader) {
-            return Err(ServeFault::Read);
+        if let Some(over) = T::is_over(reader) {
+            return Err(ServeFault::Turn(over));
         }
         let (head_len, body_len, head) = match read_message(reader, &mut buffer)? {
             ReadOutcome::Message {
@@ -81,10 +82,10 @@ fn serve_all<T: Turn<R>, R: Read, W: Write, B: Service>(
         }
         drop_front(&mut buffer, head_len + body_len);
     }
-    Err(ServeFault::Read)
+    Err(ServeFault::Count)
 }
 
-/// Answers the requests of a stream as `serve` does, until its turn is over: then the reader has failed to it.
+/// Answers the requests of a stream as `serve` does, until its turn is over.
 pub(crate) fn serve_for<T: Turn<R>, R: Read, W: Write, B: Service>(
     alloc: Global,
     routes: &RouteTable,
@@ -106,7 +107,8 @@ pub(crate) fn serve_for<T: Turn<R>, R: Read, W: Write, B: Service>(
 /// 1,048,576 bytes at most, are kept. However it is cut, the answers are those to its messages. A rest
 /// that is no whole message gets no answer.
 ///
-/// `ServeFault::Read`: the reader failed, or 2^64-1 messages were answered; all answers are out.
+/// `ServeFault::Read`: the reader failed; all answers are out. `ServeFault::Count`: 2^64-1 messages were answered, all
+/// of them. `ServeFault::Turn` never comes, as there is no turn here.
 /// `ServeFault::Write`: the writer failed, or took none of the bytes that were left; the last answer is
 /// out in part.
 /// `ServeFault::Memory`: there was no memory for a message or its answer; nothing was done for it, and

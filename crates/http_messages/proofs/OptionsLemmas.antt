@@ -1,6 +1,6 @@
 -- The options between commas.
 use Rattle.std.specs.List.{list_any, position_or_len}
-use Rattle.std.proofs.{Common.{◌≡◌, ℕ, ◌+◌, ◌<◌, Bool, true, false, ◌==◌, ◌||◌, List, length, take, drop, refl, sym, ap, ◌∙◌, subst}, Math.Bool.{or-false}}
+use Rattle.std.proofs.{Common.{◌≡◌, ℕ, ◌+◌, ◌<◌, Bool, true, false, ◌==◌, ◌||◌, List, length, take, drop, sym, ap, ◌∙◌, subst}, Math.Bool.{or-false}}
 use Rattle.std.proofs.{lemmas.Bool.{or_left}, lemmas.List.Elements.{All-from_get_or}, lemmas.List.Splits.{slice_split_none, slice_split_first}}
 use Rattle.std.proofs.lemmas.List.Sums.{fails_before_first}
 use Rattle.http_messages.specs.Options.{comma, is_close, has_close}

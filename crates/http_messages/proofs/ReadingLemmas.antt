@@ -18,7 +18,7 @@ Gains-trans a b c old mid new p q = (
 -- some reads, and then one that fails
 pub LeavesAtFault-after : (a b c : Option (List ℕ)) (old mid new : List ℕ) (fault : ReadFault)
     → Gains a b old mid → LeavesAtFault b c mid new fault → LeavesAtFault a c old new fault
-LeavesAtFault-after a b c old mid new Reader p q = Gains-trans a b c old mid new p q
+LeavesAtFault-after a b c old mid new (Reader failed) p q = Gains-trans a b c old mid new p q
 LeavesAtFault-after a b c old mid new Memory p q = (
   p.0 ++ q.0,
   q.1,
@@ -51,7 +51,7 @@ announced-length text (Err refused) p = (judgement_of refused, p, refl)
 -- what a fault leaves in the buffer is at its front
 pub grown_at_fault : (a b : Option (List ℕ)) (old new : List ℕ) (fault : ReadFault) → LeavesAtFault a b old new fault
     → (more : List ℕ) × (new ≡ old ++ more)
-grown_at_fault a b old new Reader p = (p.0, p.2)
+grown_at_fault a b old new (Reader failed) p = (p.0, p.2)
 grown_at_fault a b old new Memory p = (p.0, p.4)
 
 module _ (old more new : List ℕ) (head_len : ℕ) (read : Result Head Refused) (grown : new ≡ old ++ more)

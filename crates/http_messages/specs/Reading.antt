@@ -16,7 +16,7 @@ Gains before after old new = (more : List ℕ) × Consumes before after more × 
 -- What a fault leaves: where the reader failed, the buffer grew by all that it gave; where memory ran out,
 -- the last bytes that it gave are lost.
 abbrev pub LeavesAtFault : (before after : Option (List ℕ)) (old new : List ℕ) → ReadFault → Type 0
-LeavesAtFault before after old new Reader = Gains before after old new
+LeavesAtFault before after old new (Reader failed) = Gains before after old new
 LeavesAtFault before after old new Memory =
     (more : List ℕ) × (lost : List ℕ)
     × Consumes before after (more ++ lost) × (0 < length lost) × (new ≡ old ++ more)

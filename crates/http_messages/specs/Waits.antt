@@ -1,9 +1,16 @@
 -- how long a peer is waited for, in nanoseconds (this project's own)
-use Rattle.std.specs.Prelude.{◌≡◌, ◌⊎◌, ◌+◌, ◌*◌, ◌≤◌, ℕ, Result, Ok, Err}
+use Rattle.std.specs.Prelude.{◌≡◌, ◌≢◌, ◌⊎◌, ◌+◌, ◌*◌, ◌≤◌, ℕ, Result, Ok, Err}
+use Rattle.std.specs.Duration.{as_nanos}
 use Rattle.std.specs.IoError.{error_kind}
 use Rattle.std.specs.declared.io.Error.{Error}
 use Rattle.std.specs.declared.io.ErrorKind.TheVariants.{WouldBlock}
+use Rattle.http_messages.specs.Limits.{head_limit}
 use Rattle.http_messages.specs.declared.patience.Limits.{Limits}
+use Rattle.http_messages.specs.declared.patience.Wait.{Wait}
+use Rattle.http_messages.specs.declared.patience.Wait.TheVariants as waits
+use Rattle.http_messages.specs.declared.patience.Awaited.{Awaited}
+use Rattle.http_messages.specs.declared.patience.Awaited.TheVariants as awaits
+use Rattle.std.specs.declared.time.Duration.{Duration}
 
 -- How long `broker serve` waits for a peer, in milliseconds: ten seconds for a message and for an answer, two for the
 -- rest of a message while another peer waits; then a second for a peer's first bytes, five milliseconds for those of a
@@ -32,3 +39,25 @@ IsVain (Err error) = error_kind error ≡ WouldBlock
 -- one was in vain, and then by no more.
 abbrev pub Waits : {A : Type 0} → ℕ → ℕ → Result A Error → ℕ → Type 0
 Waits old new result within = (new ≤ old) ⊎ (IsVain result × (new ≤ old + within))
+
+-- ---- for private clauses: what a call waits for, after what was waited for before
+
+-- nothing is spent of the limits of the message of which more is waited for
+abbrev pub IsMoreOfNew : Awaited → Type 0
+IsMoreOfNew (awaits.First grace) = ⊥
+IsMoreOfNew (awaits.More spent) = (as_nanos spent.all ≡ 0) × (as_nanos spent.wanted ≡ 0)
+
+-- What a read of at most so many bytes waits for. At first, the first bytes of all; within a message, its rest, of
+-- whose limits is spent what was; after an answer, the first bytes of the next message if it asks for as many as a head
+-- may have, and else the rest of one of which nothing is spent.
+abbrev pub IsAwaited : Limits → Wait → ℕ → Awaited → Type 0
+IsAwaited limits waits.First most awaited = awaited ≡ awaits.First limits.first
+IsAwaited limits (waits.Message spent) most awaited = awaited ≡ awaits.More spent
+IsAwaited limits (waits.Answer spent) most awaited =
+    ((most ≡ head_limit) × (awaited ≡ awaits.First limits.next)) ⊎ ((most ≢ head_limit) × IsMoreOfNew awaited)
+
+-- so much is spent of the limit of the answer that is waited for, none of a new one
+abbrev pub IsSpentOnAnswer : Wait → Duration → Type 0
+IsSpentOnAnswer waits.First spent = as_nanos spent ≡ 0
+IsSpentOnAnswer (waits.Message before) spent = as_nanos spent ≡ 0
+IsSpentOnAnswer (waits.Answer before) spent = spent ≡ before

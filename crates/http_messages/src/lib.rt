@@ -3,6 +3,7 @@
 #![tactic(auto)]
 
 pub mod buffer;
+pub mod device;
 pub mod fields;
 pub mod head;
 pub mod laws;
@@ -11,3 +12,5 @@ pub mod messages;
 mod options;
 pub mod patience;
 pub mod reading;
+mod sockets;
+pub mod turn;

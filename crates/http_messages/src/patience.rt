@@ -5,16 +5,17 @@
 //! nothing of its next message has to go if another waits; by itself it may stay. Only the time that is spent waiting
 //! counts for these, not that of the server's own work. A peer that sends message after message has a turn, in which all
 //! counts: it is over once the peer has been served for so long while others wait.
-ghost use Rattle.std.specs.Prelude.{◌≡◌, ◌+◌, ◌-◌, ◌*◌, ◌≤◌, ◌⊎◌, ◌↔◌, true, min, max, ℕ, List, Option, None, IfOk, IfErr};
+ghost use Rattle.std.specs.Prelude.{◌≡◌, ◌≢◌, ◌+◌, ◌-◌, ◌≤◌, ◌⊎◌, ◌↔◌, true, false, min, max, ℕ, List, Option, None, IfOk, IfErr};
 ghost use Rattle.std.specs.Duration.{as_nanos, max_nanos};
 ghost use Rattle.std.specs.Io.{ReadsAtMost, WritesAtMost};
 ghost use Rattle.std.specs.Io.KnownBytes.{ReadConsumes, WriteAppends};
-ghost use Rattle.http_messages.specs.Waits.{IsVain, Waits, millis};
+ghost use Rattle.std.specs.IoError.{error_kind};
+ghost use Rattle.http_messages.specs.Waits.{IsAwaited, IsSpentOnAnswer, IsVain, Waits, millis};
 
 use crate::messages::HEAD_LIMIT;
+use crate::turn::{TurnOver, end_of_turn};
 use std::cell::Cell;
 use std::io::{self, ErrorKind, Read, Write};
-use std::net::TcpStream;
 use std::time::{Clock, Duration, Instant};
 
 /// How long a peer is waited for, in milliseconds, each more than none.
@@ -77,31 +78,23 @@ pub trait PeerWriter {
         ensures wait { Waits (waited self.old) (waited self.new) result (as_nanos within) };
 }
 
-impl PeerReader for &TcpStream {
-    fn receive(&mut self, buf: &mut [u8], within: Duration) -> io::Result<usize> {
-        self.set_read_timeout(Some(within))?;
-        self.read(buf)
-    }
-}
-
-impl PeerWriter for &TcpStream {
-    fn send(&mut self, buf: &[u8], within: Duration) -> io::Result<usize> {
-        self.set_write_timeout(Some(within))?;
-        self.write(buf)
-    }
-}
-
 /// Where peers come in.
 pub trait Door {
     /// It is known that another peer waits. It does so until the one that is served has gone.
     ghost IsWanted: { Self → Type 0 } = { λ _. ⊥ };
 
+    /// It is known that no other peer waits.
+    ghost IsAlone: { Self → Type 0 } = { λ _. ⊥ };
+
     /// Whether another peer waits to be served.
     fn has_another(&mut self) -> bool
-        ensures stays { IsWanted self.old → (result ≡ true) × IsWanted self.new };
+        ensures stays { IsWanted self.old → (result ≡ true) × IsWanted self.new }
+        ensures alone { IsAlone self.old → (result ≡ false) × IsAlone self.new };
 
     /// How many other peers wait to be served, as far as that is known.
-    fn others(&mut self) -> u32 {
+    fn others(&mut self) -> u32
+        ensures { IsAlone self.old → (result ≡ 0) × IsAlone self.new }
+    {
         u32::from(self.has_another())
     }
 }
@@ -163,16 +156,23 @@ fn longer(a: Duration, b: Duration) -> Duration
     if a.saturating_sub(b).is_zero() { b } else { a }
 }
 
+/// A limit is over.
+fn timed_out() -> io::Error
+    ensures { error_kind result ≡ ErrorKind.TimedOut }
+{
+    io::Error::from(ErrorKind::TimedOut)
+}
+
 /// How long to wait at once: what is left of a limit, but no longer than a look. `TimedOut` if nothing is left.
 fn next_look(limit: u64, look: u64, spent: Duration) -> io::Result<Duration>
     ensures look { IfOk result (λ within. as_nanos within ≤ millis look) }
     ensures left { IfOk result (λ within. as_nanos spent + as_nanos within ≤ millis limit) }
-    ensures over { IfErr result (λ _. millis limit ≤ as_nanos spent) }
+    ensures over { IfErr result (λ error. (millis limit ≤ as_nanos spent) × (error_kind error ≡ ErrorKind.TimedOut)) }
     ensures fits { millis limit ≤ max_nanos }
 {
     let left = Duration::from_millis(limit).saturating_sub(spent);
     if left.is_zero() {
-        Err(io::Error::from(ErrorKind::TimedOut))
+        Err(timed_out())
     } else {
         Ok(shorter(left, Duration::from_millis(look)))
     }
@@ -185,6 +185,7 @@ fn next_read(limits: Limits, is_wanted: bool, spent: Spent) -> io::Result<Durati
         IfOk result (λ within. as_nanos spent.wanted + as_nanos within ≤ millis limits.late) }
     ensures over { IfErr result (λ _. (millis limits.message ≤ as_nanos spent.all)
         ⊎ ((is_wanted ≡ true) × (millis limits.late ≤ as_nanos spent.wanted))) }
+    ensures kind { IfErr result (λ error. error_kind error ≡ ErrorKind.TimedOut) }
     ensures fits { (millis limits.message ≤ max_nanos) × (millis limits.late ≤ max_nanos) }
 {
     let within = next_look(limits.message, limits.look, spent.all)?;
@@ -202,15 +203,6 @@ fn since(known: Option<Instant>, is_wanted: bool, now: Instant) -> Option<Instan
     } else {
         None
     }
-}
-
-/// Whether the turn of a peer is over that was served for so long while so many others waited.
-fn is_turn_over(turn: u64, served: Duration, others: u32) -> bool
-    ensures { result ≡ true ↔ millis turn ≤ as_nanos served * others }
-{
-    Duration::from_millis(turn)
-        .saturating_sub(served.saturating_mul(others))
-        .is_zero()
 }
 
 /// How long a wait that began then counts, and ended so: as long as it took, but no longer than twice what it was to
@@ -237,8 +229,44 @@ fn counted<A, C: Clock>(
 }
 
 /// Whether a wait that failed so may go on: it came to its end, or a signal cut it short.
-fn is_unfinished(kind: ErrorKind) -> bool {
+fn is_unfinished(kind: ErrorKind) -> bool
+    ensures { result ≡ true ↔ (kind ≡ ErrorKind.WouldBlock) ⊎ (kind ≡ ErrorKind.Interrupted) }
+{
     kind == ErrorKind::WouldBlock || kind == ErrorKind::Interrupted
+}
+
+/// What a read waits for.
+enum Awaited {
+    /// The first bytes of a message, for so many milliseconds once another peer waits.
+    First(u64),
+    /// More of a message, of whose limits so much is spent.
+    More(Spent),
+}
+
+/// What a read of at most so many bytes waits for.
+///
+/// After an answer, a read that asks for as many bytes as a head may have asks for the first bytes of a message: if
+/// some of it is there already, fewer are asked for. (A body that lacks as many, whose head came with the request
+/// before, is taken for the same, and has to go on within `next` if another peer waits.)
+fn waits_for(limits: Limits, wait: Wait, most: usize) -> Awaited
+    ensures { IsAwaited limits wait most result }
+{
+    match wait {
+        Wait::First => Awaited::First(limits.first),
+        Wait::Answer(_) if most == HEAD_LIMIT => Awaited::First(limits.next),
+        Wait::Answer(_) => Awaited::More(Spent::NONE),
+        Wait::Message(spent) => Awaited::More(spent),
+    }
+}
+
+/// How long it was waited for an answer to be taken, if it is one that is waited for.
+fn spent_on_answer(wait: Wait) -> Duration
+    ensures { IsSpentOnAnswer wait result }
+{
+    match wait {
+        Wait::Answer(spent) => spent,
+        Wait::First | Wait::Message(_) => Duration::ZERO,
+    }
 }
 
 /// What a peer sends, as far as it is waited for. Where the wait is cut short by a signal, it goes on.
@@ -254,52 +282,84 @@ pub struct Incoming<'a, 'w, R: PeerReader, D: Door, C: Clock> {
     pub wait: &'w Cell<Wait>,
 }
 
+impl<'a, 'w, R: PeerReader, D: Door, C: Clock> Incoming<'a, 'w, R, D, C> {
+    /// What this peer sends, as far as these limits let it be waited for.
+    pub fn new(
+        peer: R,
+        door: &'a mut D,
+        clock: &'a C,
+        limits: Limits,
+        wait: &'w Cell<Wait>,
+    ) -> Incoming<'a, 'w, R, D, C>
+        ensures { (result.peer ≡ peer) × (result.limits ≡ limits) }
+    {
+        Incoming {
+            peer,
+            door,
+            clock,
+            limits,
+            wanted: None,
+            wait,
+        }
+    }
+}
+
 impl<R: PeerReader, D: Door, C: Clock> Incoming<'_, '_, R, D, C> {
-    /// Whether the peer's turn is over, between two of its messages: it has been served for as long while others wait. If
-    /// the clock fails, it is.
-    pub fn is_over(&mut self) -> bool
+    /// How long the peer has been served while others wait, if some do now.
+    fn served(&mut self, is_wanted: bool) -> io::Result<Duration>
         ensures peer { self.new.peer ≡ self.old.peer }
     {
-        let others = self.door.others();
-        if others == 0 {
+        if !is_wanted {
             self.wanted = None;
-            return false;
+            return Ok(Duration::ZERO);
         }
         match self.wanted {
-            Some(since) => match since.elapsed(self.clock) {
-                Ok(served) => is_turn_over(self.limits.turn, served, others),
-                Err(_) => true,
-            },
+            Some(since) => since.elapsed(self.clock),
             None => {
-                self.wanted = Instant::now(self.clock).ok();
-                self.wanted.is_none()
+                self.wanted = Some(Instant::now(self.clock)?);
+                Ok(Duration::ZERO)
             }
         }
     }
 
-    /// Waits for more of a message, of whose limits so much is spent: in vain no longer than what is left.
-    fn read_on(&mut self, buf: &mut [u8], spent: Spent) -> io::Result<usize>
+    /// The end of the peer's turn, between two of its messages, if it has been served for as long while others wait. If
+    /// the clock fails, it is over.
+    pub fn is_over(&mut self) -> Option<TurnOver>
+        ensures peer { self.new.peer ≡ self.old.peer }
+        ensures alone { D.IsAlone self.old.door.now → result ≡ None }
+    {
+        let others = self.door.others();
+        let served = self.served(others != 0);
+        end_of_turn(self.limits.turn, served, others)
+    }
+
+    /// Waits for more of a message, of whose limits so much is spent: in vain no longer than what is left, and all of it
+    /// is spent then.
+    fn read_on(&mut self, buf: &mut [u8], spent: &mut Spent) -> io::Result<usize>
         ensures bound { ReadsAtMost result buf.new }
         ensures bytes { ReadConsumes (R.remaining self.old.peer) (R.remaining self.new.peer) result buf.new }
+        ensures retried { IfErr result (λ error. error_kind error ≢ ErrorKind.Interrupted) }
         ensures wait { R.waited self.new.peer
-            ≤ R.waited self.old.peer + (millis self.old.limits.message - as_nanos spent.all) }
+            ≤ R.waited self.old.peer + (millis self.old.limits.message - as_nanos spent.old.all) }
         ensures late { D.IsWanted self.old.door.now → R.waited self.new.peer
-            ≤ R.waited self.old.peer + (millis self.old.limits.late - as_nanos spent.wanted) }
+            ≤ R.waited self.old.peer + (millis self.old.limits.late - as_nanos spent.old.wanted) }
+        ensures counts { R.waited self.new.peer + as_nanos spent.old.all
+            ≤ R.waited self.old.peer + as_nanos spent.new.all }
+        ensures counts_late { D.IsWanted self.old.door.now → R.waited self.new.peer + as_nanos spent.old.wanted
+            ≤ R.waited self.old.peer + as_nanos spent.new.wanted }
     {
         let limits = self.limits;
-        let mut spent = spent;
         for _ in 0..u64::MAX {
             let is_wanted = self.door.has_another();
-            let within = next_read(limits, is_wanted, spent)?;
-            let asked = Instant::now(self.clock)?;
+            let within = next_read(limits, is_wanted, *spent)?;
+            let Ok(asked) = Instant::now(self.clock) else {
+                return Err(timed_out());
+            };
             self.wanted = since(self.wanted, is_wanted, asked);
             let received = self.peer.receive(buf, within);
-            spent = spent.and(counted(self.clock, asked, within, &received), is_wanted);
+            *spent = spent.and(counted(self.clock, asked, within, &received), is_wanted);
             match received {
-                Ok(count) => {
-                    self.wait.set(Wait::Message(spent));
-                    return Ok(count);
-                }
+                Ok(count) => return Ok(count),
                 Err(error) => {
                     if !is_unfinished(error.kind()) {
                         return Err(error);
@@ -307,22 +367,22 @@ impl<R: PeerReader, D: Door, C: Clock> Incoming<'_, '_, R, D, C> {
                 }
             }
         }
-        Err(io::Error::from(ErrorKind::TimedOut))
+        Err(timed_out())
     }
 
     /// Waits for the first bytes of a message: as long as no other peer waits, and then for the grace.
     fn begin(&mut self, buf: &mut [u8], grace: u64) -> io::Result<usize>
         ensures bound { ReadsAtMost result buf.new }
         ensures bytes { ReadConsumes (R.remaining self.old.peer) (R.remaining self.new.peer) result buf.new }
+        ensures retried { IfErr result (λ error. error_kind error ≢ ErrorKind.Interrupted) }
+        ensures late { D.IsWanted self.old.door.now → R.waited self.new.peer
+            ≤ R.waited self.old.peer + millis grace }
     {
         for _ in 0..u64::MAX {
             let is_wanted = self.door.has_another();
             let within = if is_wanted { grace } else { self.limits.look };
             match self.peer.receive(buf, Duration::from_millis(within)) {
-                Ok(count) => {
-                    self.wait.set(Wait::Message(Spent::NONE));
-                    return Ok(count);
-                }
+                Ok(count) => return Ok(count),
                 Err(error) => match error.kind() {
                     ErrorKind::Interrupted => {}
                     ErrorKind::WouldBlock if !is_wanted => {}
@@ -330,23 +390,24 @@ impl<R: PeerReader, D: Door, C: Clock> Incoming<'_, '_, R, D, C> {
                 },
             }
         }
-        Err(io::Error::from(ErrorKind::TimedOut))
+        Err(timed_out())
     }
 }
 
 impl<R: PeerReader, D: Door, C: Clock> Read for Incoming<'_, '_, R, D, C> {
     ghost remaining = { λ incoming. R.remaining incoming.peer };
 
-    /// After an answer, a read that asks for as many bytes as a head may have asks for the first bytes of a message: if
-    /// some of it is there already, fewer are asked for. (A body that lacks as many, whose head came with the request
-    /// before, is taken for the same, and has to go on within `next` if another peer waits.)
     fn read(&mut self, buf: &mut [u8]) -> io::Result<usize> {
-        match self.wait.get() {
-            Wait::First => self.begin(buf, self.limits.first),
-            Wait::Answer(_) if buf.len() == HEAD_LIMIT => self.begin(buf, self.limits.next),
-            Wait::Answer(_) => self.read_on(buf, Spent::NONE),
-            Wait::Message(spent) => self.read_on(buf, spent),
-        }
+        let mut spent = Spent::NONE;
+        let read = match waits_for(self.limits, self.wait.get(), buf.len()) {
+            Awaited::First(grace) => self.begin(buf, grace),
+            Awaited::More(before) => {
+                spent = before;
+                self.read_on(buf, &mut spent)
+            }
+        };
+        self.wait.set(Wait::Message(spent));
+        read
     }
 }
 
@@ -355,34 +416,51 @@ impl<R: PeerReader, D: Door, C: Clock> Read for Incoming<'_, '_, R, D, C> {
 pub struct Outgoing<'a, 'w, W: PeerWriter, C: Clock> {
     pub peer: W,
     pub clock: &'a C,
-    /// Of `Limits`, `answer` and
-    pub limit: u64,
-    /// `look`.
-    pub look: u64,
+    pub limits: Limits,
     /// What is waited for, which the other side of the connection sets too.
     pub wait: &'w Cell<Wait>,
 }
 
+impl<'a, 'w, W: PeerWriter, C: Clock> Outgoing<'a, 'w, W, C> {
+    /// What this peer takes, as far as these limits let it be waited for.
+    pub fn new(
+        peer: W,
+        clock: &'a C,
+        limits: Limits,
+        wait: &'w Cell<Wait>,
+    ) -> Outgoing<'a, 'w, W, C>
+        ensures { (result.peer ≡ peer) × (result.limits ≡ limits) }
+    {
+        Outgoing {
+            peer,
+            clock,
+            limits,
+            wait,
+        }
+    }
+}
+
 impl<W: PeerWriter, C: Clock> Outgoing<'_, '_, W, C> {
-    /// Waits for room for more of an answer, of whose limit so much is spent: in vain no longer than what is left.
-    fn write_on(&mut self, buf: &[u8], spent: Duration) -> io::Result<usize>
+    /// Waits for room for more of an answer, of whose limit so much is spent: in vain no longer than what is left, and all
+    /// of it is spent then.
+    fn write_on(&mut self, buf: &[u8], spent: &mut Duration) -> io::Result<usize>
         ensures bound { WritesAtMost result buf.now }
         ensures bytes { WriteAppends (W.contents self.old.peer) (W.contents self.new.peer) result buf.now }
+        ensures retried { IfErr result (λ error. error_kind error ≢ ErrorKind.Interrupted) }
         ensures wait { W.waited self.new.peer
-            ≤ W.waited self.old.peer + (millis self.old.limit - as_nanos spent) }
+            ≤ W.waited self.old.peer + (millis self.old.limits.answer - as_nanos spent.old) }
+        ensures counts { W.waited self.new.peer + as_nanos spent.old ≤ W.waited self.old.peer + as_nanos spent.new }
     {
-        let (limit, look) = (self.limit, self.look);
-        let mut spent = spent;
+        let limits = self.limits;
         for _ in 0..u64::MAX {
-            let within = next_look(limit, look, spent)?;
-            let asked = Instant::now(self.clock)?;
+            let within = next_look(limits.answer, limits.look, *spent)?;
+            let Ok(asked) = Instant::now(self.clock) else {
+                return Err(timed_out());
+            };
             let sent = self.peer.send(buf, within);
-            spent = spent.saturating_add(counted(self.clock, asked, within, &sent));
+            *spent = spent.saturating_add(counted(self.clock, asked, within, &sent));
             match sent {
-                Ok(count) => {
-                    self.wait.set(Wait::Answer(spent));
-                    return Ok(count);
-                }
+                Ok(count) => return Ok(count),
                 Err(error) => {
                     if !is_unfinished(error.kind()) {
                         return Err(error);
@@ -390,7 +468,7 @@ impl<W: PeerWriter, C: Clock> Outgoing<'_, '_, W, C> {
                 }
             }
         }
-        Err(io::Error::from(ErrorKind::TimedOut))
+        Err(timed_out())
     }
 }
 
@@ -398,10 +476,10 @@ impl<W: PeerWriter, C: Clock> Write for Outgoing<'_, '_, W, C> {
     ghost contents = { λ outgoing. W.contents outgoing.peer };
 
     fn write(&mut self, buf: &[u8]) -> io::Result<usize> {
-        match self.wait.get() {
-            Wait::Answer(spent) => self.write_on(buf, spent),
-            Wait::First | Wait::Message(_) => self.write_on(buf, Duration::ZERO),
-        }
+        let mut spent = spent_on_answer(self.wait.get());
+        let sent = self.write_on(buf, &mut spent);
+        self.wait.set(Wait::Answer(spent));
+        sent
     }
 
     fn flush(&mut self) -> io::Result<()> {

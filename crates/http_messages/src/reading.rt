@@ -7,6 +7,7 @@ ghost use Rattle.http_messages.specs.Reading.{Gains, LeavesAtFault, ReadsMessage
 ghost use Rattle.http_messages.specs.Views.{announced};
 
 use crate::buffer::Buffer;
+use crate::device::{ReaderFailed, read_once};
 use crate::head::{BODY_LIMIT, Head, Refused, read_head};
 use crate::messages::{HEAD_LIMIT, whole_head};
 use std::io::Read;
@@ -23,7 +24,7 @@ const LARGE_PIECE: usize = 32_768;
 pub enum ReadFault {
     /// The reader failed. All that it gave is in the buffer.
     #[error("the reader failed")]
-    Reader,
+    Reader(ReaderFailed),
     /// There was no memory for the last bytes that the reader gave, and they are lost.
     #[error("out of memory")]
     Memory,
@@ -86,9 +87,9 @@ fn read_piece<R: Read, const SIZE: usize>(
 {
     let mut piece = [0u8; SIZE];
     let most = most.min(SIZE);
-    let count = match reader.read(&mut piece[..most]) {
+    let count = match read_once(reader, &mut piece[..most]) {
         Ok(count) => count,
-        Err(_) => return Err(ReadFault::Reader),
+        Err(failed) => return Err(ReadFault::Reader(failed)),
     };
     if count == 0 {
         return Ok(0);

@@ -6,7 +6,7 @@ use Rattle.httparse.specs.Grammar.{RequestHead}
 use Rattle.httparse.specs.Spans.{IsRequestAt}
 use Rattle.broker_core.specs.declared.command.Command.{Command}
 use Rattle.http_messages.specs.Fields.{values_named}
-use Rattle.http_messages.specs.Heads.{Judgement, IsJudged, IsHeadText, fields_of, served_method, is_last_head}
+use Rattle.http_messages.specs.Heads.{Judgement, IsJudged, IsHeadText, body_of_head, fields_of, served_method, is_last_head}
 use Rattle.http_messages.specs.Message.{Message}
 use Rattle.http_messages.specs.declared.head.Head.{Head}
 use Rattle.http_messages.specs.declared.head.Refusal.{Refusal}
@@ -33,6 +33,18 @@ query_of target = after_first is_question_mark target
 abbrev pub operation_asked : Resource → Option (List ℕ) → Option Operation
 operation_asked resource None = None
 operation_asked resource (Some method) = operation_at resource method
+
+-- this operation is asked, of a resource that the path names
+abbrev pub IsOperationOf : RequestHead → Operation → Type 0
+IsOperationOf h operation =
+    (resource : Resource) × (resource_of (path_of h.target) ≡ Some resource)
+    × (operation_asked resource (served_method h.method) ≡ Some operation)
+
+-- a message asks an operation: its head passes the checks, its path has a route, and the resource has the method
+unfoldable pub AsksOperation : Message → Type 0
+AsksOperation m =
+    (h : RequestHead) × IsHeadText m.head h × (size : ℕ) × (body_of_head h ≡ Ok size)
+    × (operation : Operation) × IsOperationOf h operation
 
 -- the code's head is this one: its parts stand so in the text, it closes the connection where this one does, and
 -- has its method

@@ -137,9 +137,10 @@ fn given_truth(alloc: Global, value: Option<&Value>, key: &str) -> Parsed<bool>
 }
 
 impl Fields {
-    /// Reads the fields of a body.
+    /// Reads the fields of a body. That it is empty or not UTF-8 takes no memory to say.
     pub(crate) fn read(alloc: Global, body: &[u8]) -> Result<Fields, AllocError>
-        ensures { IfOk result (λ f. IsObject body.now (object_in f)) }
+        ensures object { IfOk result (λ f. IsObject body.now (object_in f)) }
+        ensures memory { IfErr result (λ _. IsUtf8 body.now × (0 < length body.now)) }
     {
         let object = match read_value(alloc, body)? {
             Some(value) if value.is_object() => Some(value),

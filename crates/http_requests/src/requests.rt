@@ -1,11 +1,11 @@
 //! What a message asks by its head and its body.
-ghost use Rattle.std.specs.Prelude.{◌≡◌, codes, List, IfOk, Option, IsUtf8};
+ghost use Rattle.std.specs.Prelude.{◌≡◌, codes, List, IfOk, IfErr, Option, IsUtf8};
 ghost use Rattle.httparse.specs.Grammar.{RequestHead};
 ghost use Rattle.httparse.specs.Spans.{IsRequestWithin};
 ghost use Rattle.http_messages.specs.Message.{message};
 ghost use Rattle.http_messages.specs.Views.{IsHeadRead};
 ghost use Rattle.http_routes.specs.Routes.{resource_of};
-ghost use Rattle.http_requests.specs.Requests.{path_of, query_of, ByResource, ByOperation, IsReadFrom, IsRequest};
+ghost use Rattle.http_requests.specs.Requests.{path_of, query_of, ByResource, ByOperation, AsksOperation, IsOperationOf, IsReadFrom, IsRequest};
 
 use crate::commands::command_of;
 use crate::target::split_target;
@@ -85,8 +85,10 @@ fn request_of(
     body: &[u8],
 ) -> Result<Request, AllocError>
     requires { IsRequestWithin text.now head.spans head.parsed }
-    ensures { (h : RequestHead) → IsReadFrom text.now head h
+    ensures ok { (h : RequestHead) → IsReadFrom text.now head h
         → IfOk result (ByResource h body.now (resource_of (path_of h.target))) }
+    ensures memory { (h : RequestHead) → IsReadFrom text.now head h
+        → IfErr result (λ _. (operation : Operation) × IsOperationOf h operation) }
 {
     let closes = head.closes;
     let (path, query) = split_target(head.parsed.path.of(text));
@@ -99,7 +101,8 @@ fn request_of(
     }
 }
 
-/// What a message asks, by its head, what was read of it, and its body. An `Err` means out of memory.
+/// What a message asks, by its head, what was read of it, and its body. An `Err` means out of memory, which only a
+/// message that asks an operation takes.
 ///
 /// The checks are made in this order: those on the head, the route, the method, and then what the command
 /// reads.
@@ -111,7 +114,8 @@ pub fn read_request(
     body: &[u8],
 ) -> Result<Request, AllocError>
     requires { IsHeadRead text.now head }
-    ensures { IfOk result (IsRequest (message text.now body.now)) }
+    ensures ok { IfOk result (IsRequest (message text.now body.now)) }
+    ensures memory { IfErr result (λ _. AsksOperation (message text.now body.now)) }
 {
     match head {
         Ok(head) => request_of(alloc, routes, text, head, body),

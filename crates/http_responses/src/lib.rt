@@ -3,10 +3,12 @@
 
 mod head;
 mod responses;
+mod whole;
 mod writing;
 
 pub use head::HEAD_CAPACITY;
 pub use responses::{
     RESPONSE_CAPACITY, write_answer, write_no_method, write_no_route, write_refusal,
 };
-pub use writing::{WriteFault, write_whole};
+pub use whole::write_whole;
+pub use writing::WriteFault;

@@ -5,7 +5,8 @@ ghost use Rattle.http_responses.specs.Head.{has_phrase, allow_of};
 ghost use Rattle.http_responses.specs.Responses.{refusal_status, refusal_text, refusal_response, sent_part, no_route_response, no_method_response, answer_response, response_of, Writes};
 
 use crate::head::{HEAD_CAPACITY, write_head};
-use crate::writing::{WriteFault, write_whole};
+use crate::whole::write_whole;
+use crate::writing::WriteFault;
 use answer_texts::Answer;
 use http::StatusCode;
 use http_messages::head::Refusal;

@@ -1,29 +1,33 @@
-//! Writing whole texts to a device.
-ghost use Rattle.std.specs.Prelude.{◌≡◌, ℕ, ◌<◌, ◌≤◌, length, take, OnOk, OnErr};
-ghost use Rattle.std.specs.Io.KnownBytes.{Appends};
+//! One write to a device.
+ghost use Rattle.std.specs.Prelude.{◌≡◌, ◌<◌, ◌≤◌, length, take, IfOk, IfErr, IsOkAnd, OnOk, OnErr};
+ghost use Rattle.std.specs.Io.KnownBytes.{Appends, Keeps};
 
-use std::io::Write;
+use std::io::{self, Write};
 use thiserror::Error;
 
 /// The writer failed, or took none of the bytes that were left. A beginning of them is out, but not the whole. Only
-/// `write_whole` makes one, so that who hands one on has tried to write.
+/// `write_once` makes one, so that who hands one on has tried to write.
 #[derive(Clone, Copy, Debug, PartialEq, Eq, Error)]
 #[error("the writer failed")]
 pub struct WriteFault(());
 
-/// Writes all of the bytes, or fails before the last is out.
-pub fn write_whole<W: Write>(writer: &mut W, bytes: &[u8]) -> Result<(), WriteFault>
-    ensures ok { OnOk result (Appends (W.contents writer.old) (W.contents writer.new) bytes.now) }
-    ensures err { OnErr result ((n : ℕ) × (n < length bytes.now)
-        × Appends (W.contents writer.old) (W.contents writer.new) (take n bytes.now)) }
+/// How many bytes a write took, or that it failed or took none.
+fn taken(written: io::Result<usize>) -> Result<usize, WriteFault>
+    ensures ok { IfOk result (λ count. (0 < count) × IsOkAnd written (λ n. n ≡ count)) }
+    ensures err { IfErr result (λ _. IfOk written (λ n. n ≡ 0)) }
 {
-    let mut done = 0;
-    while done < bytes.len() {
-        match writer.write(&bytes[done..]) {
-            Ok(0) => return Err(WriteFault(())),
-            Ok(count) => done += count,
-            Err(_) => return Err(WriteFault(())),
-        }
+    match written {
+        Ok(0) | Err(_) => Err(WriteFault(())),
+        Ok(count) => Ok(count),
     }
-    Ok(())
+}
+
+/// Writes once, of at least one byte, and gives how many are out.
+pub(crate) fn write_once<W: Write>(writer: &mut W, bytes: &[u8]) -> Result<usize, WriteFault>
+    requires { 0 < length bytes.now }
+    ensures count { IfOk result (λ n. (0 < n) × (n ≤ length bytes.now)) }
+    ensures ok { IfOk result (λ n. Appends (W.contents writer.old) (W.contents writer.new) (take n bytes.now)) }
+    ensures err { OnErr result (Keeps (W.contents writer.old) (W.contents writer.new)) }
+{
+    taken(writer.write(bytes))
 }

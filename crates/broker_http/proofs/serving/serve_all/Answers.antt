@@ -1,4 +1,5 @@
-use Rattle.std.{specs.Io.KnownBytes.{Appends}, proofs.Common.{◌≢◌, ◌+◌, ◌++◌, length, drop, [], ◌∷◌, refl, sym, ◌∙◌, subst, arith, eqb-true, length-append}}
+use Rattle.std.specs.Io.KnownBytes.{Appends}
+use Rattle.std.proofs.Common.{◌≡◌, ◌≢◌, ◌+◌, ◌-◌, ◌^◌, ◌++◌, length, drop, [], ◌∷◌, refl, sym, ◌∙◌, subst, arith, eqb-true, length-append}
 use Rattle.std.proofs.{KnownBytes.{Consumes-kept, Consumes-nil, Consumes-trans, Appends-nil, Appends-trans}, lemmas.Result.{err_from_is_err_and}}
 use Rattle.std.proofs.lemmas.Bool.{eqb-false}
 use Rattle.http_messages.specs.Reading.{IsOutcome}
@@ -125,8 +126,8 @@ loop-answered-preserved g c =
           (Appends-trans _ _ _ (texts so_far.1) response.text so_far.6 answered.3),
     )
 
-pub returns-then-is_over : goal.returns-then-is_over
-returns-then-is_over g c =
+pub returns-in-Some : goal.returns-in-Some
+returns-in-Some g c =
     let so_far = c.loop-answered.invariant in
     let read = Consumes-kept _ _ _ so_far.0 so_far.2 c.is_over.ensures in
     record {
@@ -138,8 +139,9 @@ returns-then-is_over g c =
 pub returns : goal.returns
 returns g c =
     let so_far = c.loop-answered.invariant in
+    let all : length so_far.1 ≡ 2 ^ 64 - 1 = omega (arith, so_far.5, c.loop-answered-test.false) in
     record {
       ok = tt;
       end = tt;
-      fault = (so_far.0, so_far.1, _, texts so_far.1, so_far.2, so_far.3, (so_far.4, refl), so_far.6);
+      fault = (so_far.0, so_far.1, _, texts so_far.1, so_far.2, so_far.3, (so_far.4, refl, all), so_far.6);
     }

@@ -7,4 +7,4 @@ abbrev pub invariant-loop : goal.invariant-loop
 invariant-loop g l =
     Keeps (g.W.PeerWriter.contents l.fn.self.peer) (g.W.PeerWriter.contents l.self.peer)
     × (g.W.PeerWriter.waited l.self.peer + as_nanos l.fn.spent ≤ g.W.PeerWriter.waited l.fn.self.peer + as_nanos l.spent)
-    × (g.W.PeerWriter.waited l.self.peer ≤ g.W.PeerWriter.waited l.fn.self.peer + (millis l.fn.self.limit - as_nanos l.fn.spent))
+    × (g.W.PeerWriter.waited l.self.peer ≤ g.W.PeerWriter.waited l.fn.self.peer + (millis l.fn.self.limits.answer - as_nanos l.fn.spent))

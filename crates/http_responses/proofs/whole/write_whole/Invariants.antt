@@ -1,5 +1,5 @@
 use Rattle.std.{specs.Io.KnownBytes.{Appends}, proofs.Common.{◌-◌, ◌≤◌, length, take}}
-use Rattle.http_responses.proofs.writing.write_whole.Given as goal
+use Rattle.http_responses.proofs.whole.write_whole.Given as goal
 
 -- the first bytes are out
 abbrev pub invariant-loop-done : goal.invariant-loop-done
