@@ -4,9 +4,9 @@ ghost use Rattle.sqlite.specs.Files.{file_state};
 ghost use Rattle.sqlite.specs.WalFiles.{image_at};
 ghost use Rattle.broker_database.specs.Calls.{Opened};
 ghost use Rattle.broker_program.specs.Files.{ClosesAs, GivesUpAs, LeavesStore, OpensBroker, OpensOn};
-ghost use Rattle.broker_program.specs.Reasons.{FailsToOpen, IsOpeningFault};
+ghost use Rattle.broker_program.specs.Reasons.{FailsToOpen};
 ghost use Rattle.program_io.specs.Reported.{IsFromOutside};
-ghost use Rattle.broker_program.specs.Refusals.{FailsToConnect, FailsToDisconnect, IsOfDatabase, OpensNone, left_of, told_of};
+ghost use Rattle.broker_program.specs.Refusals.{FailsToConnect, GivesUpUnopened, IsNotClosed, left_of, told_of};
 
 use crate::left::Left;
 use broker_service::{Broker, OpenFault};
@@ -24,6 +24,9 @@ pub(crate) type FileBroker<S> = Broker<FileStore<FileFrom<S>>>;
 /// Why a command over a file failed, and what it left of the file.
 pub(crate) type Failed<S> = (RunFault, Left<FileFrom<S>>);
 
+/// Why a file isn't closed, and its store, which was given up.
+pub(crate) type Unclosed<S> = (RunFault, FileStore<FileFrom<S>>);
+
 /// Why it failed, without what is left of the file.
 pub(crate) fn fault_of<S: Start>(failed: Failed<S>) -> RunFault
     ensures { result ≡ failed.0 }
@@ -34,7 +37,7 @@ pub(crate) fn fault_of<S: Start>(failed: Failed<S>) -> RunFault
 }
 
 /// What is told of an error of the files.
-fn told_of(error: &Error) -> RunFault
+pub(crate) fn told_of(error: &Error) -> RunFault
     ensures same { result ≡ told_of error.now }
     ensures outside { IsFromOutside result }
 {
@@ -91,14 +94,14 @@ pub(crate) fn connect_existing<S: Start>(
 /// there was no memory for that. Then it is given up.
 pub(crate) fn disconnect<S: Start>(
     connection: FileConnection<S>,
-) -> Result<Files<FileFrom<S>>, Failed<S>>
+) -> Result<Files<FileFrom<S>>, Unclosed<S>>
     ensures ok { IfOk result (ClosesAs connection) }
     ensures cause { IfErr result (λ failed. IsFromOutside failed.0) }
-    ensures unclosed { IfErr result (λ failed. FailsToDisconnect connection failed.0 failed.1) }
+    ensures unclosed { IfErr result (λ failed. IsNotClosed connection failed.0 failed.1) }
 {
     match connection.close_files() {
         Ok(files) => Ok(files),
-        Err((error, store)) => Err((told_of(&error), Left::GivenUp(store))),
+        Err((error, store)) => Err((told_of(&error), store)),
     }
 }
 
@@ -116,17 +119,17 @@ pub(crate) fn give_up<S: Start>(connection: FileConnection<S>, fault: OpenFault)
     (RunFault::Open(fault), Left::GivenUp(leave(connection)))
 }
 
-/// The broker in the database of the connection.
-pub(crate) fn broker_of<S: Start>(connection: FileConnection<S>) -> Result<FileBroker<S>, Failed<S>>
+/// The broker in the database of the connection. If none is opened the file is given up.
+pub(crate) fn broker_of<S: Start>(
+    connection: FileConnection<S>,
+) -> Result<FileBroker<S>, (OpenFault, FileStore<FileFrom<S>>)>
     ensures runs { IfOk result (λ b. b.is_stopped ≡ false) }
     ensures opened { IfOk result (λ b. Opened file_state connection (Ok b)) }
-    ensures fault { IfErr result (λ failed. IsOpeningFault failed.0) }
-    ensures cause { OpensOn (image_at S.Start) connection
-        → IfErr result (λ failed. IsOfDatabase (image_at S.Start) OpensNone failed.0 failed.1) }
+    ensures refused { IfErr result (λ failed. GivesUpUnopened connection failed.0 failed.1) }
 {
     match Broker::open(connection) {
         Ok(broker) => Ok(broker),
-        Err(refused) => Err(give_up(refused.connection, refused.fault)),
+        Err(refused) => Err((refused.fault, leave(refused.connection))),
     }
 }
 
@@ -141,7 +144,10 @@ pub(crate) fn open_broker<S: Start>(
     ensures cause { IfErr result (λ failed. FailsToOpen (image_at S.Start) failed.0 failed.1) }
 {
     let connection = connect_existing(rt, path, start)?;
-    broker_of(connection)
+    match broker_of(connection) {
+        Ok(broker) => Ok(broker),
+        Err((fault, store)) => Err((RunFault::Open(fault), Left::GivenUp(store))),
+    }
 }
 
 /// The broker's connection.
@@ -159,10 +165,10 @@ pub(crate) fn release<S: Start>(broker: FileBroker<S>) -> FileStore<FileFrom<S>>
 }
 
 /// Closes the broker's file.
-pub(crate) fn close<S: Start>(broker: FileBroker<S>) -> Result<Files<FileFrom<S>>, Failed<S>>
+pub(crate) fn close<S: Start>(broker: FileBroker<S>) -> Result<Files<FileFrom<S>>, Unclosed<S>>
     ensures ok { IfOk result (ClosesAs broker.connection) }
     ensures cause { IfErr result (λ failed. IsFromOutside failed.0) }
-    ensures unclosed { IfErr result (λ failed. FailsToDisconnect broker.connection failed.0 failed.1) }
+    ensures unclosed { IfErr result (λ failed. IsNotClosed broker.connection failed.0 failed.1) }
 {
     disconnect(connection_of(broker))
 }

@@ -44,7 +44,10 @@ fn make<S: Start>(
 {
     let connection = connect(rt, file, start)?;
     let broker = create(rt.alloc(), connection, office)?;
-    close(broker)
+    match close(broker) {
+        Ok(files) => Ok(files),
+        Err((fault, store)) => Err((fault, Left::GivenUp(store))),
+    }
 }
 
 /// Makes the file of a new broker, whose office has the token. A file that is there is taken if it has no table.

@@ -7,6 +7,7 @@ ghost use Rattle.broker_program.specs.Reasons.{FailsToMigrate};
 ghost use Rattle.broker_program.specs.Refusals.{IsOfDatabase, MigratesNone};
 
 use crate::files::{Failed, FileConnection, connect_existing, disconnect, give_up};
+use crate::left::Left;
 use sqlite::{FileFrom, Files, Start};
 use sqlite_disk::Disk;
 
@@ -35,5 +36,8 @@ pub(crate) fn migrate<S: Start>(
 {
     let connection = connect_existing(rt, file, start)?;
     let connection = migrated(connection)?;
-    disconnect(connection)
+    match disconnect(connection) {
+        Ok(files) => Ok(files),
+        Err((fault, store)) => Err((fault, Left::GivenUp(store))),
+    }
 }

@@ -4,7 +4,8 @@ ghost use Rattle.sqlite.specs.Held.{state};
 ghost use Rattle.sqlite.specs.Steps.{over_memory};
 ghost use Rattle.broker_core.specs.Name.{IsToken};
 ghost use Rattle.broker_http.specs.Serving.{IsInMode, RunsReadable};
-ghost use Rattle.broker_program.specs.Reasons.{EndsReplay, IsOpeningFault};
+ghost use Rattle.broker_program.specs.Reasons.{EndsReplay};
+ghost use Rattle.broker_program.specs.Refusals.{IsOpeningFault};
 ghost use Rattle.broker_program.specs.Replays.{FailsToReplay, Replays, new_broker};
 
 use crate::routes::route_table;

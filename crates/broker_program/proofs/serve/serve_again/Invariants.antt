@@ -1,4 +1,4 @@
-use Rattle.std.proofs.Common.{◌≡◌, ◌≤◌, length, false}
+use Rattle.std.proofs.Common.{◌≡◌, length, false}
 use Rattle.sqlite.specs.WalFiles.{image_at}
 use Rattle.sqlite_disk.specs.contracts.start.UnknownStart.TheImpl.{ghosts}
 use Rattle.program_io.specs.Entrance.{NoneIsIn}
@@ -13,5 +13,4 @@ abbrev pub invariant-loop-broker : goal.invariant-loop-broker
 invariant-loop-broker g l =
     let old = g.P.Peers.queue l.fn.peers in
     let now = g.P.Peers.queue l.peers in
-    NoneIsIn now × (length old.went ≤ length now.went) × (l.broker.is_stopped ≡ false)
-    × OpensBroker (image_at ghosts) l.broker × ServesBefore old now l.broker
+    NoneIsIn now × (l.broker.is_stopped ≡ false) × OpensBroker (image_at ghosts) l.broker × ServesBefore old now l.broker
