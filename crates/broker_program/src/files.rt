@@ -10,6 +10,7 @@ ghost use Rattle.broker_program.specs.Refusals.{FailsToConnect, GivesUpUnopened,
 
 use crate::left::Left;
 use broker_service::{Broker, OpenFault};
+use command_line::FilePath;
 use program_io::fault::RunFault;
 use sqlite::{Connection, Error, ErrorCode, FileFrom, FileStore, Files, Leftover, Start};
 use std::fs;
@@ -65,26 +66,26 @@ fn opened_of<S: Start>(
 /// written, another program has it open, or it is no database; `Memory`: there was no memory to open it.
 pub(crate) fn connect<S: Start>(
     rt: &HostRuntime,
-    path: &str,
+    path: FilePath<'_>,
     start: S,
 ) -> Result<FileConnection<S>, Failed<S>>
     ensures ok { IfOk result (OpensOn (image_at S.Start)) }
     ensures cause { IfErr result (λ failed. FailsToConnect (image_at S.Start) failed.0 failed.1) }
 {
-    let opened = Connection::open_from(rt, path, true, start);
+    let opened = Connection::open_from(rt, path.as_str(), true, start);
     opened_of(opened)
 }
 
 /// The same over a file that has to be there. `File` if it isn't.
 pub(crate) fn connect_existing<S: Start>(
     rt: &HostRuntime,
-    path: &str,
+    path: FilePath<'_>,
     start: S,
 ) -> Result<FileConnection<S>, Failed<S>>
     ensures ok { IfOk result (OpensOn (image_at S.Start)) }
     ensures cause { IfErr result (λ failed. FailsToConnect (image_at S.Start) failed.0 failed.1) }
 {
-    match fs::exists(rt, path) {
+    match fs::exists(rt, path.as_str()) {
         Ok(true) => connect(rt, path, start),
         _ => Err((RunFault::File, Left::Nothing)),
     }
@@ -136,7 +137,7 @@ pub(crate) fn broker_of<S: Start>(
 /// The broker in the file of this path, which has to be there.
 pub(crate) fn open_broker<S: Start>(
     rt: &HostRuntime,
-    path: &str,
+    path: FilePath<'_>,
     start: S,
 ) -> Result<FileBroker<S>, Failed<S>>
     ensures runs { IfOk result (λ b. b.is_stopped ≡ false) }

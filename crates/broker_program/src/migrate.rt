@@ -8,6 +8,7 @@ ghost use Rattle.broker_program.specs.Refusals.{IsOfDatabase, MigratesNone};
 
 use crate::files::{Failed, FileConnection, connect_existing, disconnect, give_up};
 use crate::left::Left;
+use command_line::FilePath;
 use sqlite::{FileFrom, Files, Start};
 use sqlite_disk::Disk;
 
@@ -28,7 +29,7 @@ fn migrated<S: Start>(connection: FileConnection<S>) -> Result<FileConnection<S>
 /// it is.
 pub(crate) fn migrate<S: Start>(
     rt: &HostRuntime,
-    file: &str,
+    file: FilePath<'_>,
     start: S,
 ) -> Result<Files<FileFrom<S>>, Failed<S>>
     ensures ok { IfOk result (FileIsMigrated ⟦<FileFrom<S> as Disk>⟧ (image_at S.Start)) }

@@ -16,6 +16,7 @@ use crate::reopening::{Refused, running};
 use crate::routes::route_table;
 use broker_http::RouteTable;
 use broker_http::patience::serve_peer;
+use command_line::FilePath;
 use http_messages::patience::LIMITS;
 use program_io::entrance::{Peers, Sockets};
 use program_io::fault::RunFault;
@@ -88,7 +89,7 @@ fn serve_over<S: Start, P: Peers>(
 }
 
 /// The broker in the file that has this path now.
-fn open_again(rt: &HostRuntime, file: &str) -> Result<FileBroker<Unknown>, RunFault>
+fn open_again(rt: &HostRuntime, file: FilePath<'_>) -> Result<FileBroker<Unknown>, RunFault>
     ensures runs { IfOk result (λ b. b.is_stopped ≡ false) }
     ensures opened { IfOk result (OpensBroker (image_at ⟦<Unknown as Start>⟧)) }
     ensures cause { IfErr result IsReopeningFault }
@@ -115,7 +116,7 @@ fn is_lost<D: Disk + Drop>(
 fn serve_again<P: Peers>(
     rt: &HostRuntime,
     routes: &RouteTable,
-    file: &str,
+    file: FilePath<'_>,
     peers: &mut P,
 ) -> Result<(), RunFault>
     requires idle { NoneIsIn (P.queue peers.old) }
@@ -135,7 +136,7 @@ fn serve_all<S: Start, P: Peers>(
     rt: &HostRuntime,
     routes: &RouteTable,
     broker: FileBroker<S>,
-    file: &str,
+    file: FilePath<'_>,
     peers: &mut P,
 ) -> Result<Option<Files<FileFrom<S>>>, (RunFault, Option<Leftover<FileFrom<S>>>)>
     requires runs { broker.is_stopped ≡ false }
@@ -191,7 +192,7 @@ pub fn serve_each<S: Start, P: Peers>(
     rt: &HostRuntime,
     routes: &RouteTable,
     broker: FileBroker<S>,
-    file: &str,
+    file: FilePath<'_>,
     peers: &mut P,
 ) -> Result<Service<FileFrom<S>>, Failed<S>>
     requires runs { broker.is_stopped ≡ false }
@@ -214,7 +215,7 @@ pub fn serve_each<S: Start, P: Peers>(
 fn serve_at<S: Start>(
     rt: &HostRuntime,
     routes: &RouteTable,
-    file: &str,
+    file: FilePath<'_>,
     listen: &str,
     connections: u32,
     start: S,
@@ -233,7 +234,7 @@ fn serve_at<S: Start>(
 /// The same, with a table of routes.
 pub(crate) fn serve_file<S: Start>(
     rt: &HostRuntime,
-    file: &str,
+    file: FilePath<'_>,
     listen: &str,
     connections: u32,
     start: S,

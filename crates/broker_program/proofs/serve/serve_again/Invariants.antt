@@ -6,11 +6,11 @@ use Rattle.broker_program.specs.{Files.{OpensBroker}, Reopening.{ServesBefore}}
 use Rattle.broker_program.proofs.serve.serve_again.Given as goal
 
 -- each opening takes one of those that are to come
-abbrev pub decreases-loop-broker : goal.decreases-loop-broker
-decreases-loop-broker g l = length (g.P.Peers.queue l.peers).coming
+abbrev pub decreases-loop-file : goal.decreases-loop-file
+decreases-loop-file g l = length (g.P.Peers.queue l.peers).coming
 
-abbrev pub invariant-loop-broker : goal.invariant-loop-broker
-invariant-loop-broker g l =
+abbrev pub invariant-loop-file : goal.invariant-loop-file
+invariant-loop-file g l =
     let old = g.P.Peers.queue l.fn.peers in
     let now = g.P.Peers.queue l.peers in
     NoneIsIn now × (l.broker.is_stopped ≡ false) × OpensBroker (image_at ghosts) l.broker × ServesBefore old now l.broker
