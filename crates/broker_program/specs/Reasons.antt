@@ -1,5 +1,5 @@
 -- why a command over a broker failed (this project's own choice)
-use Rattle.std.specs.Prelude.{◌≡◌, ◌⊎◌, ℕ, List, Option, None, IsSome}
+use Rattle.std.specs.Prelude.{◌≡◌, ◌⊎◌, ⊤, ℕ, List, Option, None, IsSome}
 use Rattle.sqlite_disk.specs.declared.Disk.{Ghosts}
 use Rattle.sqlite.specs.FileStore.{view}
 use Rattle.sqlite.specs.Recovery.{Image}
@@ -7,6 +7,7 @@ use Rattle.sqlite.specs.View.{IsClean}
 use Rattle.broker_core.specs.Name.{IsName, IsToken}
 use Rattle.broker_core.specs.Text.{Text}
 use Rattle.broker_core.specs.declared.answer.Answer.{Answer}
+use Rattle.broker_database.specs.declared.opening.OpenFault.TheVariants as opening
 use Rattle.command_line.specs.declared.line.Line.{Line}
 use Rattle.command_line.specs.declared.line.Line.TheVariants.{CanIDeploy, Check, Init, Migrate, Normalise}
 use Rattle.command_line.specs.declared.line.Line.TheVariants.{Replay, Serve}
@@ -17,12 +18,19 @@ use Rattle.program_io.specs.declared.fault.RunFault.TheVariants as run_fault
 use Rattle.broker_program.specs.Cuts.{CutsFile}
 use Rattle.broker_program.specs.Files.{LeavesCut, LeavesRead, LeavesStore}
 use Rattle.broker_program.specs.Making.{MakesOn, MigratesOn}
-use Rattle.broker_program.specs.Refusals.{EndsUnclosed, FailsToConnect, IsLeftUnserved, IsOfDatabase, IsOpeningFault}
+use Rattle.broker_program.specs.Refusals.{EndsUnclosed, FailsToConnect, IsLeftUnserved, IsOfDatabase}
 use Rattle.broker_program.specs.Refusals.{MakesNone, MigratesNone, OpensNone}
 use Rattle.broker_program.specs.Replays.{ReplaysUpTo}
 use Rattle.broker_program.specs.Told.{AnswersQuestion, permission, question}
 use Rattle.broker_program.specs.declared.can_i_deploy.Question.{Question}
 use Rattle.broker_program.specs.declared.left.Left.{Left}
+
+-- a new broker over tables in memory wasn't made: memory lacked, or the database failed
+abbrev pub IsUnmade : RunFault → Type 0
+IsUnmade run_fault.Memory = ⊤
+IsUnmade (run_fault.Open opening.Memory) = ⊤
+IsUnmade (run_fault.Open opening.Store) = ⊤
+IsUnmade _ = ⊥
 
 -- the fault of `replay`, by what it was asked and what it did
 module _ (office : Text) (before after old new : Option (List ℕ)) where
@@ -32,7 +40,7 @@ module _ (office : Text) (before after old new : Option (List ℕ)) where
   CutsReplay _ = ⊥
 
   abbrev pub EndsReplay : RunFault → Type 0
-  EndsReplay f = IsTokenFault office f ⊎ (IsToken office × (IsOpeningFault f ⊎ CutsReplay f))
+  EndsReplay f = IsTokenFault office f ⊎ (IsToken office × (IsUnmade f ⊎ CutsReplay f))
 
 -- ---- the fault of a command over a broker's file
 

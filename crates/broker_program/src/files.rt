@@ -1,5 +1,5 @@
 //! A broker in a file.
-ghost use Rattle.std.specs.Prelude.{◌≡◌, false, Ok, Err, IfErr, IfOk, MatchResult};
+ghost use Rattle.std.specs.Prelude.{◌≡◌, ◌↔◌, true, false, Ok, Err, IfErr, IfOk, IsTrue, MatchResult};
 ghost use Rattle.sqlite.specs.Files.{file_state};
 ghost use Rattle.sqlite.specs.WalFiles.{image_at};
 ghost use Rattle.broker_database.specs.Calls.{Opened};
@@ -13,7 +13,7 @@ use broker_service::{Broker, OpenFault};
 use command_line::FilePath;
 use program_io::fault::RunFault;
 use sqlite::{Connection, Error, ErrorCode, FileFrom, FileStore, Files, Leftover, Start};
-use std::fs;
+use std::{fs, io};
 
 /// A connection over a file that held what `S` says.
 pub(crate) type FileConnection<S> = Connection<FileStore<FileFrom<S>>>;
@@ -76,6 +76,16 @@ pub(crate) fn connect<S: Start>(
     opened_of(opened)
 }
 
+/// Whether a file is there, by what the system says of it.
+fn is_there(found: io::Result<bool>) -> bool
+    ensures { IsTrue result ↔ (found ≡ Ok true) }
+{
+    match found {
+        Ok(found) => found,
+        Err(_) => false,
+    }
+}
+
 /// The same over a file that has to be there. `File` if it isn't.
 pub(crate) fn connect_existing<S: Start>(
     rt: &HostRuntime,
@@ -85,9 +95,10 @@ pub(crate) fn connect_existing<S: Start>(
     ensures ok { IfOk result (OpensOn (image_at S.Start)) }
     ensures cause { IfErr result (λ failed. FailsToConnect (image_at S.Start) failed.0 failed.1) }
 {
-    match fs::exists(rt, path.as_str()) {
-        Ok(true) => connect(rt, path, start),
-        _ => Err((RunFault::File, Left::Nothing)),
+    if is_there(fs::exists(rt, path.as_str())) {
+        connect(rt, path, start)
+    } else {
+        Err((RunFault::File, Left::Nothing))
     }
 }
 
