@@ -1,24 +1,20 @@
 -- what a call on the database of a file that failed leaves of it
-use Rattle.std.proofs.Common.{◌≡◌, ◌≤◌, sym, subst, arith}
+use Rattle.std.proofs.Common.{◌≡◌, ◌≤◌, refl, sym, subst, arith}
 use Rattle.sqlite_disk.specs.declared.Disk.{Ghosts}
 use Rattle.sqlite_trees.specs.View.{doubt}
 use Rattle.sqlite.specs.{Files.{file_state}, FileStore.{view}, Held.{Held}, Recovery.{Image}, State.{HasCleanDisk}, View.{IsClean}}
 use Rattle.sqlite.specs.declared.FileStore.{FileStore}
 use Rattle.broker_database.specs.declared.opening.OpenFault.{OpenFault}
-use Rattle.broker_program.specs.Files.{GivesUpAs, LeavesStore, OpensOn, StartsFrom}
-use Rattle.broker_program.specs.{Refusals.{EndsUnclosed, FailsThere, FailsToDisconnect, IsNotClosed, IsOfDatabase, IsUnclosed}, declared.left.Left.{Left}}
-use Rattle.broker_program.specs.declared.left.Left.TheVariants.{Closed, GivenUp, Nothing, Read, Served, Unopened}
+use Rattle.broker_program.specs.Files.{GivesUpAs, LeavesCut, LeavesStore, OpensOn, StartsFrom}
+use Rattle.broker_program.specs.Refusals.{EndsUnclosed, FailsThere, GivesUpUnopened, IsNotClosed, IsOfDatabase, OpensNone}
+use Rattle.broker_program.specs.{declared.left.CutService.{CutService}, declared.left.Left.{Left}, declared.left.Left.TheVariants.{Cut, GivenUp}}
 use Rattle.program_io.specs.{Reported.{IsFromOutside}, declared.fault.RunFault.{RunFault}}
 use Rattle.program_io.specs.declared.fault.RunFault.TheVariants as run_fault
 
 module _ {D : Type 0} {g : Ghosts D} where
-  pub store_weaker : (P Q : FileStore D g → Type 0) (rest : Left D g) → ((store : FileStore D g) → P store → Q store) → LeavesStore P rest → LeavesStore Q rest
+  store_weaker : (P Q : FileStore D g → Type 0) (rest : Left D g) → ((store : FileStore D g) → P store → Q store) → LeavesStore P rest → LeavesStore Q rest
   store_weaker P Q (GivenUp store) f p = f store p
-  store_weaker P Q Nothing f p = p
-  store_weaker P Q (Read read) f p = p
-  store_weaker P Q (Unopened rest) f p = p
-  store_weaker P Q (Closed files) f p = p
-  store_weaker P Q (Served service) f p = p
+  store_weaker P Q _ f p = absurd p
 
   pub fails_there : (held : Image) (Fails : Held (FileStore D g) → Held (FileStore D g) → OpenFault → Type 0) (old new : Held (FileStore D g)) (fault : OpenFault) (told : RunFault) (rest : Left D g)
       → OpensOn held old → doubt (file_state old).is_clean ≤ doubt (file_state new).is_clean → Fails old new fault
@@ -31,12 +27,17 @@ module _ {D : Type 0} {g : Ghosts D} where
       record { connection = old; end = new; starts = opens early; fails = fails; clean = kept.0; left = kept.1 }) gives in
       subst (λ (f : RunFault). IsOfDatabase held Fails f rest) (sym is) there
 
+  -- no broker was opened
+  pub opens_none : (held : Image) (old : Held (FileStore D g)) (fault : OpenFault) (store : FileStore D g) → OpensOn held old → GivesUpUnopened old fault store
+      → IsOfDatabase held OpensNone (run_fault.Open fault) (GivenUp store)
+  opens_none held old fault store opens it = fails_there held OpensNone old it.0 fault (run_fault.Open fault) (GivenUp store) opens it.1.survives.clean it.1 refl it.2
+
   -- what was done in the database of a file that couldn't be closed
-  pub ends_unclosed : (held : Image) (Does : Held (FileStore D g) → Held (FileStore D g) → Type 0) (end : Held (FileStore D g)) (fault : RunFault) (rest : Left D g)
-      → (HasCleanDisk (file_state end) → (conn : Held (FileStore D g)) × StartsFrom held conn × Does conn end) → IsFromOutside fault → FailsToDisconnect end fault rest → EndsUnclosed held Does fault rest
-  ends_unclosed held Does end fault rest there outside fails = (
+  pub ends_unclosed : (held : Image) (Does : Held (FileStore D g) → Held (FileStore D g) → Type 0) (end : Held (FileStore D g)) (fault : RunFault) (store : FileStore D g)
+      → (HasCleanDisk (file_state end) → (conn : Held (FileStore D g)) × StartsFrom held conn × Does conn end) → IsFromOutside fault → IsNotClosed end fault store → EndsUnclosed held Does fault (GivenUp store)
+  ends_unclosed held Does end fault store there outside it = (
     outside,
-    store_weaker (IsNotClosed end fault) (λ store. IsClean (view store) → IsUnclosed held Does fault store) rest (λ store it clean.
+    λ clean.
         let early : HasCleanDisk (file_state end) = omega (arith, clean, it.closed.quiet.clean) in
         let from = there early in
         record {
@@ -49,5 +50,10 @@ module _ {D : Type 0} {g : Ghosts D} where
           error = it.error;
           told = it.told;
           cause = it.cause clean;
-        }) fails,
+        },
   )
+
+  -- a service that was cut, of which more is known
+  pub cut_weaker : (P Q : CutService D g → Type 0) (rest : Left D g) → ((service : CutService D g) → P service → Q service) → LeavesCut P rest → LeavesCut Q rest
+  cut_weaker P Q (Cut service) f p = f service p
+  cut_weaker P Q _ f p = absurd p

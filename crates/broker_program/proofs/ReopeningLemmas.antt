@@ -1,13 +1,20 @@
 -- A connection on the files of a store that was given up is one on files after it.
-use Rattle.std.proofs.Common.{◌≡◌, ◌∙◌, false, IsTrue, refl, ap, subst, arith}
+use Rattle.std.proofs.Common.{◌≡◌, ◌∙◌, false, inl, IsTrue, Some, refl, ap, subst, arith}
 use Rattle.sqlite_disk.specs.{declared.Disk.{Ghosts}, declared.Files.{Files}}
 use Rattle.sqlite_pool.proofs.StateLemmas.{clean_is, may_leave_is}
 use Rattle.sqlite_trees.{specs.View.{View}, proofs.Doubt.{no_doubt}}
-use Rattle.sqlite.specs.{FileStore.{files as store_files, state as store_state, view}, Files.{Finds, IsOpened, image_of}, Held.{Held, IsNew}, Recovery.{Image}}
-use Rattle.sqlite.specs.{View.{IsClean}, WalFiles.{outcomes}, WalReads.{AreClean}, declared.FileStore.{FileStore}}
-use Rattle.broker_database.specs.{BrokerView.{BrokerView}, Life.{IsOpenedAfter}}
-use Rattle.broker_program.specs.{Files.{GivesUpAs}, Reopening.{EmptiesLog, IsStillGiven}, Serving.{OpensAfter}}
+use Rattle.sqlite.specs.{FileStore.{files as store_files, state as store_state, view}, Files.{Finds, IsOpened, file_state, image_of}, Held.{Held, IsNew}}
+use Rattle.sqlite.specs.{Recovery.{Image}, State.{HasCleanDisk}, View.{IsClean}, WalFiles.{outcomes}, WalReads.{AreClean}, declared.FileStore.{FileStore}}
+use Rattle.sqlite_store.specs.Calls.{IsQuietCall}
+use Rattle.broker_database.specs.{BrokerView.{BrokerView}, Life.{IsOpenedAfter}, declared.opening.OpenFault.{OpenFault}}
+use Rattle.broker_program.specs.{Cuts.{StaysShut}, Files.{GivesUpAs}, Refusals.{GivesUpUnopened}, Serving.{OpensAfter}}
+use Rattle.broker_program.specs.Reopening.{EmptiesLog, FindsNoneAgain, IsStillGiven, OpensFilesAgain}
+use Rattle.program_io.specs.declared.fault.RunFault.TheVariants as run_fault
 use Rattle.sqlite.specs.declared.file.Leftover.TheVariants as left
+
+-- a store on which nothing was called
+pub quiet_itself : {D : Type 0} {g : Ghosts D} (store : FileStore D g) → IsQuietCall store store
+quiet_itself store = record { shield = λ s. s; clean = omega arith; counts = omega arith; closes = λ _ still. inl still; outcomes = λ _ r. r }
 
 pub opened_after : {D : Type 0} (g : Ghosts D) (stays : (file : D) → g.may_leave file (g.seen file)) (old store : FileStore D g) (files : Files D) (conn : Held (FileStore D g))
     → EmptiesLog old (store, false) → (files.log, files.db) ≡ store_files store → IsOpened conn → Finds files conn → IsNew conn
@@ -41,3 +48,16 @@ opens_after stopped store now conn stops gives still after fresh =
       after = after;
       fresh = fresh;
     }
+
+-- the connection that was opened again, where no broker is found
+pub none_again : {D : Type 0} {g : Ghosts D} (stopped : BrokerView (FileStore D g)) (store : FileStore D g) (conn : Held (FileStore D g)) (fault : OpenFault) (rest : FileStore D g) → IsTrue stopped.is_stopped
+    → GivesUpAs stopped.connection store → OpensFilesAgain store (Some conn) → GivesUpUnopened conn fault rest → FindsNoneAgain stopped (run_fault.Open fault) (left.Store rest)
+none_again stopped store conn fault rest stops gives again none clean =
+    let given = none.2 clean in
+    let early : HasCleanDisk (file_state conn) = omega (arith, given.0, none.1.survives.clean) in
+    let it = again early in
+    (conn, none.0, opens_after stopped store it.0 conn stops gives it.1 it.2 it.3, none.1, given.0, given.1)
+
+-- a store that was given up, and left so
+pub untouched : {D : Type 0} {g : Ghosts D} (store : FileStore D g) → StaysShut store run_fault.File (left.Store store)
+untouched store = (store, quiet_itself store, inl (refl, refl))

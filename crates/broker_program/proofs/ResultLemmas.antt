@@ -1,5 +1,5 @@
 -- facts of a result
-use Rattle.std.proofs.Common.{◌≡◌, ◌∙◌, Bool, true, Option, None, Some, is_some, not, IfErr, IfOk, MatchResult, OnErr, Result, Ok, Err, refl, ap, subst, sym, true≢false}
+use Rattle.std.proofs.Common.{◌≡◌, ◌∙◌, Bool, true, false, Option, None, Some, is_none, IfErr, IfOk, IfSome, MatchResult, OnErr, Result, Ok, Err, refl, subst, sym}
 
 pub if_ok : {T E P : Type 0} (r : Result T E) → P → IfOk r (λ _. P)
 if_ok (Ok x) p = p
@@ -8,11 +8,6 @@ if_ok (Err y) p = tt
 pub on_err : {T E P : Type 0} (r : Result T E) → P → OnErr r P
 on_err (Ok x) p = tt
 on_err (Err y) p = p
-
--- what follows from two facts of the error
-pub if_err_both : {T E : Type 0} {P Q R : E → Type 0} (r : Result T E) → ((e : E) → P e → Q e → R e) → IfErr r P → IfErr r Q → IfErr r R
-if_err_both (Ok x) f p q = tt
-if_err_both (Err e) f p q = f e p q
 
 -- a result that is handed on, with another error
 module _ {T E F : Type 0} (f : E → F) where
@@ -24,11 +19,31 @@ module _ {T E F : Type 0} (f : E → F) where
   handed_err (Ok x) s Q is q = subst (λ (t : Result T F). IfErr t Q) (sym is) tt
   handed_err (Err e) s Q is q = subst (λ (t : Result T F). IfErr t Q) (sym is) q
 
+-- a result has one end
+pub err_no_ok : {T E : Type 0} (r : Result T E) (e : E) (x : T) → r ≡ Err e → r ≡ Ok x → ⊥
+err_no_ok {T} {E} r e x is_err is_ok = subst (λ (s : Result T E). MatchResult s (λ _. ⊥) (λ _. Unit {0})) (sym is_err ∙ is_ok) tt
+
+-- what follows of either end
+pub of_either : {T E : Type 0} {A P : T → Type 0} {B Q : E → Type 0} (r : Result T E) → ((x : T) → A x → P x) → ((e : E) → B e → Q e) → IfOk r A → IfErr r B → MatchResult r P Q
+of_either (Ok x) ok err a b = ok x a
+of_either (Err e) ok err a b = err e b
+
 -- two facts of a result that is Ok give a third
 pub ok_with : {T E : Type 0} (r : Result T E) (P Q R : T → Type 0) → ((x : T) → P x → Q x → R x) → IfOk r P → IfOk r Q → IfOk r R
 ok_with (Ok x) P Q R both p q = both x p q
 ok_with (Err y) P Q R both p q = tt
 
-pub none_if : {T : Type 0} (found : Option T) (test : Bool) → is_some found ≡ not test → test ≡ true → found ≡ None
-none_if None test is true_is = refl
-none_if (Some x) test is true_is = absurd (true≢false (is ∙ ap not true_is))
+same_flag : {F : Type 0} (r : Result Bool F) (a b : Bool) → r ≡ Ok a → r ≡ Ok b → a ≡ b
+same_flag {F} r a b is_a is_b = subst (λ (t : Result Bool F). MatchResult t (λ x. a ≡ x) (λ _. Unit {0})) (sym is_a ∙ is_b) refl
+
+-- whether nothing is in a result, as it was looked at
+module _ {T X F Q : Type 0} (f : X → F) (s : Result Bool F) where
+  pub left_none : (r : Result (Option T) X) → MatchResult r (λ found. s ≡ Ok (is_none found)) (λ e. s ≡ Err (f e)) → s ≡ Ok true → IfOk r (λ found. found ≡ None → Q) → Q
+  left_none (Ok None) told is q = q refl
+  left_none (Ok (Some x)) told is q = absurd (let bad : false ≡ true = same_flag s _ _ told is in cc)
+  left_none (Err e) told is q = absurd (err_no_ok s (f e) true told is)
+
+  pub left_some : (r : Result (Option T) X) → MatchResult r (λ found. s ≡ Ok (is_none found)) (λ e. s ≡ Err (f e)) → s ≡ Ok false → IfOk r (λ found. IfSome found (λ _. Q)) → Q
+  left_some (Ok None) told is q = absurd (let bad : true ≡ false = same_flag s _ _ told is in cc)
+  left_some (Ok (Some x)) told is q = q
+  left_some (Err e) told is q = absurd (err_no_ok s (f e) false told is)

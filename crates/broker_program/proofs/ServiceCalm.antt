@@ -1,5 +1,5 @@
 -- a broker in a file is stopped, on a disk that works, only at a command that was to be done
-use Rattle.std.proofs.Common.{◌≡◌, ◌⊎◌, inl, inr, ◌+◌, ◌-◌, ◌≤◌, true, false, IsTrue, List, [], ◌∷◌, ◌++◌, None, refl, sym, ap, ◌∙◌, subst, arith}
+use Rattle.std.proofs.Common.{◌≡◌, ◌⊎◌, inl, inr, ◌≤◌, true, false, IsTrue, List, [], ◌∷◌, ◌++◌, None, refl, sym, ap, ◌∙◌, subst, arith}
 use Rattle.std.proofs.{Math.Logic.{∥∥₁_elim, ∥∥₁_map}, lemmas.Bool.{cases_Bool}}
 use Rattle.sqlite_disk.specs.{declared.Disk.{Ghosts}, Disk.{MoreFaults}}
 use Rattle.sqlite_trees.specs.{View.{doubt}, declared.error.StoreError.{StoreError}}

@@ -1,17 +1,19 @@
 -- peers that are served one after another, over one opening of the files after another
-use Rattle.std.proofs.Common.{◌≡◌, ◌≢◌, ◌<◌, ◌⊎◌, ◌+◌, inl, inr, false, ℕ, List, [], ◌∷◌, ◌++◌, length, append_assoc, append-nil, Option, None, Some, IfSome, MatchOption, Result, refl, sym, ap, subst, ◌∙◌, arith}
+use Rattle.std.proofs.Common.{◌≡◌, ◌≢◌, ◌<◌, ◌⊎◌, ◌+◌, inl, inr, false, ℕ, List, Contains, [], ◌∷◌, ◌++◌, length, append_assoc, append-nil, Option, None, Some, IfErr, IfOk, IfSome, IsTrue, MatchOption, Result, Err, Ok, refl, sym, ap, subst, ◌∙◌, arith}
 use Rattle.std.proofs.lemmas.List.Elements.{Contains-append_cases, Contains-push_cases}
 use Rattle.sqlite_disk.specs.{declared.Disk.{Ghosts}, declared.Files.{Files}}
-use Rattle.sqlite.specs.{Files.{file_state}, Recovery.{Image}, State.{HasCleanDisk}, WalReads.{AreClean}, declared.FileStore.{FileStore}}
-use Rattle.sqlite.specs.declared.file.Leftover.{Leftover}
+use Rattle.sqlite.specs.{Files.{file_state}, FileStore.{view}, Recovery.{Image}, State.{HasCleanDisk}, View.{IsClean}, WalReads.{AreClean}}
+use Rattle.sqlite.specs.{declared.FileStore.{FileStore}, declared.file.Leftover.{Leftover}}
 use Rattle.broker_database.specs.{BrokerView.{BrokerView}, Life.{EndsAs, IsGivenBack}}
 use Rattle.broker_http.specs.{Calls.{IsServed}, declared.served.ServeFault.{ServeFault}, declared.served.Served.{Served}}
-use Rattle.program_io.specs.Entrance.{IsLetGo, IsLetIn, NoneIsIn, Peer, Queue, Visit}
-use Rattle.broker_program.specs.{Files.{ClosesAs, OpensBroker}, Refusals.{IsLeftUnserved}}
-use Rattle.broker_program.specs.Reopening.{HasServed, OpensBrokerAgain, ServesAll, ServesBetween, ServesMore, ServesOn, ServesSoFar}
+use Rattle.program_io.specs.{Entrance.{IsLetGo, IsLetIn, NoneIsIn, Peer, Queue, Visit}, declared.fault.RunFault.{RunFault}}
+use Rattle.broker_program.specs.{Cuts.{CutsFile, CutsQueue, CountsCut, IsBrokerless, StaysUnclosed}, Files.{ClosesAs, OpensBroker}}
+use Rattle.broker_program.specs.Refusals.{IsLeftUnserved, IsNotClosed, IsReopeningFault}
+use Rattle.broker_program.specs.Reopening.{CutsAll, FailsToReopen, FindsNoneAgain, HasServed, OpensBrokerAgain, ServesAll, ServesBetween, ServesMore, ServesNoMore, ServesOn, ServesSoFar}
 use Rattle.broker_program.specs.Serving.{IsPeerOf, LosesFiles, ServesFile, ServesNext, ServesOver, ServesPeer, ServesPeers, ServesQueue, ServesVisits, Work, Works, calls_of_peers, visits_of}
-use Rattle.broker_program.specs.declared.left.Service.{Service}
+use Rattle.broker_program.specs.{declared.left.CutService.{CutService}, declared.left.Service.{Service}}
 use Rattle.broker_program.proofs.VisitLemmas.{idle_then, lost_fewer, lost_visited, more_went, none_visited, one_visited, visited_fewer, visited_then}
+use Rattle.program_io.specs.declared.fault.RunFault.TheVariants as run_fault
 use Rattle.sqlite.specs.declared.file.Leftover.TheVariants as left
 
 module _ {D : Type 0} (g : Ghosts D) where
@@ -27,6 +29,12 @@ module _ {D : Type 0} (g : Ghosts D) where
   }
 
 module _ {D : Type 0} {g : Ghosts D} where
+  -- however serving ended
+  pub any_between : (held : Image) (old new : Queue) (r : Result (Option (Files D)) (RunFault × Leftover D g)) → IfOk r (ServesAll g held old new) → IfErr r (λ failed. CutsAll g held old new failed.0 failed.1)
+      → ServesBetween g old new
+  any_between held old new (Ok found) all cut = all.0
+  any_between held old new (Err failed) all cut = cut.0
+
   -- one more peer
   then_peer : (visits : List Visit) (visit : Visit) (s mid t : BrokerView (FileStore D g)) → ServesPeers visits s mid → ServesPeer visit mid t → ServesPeers (visits ++ visit ∷ []) s t
   then_peer [] visit s mid t same it = (t, subst (λ (b : BrokerView (FileStore D g)). ServesPeer visit b t) same it, refl)
@@ -137,6 +145,54 @@ module _ {D : Type 0} {g : Ghosts D} where
         all = it.all ∙ sym (append-nil (visits_of it.before ++ it.served));
       }
 
+  -- the file that was opened again, with no broker in it
+  brokerless : (held : Image) (visits : List Visit) (stopped : BrokerView (FileStore D g)) → HasServed held visits stopped → (fault : RunFault) (rest : Leftover D g) → FindsNoneAgain stopped fault rest
+      → IsBrokerless held visits fault rest
+  brokerless held visits stopped so_far (run_fault.Open fault) (left.Store store) none = λ clean.
+      let from = none clean in
+      let it = so_far from.2.clean in
+      record {
+        works = last held visits stopped it ∷ it.before;
+        connection = from.0;
+        end = from.1;
+        starts = (it.connection, stopped, it.starts, works held visits stopped it, from.2);
+        all = it.all;
+        fails = from.3;
+        clean = from.4;
+        left = from.5;
+      }
+  brokerless held visits stopped so_far (run_fault.Open fault) (left.Files files) none = none
+  brokerless held visits stopped so_far (run_fault.Open fault) (left.Unopened it) none = none
+  brokerless held visits stopped so_far _ rest none = absurd none
+
+  pub goes_no_more : (held : Image) (visits : List Visit) (stopped : BrokerView (FileStore D g)) (fault : RunFault) (rest : Leftover D g) → IsTrue stopped.is_stopped → FailsToReopen stopped fault rest
+      → HasServed held visits stopped → ServesNoMore held visits fault rest
+  unfolding over
+  goes_no_more held visits stopped fault rest is (inl shut) so_far = inl (record {
+    store = shut.0;
+    served = λ clean. let given = shut.1 clean in (over held visits stopped (so_far given.0) (left.Store shut.0) given.0 given.1, is);
+    shut = shut.2;
+  })
+  goes_no_more held visits stopped fault rest is (inr none) so_far = inr (brokerless held visits stopped so_far fault rest none)
+
+  -- the file of the broker that served last couldn't be closed
+  pub stays_unclosed : (held : Image) (visits : List Visit) (end : BrokerView (FileStore D g)) (fault : RunFault) (store : FileStore D g) → HasServed held visits end → IsNotClosed end.connection fault store
+      → IsClean (view store) → StaysUnclosed held visits fault store
+  stays_unclosed held visits end fault store so_far closes clean =
+      let early : HasCleanDisk (file_state end.connection) = omega (arith, clean, closes.closed.quiet.clean) in
+      let it = so_far early in
+      record {
+        last = last held visits end it;
+        before = it.before;
+        connection = it.connection;
+        end = end;
+        starts = it.starts;
+        works = works held visits end it;
+        all = it.all;
+        clean = early;
+        closes = closes;
+      }
+
   pub all_served : (held : Image) (visits : List Visit) (end : BrokerView (FileStore D g)) (files : Files D) → HasServed held visits end → ClosesAs end.connection files → AreClean g files.log files.db
       → ServesOver g held visits (left.Files files)
   all_served held visits end files so_far closes clean =
@@ -162,24 +218,39 @@ module _ {D L : Type 0} (g : Ghosts D) (later : Ghosts L) where
       record { visits = it.0.visits; visited = it.0.visited; all = all; served = λ visit is. inl (it.0.served visit is); file = file }
 
   -- or others once a sync of the files failed
+  lost_more : (held : Image) (first more : List Visit) → LosesFiles g held first → LosesFiles g held (first ++ more)
+  lost_more held first more lost =
+      (lost.0, lost.1 ++ more, ap (λ visits. visits ++ more) lost.2 ∙ append_assoc lost.0 lost.1 more, lost.3, lost.4, lost.5)
+
+  served_later : (old mid new : Queue) (it : ServesBetween g old mid) (more : ServesBetween later mid new) (visit : Visit) → Contains (it.visits ++ more.visits) visit → IsPeerOf g visit ⊎ IsPeerOf later visit
+  served_later old mid new it more visit is =
+      elim (Contains-append_cases it.visits more.visits visit is) [ inl front ↦ inl (it.served visit front) | inr back ↦ inr (more.served visit back) ]
+
   pub lost_later : (held : Image) (old mid new : Queue) (found : Option (Files D)) → found ≡ None → length new.coming ≡ 0 → ServesAll g held old mid found → ServesBetween later mid new
       → ServesQueue g later held old new None
   lost_later held old mid new found none all it more =
-      let lost : LosesFiles g held it.0.visits = subst (λ (f : Option (Files D)). ServesVisits g held it.0.visits f) none it.1 in
       record {
         visits = it.0.visits ++ more.visits;
         visited = visited_then old mid new it.0.visits more.visits it.0.visited more.visited;
         all = all;
-        served = λ visit is. elim (Contains-append_cases it.0.visits more.visits visit is) [ inl front ↦ inl (it.0.served visit front) | inr back ↦ inr (more.served visit back) ];
-        file = (
-          lost.0,
-          lost.1 ++ more.visits,
-          ap (λ visits. visits ++ more.visits) lost.2 ∙ append_assoc lost.0 lost.1 more.visits,
-          lost.3,
-          lost.4,
-          lost.5,
-        );
+        served = served_later old mid new it.0 more;
+        file = lost_more held it.0.visits more.visits (subst (λ (f : Option (Files D)). ServesVisits g held it.0.visits f) none it.1);
       }
+
+  -- and then the file of the path that was opened failed
+  pub cut_later : (held : Image) (old mid new : Queue) (found : Option (Files D)) (fault : RunFault) → found ≡ None → IsReopeningFault fault → ServesAll g held old mid found → ServesBetween later mid new
+      → CutsQueue g later held old new fault None
+  cut_later held old mid new found fault none is it more = record {
+    visits = it.0.visits ++ more.visits;
+    visited = visited_then old mid new it.0.visits more.visits it.0.visited more.visited;
+    served = served_later old mid new it.0 more;
+    file = (is, lost_more held it.0.visits more.visits (subst (λ (f : Option (Files D)). ServesVisits g held it.0.visits f) none it.1));
+  }
+
+  -- or the file that was opened first
+  pub cut_before : (held : Image) (old new : Queue) (fault : RunFault) (rest : Leftover D g) → CutsAll g held old new fault rest → CutsQueue g later held old new fault (Some rest)
+  cut_before held old new fault rest it =
+      record { visits = it.0.visits; visited = it.0.visited; served = λ visit is. inl (it.0.served visit is); file = it.1 }
 
   -- so many connections
   pub file_served : (held : Image) (old new : Queue) (all : ℕ) (service : Service D) → (length old.went ≡ 0) × (length old.coming + old.lost ≡ all) → ServesQueue g later held old new service.files
@@ -188,4 +259,14 @@ module _ {D L : Type 0} (g : Ghosts D) (later : Ghosts L) where
       let went = more_went old new it.visits it.visited in (
         omega (arith, it.visited.count, went, it.all, first.0, first.1, counts.0, counts.1),
         (it.visits, omega (arith, went, first.0, counts.0), it.file),
+      )
+
+  pub file_cut : (held : Image) (old new : Queue) (all : ℕ) (fault : RunFault) (service : CutService D g) → (length old.went ≡ 0) × (length old.coming + old.lost ≡ all)
+      → CountsCut g later held old new fault service → CutsFile held all fault service
+  file_cut held old new all fault service first cuts =
+      let it = cuts.2 in
+      let went = more_went old new it.visits it.visited in (
+        length new.coming,
+        omega (arith, it.visited.count, went, first.0, first.1, cuts.0, cuts.1),
+        (it.visits, omega (arith, went, first.0, cuts.0), it.file),
       )

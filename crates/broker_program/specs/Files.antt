@@ -16,8 +16,9 @@ use Rattle.broker_database.specs.BrokerView.{BrokerView}
 use Rattle.broker_database.specs.Calls.{Opened}
 use Rattle.broker_database.specs.Life.{IsGivenBack}
 use Rattle.program_io.specs.declared.check.FilesRead.{FilesRead}
+use Rattle.broker_program.specs.declared.left.CutService.{CutService}
 use Rattle.broker_program.specs.declared.left.Left.{Left}
-use Rattle.broker_program.specs.declared.left.Left.TheVariants.{Closed, GivenUp, Read, Served}
+use Rattle.broker_program.specs.declared.left.Left.TheVariants.{Closed, Cut, GivenUp, Read, Served}
 use Rattle.broker_program.specs.declared.left.Service.{Service}
 
 module _ {D : Type 0} {g : Ghosts D} where
@@ -73,3 +74,8 @@ module _ {D : Type 0} {g : Ghosts D} where
   abbrev pub LeavesServed : (Service D → Type 0) → Left D g → Type 0
   LeavesServed P (Served service) = P service
   LeavesServed P _ = ⊥
+
+  -- it was served up to a fault, in such a way
+  abbrev pub LeavesCut : (CutService D g → Type 0) → Left D g → Type 0
+  LeavesCut P (Cut service) = P service
+  LeavesCut P _ = ⊥

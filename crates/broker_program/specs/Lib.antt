@@ -11,3 +11,4 @@ pub mod Life
 pub mod Calm
 pub mod Reasons
 pub mod Refusals
+pub mod Cuts

@@ -7,6 +7,7 @@ use Rattle.sqlite.specs.View.{IsClean}
 use Rattle.broker_core.specs.Name.{IsName, IsToken}
 use Rattle.broker_core.specs.Text.{Text}
 use Rattle.broker_core.specs.declared.answer.Answer.{Answer}
+use Rattle.broker_database.specs.declared.opening.OpenFault.TheVariants as opening
 use Rattle.command_line.specs.declared.line.Line.{Line}
 use Rattle.command_line.specs.declared.line.Line.TheVariants.{CanIDeploy, Check, Init, Migrate, Normalise}
 use Rattle.command_line.specs.declared.line.Line.TheVariants.{Replay, Serve}
@@ -14,21 +15,22 @@ use Rattle.program_io.specs.Listening.{ListensOn}
 use Rattle.program_io.specs.Reported.{FailsToCheck, FailsToNormalise, IsFromOutside, IsNoName, IsTokenFault}
 use Rattle.program_io.specs.declared.fault.RunFault.{RunFault}
 use Rattle.program_io.specs.declared.fault.RunFault.TheVariants as run_fault
-use Rattle.broker_program.specs.Files.{LeavesRead, LeavesServed, LeavesStore}
+use Rattle.broker_program.specs.Cuts.{CutsFile}
+use Rattle.broker_program.specs.Files.{LeavesCut, LeavesRead, LeavesStore}
 use Rattle.broker_program.specs.Making.{MakesOn, MigratesOn}
 use Rattle.broker_program.specs.Refusals.{EndsUnclosed, FailsToConnect, IsLeftUnserved, IsOfDatabase}
 use Rattle.broker_program.specs.Refusals.{MakesNone, MigratesNone, OpensNone}
 use Rattle.broker_program.specs.Replays.{ReplaysUpTo}
-use Rattle.broker_program.specs.Serving.{ServedSome}
 use Rattle.broker_program.specs.Told.{AnswersQuestion, permission, question}
 use Rattle.broker_program.specs.declared.can_i_deploy.Question.{Question}
 use Rattle.broker_program.specs.declared.left.Left.{Left}
 
--- a broker couldn't be made
-abbrev pub IsOpeningFault : RunFault → Type 0
-IsOpeningFault (run_fault.Open f) = ⊤
-IsOpeningFault run_fault.Memory = ⊤
-IsOpeningFault _ = ⊥
+-- a new broker over tables in memory wasn't made: memory lacked, or the database failed
+abbrev pub IsUnmade : RunFault → Type 0
+IsUnmade run_fault.Memory = ⊤
+IsUnmade (run_fault.Open opening.Memory) = ⊤
+IsUnmade (run_fault.Open opening.Store) = ⊤
+IsUnmade _ = ⊥
 
 -- the fault of `replay`, by what it was asked and what it did
 module _ (office : Text) (before after old new : Option (List ℕ)) where
@@ -38,7 +40,7 @@ module _ (office : Text) (before after old new : Option (List ℕ)) where
   CutsReplay _ = ⊥
 
   abbrev pub EndsReplay : RunFault → Type 0
-  EndsReplay f = IsTokenFault office f ⊎ (IsToken office × (IsOpeningFault f ⊎ CutsReplay f))
+  EndsReplay f = IsTokenFault office f ⊎ (IsToken office × (IsUnmade f ⊎ CutsReplay f))
 
 -- ---- the fault of a command over a broker's file
 
@@ -61,15 +63,6 @@ IsQuestionFault question f =
 abbrev pub IsAnswerFault : Answer → RunFault → Type 0
 IsAnswerFault answer f =
     ((permission answer ≡ None) × (f ≡ run_fault.Answer answer)) ⊎ (IsSome (permission answer) × IsFromOutside f)
-
--- a broker's file couldn't be opened again
-abbrev pub IsReopeningFault : RunFault → Type 0
-IsReopeningFault f = IsFromOutside f ⊎ IsOpeningFault f
-
--- Serving ended: the file failed; or some connections were served, the broker stopped, and its file couldn't be opened
--- again, of which nothing more is said.
-abbrev pub CutsService : {D : Type 0} {g : Ghosts D} → RunFault → Left D g → Type 0
-CutsService f rest = IsFromOutside f ⊎ (IsOpeningFault f × LeavesServed ServedSome rest)
 
 -- Held is what the log and the database file held at first, and rest what the command left of them. Nothing says why a
 -- path isn't there or can't be taken.
@@ -109,10 +102,10 @@ module _ {D : Type 0} {g : Ghosts D} (held : Image) where
   FailsToListen run_fault.Listen rest = LeavesStore (λ store. IsClean (view store) → IsLeftUnserved held store) rest
   FailsToListen _ rest = ⊥
 
-  -- The fault of `serve`: the file is opened first, and then the address is listened on.
-  abbrev pub FailsToServe : Text → RunFault → Left D g → Type 0
-  FailsToServe listen f rest =
-      FailsToOpen f rest ⊎ FailsToListen f rest ⊎ (ListensOn listen × CutsService f rest)
+  -- The fault of `serve`: the file is opened first, then the address is listened on, and so many connections are served.
+  abbrev pub FailsToServe : Text → ℕ → RunFault → Left D g → Type 0
+  FailsToServe listen connections f rest =
+      FailsToOpen f rest ⊎ FailsToListen f rest ⊎ (ListensOn listen × LeavesCut (CutsFile held connections f) rest)
 
 -- The fault of a command has its reason.
 module _ {D : Type 0} {g : Ghosts D} (held : Image) (before after old new : Option (List ℕ)) (rest : Left D g) where
@@ -122,6 +115,6 @@ module _ {D : Type 0} {g : Ghosts D} (held : Image) (before after old new : Opti
   IsFaultOf (Check pact replies) f = LeavesRead (λ read. FailsToCheck read f) rest
   IsFaultOf (Init file token) f = FailsToMake held token.now f rest
   IsFaultOf (Migrate file) f = FailsToMigrate held f rest
-  IsFaultOf (Serve file listen connections) f = FailsToServe held listen.now f rest
+  IsFaultOf (Serve file listen connections) f = FailsToServe held listen.now connections f rest
   IsFaultOf (CanIDeploy file token pacticipant version environment) f =
       FailsToAsk held (question token pacticipant version environment) f rest

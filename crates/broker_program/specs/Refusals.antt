@@ -1,5 +1,5 @@
 -- a call on the database in a file that failed, and what is left of the file (this project's own choice)
-use Rattle.std.specs.Prelude.{◌≡◌, Option, None, Some, Ok, Err}
+use Rattle.std.specs.Prelude.{◌≡◌, ◌⊎◌, ⊤, Option, None, Some, Ok, Err}
 use Rattle.sqlite_disk.specs.declared.Disk.{Ghosts}
 use Rattle.sqlite_disk.specs.declared.Files.{Files}
 use Rattle.sqlite.specs.Files.{FailsToClose, FailsToOpenFiles, IsCleanLeft, IsClosed, LeavesFiles, file_state, image_of}
@@ -20,7 +20,7 @@ use Rattle.broker_database.specs.Calls.{Created, Migrated, Opened}
 use Rattle.broker_database.specs.Life.{IsGivenBack}
 use Rattle.broker_database.specs.declared.opening.OpenFault.{OpenFault}
 use Rattle.command_facts.specs.Primitives.{broker_primitives}
-use Rattle.broker_program.specs.Files.{LeavesStore, StartsFrom}
+use Rattle.broker_program.specs.Files.{GivesUpAs, LeavesStore, StartsFrom}
 use Rattle.program_io.specs.declared.fault.RunFault.{RunFault}
 use Rattle.program_io.specs.declared.fault.RunFault.TheVariants as run_fault
 use Rattle.program_io.specs.Reported.{IsFromOutside}
@@ -32,27 +32,38 @@ abbrev pub told_of : Error → RunFault
 told_of (SqliteFailure OutOfMemory) = run_fault.Memory
 told_of _ = run_fault.File
 
+-- a broker couldn't be made
+abbrev pub IsOpeningFault : RunFault → Type 0
+IsOpeningFault (run_fault.Open f) = ⊤
+IsOpeningFault run_fault.Memory = ⊤
+IsOpeningFault _ = ⊥
+
+-- a broker's file couldn't be opened again, or not closed
+abbrev pub IsReopeningFault : RunFault → Type 0
+IsReopeningFault f = IsFromOutside f ⊎ IsOpeningFault f
+
 module _ {D : Type 0} {g : Ghosts D} where
   -- For private clauses: what is left of files that weren't opened, if they were taken.
   abbrev pub left_of : Option (Leftover D g) → Left D g
   left_of None = Nothing
   left_of (Some rest) = Unopened rest
 
-  -- For private clauses: the connection's files couldn't be closed, and the store is what is left of them.
+  -- The connection's files couldn't be closed, and the store is what is left of them.
   pub record IsNotClosed (conn : Held (FileStore D g)) (fault : RunFault) (store : FileStore D g) : Type 0 where
     pub closed : IsClosed conn store
     pub error : Error
     pub told : fault ≡ told_of error
     pub cause : IsClean (view store) → FailsToClose conn store error
 
-  abbrev pub FailsToDisconnect : Held (FileStore D g) → RunFault → Left D g → Type 0
-  FailsToDisconnect conn fault rest = LeavesStore (IsNotClosed conn fault) rest
-
   -- ---- the calls that fail, from a connection to what they leave of it
 
   -- no broker is opened: `judges` of `Opened` says of which database each fault is told
   abbrev pub OpensNone : Held (FileStore D g) → Held (FileStore D g) → OpenFault → Type 0
   OpensNone old new fault = Opened file_state old (Err (record { fault = fault; connection = new }))
+
+  -- For private clauses: no broker is opened on the connection, which was given up as that left it.
+  abbrev pub GivesUpUnopened : Held (FileStore D g) → OpenFault → FileStore D g → Type 0
+  GivesUpUnopened conn fault store = (end : Held (FileStore D g)) × OpensNone conn end fault × GivesUpAs end store
 
   -- none is made whose office has this token: `not_empty` and `refuses` of `Created`
   abbrev pub MakesNone : Text → Held (FileStore D g) → Held (FileStore D g) → OpenFault → Type 0

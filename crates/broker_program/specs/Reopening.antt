@@ -1,5 +1,5 @@
 -- For private clauses: a broker's file that is served, and opened again once its broker stopped.
-use Rattle.std.specs.Prelude.{◌≡◌, ◌++◌, Bool, false, List, Contains, Option, Ok, MatchOption}
+use Rattle.std.specs.Prelude.{◌≡◌, ◌⊎◌, ◌++◌, Bool, false, List, length, Contains, Option, Some, Ok, Result, MatchOption, MatchResult}
 use Rattle.sqlite_disk.specs.declared.Disk.{Ghosts}
 use Rattle.sqlite_disk.specs.declared.Files.{Files}
 use Rattle.sqlite.specs.FileStore.{view}
@@ -10,12 +10,17 @@ use Rattle.sqlite.specs.Recovery.{Image}
 use Rattle.sqlite.specs.State.{HasCleanDisk}
 use Rattle.sqlite.specs.View.{IsClean}
 use Rattle.sqlite.specs.declared.FileStore.{FileStore}
+use Rattle.sqlite.specs.declared.file.Leftover.{Leftover}
 use Rattle.sqlite.specs.declared.file.Leftover.TheVariants as left
 use Rattle.broker_database.specs.BrokerView.{BrokerView}
 use Rattle.broker_database.specs.Calls.{Opened}
-use Rattle.broker_database.specs.Life.{IsOpenedAfter}
+use Rattle.broker_database.specs.Life.{IsGivenBack, IsOpenedAfter}
+use Rattle.broker_program.specs.Cuts.{CutsVisits, IsBrokerless, IsNotReopened, OfStore, StaysShut}
 use Rattle.broker_program.specs.Files.{GivesUpAs}
+use Rattle.broker_program.specs.Refusals.{OpensNone}
 use Rattle.program_io.specs.Entrance.{AreVisited, Queue, Visit}
+use Rattle.program_io.specs.declared.fault.RunFault.{RunFault}
+use Rattle.program_io.specs.declared.fault.RunFault.TheVariants as run_fault
 use Rattle.broker_program.specs.Serving.{IsPeerOf, LosesFiles, LosesSync, OpensAfter, ServesPeers, ServesVisits}
 use Rattle.broker_program.specs.Serving.{StartsAfter, Work, visits_of}
 
@@ -46,6 +51,19 @@ module _ {D : Type 0} {g : Ghosts D} where
       HasCleanDisk (file_state broker.connection)
       → (conn : Held (FileStore D g)) × OpensAfter stopped conn × Opened file_state conn (Ok broker))
 
+  -- its file was given up and isn't opened again; or no broker is found in it
+  abbrev pub FindsNoneAgain : BrokerView (FileStore D g) → RunFault → Leftover D g → Type 0
+  FindsNoneAgain stopped (run_fault.Open fault) rest =
+      OfStore (λ store. IsClean (view store)
+      → (conn : Held (FileStore D g)) × (end : Held (FileStore D g)) × OpensAfter stopped conn × OpensNone conn end fault
+      × HasCleanDisk (file_state end) × IsGivenBack g end store) rest
+  FindsNoneAgain stopped _ rest = ⊥
+
+  abbrev pub FailsToReopen : BrokerView (FileStore D g) → RunFault → Leftover D g → Type 0
+  FailsToReopen stopped fault rest =
+      ((store : FileStore D g) × GivesUpAs stopped.connection store × StaysShut store fault rest)
+      ⊎ FindsNoneAgain stopped fault rest
+
   -- brokers in files that held this have served these peers, and this is the last of them as it is now
   pub record ServesSoFar (held : Image) (visits : List Visit) (now : BrokerView (FileStore D g)) : Type 0 where
     pub before : List Work
@@ -65,6 +83,17 @@ module _ {D : Type 0} {g : Ghosts D} where
   abbrev pub ServesOn : Image → List Visit → Option (BrokerView (FileStore D g)) → Type 0
   ServesOn held visits found = MatchOption found (LosesFiles g held visits) (HasServed held visits)
 
+  -- it doesn't, since they aren't opened again
+  abbrev pub ServesNoMore : Image → List Visit → RunFault → Leftover D g → Type 0
+  ServesNoMore held visits fault rest = IsNotReopened held visits fault rest ⊎ IsBrokerless held visits fault rest
+
+  -- if it has served these, it goes on, or not
+  abbrev pub KeepsServing : Image → BrokerView (FileStore D g)
+      → Result (Option (BrokerView (FileStore D g))) (RunFault × Leftover D g) → Type 0
+  KeepsServing held broker found =
+      (visits : List Visit) → HasServed held visits broker
+      → MatchResult found (ServesOn held visits) (λ failed. ServesNoMore held visits failed.0 failed.1)
+
 module _ {D : Type 0} (g : Ghosts D) where
   -- the peers that came in between were served by brokers, in whatever files
   pub record ServesBetween (old new : Queue) : Type 0 where
@@ -75,6 +104,11 @@ module _ {D : Type 0} (g : Ghosts D) where
   -- they were served over files that held this, and this is left of the files
   abbrev pub ServesAll : Image → Queue → Queue → Option (Files D) → Type 0
   ServesAll held old new found = (it : ServesBetween old new) × ServesVisits g held it.visits found
+
+  -- so they were, up to this fault
+  abbrev pub CutsAll : Image → Queue → Queue → RunFault → Leftover D g → Type 0
+  CutsAll held old new fault rest =
+      (it : ServesBetween old new) × CutsVisits held it.visits (length new.coming) fault (Some rest)
 
 module _ {D : Type 0} {g : Ghosts D} where
   -- they were served over such files by this broker as the last one

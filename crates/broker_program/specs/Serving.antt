@@ -1,6 +1,6 @@
 -- the connections that a broker in a file serves, one after another, over one opening after another (this project's
 -- own choice)
-use Rattle.std.specs.Prelude.{◌≡◌, ◌⊎◌, ℕ, ◌+◌, ◌<◌, false, List, [], ◌∷◌, ◌++◌, length, Contains, Option, None, Ok, Result, IsTrue}
+use Rattle.std.specs.Prelude.{◌≡◌, ◌⊎◌, ℕ, ◌+◌, false, List, [], ◌∷◌, ◌++◌, length, Contains, Option, Ok, Result, IsTrue}
 use Rattle.std.specs.Prelude.{◌&&◌, MatchOption}
 use Rattle.sqlite_disk.specs.declared.Disk.{Ghosts}
 use Rattle.sqlite_disk.specs.declared.Files.{Files}
@@ -94,10 +94,6 @@ module _ {D : Type 0} {g : Ghosts D} where
   -- For private clauses: the next peer is served, or it was lost.
   abbrev pub ServesNext : BrokerView (FileStore D g) → BrokerView (FileStore D g) → Queue → Queue → Type 0
   ServesNext s t old new = (IsLost old new × (t ≡ s)) ⊎ ((visit : Visit) × IsVisited old new visit × ServesPeer visit s t)
-
--- some connections were served, and the file was opened again
-abbrev pub ServedSome : {D : Type 0} → Service D → Type 0
-ServedSome service = (0 < service.served) × (service.files ≡ None)
 
 module _ {D : Type 0} (g : Ghosts D) where
   -- a broker served this peer

@@ -13,6 +13,7 @@ use broker_core::answer::{Answer as Outcome, Shown};
 use broker_core::command::{Command, Version};
 use broker_core::name::Token;
 use broker_service::Answer;
+use command_line::FilePath;
 use program_io::fault::RunFault;
 use program_io::forms::{name_of, token_of};
 use program_io::output::write_line;
@@ -63,7 +64,7 @@ type Answered<S> = (Answer, FileStore<FileFrom<S>>);
 /// What the broker in the file answers the caller with the token.
 fn answer_at<S: Start>(
     rt: &HostRuntime,
-    file: &str,
+    file: FilePath<'_>,
     token: &Token,
     command: &Command,
     start: S,
@@ -79,7 +80,7 @@ fn answer_at<S: Start>(
 /// The same of a question.
 fn answer_to<S: Start>(
     rt: &HostRuntime,
-    file: &str,
+    file: FilePath<'_>,
     question: Question<'_>,
     start: S,
 ) -> Result<Answered<S>, Failed<S>>
@@ -130,7 +131,7 @@ fn tell_answer<W: Write>(answer: Answer, output: &mut W) -> Result<bool, RunFaul
 /// doesn't say so is a fault. What is left of the file comes with it, if it was opened.
 pub(crate) fn ask<S: Start, W: Write>(
     rt: &HostRuntime,
-    file: &str,
+    file: FilePath<'_>,
     question: Question<'_>,
     start: S,
     output: &mut W,

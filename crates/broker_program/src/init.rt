@@ -11,6 +11,7 @@ use crate::files::{Failed, FileBroker, FileConnection, close, connect, give_up};
 use crate::left::Left;
 use broker_core::name::Token;
 use broker_service::Broker;
+use command_line::FilePath;
 use program_io::forms::token_of;
 use sqlite::{FileFrom, Files, Start};
 use sqlite_disk::Disk;
@@ -35,7 +36,7 @@ fn create<S: Start>(
 /// Makes the file of a new broker, whose office has the token.
 fn make<S: Start>(
     rt: &HostRuntime,
-    file: &str,
+    file: FilePath<'_>,
     office: &Token,
     start: S,
 ) -> Result<Files<FileFrom<S>>, Failed<S>>
@@ -44,13 +45,16 @@ fn make<S: Start>(
 {
     let connection = connect(rt, file, start)?;
     let broker = create(rt.alloc(), connection, office)?;
-    close(broker)
+    match close(broker) {
+        Ok(files) => Ok(files),
+        Err((fault, store)) => Err((fault, Left::GivenUp(store))),
+    }
 }
 
 /// Makes the file of a new broker, whose office has the token. A file that is there is taken if it has no table.
 pub(crate) fn init<S: Start>(
     rt: &HostRuntime,
-    file: &str,
+    file: FilePath<'_>,
     office_token: &str,
     start: S,
 ) -> Result<Files<FileFrom<S>>, Failed<S>>

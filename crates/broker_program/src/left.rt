@@ -11,8 +11,19 @@ pub struct Service<D: Disk> {
     pub served: u32,
     /// and how many were lost as they came in.
     pub lost: u32,
-    /// The files, closed: all of it is in the file itself. None if a sync of them failed, or `serve` did.
+    /// The files, closed: all of it is in the file itself. None if a sync of them failed.
     pub files: Option<Files<D>>,
+}
+
+/// Connections that were served over the broker in a file, up to a fault of it.
+#[derive(Drop)]
+pub struct CutService<D: Disk> {
+    /// How many were served,
+    pub served: u32,
+    /// and how many were lost as they came in.
+    pub lost: u32,
+    /// What is left of the file. None if a sync of it failed: then the fault is of the file that its path had afterwards.
+    pub rest: Option<Leftover<D>>,
 }
 
 /// What a command left of the file that it worked on.
@@ -30,6 +41,8 @@ pub enum Left<D: Disk> {
     GivenUp(FileStore<D>),
     /// It was served.
     Served(Service<D>),
+    /// It was served, up to a fault.
+    Cut(CutService<D>),
 }
 
 /// How a run of the program ended.

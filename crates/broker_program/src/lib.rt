@@ -14,7 +14,7 @@ mod routes;
 mod running;
 mod serve;
 
-pub use left::{Ended, Left, Processed, Service};
+pub use left::{CutService, Ended, Left, Processed, Service};
 pub use process::run_process;
 pub use running::run;
 pub use serve::serve_each;

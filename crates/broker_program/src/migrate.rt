@@ -7,6 +7,8 @@ ghost use Rattle.broker_program.specs.Reasons.{FailsToMigrate};
 ghost use Rattle.broker_program.specs.Refusals.{IsOfDatabase, MigratesNone};
 
 use crate::files::{Failed, FileConnection, connect_existing, disconnect, give_up};
+use crate::left::Left;
+use command_line::FilePath;
 use sqlite::{FileFrom, Files, Start};
 use sqlite_disk::Disk;
 
@@ -27,7 +29,7 @@ fn migrated<S: Start>(connection: FileConnection<S>) -> Result<FileConnection<S>
 /// it is.
 pub(crate) fn migrate<S: Start>(
     rt: &HostRuntime,
-    file: &str,
+    file: FilePath<'_>,
     start: S,
 ) -> Result<Files<FileFrom<S>>, Failed<S>>
     ensures ok { IfOk result (FileIsMigrated ⟦<FileFrom<S> as Disk>⟧ (image_at S.Start)) }
@@ -35,5 +37,8 @@ pub(crate) fn migrate<S: Start>(
 {
     let connection = connect_existing(rt, file, start)?;
     let connection = migrated(connection)?;
-    disconnect(connection)
+    match disconnect(connection) {
+        Ok(files) => Ok(files),
+        Err((fault, store)) => Err((fault, Left::GivenUp(store))),
+    }
 }

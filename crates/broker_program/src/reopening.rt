@@ -1,23 +1,26 @@
 //! Opening a broker's files again once it stopped.
-ghost use Rattle.std.specs.Prelude.{◌≡◌, List, false, Some, Ok, IfErr, IfOk, IfSome, IsTrue};
+ghost use Rattle.std.specs.Prelude.{◌≡◌, false, Some, Ok, IfErr, IfOk, IfSome, IsTrue};
 ghost use Rattle.sqlite.specs.WalFiles.{image_at};
-ghost use Rattle.program_io.specs.Entrance.{Visit};
 ghost use Rattle.program_io.specs.Reported.{IsFromOutside};
-ghost use Rattle.broker_program.specs.Reasons.{IsReopeningFault};
-ghost use Rattle.broker_program.specs.Reopening.{EmptiesLog, ServesOn, HasServed, OpensBrokerAgain};
+ghost use Rattle.broker_program.specs.Cuts.{StaysShut};
+ghost use Rattle.broker_program.specs.Refusals.{IsReopeningFault};
+ghost use Rattle.broker_program.specs.Reopening.{EmptiesLog, FailsToReopen, KeepsServing, OpensBrokerAgain};
 ghost use Rattle.broker_program.specs.Reopening.{OpensFilesAgain};
 
-use crate::files::{FileBroker, broker_of, fault_of, release};
+use crate::files::{FileBroker, broker_of, release, told_of};
 use program_io::fault::RunFault;
-use sqlite::{Connection, Error, ErrorCode, FileStore, Options, Start};
+use sqlite::{Connection, FileFrom, FileStore, Leftover, Options, Start};
 use sqlite_disk::Disk;
 use sqlite_trees::store::Store;
 use std::alloc::Global;
 use std::hash::{BuildHasher, RandomState};
 
+/// Why a broker's files aren't opened again, and what is left of them.
+pub(crate) type Refused<S> = (RunFault, Leftover<FileFrom<S>>);
+
 /// The options of a store, with a seed of its own. `File`: the system gives none.
 fn store_options(rt: &HostRuntime) -> Result<Options, RunFault>
-    ensures { IfErr result IsFromOutside }
+    ensures { IfErr result (λ fault. fault ≡ RunFault.File) }
 {
     match RandomState::new(rt) {
         Ok(state) => Ok(Options::new(state.hash_one(&0u8))),
@@ -44,14 +47,15 @@ fn empty_log<D: Disk + Drop>(store: FileStore<D>) -> (FileStore<D>, bool)
 }
 
 /// A connection over the files of a store that was given up. None if a sync of them failed: then nothing more may be
-/// asked of them. `File`: they can't be read or written.
+/// asked of them. `File`: they can't be read or written; what is left of them comes with it.
 fn connect_again<D: Disk + Drop>(
     alloc: Global,
     store: FileStore<D>,
     options: Options,
-) -> Result<Option<Connection<FileStore<D>>>, RunFault>
+) -> Result<Option<Connection<FileStore<D>>>, (RunFault, Leftover<D>)>
     ensures ok { IfOk result (OpensFilesAgain store) }
-    ensures cause { IfErr result IsFromOutside }
+    ensures shut { IfErr result (λ failed. StaysShut store failed.0 failed.1) }
+    ensures cause { IfErr result (λ failed. IsFromOutside failed.0) }
 {
     let (store, broke) = empty_log(store);
     let files = store.close();
@@ -59,12 +63,11 @@ fn connect_again<D: Disk + Drop>(
         return Ok(None);
     }
     if broke {
-        return Err(RunFault::File);
+        return Err((RunFault::File, Leftover::Files(files)));
     }
     match Connection::open_files_with(alloc, files, options, true) {
         Ok(connection) => Ok(Some(connection)),
-        Err((Error::SqliteFailure(ErrorCode::OutOfMemory), _)) => Err(RunFault::Memory),
-        Err(_) => Err(RunFault::File),
+        Err((error, rest)) => Err((told_of(&error), rest)),
     }
 }
 
@@ -72,21 +75,26 @@ fn connect_again<D: Disk + Drop>(
 fn reopen<S: Start>(
     rt: &HostRuntime,
     broker: FileBroker<S>,
-) -> Result<Option<FileBroker<S>>, RunFault>
+) -> Result<Option<FileBroker<S>>, Refused<S>>
     requires { IsTrue broker.is_stopped }
     ensures runs { IfOk result (λ found. IfSome found (λ b. b.is_stopped ≡ false)) }
     ensures again { IfOk result (OpensBrokerAgain broker) }
-    ensures cause { IfErr result IsReopeningFault }
+    ensures shut { IfErr result (λ failed. FailsToReopen broker failed.0 failed.1) }
+    ensures cause { IfErr result (λ failed. IsReopeningFault failed.0) }
 {
     // First, so that no broker is dropped where what follows fails.
     let store = release(broker);
-    let options = store_options(rt)?;
-    match connect_again(rt.alloc(), store, options)? {
-        Some(connection) => match broker_of(connection) {
+    let options = match store_options(rt) {
+        Ok(options) => options,
+        Err(fault) => return Err((fault, Leftover::Store(store))),
+    };
+    match connect_again(rt.alloc(), store, options) {
+        Ok(Some(connection)) => match broker_of(connection) {
             Ok(broker) => Ok(Some(broker)),
-            Err(failed) => Err(fault_of(failed)),
+            Err((fault, store)) => Err((RunFault::Open(fault), Leftover::Store(store))),
         },
-        None => Ok(None),
+        Ok(None) => Ok(None),
+        Err(failed) => Err(failed),
     }
 }
 
@@ -94,12 +102,11 @@ fn reopen<S: Start>(
 pub(crate) fn running<S: Start>(
     rt: &HostRuntime,
     broker: FileBroker<S>,
-) -> Result<Option<FileBroker<S>>, RunFault>
+) -> Result<Option<FileBroker<S>>, Refused<S>>
     ensures same { broker.is_stopped ≡ false → result ≡ Ok (Some broker) }
     ensures runs { IfOk result (λ found. IfSome found (λ b. b.is_stopped ≡ false)) }
-    ensures goes { (visits : List Visit) → HasServed (image_at S.Start) visits broker
-        → IfOk result (ServesOn (image_at S.Start) visits) }
-    ensures cause { IfErr result IsReopeningFault }
+    ensures goes { KeepsServing (image_at S.Start) broker result }
+    ensures cause { IfErr result (λ failed. IsReopeningFault failed.0) }
 {
     if broker.is_stopped() {
         reopen(rt, broker)

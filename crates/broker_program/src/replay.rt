@@ -4,7 +4,7 @@ ghost use Rattle.sqlite.specs.Held.{state};
 ghost use Rattle.sqlite.specs.Steps.{over_memory};
 ghost use Rattle.broker_core.specs.Name.{IsToken};
 ghost use Rattle.broker_http.specs.Serving.{IsInMode, RunsReadable};
-ghost use Rattle.broker_program.specs.Reasons.{EndsReplay, IsOpeningFault};
+ghost use Rattle.broker_program.specs.Reasons.{EndsReplay, IsUnmade};
 ghost use Rattle.broker_program.specs.Replays.{FailsToReplay, Replays, new_broker};
 
 use crate::routes::route_table;
@@ -23,7 +23,7 @@ fn new_broker(alloc: Global, office: &Token) -> Result<Broker<MemStore>, RunFaul
     ensures holds { IfOk result (IsInMode (state over_memory) (new_broker office.now)) }
     ensures unlimited { IfOk result (λ broker. broker.connection.step_limit ≡ None) }
     ensures readable { RunsReadable (new_broker office.now) }
-    ensures fails { IfErr result IsOpeningFault }
+    ensures fails { IfErr result IsUnmade }
 {
     readable_stays();
     match Connection::open_in_memory(alloc) {

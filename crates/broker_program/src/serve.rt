@@ -1,26 +1,27 @@
 //! Serving peers over the broker in a file.
-ghost use Rattle.std.specs.Prelude.{◌≡◌, ◌<◌, ◌≤◌, ◌⊎◌, length, false, None, IfErr, IfOk, IfSome, OnOk};
+ghost use Rattle.std.specs.Prelude.{◌≡◌, ◌<◌, length, is_none, false, None, Ok, Err, IfErr, IfOk, IfSome, MatchResult, OnOk};
 ghost use Rattle.sqlite.specs.WalFiles.{image_at};
 ghost use Rattle.program_io.specs.Entrance.{NoneIsIn, IsNewQueue};
 ghost use Rattle.program_io.specs.Listening.{ListensOn};
-ghost use Rattle.program_io.specs.Reported.{IsFromOutside};
+ghost use Rattle.broker_program.specs.Cuts.{CutsAfter, CutsService};
 ghost use Rattle.broker_program.specs.Files.{OpensBroker};
-ghost use Rattle.broker_program.specs.Reasons.{CutsService, FailsToServe, IsOpeningFault};
-ghost use Rattle.broker_program.specs.Reasons.{IsReopeningFault};
-ghost use Rattle.broker_program.specs.Reopening.{ServesAll, ServesBetween};
+ghost use Rattle.broker_program.specs.Reasons.{FailsToServe};
+ghost use Rattle.broker_program.specs.Refusals.{IsReopeningFault};
+ghost use Rattle.broker_program.specs.Reopening.{CutsAll, ServesAll, ServesBetween};
 ghost use Rattle.broker_program.specs.Serving.{ServesFile, ServesNext, ServesQueue};
 
 use crate::files::{Failed, FileBroker, close, fault_of, open_broker, release};
-use crate::left::{Left, Service};
-use crate::reopening::running;
+use crate::left::{CutService, Left, Service};
+use crate::reopening::{Refused, running};
 use crate::routes::route_table;
 use broker_http::RouteTable;
 use broker_http::patience::serve_peer;
+use command_line::FilePath;
 use http_messages::patience::LIMITS;
 use program_io::entrance::{Peers, Sockets};
 use program_io::fault::RunFault;
 use program_io::listening::listen_on;
-use sqlite::{FileFrom, Files, Start, Unknown};
+use sqlite::{FileFrom, Files, Leftover, Start, Unknown};
 use sqlite_disk::Disk;
 
 /// Serves the next peer, once it has come in, and lets it go. If that fails it ends, and nothing is reported.
@@ -52,43 +53,43 @@ fn serve_next<S: Start, P: Peers>(
 
 /// Serves the peers that are to come, one after the other, over the broker of the file, and closes it. If the broker
 /// stops, its files are opened again before the next peer. None if a sync of them failed: then some are still to come.
+/// If they aren't opened again or closed, what is left of them comes with the fault.
 fn serve_over<S: Start, P: Peers>(
     rt: &HostRuntime,
     routes: &RouteTable,
     broker: FileBroker<S>,
     peers: &mut P,
-) -> Result<Option<Files<FileFrom<S>>>, RunFault>
+) -> Result<Option<Files<FileFrom<S>>>, Refused<S>>
     requires runs { broker.is_stopped ≡ false }
     requires opened { OpensBroker (image_at S.Start) broker }
     requires idle { NoneIsIn (P.queue peers.old) }
     ensures done { IfOk result (λ found. IfSome found (λ _. length (P.queue peers.new).coming ≡ 0)) }
     ensures fewer { IfOk result (λ found. found ≡ None
         → length (P.queue peers.new).coming < length (P.queue peers.old).coming) }
-    ensures some { IfOk result (λ found. found ≡ None
-        → length (P.queue peers.old).went < length (P.queue peers.new).went) }
-    ensures grows { length (P.queue peers.old).went ≤ length (P.queue peers.new).went }
     ensures idle { NoneIsIn (P.queue peers.new) }
     ensures ok { IfOk result (ServesAll ⟦<FileFrom<S> as Disk>⟧ (image_at S.Start)
         (P.queue peers.old) (P.queue peers.new)) }
-    ensures cause { IfErr result (λ fault. IsFromOutside fault
-        ⊎ (IsOpeningFault fault × (length (P.queue peers.old).went < length (P.queue peers.new).went))) }
+    ensures cut { IfErr result (λ failed. CutsAll ⟦<FileFrom<S> as Disk>⟧ (image_at S.Start)
+        (P.queue peers.old) (P.queue peers.new) failed.0 failed.1) }
+    ensures cause { IfErr result (λ failed. IsReopeningFault failed.0) }
 {
     let mut broker = broker;
     while peers.left() > 0 {
-        broker = match running(rt, broker)? {
-            Some(broker) => broker,
-            None => return Ok(None),
+        broker = match running(rt, broker) {
+            Ok(Some(broker)) => broker,
+            Ok(None) => return Ok(None),
+            Err(failed) => return Err(failed),
         };
         serve_next(rt, routes, &mut broker, peers);
     }
     match close(broker) {
         Ok(files) => Ok(Some(files)),
-        Err(failed) => Err(fault_of(failed)),
+        Err((fault, store)) => Err((fault, Leftover::Store(store))),
     }
 }
 
 /// The broker in the file that has this path now.
-fn open_again(rt: &HostRuntime, file: &str) -> Result<FileBroker<Unknown>, RunFault>
+fn open_again(rt: &HostRuntime, file: FilePath<'_>) -> Result<FileBroker<Unknown>, RunFault>
     ensures runs { IfOk result (λ b. b.is_stopped ≡ false) }
     ensures opened { IfOk result (OpensBroker (image_at ⟦<Unknown as Start>⟧)) }
     ensures cause { IfErr result IsReopeningFault }
@@ -99,21 +100,32 @@ fn open_again(rt: &HostRuntime, file: &str) -> Result<FileBroker<Unknown>, RunFa
     }
 }
 
+/// Whether a sync of the files failed. What is left of them isn't looked at.
+fn is_lost<D: Disk + Drop>(
+    served: Result<Option<Files<D>>, (RunFault, Leftover<D>)>,
+) -> Result<bool, RunFault>
+    ensures { MatchResult served (λ found. result ≡ Ok (is_none found)) (λ failed. result ≡ Err failed.0) }
+{
+    match served {
+        Ok(found) => Ok(found.is_none()),
+        Err((fault, _)) => Err(fault),
+    }
+}
+
 /// Serves the peers that are to come over the file that has this path then.
 fn serve_again<P: Peers>(
     rt: &HostRuntime,
     routes: &RouteTable,
-    file: &str,
+    file: FilePath<'_>,
     peers: &mut P,
 ) -> Result<(), RunFault>
     requires idle { NoneIsIn (P.queue peers.old) }
     ensures done { OnOk result (length (P.queue peers.new).coming ≡ 0) }
-    ensures ok { OnOk result (ServesBetween ⟦<FileFrom<Unknown> as Disk>⟧ (P.queue peers.old) (P.queue peers.new)) }
-    ensures grows { length (P.queue peers.old).went ≤ length (P.queue peers.new).went }
+    ensures served { ServesBetween ⟦<FileFrom<Unknown> as Disk>⟧ (P.queue peers.old) (P.queue peers.new) }
     ensures cause { IfErr result IsReopeningFault }
 {
     let mut broker = open_again(rt, file)?;
-    while serve_over(rt, routes, broker, peers)?.is_none() {
+    while is_lost(serve_over(rt, routes, broker, peers))? {
         broker = open_again(rt, file)?;
     }
     Ok(())
@@ -124,23 +136,24 @@ fn serve_all<S: Start, P: Peers>(
     rt: &HostRuntime,
     routes: &RouteTable,
     broker: FileBroker<S>,
-    file: &str,
+    file: FilePath<'_>,
     peers: &mut P,
-) -> Result<Option<Files<FileFrom<S>>>, RunFault>
+) -> Result<Option<Files<FileFrom<S>>>, (RunFault, Option<Leftover<FileFrom<S>>>)>
     requires runs { broker.is_stopped ≡ false }
     requires opened { OpensBroker (image_at S.Start) broker }
     requires idle { NoneIsIn (P.queue peers.old) }
     ensures ok { IfOk result (ServesQueue ⟦<FileFrom<S> as Disk>⟧ ⟦<FileFrom<Unknown> as Disk>⟧ (image_at S.Start)
         (P.queue peers.old) (P.queue peers.new)) }
-    ensures cause { IfErr result (λ fault. IsFromOutside fault
-        ⊎ (IsOpeningFault fault × (length (P.queue peers.old).went < length (P.queue peers.new).went))) }
+    ensures cut { IfErr result (CutsAfter ⟦<FileFrom<S> as Disk>⟧ ⟦<FileFrom<Unknown> as Disk>⟧ (image_at S.Start)
+        (P.queue peers.old) (P.queue peers.new)) }
 {
-    match serve_over(rt, routes, broker, peers)? {
-        Some(files) => Ok(Some(files)),
-        None => match serve_again(rt, routes, file, peers) {
+    match serve_over(rt, routes, broker, peers) {
+        Ok(Some(files)) => Ok(Some(files)),
+        Ok(None) => match serve_again(rt, routes, file, peers) {
             Ok(()) => Ok(None),
-            Err(fault) => Err(fault),
+            Err(fault) => Err((fault, None)),
         },
+        Err((fault, rest)) => Err((fault, Some(rest))),
     }
 }
 
@@ -156,17 +169,30 @@ fn service_of<P: Peers, D: Disk>(peers: &P, files: Option<Files<D>>) -> Service<
     }
 }
 
+/// What was served up to a fault, and what is left of the files.
+fn cut_of<P: Peers, D: Disk>(peers: &P, rest: Option<Leftover<D>>) -> CutService<D>
+    ensures { (result.served ≡ length (P.queue peers.now).went) × (result.lost ≡ (P.queue peers.now).lost)
+        × (result.rest ≡ rest) }
+{
+    CutService {
+        served: peers.gone(),
+        lost: peers.lost(),
+        rest,
+    }
+}
+
 /// Serves the peers, one after the other, over the broker of the file that was opened, and closes it: what each sends is
 /// answered by what it takes, as the broker there answers it. If the broker stops, its files are opened again before the
 /// next peer; and once a sync of them failed, those of the path.
 ///
 /// How serving a peer failed isn't said: its connection is over then, and the next one comes in. If the files can't be
-/// opened again or closed, the fault is the reason (`File`, `Open`, `Memory`), and the other peers aren't served.
+/// opened again or closed, the fault is the reason (`File`, `Open`, `Memory`), and the other peers aren't served. What was
+/// served up to there comes with it, and what is left of the files (`Left::Cut`).
 pub fn serve_each<S: Start, P: Peers>(
     rt: &HostRuntime,
     routes: &RouteTable,
     broker: FileBroker<S>,
-    file: &str,
+    file: FilePath<'_>,
     peers: &mut P,
 ) -> Result<Service<FileFrom<S>>, Failed<S>>
     requires runs { broker.is_stopped ≡ false }
@@ -176,11 +202,12 @@ pub fn serve_each<S: Start, P: Peers>(
         (image_at S.Start) (P.queue peers.old) (P.queue peers.new) it.files) }
     ensures counts { IfOk result (λ service. (service.served ≡ length (P.queue peers.new).went)
         × (service.lost ≡ (P.queue peers.new).lost)) }
-    ensures cause { IfErr result (λ failed. CutsService failed.0 failed.1) }
+    ensures cut { IfErr result (CutsService ⟦<FileFrom<S> as Disk>⟧ ⟦<FileFrom<Unknown> as Disk>⟧ (image_at S.Start)
+        (P.queue peers.old) (P.queue peers.new)) }
 {
     match serve_all(rt, routes, broker, file, peers) {
         Ok(files) => Ok(service_of(peers, files)),
-        Err(fault) => Err((fault, Left::Served(service_of(peers, None)))),
+        Err((fault, rest)) => Err((fault, Left::Cut(cut_of(peers, rest)))),
     }
 }
 
@@ -188,14 +215,14 @@ pub fn serve_each<S: Start, P: Peers>(
 fn serve_at<S: Start>(
     rt: &HostRuntime,
     routes: &RouteTable,
-    file: &str,
+    file: FilePath<'_>,
     listen: &str,
     connections: u32,
     start: S,
 ) -> Result<Service<FileFrom<S>>, Failed<S>>
     ensures said { IfOk result (λ _. ListensOn listen.now) }
     ensures ok { IfOk result (ServesFile ⟦<FileFrom<S> as Disk>⟧ (image_at S.Start) connections) }
-    ensures cause { IfErr result (λ failed. FailsToServe (image_at S.Start) listen.now failed.0 failed.1) }
+    ensures cause { IfErr result (λ failed. FailsToServe (image_at S.Start) listen.now connections failed.0 failed.1) }
 {
     let broker = open_broker(rt, file, start)?;
     match listen_on(rt, listen, connections) {
@@ -207,14 +234,14 @@ fn serve_at<S: Start>(
 /// The same, with a table of routes.
 pub(crate) fn serve_file<S: Start>(
     rt: &HostRuntime,
-    file: &str,
+    file: FilePath<'_>,
     listen: &str,
     connections: u32,
     start: S,
 ) -> Result<Service<FileFrom<S>>, Failed<S>>
     ensures said { IfOk result (λ _. ListensOn listen.now) }
     ensures ok { IfOk result (ServesFile ⟦<FileFrom<S> as Disk>⟧ (image_at S.Start) connections) }
-    ensures cause { IfErr result (λ failed. FailsToServe (image_at S.Start) listen.now failed.0 failed.1) }
+    ensures cause { IfErr result (λ failed. FailsToServe (image_at S.Start) listen.now connections failed.0 failed.1) }
 {
     match route_table(rt.alloc()) {
         Ok(routes) => serve_at(rt, &routes, file, listen, connections, start),

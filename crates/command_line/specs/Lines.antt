@@ -15,6 +15,7 @@ use Rattle.command_line.specs.declared.descriptions.CommandOption.{CommandOption
 use Rattle.command_line.specs.declared.descriptions.CommandOption.TheVariants as options
 use Rattle.command_line.specs.declared.descriptions.CommandText.{CommandText}
 use Rattle.command_line.specs.declared.line.Line.{Line}
+use Rattle.command_line.specs.declared.path.FilePath.{FilePath}
 use Rattle.command_line.specs.declared.names.CommandName.{CommandName}
 use Rattle.command_line.specs.declared.names.CommandName.TheVariants as names
 use Rattle.command_line.specs.declared.line.Line.TheVariants.{CanIDeploy, Check, Init, Migrate, Normalise}
@@ -84,6 +85,10 @@ command_of (CanIDeploy file token pacticipant version environment) = can_i_deplo
 abbrev pub name_of : Line → Text
 name_of line = (command_of line).top.name
 
+-- the bytes of a path
+abbrev pub path_of : FilePath → Text
+path_of path = path.text.now
+
 -- the option has this text
 abbrev pub HasText : List Row → Text → Text → Type 0
 HasText rows name text = first_of name rows ≡ Some text
@@ -97,15 +102,15 @@ HasNumberOption rows name n =
 -- the options have the values of the line
 abbrev pub HasValues : List Row → Line → Type 0
 HasValues rows (Replay token) = HasText rows (codes "office-token") token.now
-HasValues rows (Init file token) = HasText rows (codes "file") file.now × HasText rows (codes "office-token") token.now
-HasValues rows (Migrate file) = HasText rows (codes "file") file.now
+HasValues rows (Init file token) = HasText rows (codes "file") (path_of file) × HasText rows (codes "office-token") token.now
+HasValues rows (Migrate file) = HasText rows (codes "file") (path_of file)
 HasValues rows (Serve file listen connections) =
-    HasText rows (codes "file") file.now × HasText rows (codes "listen") listen.now
+    HasText rows (codes "file") (path_of file) × HasText rows (codes "listen") listen.now
     × HasNumberOption rows (codes "connections") connections
 HasValues rows Normalise = ⊤
 HasValues rows (Check pact replies) = HasText rows (codes "pact") pact.now × HasText rows (codes "replies") replies.now
 HasValues rows (CanIDeploy file token pacticipant version environment) =
-    HasText rows (codes "file") file.now × HasText rows (codes "token") token.now
+    HasText rows (codes "file") (path_of file) × HasText rows (codes "token") token.now
     × HasText rows (codes "pacticipant") pacticipant.now × HasText rows (codes "version") version.now
     × HasText rows (codes "to-environment") environment.now
 

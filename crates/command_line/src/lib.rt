@@ -7,5 +7,7 @@ mod help;
 mod line;
 mod names;
 mod options;
+mod path;
 
 pub use line::{Line, read_line};
+pub use path::FilePath;

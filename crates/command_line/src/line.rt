@@ -7,6 +7,7 @@ ghost use Rattle.command_line.specs.Lines.{texts_of, unnamed_mistakes};
 use crate::commands::{command_named, program};
 use crate::names::{CommandName, named};
 use crate::options::line_in;
+use crate::path::FilePath;
 use clap::Error;
 use clap::error::ErrorKind;
 use std::alloc::{AllocError, Global};
@@ -22,19 +23,19 @@ pub enum Line<'a> {
     /// Makes the file of a new broker.
     Init {
         /// The file's path.
-        file: &'a str,
+        file: FilePath<'a>,
         /// The token of the office of the new broker.
         office_token: &'a str,
     },
     /// Makes today's database of a broker's file of format 1.
     Migrate {
         /// The file's path.
-        file: &'a str,
+        file: FilePath<'a>,
     },
     /// Serves connections over the broker in a file, one after the other.
     Serve {
         /// The file's path.
-        file: &'a str,
+        file: FilePath<'a>,
         /// An address of loopback, with its port.
         listen: &'a str,
         /// How many connections are served, from 1 to 1,000,000.
@@ -52,7 +53,7 @@ pub enum Line<'a> {
     /// Asks the broker in a file whether a version may be deployed.
     CanIDeploy {
         /// The file's path.
-        file: &'a str,
+        file: FilePath<'a>,
         /// The caller's token.
         token: &'a str,
         /// The pacticipant's name.

@@ -6,12 +6,13 @@ ghost use Rattle.command_line.specs.Lines.{can_i_deploy, check, init, migrate, n
 
 use crate::line::Line;
 use crate::names::CommandName;
+use crate::path::file_of;
 use clap::error::ErrorKind;
 use clap::{ArgMatches, Error};
 use std::alloc::AllocError;
 
 /// The text of an option.
-fn text_of<'a>(matches: &ArgMatches<'a>, name: &str) -> Option<&'a str>
+pub(crate) fn text_of<'a>(matches: &ArgMatches<'a>, name: &str) -> Option<&'a str>
     ensures { option_map (λ text. text.now) result ≡ first_of name.now (rows_of (found_of matches.now)) }
 {
     matches.get_str(name)
@@ -41,7 +42,7 @@ fn init_in<'a>(matches: &ArgMatches<'a>) -> Result<Line<'a>, Error>
     ensures ok { IfOk result (λ line. (command_of line ≡ init) × HasValues (rows_of (found_of matches.now)) line) }
     ensures err { IfErr result (λ e. kind_of e ≡ ErrorKind.OutOfMemory) }
 {
-    match (text_of(matches, "file"), text_of(matches, "office-token")) {
+    match (file_of(matches), text_of(matches, "office-token")) {
         (Some(file), Some(office_token)) => Ok(Line::Init { file, office_token }),
         _ => Err(Error::from(AllocError)),
     }
@@ -51,7 +52,7 @@ fn migrate_in<'a>(matches: &ArgMatches<'a>) -> Result<Line<'a>, Error>
     ensures ok { IfOk result (λ line. (command_of line ≡ migrate) × HasValues (rows_of (found_of matches.now)) line) }
     ensures err { IfErr result (λ e. kind_of e ≡ ErrorKind.OutOfMemory) }
 {
-    match text_of(matches, "file") {
+    match file_of(matches) {
         Some(file) => Ok(Line::Migrate { file }),
         None => Err(Error::from(AllocError)),
     }
@@ -62,7 +63,7 @@ fn serve_in<'a>(matches: &ArgMatches<'a>) -> Result<Line<'a>, Error>
     ensures err { IfErr result (λ e. kind_of e ≡ ErrorKind.OutOfMemory) }
 {
     match (
-        text_of(matches, "file"),
+        file_of(matches),
         text_of(matches, "listen"),
         number_of(matches, "connections"),
     ) {
@@ -91,7 +92,7 @@ fn can_i_deploy_in<'a>(matches: &ArgMatches<'a>) -> Result<Line<'a>, Error>
     ensures err { IfErr result (λ e. kind_of e ≡ ErrorKind.OutOfMemory) }
 {
     match (
-        text_of(matches, "file"),
+        file_of(matches),
         text_of(matches, "token"),
         text_of(matches, "pacticipant"),
         text_of(matches, "version"),

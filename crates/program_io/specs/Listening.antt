@@ -1,7 +1,7 @@
 -- where a broker listens (this project's own choice: an address of loopback, since it has no TLS), and who comes next
 use Rattle.std.specs.Prelude.{◌≡◌, ◌⊎◌, ◌≤◌, ℕ, Bool, List, [], ◌∷◌, length, position, Option, Some, None, unwrap_or}
 use Rattle.std.specs.Net.Addr.{MatchIp, IsLoopbackV4, IsLoopbackV6}
-use Rattle.std.specs.Net.Socket.{socket_ip}
+use Rattle.std.specs.Net.Socket.{socket_ip, socket_port}
 use Rattle.std.specs.Net.Grammar.{IsSocketText}
 use Rattle.std.specs.declared.net.socket_addr.SocketAddr.{SocketAddr}
 use Rattle.http_messages.specs.Limits.{head_limit}
@@ -18,6 +18,14 @@ IsLoopback text address = IsSocketText text address × IsOfLoopback address
 -- the text says such an address
 abbrev pub ListensOn : List ℕ → Type 0
 ListensOn text = (address : SocketAddr) × IsLoopback text address
+
+-- the port is the one that was asked for; port 0 asks for any
+abbrev pub HasPortOf : SocketAddr → SocketAddr → Type 0
+HasPortOf asked bound = (socket_port asked ≡ 0) ⊎ (socket_port bound ≡ socket_port asked)
+
+-- For private clauses: what the system listens on is as the text says.
+abbrev pub IsBoundAs : List ℕ → SocketAddr → Type 0
+IsBoundAs text bound = (asked : SocketAddr) × IsLoopback text asked × IsOfLoopback bound × HasPortOf asked bound
 
 -- A peer that has sent these bytes so far is ready to be served: nothing more comes from it, or a message is whole, or as
 -- much is there as a head may have.

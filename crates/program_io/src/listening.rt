@@ -1,6 +1,6 @@
 //! Where connections come in, an address of loopback, and which of them comes next.
-ghost use Rattle.std.specs.Prelude.{◌≡◌, ◌≢◌, ◌+◌, ◌<◌, ◌≤◌, true, false, length, position, IfErr, IfOk, IfSome, MatchOption};
-ghost use Rattle.program_io.specs.Listening.{IsLoopback, IsOfLoopback, IsReady, ListensOn, next_of};
+ghost use Rattle.std.specs.Prelude.{◌≡◌, ◌≢◌, ◌+◌, ◌<◌, ◌≤◌, true, false, length, position, IfErr, IfNone, IfOk, IfSome, MatchOption};
+ghost use Rattle.program_io.specs.Listening.{HasPortOf, IsBoundAs, IsLoopback, IsOfLoopback, IsReady, ListensOn, next_of};
 
 use crate::fault::RunFault;
 use http_messages::messages::HEAD_LIMIT;
@@ -183,7 +183,8 @@ impl Connections {
 
 /// The address, if it is one of loopback.
 fn if_loopback(address: SocketAddr) -> Option<SocketAddr>
-    ensures { IfSome result (λ found. (found ≡ address) × IsOfLoopback found) }
+    ensures some { IfSome result (λ found. (found ≡ address) × IsOfLoopback found) }
+    ensures none { IfNone result (¬ (IsOfLoopback address)) }
 {
     if address.ip().is_loopback() {
         Some(address)
@@ -194,22 +195,37 @@ fn if_loopback(address: SocketAddr) -> Option<SocketAddr>
 
 /// The address that the text says, if it is one of loopback.
 fn loopback_of(listen: &str) -> Option<SocketAddr>
-    ensures { IfSome result (IsLoopback listen.now) }
+    ensures some { IfSome result (IsLoopback listen.now) }
+    ensures none { IfNone result (¬ (ListensOn listen.now)) }
 {
-    if_loopback(listen.parse::<SocketAddr>().ok()?)
+    match listen.parse::<SocketAddr>() {
+        Ok(address) => if_loopback(address),
+        Err(_) => None,
+    }
 }
 
-/// The address on which the system says that this listens, if it is one of loopback.
-fn bound_to(listener: &TcpListener) -> Option<SocketAddr>
-    ensures { IfSome result IsOfLoopback }
+/// The address, if it is one of loopback with the port that was asked for. Port 0 asks for any.
+fn if_asked(found: SocketAddr, asked: SocketAddr) -> Option<SocketAddr>
+    ensures { IfSome result (λ bound. IsOfLoopback bound × HasPortOf asked bound) }
 {
-    if_loopback(listener.local_addr().ok()?)
+    let bound = if_loopback(found)?;
+    if asked.port() == 0 || bound.port() == asked.port() {
+        Some(bound)
+    } else {
+        None
+    }
+}
+
+/// The address on which the system says that this listens, if it is the one that was asked for.
+fn bound_to(listener: &TcpListener, asked: SocketAddr) -> Option<SocketAddr>
+    ensures { IfSome result (λ bound. IsOfLoopback bound × HasPortOf asked bound) }
+{
+    if_asked(listener.local_addr().ok()?, asked)
 }
 
 /// A listener on the address of loopback that the text says, and that address as the system says it.
 fn listener_on(rt: &HostRuntime, listen: &str) -> Result<(TcpListener, SocketAddr), RunFault>
-    ensures said { IfOk result (λ _. ListensOn listen.now) }
-    ensures bound { IfOk result (λ found. IsOfLoopback found.1) }
+    ensures bound { IfOk result (λ found. IsBoundAs listen.now found.1) }
     ensures cause { IfErr result (λ fault. fault ≡ RunFault.Listen) }
 {
     let Some(address) = loopback_of(listen) else {
@@ -218,7 +234,7 @@ fn listener_on(rt: &HostRuntime, listen: &str) -> Result<(TcpListener, SocketAdd
     let Ok(listener) = TcpListener::bind(rt, address) else {
         return Err(RunFault::Listen);
     };
-    match bound_to(&listener) {
+    match bound_to(&listener, address) {
         Some(bound) => Ok((listener, bound)),
         None => Err(RunFault::Listen),
     }

@@ -1,4 +1,4 @@
-use Rattle.std.proofs.Common.{◌≡◌, Bool, ℕ, List, [], ◌∷◌, Option, None, Some, Result, Ok, Err, IfErr, IfOk, IfSome, ap₂, cond, true, false, inl, inr, refl, subst}
+use Rattle.std.proofs.Common.{◌≡◌, Bool, ℕ, List, [], ◌∷◌, Option, None, Some, Result, Ok, Err, IfOk, IfSome, ap₂, cond, true, false, inl, inr, refl, subst}
 use Rattle.std.proofs.lemmas.Result.{IfErr-weaker}
 use Rattle.sqlite_disk.specs.{Events.{Event, replay, settled}, History.{MayLeave}}
 use Rattle.sqlite.specs.{Recovery.{Image}, WalFiles.{image_at}, declared.error.Error.{Error}, declared.error.Error.TheVariants.{SqliteFailure}}

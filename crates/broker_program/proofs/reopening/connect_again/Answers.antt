@@ -1,4 +1,4 @@
-use Rattle.std.proofs.{Common.{◌≡◌, ◌&&◌, false, subst, sym, ◌∙◌}, lemmas.Bool.{and_parts}}
+use Rattle.std.proofs.{Common.{◌≡◌, ◌&&◌, false, inl, inr, refl, subst, sym, ◌∙◌}, lemmas.Bool.{and_parts}}
 use Rattle.broker_program.{specs.Reopening.{EmptiesLog}, proofs.ReopeningLemmas.{opened_after}}
 use Rattle.broker_program.proofs.reopening.connect_again.Goals as goal
 
@@ -13,6 +13,21 @@ returns-then-not-may_be_used-clause-ok g c =
     let D = g.row.D.Denot in
     let failed = subst (λ (p : D × D). (g.D.Disk.is_usable p.0 && g.D.Disk.is_usable p.1) ≡ false) c.close-files.ensures (sym c.may_be_used.ensures ∙ c.if-not-may_be_used.true) in
     (c.empty_log-store.result.0, c.empty_log-store.ensures.quiet, failed)
+
+pub returns-then-broke-clause-shut : goal.returns-then-broke-clause-shut
+returns-then-broke-clause-shut g c =
+    (c.empty_log-store.result.0, c.empty_log-store.ensures.quiet, inl (refl, c.close-files.ensures))
+
+pub returns-in-Err-clause-shut : goal.returns-in-Err-clause-shut
+returns-in-Err-clause-shut g c = (
+  c.empty_log-store.result.0,
+  c.empty_log-store.ensures.quiet,
+  inr (
+    c.close-files.result,
+    c.close-files.ensures,
+    record { error = _; told = c.told_of.ensures.same; cause = c.in-Err.ensures.cause; left = c.in-Err.ensures.unharmed },
+  ),
+)
 
 pub returns-in-Ok-clause-ok : goal.returns-in-Ok-clause-ok
 returns-in-Ok-clause-ok g c clean =

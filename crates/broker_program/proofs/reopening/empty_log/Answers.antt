@@ -1,10 +1,11 @@
-use Rattle.std.proofs.Common.{inl, refl, sym, ◌∙◌, arith}
+use Rattle.std.proofs.Common.{refl, sym, ◌∙◌}
 use Rattle.sqlite_store.specs.Laws.{not_broken}
+use Rattle.broker_program.proofs.ReopeningLemmas.{quiet_itself}
 use Rattle.broker_program.proofs.reopening.empty_log.Goals as goal
 
 pub returns-then-is_broken : goal.returns-then-is_broken
 returns-then-is_broken g c = record {
-  quiet = record { shield = λ s. s; clean = omega arith; counts = omega arith; closes = λ _ still. inl still; outcomes = λ _ r. r };
+  quiet = quiet_itself _;
   same = λ _ _. refl;
 }
 

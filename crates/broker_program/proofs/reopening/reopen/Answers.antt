@@ -1,15 +1,26 @@
-use Rattle.std.proofs.Common.{subst, arith}
+use Rattle.std.proofs.Common.{inl, inr, subst, arith}
 use Rattle.sqlite.specs.{State.{HasCleanDisk}, Files.{file_state}}
-use Rattle.broker_program.{specs.Reopening.{OpensFilesAgain}, proofs.ReopeningLemmas.{opens_after}}
+use Rattle.broker_program.{specs.Reopening.{OpensFilesAgain}, proofs.ReopeningLemmas.{none_again, opens_after, untouched}}
 use Rattle.broker_program.proofs.reopening.reopen.Goals as goal
 
-pub returns-in-Ok-clause-again : goal.returns-in-Ok-clause-again
-returns-in-Ok-clause-again g c clean =
-    let conn = c.in-Some.connection in
-    let early : HasCleanDisk (file_state conn) = omega (arith, clean, c.in-Ok.ensures.opened.survives.clean) in
-    let again = subst (λ found. OpensFilesAgain c.release-store.result found) c.in-Some.is c.in_ok-connection.ensures.ok early in
-    (conn, opens_after c.args.broker c.release-store.result again.0 conn c.requires c.release-store.ensures again.1 again.2 again.3, c.in-Ok.ensures.opened)
+pub returns-in-Ok-broker_of-clause-again : goal.returns-in-Ok-broker_of-clause-again
+returns-in-Ok-broker_of-clause-again g c clean =
+    let conn = c.in-Ok-Some.connection in
+    let early : HasCleanDisk (file_state conn) = omega (arith, clean, c.in-Ok-broker_of.ensures.opened.survives.clean) in
+    let again = subst (λ found. OpensFilesAgain c.release-store.result found) c.in-Ok-Some.field-0-is c.in-Ok-Some.ensures.ok early in
+    (conn, opens_after c.args.broker c.release-store.result again.0 conn c.requires c.release-store.ensures again.1 again.2 again.3, c.in-Ok-broker_of.ensures.opened)
 
-pub returns-in-None-clause-again : goal.returns-in-None-clause-again
-returns-in-None-clause-again g c =
-    (c.release-store.result, subst (λ found. OpensFilesAgain c.release-store.result found) c.in-None.is c.in_ok-connection.ensures.ok, c.release-store.ensures)
+pub returns-in-Err-broker_of-clause-shut : goal.returns-in-Err-broker_of-clause-shut
+returns-in-Err-broker_of-clause-shut g c =
+    inr (none_again c.args.broker c.release-store.result c.in-Ok-Some.connection _ _ c.requires c.release-store.ensures
+    (subst (λ found. OpensFilesAgain c.release-store.result found) c.in-Ok-Some.field-0-is c.in-Ok-Some.ensures.ok) c.in-Err-broker_of.ensures.refused)
+
+pub returns-in-Err-clause-shut : goal.returns-in-Err-clause-shut
+returns-in-Err-clause-shut g c = inl (c.release-store.result, c.release-store.ensures, rw c.in-Err.ensures (untouched c.release-store.result))
+
+pub returns-in-Err-connect_again-clause-shut : goal.returns-in-Err-connect_again-clause-shut
+returns-in-Err-connect_again-clause-shut g c = inl (c.release-store.result, c.release-store.ensures, c.in-Err-connect_again.ensures.shut)
+
+pub returns-in-Ok-None-clause-again : goal.returns-in-Ok-None-clause-again
+returns-in-Ok-None-clause-again g c =
+    (c.release-store.result, subst (λ found. OpensFilesAgain c.release-store.result found) c.in-Ok-None.field-0-is c.in-Ok-None.ensures.ok, c.release-store.ensures)

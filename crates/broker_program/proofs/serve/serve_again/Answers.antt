@@ -1,22 +1,36 @@
-use Rattle.std.proofs.Common.{arith}
-use Rattle.broker_program.proofs.{ResultLemmas.{none_if}, ServingLemmas.{between_then, none_between}}
+use Rattle.std.proofs.Common.{Ok, ap}
+use Rattle.broker_program.proofs.{ResultLemmas.{left_none, left_some}, ServingLemmas.{any_between, between_then, none_between}}
 use Rattle.broker_program.proofs.serve.serve_again.Goals as goal
 
-pub loop-broker-init : goal.loop-broker-init
-loop-broker-init g c = (c.requires.idle, omega arith, c.in_ok-broker.ensures.runs, c.in_ok-broker.ensures.opened, none_between _ _)
+pub loop-file-init : goal.loop-file-init
+loop-file-init g c = (c.requires.idle, c.in_ok-broker.ensures.runs, c.in_ok-broker.ensures.opened, none_between _ _)
 
-pub loop-broker-smaller : goal.loop-broker-smaller
-loop-broker-smaller g c = c.in_ok-serve_over.ensures.fewer (none_if _ _ c.is_none.ensures c.if-is_none.true)
-
-pub loop-broker-preserved : goal.loop-broker-preserved
-loop-broker-preserved g c =
-    let it = c.loop-broker.invariant in (
+pub loop-file-preserved : goal.loop-file-preserved
+loop-file-preserved g c =
+    let it = c.loop-file.invariant in (
       c.serve_over.ensures.idle,
-      omega (arith, it.1, c.serve_over.ensures.grows),
       c.in_ok-broker-2.ensures.runs,
       c.in_ok-broker-2.ensures.opened,
-      between_then _ _ _ _ it.4 c.in_ok-serve_over.ensures.ok.0,
+      between_then _ _ _ _ it.3 (any_between _ _ _ _ c.serve_over.ensures.ok c.serve_over.ensures.cut),
     )
 
-pub returns-clause-ok : goal.returns-clause-ok
-returns-clause-ok g c = between_then _ _ _ _ c.loop-broker.invariant.4 c.in_ok-serve_over.ensures.ok.0
+pub loop-file-smaller : goal.loop-file-smaller
+loop-file-smaller g c = left_none (λ failed. failed.0) _ c.serve_over.result c.in_ok-is_lost.ensures (ap Ok c.if-branch.true) c.serve_over.ensures.fewer
+
+pub returns-in_err-broker-clause-served : goal.returns-in_err-broker-clause-served
+returns-in_err-broker-clause-served g c = none_between _ _
+
+pub returns-in_err-is_lost-clause-served : goal.returns-in_err-is_lost-clause-served
+returns-in_err-is_lost-clause-served g c =
+    between_then _ _ _ _ c.loop-file.invariant.3 (any_between _ _ _ _ c.serve_over.ensures.ok c.serve_over.ensures.cut)
+
+pub returns-in_err-broker-2-clause-served : goal.returns-in_err-broker-2-clause-served
+returns-in_err-broker-2-clause-served g c =
+    between_then _ _ _ _ c.loop-file.invariant.3 (any_between _ _ _ _ c.serve_over.ensures.ok c.serve_over.ensures.cut)
+
+pub returns-clause-served : goal.returns-clause-served
+returns-clause-served g c =
+    between_then _ _ _ _ c.loop-file.invariant.3 (any_between _ _ _ _ c.serve_over.ensures.ok c.serve_over.ensures.cut)
+
+pub returns-clause-done : goal.returns-clause-done
+returns-clause-done g c = left_some (λ failed. failed.0) _ c.serve_over.result c.in_ok-is_lost.ensures (ap Ok c.if-branch.false) c.serve_over.ensures.done

@@ -1,14 +1,14 @@
-use Rattle.std.proofs.Common.{◌<◌, inl, inr, length, arith}
-use Rattle.broker_program.proofs.ServingLemmas.{lost_later, queue_served}
+use Rattle.broker_program.proofs.ServingLemmas.{cut_before, cut_later, lost_later, queue_served}
 use Rattle.broker_program.proofs.serve.serve_all.Goals as goal
 
-pub returns-in-Some-clause-ok : goal.returns-in-Some-clause-ok
-returns-in-Some-clause-ok g c = queue_served _ _ _ _ _ _ c.in-Some.files c.in-Some.is c.in_ok-files.ensures.done c.in_ok-files.ensures.ok
+pub returns-in-Ok-Some-clause-ok : goal.returns-in-Ok-Some-clause-ok
+returns-in-Ok-Some-clause-ok g c = queue_served _ _ _ _ _ _ c.in-Ok-Some.files c.in-Ok-Some.field-0-is c.in-Ok-Some.ensures.done c.in-Ok-Some.ensures.ok
 
 pub returns-in-Ok-clause-ok : goal.returns-in-Ok-clause-ok
-returns-in-Ok-clause-ok g c = lost_later _ _ _ _ _ _ _ c.in-None.is c.in-Ok.ensures.done c.in_ok-files.ensures.ok c.in-Ok.ensures.ok
+returns-in-Ok-clause-ok g c = lost_later _ _ _ _ _ _ _ c.in-Ok-None.field-0-is c.in-Ok.ensures.done c.in-Ok-None.ensures.ok c.serve_again.ensures.served
 
-pub returns-in-Err-clause-cause : goal.returns-in-Err-clause-cause
-returns-in-Err-clause-cause g c =
-    let some : length (g.P.Peers.queue c.args.peers.now).went < length (g.P.Peers.queue c.serve_over.new.peers).went = c.in_ok-files.ensures.some c.in-None.is in
-    elim c.in-Err.ensures.cause [ inl outside ↦ inl outside | inr again ↦ inr (again, omega (arith, some, c.serve_again.ensures.grows)) ]
+pub returns-in-Err-serve_again-clause-cut : goal.returns-in-Err-serve_again-clause-cut
+returns-in-Err-serve_again-clause-cut g c = cut_later _ _ _ _ _ _ _ _ c.in-Ok-None.field-0-is c.in-Err-serve_again.ensures.cause c.in-Ok-None.ensures.ok c.serve_again.ensures.served
+
+pub returns-in-Err-clause-cut : goal.returns-in-Err-clause-cut
+returns-in-Err-clause-cut g c = cut_before _ _ _ _ _ _ _ c.in-Err.ensures.cut

@@ -1,5 +1,6 @@
 use Rattle.std.proofs.{Common.{◌∙◌, inl, inr}, lemmas.Result.{IfErr-weaker}}
-use Rattle.broker_program.proofs.{ResultLemmas.{if_ok, ok_with}, ServingLemmas.{file_served, unserved}, VisitLemmas.{new_count, new_queue}}
+use Rattle.broker_program.proofs.{RefusalLemmas.{cut_weaker}, ResultLemmas.{if_ok, ok_with}, ServingLemmas.{file_cut, file_served, unserved}}
+use Rattle.broker_program.proofs.VisitLemmas.{new_count, new_queue}
 use Rattle.broker_program.proofs.serve.serve_at.Goals as goal
 
 pub returns-in-Ok-clause-said : goal.returns-in-Ok-clause-said
@@ -15,7 +16,8 @@ returns-in-Ok-clause-ok g c =
 
 pub returns-in-Ok-clause-cause : goal.returns-in-Ok-clause-cause
 returns-in-Ok-clause-cause g c =
-    IfErr-weaker c.serve_each.result _ _ (λ failed cuts. inr (inr (c.in-Ok.ensures.said, cuts))) c.serve_each.ensures.cause
+    let first = new_count _ _ _ _ _ c.new.ensures c.in-Ok.ensures.count.1 (c.in-Ok.connections.counted ∙ c.in-Ok.ensures.count.0) in
+    IfErr-weaker c.serve_each.result _ _ (λ failed cuts. inr (inr (c.in-Ok.ensures.said, cut_weaker _ _ failed.1 (λ service. file_cut _ _ _ _ _ _ failed.0 service first) cuts))) c.serve_each.ensures.cut
 
 pub returns-in-Err-clause-cause : goal.returns-in-Err-clause-cause
 returns-in-Err-clause-cause g c =

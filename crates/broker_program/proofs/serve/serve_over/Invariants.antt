@@ -13,6 +13,6 @@ abbrev pub invariant-loop-broker : goal.invariant-loop-broker
 invariant-loop-broker g l =
     let old = g.P.Peers.queue l.fn.peers in
     let now = g.P.Peers.queue l.peers in
-    NoneIsIn now × (length old.went ≤ length now.went)
+    NoneIsIn now
     × ((l.broker.is_stopped ≡ false) ⊎ ((length old.went < length now.went) × (length now.coming < length old.coming)))
     × (length now.coming ≤ length old.coming) × ServesMore (image_at g.S.Start) old now l.broker
