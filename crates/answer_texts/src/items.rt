@@ -8,8 +8,8 @@ ghost use Rattle.answer_texts.specs.Tokens.{tokens_of, Adds};
 use crate::writing::{ToJson, write_object};
 use broker_core::answer::{DeployedItem, MatrixRow, Verified};
 use broker_core::command::Version;
-use broker_core::name::Name;
 use broker_core::need::PairFault;
+use broker_names::name::Name;
 use json::Writer;
 use std::alloc::AllocError;
 

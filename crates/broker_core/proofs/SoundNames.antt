@@ -3,12 +3,13 @@ use Rattle.std.specs.Prelude.{Option, Some, None, IfSome, Contains}
 use Rattle.std.proofs.{Common.{◌≡◌, ℕ, ◌∷◌, [], ◌++◌, List, sym, subst, inl, inr, refl, Bool, true, false, if◌then◌else◌, IsTrue}, lemmas.Bool.{false≢true}}
 use Rattle.std.proofs.lemmas.List.Elements.{Contains-push_cases}
 use Rattle.broker_core.specs.SoundNames.{IsDigest, VersionHasNames, IsInstance, HasSoundNames, AreNames, GivesDigests, NamesBegin, NamesStay, NamesStayInRuns}
-use Rattle.broker_core.specs.{declared.command.Command.{Command}, declared.command.Version.{Version}, declared.command.Marks.{Marks}, Name.{IsName}}
+use Rattle.broker_core.specs.{declared.command.Command.{Command}, declared.command.Version.{Version}, declared.command.Marks.{Marks}}
 use Rattle.broker_core.specs.{Text.{Text, same_text, same_pair, same_place}, State.{State, Verification}, Request.{is_known, consumer_version}}
 use Rattle.broker_core.specs.{Change.{content_number, instance_of}, Machine.{Primitives}}
 use Rattle.broker_core.proofs.Effects.Change.{team, pacticipant, environment, grant, end_of_grant, named_version, contract, claim, check, deployment, end_of_deployment, release, end_of_support}
 use Rattle.broker_core.proofs.{Lists.{some_is, none_some, contains_none}, Judgement.{and_both, text_is, contract_is, mark_is, place_is, at_key}}
 use Rattle.broker_core.proofs.{Effects.{Change, effect_of, versions_with, branches_with, contents_with, with_result}, Effects.Effect.{told, changed}}
+use Rattle.broker_names.specs.Name.{IsName}
 
 pair_is : (x y : Text × Text) → same_pair same_text same_text x y ≡ true → x ≡ y
 pair_is x y e = let both = and_both _ _ e in λ i. (text_is x.0 y.0 both.0 i, text_is x.1 y.1 both.1 i)

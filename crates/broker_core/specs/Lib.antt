@@ -1,4 +1,3 @@
-pub mod Name
 pub mod Limit
 pub mod Text
 pub mod State

@@ -10,7 +10,7 @@ use Rattle.broker_core.specs.declared.command.Report.{Report}
 use Rattle.broker_core.specs.declared.command.Version.{Version}
 use Rattle.broker_core.specs.Change.{Transition}
 use Rattle.broker_core.specs.Machine.{Primitives, Request, Run, Step}
-use Rattle.broker_core.specs.Name.{IsName, IsToken}
+use Rattle.broker_names.specs.Name.{IsName, IsToken}
 use Rattle.broker_core.specs.State.{State, Verification, opening}
 use Rattle.broker_core.specs.Text.{Text}
 

@@ -2,9 +2,9 @@
 ghost use Rattle.std.specs.Prelude.{◌≡◌};
 
 use crate::command::{FormFault, Marks, Version};
-use crate::name::{Name, Text};
 use crate::need::{Latest, PairFault};
 use crate::policy::Rule;
+use broker_names::name::{Name, Text};
 use std::fmt;
 use std::marker::Model;
 

@@ -1,10 +1,10 @@
 //! Commands: one variant a route, and one for what couldn't be read.
 ghost use Rattle.std.specs.Prelude.{◌≡◌, IfOk, IfSome, IsOk, None};
-ghost use Rattle.broker_core.specs.Name.{IsName};
+ghost use Rattle.broker_names.specs.Name.{IsName};
 ghost use Rattle.broker_core.specs.Words.{named_in};
 ghost use Rattle.broker_core.specs.SoundNames.{AreNames, AreNamesOfPath, AreNamesOfReport, VersionHasNames};
 
-use crate::name::{Body, Name, Text, Token};
+use broker_names::name::{Body, Name, Text, Token};
 use std::alloc::AllocError;
 use std::fmt;
 use std::marker::Model;

@@ -1,4 +1,4 @@
-//! The broker's language: names, tokens, commands, answers, the policy and the gate's judgement.
+//! The broker's language: commands, answers, the policy and the gate's judgement.
 #![tactic(auto)]
 
 pub mod answer;
@@ -6,7 +6,6 @@ pub mod command;
 pub mod gate;
 pub mod laws;
 pub mod limit;
-pub mod name;
 pub mod need;
 pub mod policy;
 

@@ -6,7 +6,7 @@ ghost use Rattle.std.specs.Cmp.{partial_order_from_own_ties};
 ghost use Rattle.std.specs.Cmp.Rules.{comparing};
 ghost use Rattle.std.specs.Ordering.{nat_cmp, on, as_partial_cmp};
 
-use crate::name::Name;
+use broker_names::name::Name;
 use std::alloc::{AllocError, Global};
 use std::cmp::Ordering;
 use std::fmt;

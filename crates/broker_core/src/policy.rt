@@ -2,7 +2,7 @@
 ghost use Rattle.std.specs.Prelude.{◌≡◌, if◌then◌else◌};
 ghost use Rattle.broker_core.specs.Policy.{allows};
 
-use crate::name::Name;
+use broker_names::name::Name;
 use std::fmt;
 
 /// Who sent a command, known by the digest of its token.

@@ -19,7 +19,7 @@ ghost use Rattle.broker_database.specs.Opening.{MakesRest, MakesOrFails, OnlyIfU
 ghost use Rattle.broker_database.specs.Transaction.{told};
 
 use crate::ending::{Failure, conclude, undo};
-use broker_core::name::Token;
+use broker_names::name::Token;
 use caller_facts::callers::digest_of;
 use registry_tables::{format_of, is_blank, make_strict_environments};
 use sqlite::{Alter, Connection};

@@ -3,7 +3,8 @@ use Rattle.std.specs.{Fmt.{digits}, Prelude.{codes, length, Result as Outcome, O
 use Rattle.std.proofs.{Common.{◌≡◌, ap, sym, [], ◌∷◌, true, refl, inl, inr, if◌then◌else◌}, lemmas.Str.{is_utf8-from_IsUtf8}}
 use Rattle.serde_json.specs.{Data.{Data, string, number, unsigned, array, object, item, no_items, member, no_members}, Read.{read}, Find.{as_object}}
 use Rattle.serde_json.proofs.OnLiterals.{serde_json_on_literals}
-use Rattle.broker_core.specs.{Name.{is_name}, Text.{Text}, Machine.Reading.{IsPact}}
+use Rattle.broker_names.specs.Name.{is_name}
+use Rattle.broker_core.specs.{Text.{Text}, Machine.Reading.{IsPact}}
 use Rattle.pact_file.specs.File.{most_bytes, as_file_fault, file_of, side_of, sides_of, items_of, is_version_3, has_no_messages}
 use Rattle.pact_file.specs.{Objects.{json_of, object_of, tree_or_fault, with_fault}, Interactions.{parts_at}}
 use Rattle.pact_file.specs.{Parts.{states_in, all_of, status_in, headers_found}, Headers.{HasHeaders}, Rules.{RulesRead}, Pact.{Pact, Interaction, normal_text}}

@@ -4,8 +4,8 @@ use Rattle.std.proofs.lemmas.List.Sums.{AllPass-from_list_all}
 use Rattle.serde_json.{specs.{Data.{Data, string, boolean, object, member, no_members}, Read.{read}}, proofs.OnLiterals.{serde_json_on_literals}}
 use Rattle.httparse.proofs.OnLiterals.{httparse_on_literals}
 use Rattle.percent_encoding.{specs.Percent.{percent_decode}, proofs.OnLiterals.{percent_encoding_on_literals}}
-use Rattle.broker_core.specs.{Name.{is_name, is_token_byte as is_callers_byte}, Text.{Text, version}, declared.command.Marks.{Marks}}
-use Rattle.broker_core.specs.{declared.command.PactPath.{PactPath}, declared.command.Report.{Report}}
+use Rattle.broker_names.specs.Name.{is_name, is_token_byte as is_callers_byte}
+use Rattle.broker_core.specs.{Text.{Text, version}, declared.command.Marks.{Marks}, declared.command.PactPath.{PactPath}, declared.command.Report.{Report}}
 use Rattle.broker_core.specs.declared.command.Command.TheVariants.{PutTeam, PutPacticipant, PutEnvironment, PutGrant, PutVersion, PutPact, PostResult, Deploy}
 use Rattle.http_messages.specs.{Fields.{same_name}, Heads.{judge, body_length, served_method}}
 use Rattle.http_routes.specs.Routes.{fits, is_on, resource_of, segment}

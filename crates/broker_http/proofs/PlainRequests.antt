@@ -7,8 +7,9 @@ use Rattle.std.proofs.{lemmas.Str.{IsUtf8-from_ascii}, lemmas.Str.Ascii.{IsAscii
 use Rattle.httparse.specs.Grammar.{RequestHead, IsRequestHead, Field, IsField, crlf, is_token_byte, is_value_byte, is_uri_byte, print_request}
 use Rattle.percent_encoding.specs.Percent.{percent_decode}
 use Rattle.serde_json.specs.{Data.{Data}, Find.{get, as_str}}
-use Rattle.broker_core.specs.{Name.{IsName, is_token_byte as is_callers_byte}, Text.{Text}, State.{State as Broker}, Laws.{TeamsDiffer}}
-use Rattle.broker_core.specs.{Machine.{Step, is_step, Request as Told}, declared.command.Command.{Command}, declared.answer.Answer.{Answer}}
+use Rattle.broker_names.specs.Name.{IsName, is_token_byte as is_callers_byte}
+use Rattle.broker_core.specs.{Text.{Text}, State.{State as Broker}, Laws.{TeamsDiffer}, Machine.{Step, is_step, Request as Told}}
+use Rattle.broker_core.specs.{declared.command.Command.{Command}, declared.answer.Answer.{Answer}}
 use Rattle.command_facts.specs.Primitives.{broker_primitives}
 use Rattle.http_messages.specs.Heads.{IsHeadText, IsJudged, IsBodyLength, judge_head, body_of_head, fields_of, is_last_head, is_too_large, served_method}
 use Rattle.http_messages.specs.{Fields.{values_named}, Limits.{head_limit}, Lines.{head_text}, Message.{Message, message}, Messages.{BeginsWithMessage}}

@@ -9,8 +9,8 @@ ghost use Rattle.broker_http.specs.Stream.{ExchangeCut, ExchangeDone};
 use crate::served::ServeFault;
 use answer_texts::Answer;
 use broker_core::command::Command;
-use broker_core::name::Token;
 use broker_database::Service;
+use broker_names::name::Token;
 use http_messages::head::{Head, Refused};
 use http_requests::{Request, read_request};
 use http_responses::{

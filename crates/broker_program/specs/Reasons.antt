@@ -4,7 +4,7 @@ use Rattle.sqlite_disk.specs.declared.Disk.{Ghosts}
 use Rattle.sqlite.specs.FileStore.{view}
 use Rattle.sqlite.specs.Recovery.{Image}
 use Rattle.sqlite.specs.View.{IsClean}
-use Rattle.broker_core.specs.Name.{IsName, IsToken}
+use Rattle.broker_names.specs.Name.{IsName, IsToken}
 use Rattle.broker_core.specs.Text.{Text}
 use Rattle.broker_core.specs.declared.answer.Answer.{Answer}
 use Rattle.broker_database.specs.declared.opening.OpenFault.TheVariants as opening

@@ -1,7 +1,7 @@
 //! Asking the broker in a file whether a version may be deployed.
 ghost use Rattle.std.specs.Prelude.{◌≡◌, ◌⊎◌, IfErr, IfOk, OnErr};
 ghost use Rattle.sqlite.specs.WalFiles.{image_at};
-ghost use Rattle.broker_core.specs.Name.{IsToken};
+ghost use Rattle.broker_names.specs.Name.{IsToken};
 ghost use Rattle.broker_program.specs.Reasons.{AsksByNames, FailsToAnswer, FailsToAsk, FailsToOpen};
 ghost use Rattle.broker_program.specs.Reasons.{IsAnswerFault, IsNameFault, IsQuestionFault};
 ghost use Rattle.broker_program.specs.Told.{AnswersFrom, AnswersQuestion, Asks, AsksUntil, asked, permission};
@@ -11,7 +11,7 @@ use crate::files::{Failed, open_broker, release};
 use crate::left::Left;
 use broker_core::answer::{Answer as Outcome, Shown};
 use broker_core::command::{Command, Version};
-use broker_core::name::Token;
+use broker_names::name::Token;
 use broker_service::Answer;
 use command_line::FilePath;
 use program_io::fault::RunFault;

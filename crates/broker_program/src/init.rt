@@ -1,7 +1,7 @@
 //! Making the file of a new broker.
 ghost use Rattle.std.specs.Prelude.{IfErr, IfOk};
 ghost use Rattle.sqlite.specs.WalFiles.{image_at};
-ghost use Rattle.broker_core.specs.Name.{IsToken};
+ghost use Rattle.broker_names.specs.Name.{IsToken};
 ghost use Rattle.broker_program.specs.Files.{OpensOn};
 ghost use Rattle.broker_program.specs.Making.{BrokerIsMade, MakesThere};
 ghost use Rattle.broker_program.specs.Reasons.{FailsToMake, FailsToMakeIn};
@@ -9,7 +9,7 @@ ghost use Rattle.broker_program.specs.Refusals.{IsOfDatabase, MakesNone};
 
 use crate::files::{Failed, FileBroker, FileConnection, close, connect, give_up};
 use crate::left::Left;
-use broker_core::name::Token;
+use broker_names::name::Token;
 use broker_service::Broker;
 use command_line::FilePath;
 use program_io::forms::token_of;

@@ -2,14 +2,14 @@
 ghost use Rattle.std.specs.Prelude.{◌≡◌, None, IfErr, IfOk, OnOk, OnErr};
 ghost use Rattle.sqlite.specs.Held.{state};
 ghost use Rattle.sqlite.specs.Steps.{over_memory};
-ghost use Rattle.broker_core.specs.Name.{IsToken};
+ghost use Rattle.broker_names.specs.Name.{IsToken};
 ghost use Rattle.broker_http.specs.Serving.{IsInMode, RunsReadable};
 ghost use Rattle.broker_program.specs.Reasons.{EndsReplay, IsUnmade};
 ghost use Rattle.broker_program.specs.Replays.{FailsToReplay, Replays, new_broker};
 
 use crate::routes::route_table;
-use broker_core::name::Token;
 use broker_http::serve;
+use broker_names::name::Token;
 use broker_service::Broker;
 use command_facts::laws::readable_stays;
 use program_io::fault::RunFault;

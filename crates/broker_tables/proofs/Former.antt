@@ -12,8 +12,8 @@ use Rattle.table_access.specs.{Columns.{text, whole_at, Words}, Sound.{IsKept, I
 use Rattle.table_access.proofs.{Creation.{made_kept, all_front}, Indexing.{indexes_schema, indexes_keep, indexes_kept}, Maps.{find_has}}
 use Rattle.table_access.proofs.{Members.{map_has, has_contains}, SoundLemmas.{at_has, all_of, has_place, text_at, whole_in}}
 use Rattle.sqlite_keyed.proofs.ListLemmas.{all_weaker}
-use Rattle.broker_core.specs.{declared.command.Marks.{Marks}, declared.command.Version.{Version}, State.{State as Broker, Verification}, Name.{is_name}}
-use Rattle.broker_core.specs.Text.{version}
+use Rattle.broker_names.specs.Name.{is_name}
+use Rattle.broker_core.specs.{declared.command.Marks.{Marks}, declared.command.Version.{Version}, State.{State as Broker, Verification}, Text.{version}}
 use Rattle.broker_tables.specs.Schema.{schema_of, all_tables, all_indexes, checked_results, strict_environments, in_meta, in_versions, in_environments, in_contents, in_results, in_checked_results, in_strict_environments, contents_by_digest, contracts_by_content, latest_by_provider_version, versions_by_pacticipant}
 use Rattle.broker_tables.specs.{Making.{AreShortKeys, HasShortKeys}, Readable.{IsReadable, IsNamed}, Rows.{rows_of}}
 use Rattle.broker_tables.specs.Holds.{Holds, IsMeta, format, AreTeams, ArePacticipants, AreVersions, AreBranches, AreEnvironments, AreGrants, AreContents, AreContracts, AreResults, AreLatest, AreDeployed, AreReleased, ResultRow, result_in, result_of, marks_in, with_digest}

@@ -4,7 +4,7 @@
 use Rattle.std.specs.Prelude.{◌≡◌, ◌≤◌, List, length, Some, IsUtf8, All}
 use Rattle.broker_core.specs.Limit.{limit}
 use Rattle.broker_core.specs.Text.{Text}
-use Rattle.broker_core.specs.Name.{IsName}
+use Rattle.broker_names.specs.Name.{IsName}
 use Rattle.broker_core.specs.State.{State as Broker}
 use Rattle.broker_core.specs.declared.command.Version.{Version}
 

@@ -5,7 +5,7 @@ ghost use Rattle.sqlite.specs.declared.types.Value.TheVariants.{Text as SqlText}
 ghost use Rattle.table_access.specs.Reading.{IsTextAt};
 ghost use Rattle.broker_tables.specs.Names.{IsNameAt};
 
-use broker_core::name::{Name, NameFault};
+use broker_names::name::{Name, NameFault};
 use sqlite::Row;
 use std::alloc::Global;
 use table_access::{StoreFault, text_at};

@@ -3,7 +3,7 @@ ghost use Rattle.std.specs.Prelude.{IfSome, IsUtf8};
 ghost use Rattle.broker_tables.specs.Laws.{AreUtf8, HasReadableNames, PathIsUtf8, ReportIsUtf8, VersionIsUtf8};
 
 use broker_core::command::{Command, PactPath, Report, Version};
-use broker_core::name::Name;
+use broker_names::name::Name;
 
 /// It is in UTF-8.
 fn is_utf8(name: &Name)

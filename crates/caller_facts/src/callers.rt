@@ -2,12 +2,12 @@
 
 ghost use Rattle.std.specs.Prelude.{◌≡◌, ◌↔◌, IfErr, ℕ, List, Some, false, IsTrue, MatchOption, IfOk, string_bytes};
 ghost use Rattle.broker_core.specs.Machine.{IsCallerOfDigest};
-ghost use Rattle.broker_core.specs.Name.{IsName};
+ghost use Rattle.broker_names.specs.Name.{IsName};
 ghost use Rattle.broker_tables.specs.Calm.{CalmQueries};
 ghost use Rattle.caller_facts.specs.Callers.{token_of, token_digest, IsSender};
 
-use broker_core::name::{Name, NameFault};
 use broker_core::policy::Caller;
+use broker_names::name::{Name, NameFault};
 use content_store::{Sha256Digester, digest_text};
 use registry_tables::{office_digest, team_of_digest};
 use sqlite::{Alter, Connection};

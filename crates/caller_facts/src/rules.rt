@@ -2,13 +2,13 @@
 ghost use Rattle.std.specs.Prelude.{◌≡◌, ◌↔◌, IfErr, IsSomeAnd, [], IfOk, option_map, string_bytes, is_some, Some};
 ghost use Rattle.broker_core.specs.Policy.{allows, is_office};
 ghost use Rattle.broker_core.specs.Request.{has_grant};
-ghost use Rattle.broker_core.specs.Name.{IsName};
+ghost use Rattle.broker_names.specs.Name.{IsName};
 ghost use Rattle.broker_tables.specs.Calm.{CalmQueries, CalmQueriesInPlace};
 ghost use Rattle.caller_facts.specs.Owners.{owners_of, IsOwnerRead};
 
 use crate::callers::stored_name;
-use broker_core::name::Name;
 use broker_core::policy::{Ask, Caller, Rule, allowed};
+use broker_names::name::Name;
 use registry_tables::{granted, owner_of};
 use sqlite::{Alter, Connection};
 use std::alloc::Global;

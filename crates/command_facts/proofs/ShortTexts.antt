@@ -8,7 +8,8 @@ use Rattle.pact_rules.specs.{Outcome.{guard}, Reading.{Follows}}
 use Rattle.pact_file.specs.{File.{most_bytes, file_of}, Normal.{Normal}, Pact.{Pact}, declared.fault.PactFault.{PactFault}}
 use Rattle.pact_file.{specs.declared.fault.PactFault.TheVariants.{TooLong}, proofs.Steps.{bind_ok}}
 use Rattle.command_facts.{specs.{Readings.{reading_of}, Primitives.{broker_primitives}}, proofs.Again.{reads_again}}
-use Rattle.broker_core.specs.{Machine.Reading.{IsPact}, Name.{IsName, is_name}, Change.{instance_of}, Text.{Text}}
+use Rattle.broker_names.specs.Name.{IsName, is_name}
+use Rattle.broker_core.specs.{Machine.Reading.{IsPact}, Change.{instance_of}, Text.{Text}}
 
 pub name_short : (name : List ℕ) → IsName name → length name ≤ 10 ^ 7
 unfolding is_name

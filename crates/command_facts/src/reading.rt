@@ -7,7 +7,7 @@ ghost use Rattle.command_facts.specs.Readings.{reading_of, replies_fault, Reads,
 ghost use Rattle.command_facts.specs.declared.reading.ReadFault.TheVariants.{Form};
 
 use broker_core::command::FormFault;
-use broker_core::name::Text;
+use broker_names::name::Text;
 use pact_file::{Pact, PactFault, read_pact};
 use reply_check::{Replies, RepliesFault, read_replies};
 use std::alloc::{AllocError, Global};

@@ -7,7 +7,7 @@ ghost use Rattle.broker_tables.specs.Refusals.{IsCalmStoring};
 ghost use Rattle.contract_commands.specs.Numbering.{IsNextNumber, IsNextOf, IsNumberFor, CanName, NamesAs};
 
 use broker_core::limit::room;
-use broker_core::name::Name;
+use broker_names::name::Name;
 use broker_tables::next_number;
 use contract_tables::result_count;
 use registry_tables::{add_version_as, version_count};

@@ -11,8 +11,8 @@ ghost use Rattle.contract_commands.specs.Pacts.{AreSidesRead, HasContent, IsCont
 
 use broker_core::answer::{Answer, Missing};
 use broker_core::command::PactPath;
-use broker_core::name::{Name, Text};
 use broker_core::policy::{Caller, Rule};
+use broker_names::name::{Name, Text};
 use caller_facts::rules::{has_pacticipant, read_owner};
 use content_store::get;
 use contract_tables::contract_of;

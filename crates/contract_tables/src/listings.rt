@@ -8,7 +8,7 @@ ghost use Rattle.broker_tables.specs.Calm.{CalmQueries, IfNoVersion};
 ghost use Rattle.contract_tables.specs.Listings.{contract_cmp, IsContractRow, IsConsumerRow, FailsAsMarked, FailsAsNames};
 
 use broker_core::command::Version;
-use broker_core::name::Name;
+use broker_names::name::Name;
 use broker_tables::{has_name, name_in};
 use sqlite::{Alter, Connection, Row, params};
 use std::alloc::Global;

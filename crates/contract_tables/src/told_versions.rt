@@ -14,8 +14,8 @@ ghost use Rattle.contract_tables.specs.ToldVersions.{verified_cmp, named_cmp, Is
 
 use crate::version_results::{NumberRow, is_among, read_latest};
 use broker_core::answer::Verified;
-use broker_core::name::Name;
 use broker_core::need::Latest;
+use broker_names::name::Name;
 use broker_tables::name_in;
 use sqlite::{Alter, Connection, Row, params};
 use std::alloc::Global;

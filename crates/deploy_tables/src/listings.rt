@@ -8,7 +8,7 @@ ghost use Rattle.deploy_tables.specs.Listings.{IsDeployedRow, IsReleasedRow, Rea
 
 use broker_core::answer::DeployedItem;
 use broker_core::command::Version;
-use broker_core::name::Text;
+use broker_names::name::Text;
 use broker_tables::{has_name, name_in, text_in};
 use sqlite::{Alter, Connection, Row, params};
 use std::alloc::Global;

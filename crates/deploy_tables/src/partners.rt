@@ -10,7 +10,7 @@ ghost use Rattle.deploy_tables.specs.ContractsThere.{IsDeployedIn};
 ghost use Rattle.deploy_tables.specs.Partners.{IsNumberOfReleased, ArePartners, AreReleasedThere, number_if};
 
 use crate::lists::each_number_once;
-use broker_core::name::Name;
+use broker_names::name::Name;
 use broker_tables::name_in;
 use sqlite::{Alter, Connection, Row, params};
 use std::alloc::{AllocError, Global};

@@ -11,7 +11,7 @@ ghost use Rattle.deploy_tables.specs.Matrix.{row_of, row_with, rows_with, row_us
 
 use broker_core::answer::{MatrixRow, Verified};
 use broker_core::command::Version;
-use broker_core::name::Name;
+use broker_names::name::Name;
 use contract_tables::{Contract, LatestResult};
 use std::alloc::{AllocError, Global};
 use std::cmp::Ordering;

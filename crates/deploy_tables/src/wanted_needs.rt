@@ -17,8 +17,8 @@ use crate::lists::add;
 use crate::partners::{ReleasedNumber, partners, released_numbers};
 use crate::version_names::version_numbered;
 use broker_core::command::Version;
-use broker_core::name::Name;
 use broker_core::need::{Latest, Need};
+use broker_names::name::Name;
 use contract_tables::{
     Contract, LatestResult, contracts_of, latest_among, latest_of, latest_results,
 };

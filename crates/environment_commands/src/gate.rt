@@ -5,8 +5,8 @@ ghost use Rattle.environment_commands.specs.Effects.{GateSays};
 
 use crate::places::Admitted;
 use broker_core::command::{Marks, Version};
-use broker_core::name::Name;
 use broker_core::need::PairFault;
+use broker_names::name::Name;
 use deploy_tables::faults;
 use sqlite::{Alter, Connection};
 use std::alloc::Global;

@@ -7,8 +7,8 @@ ghost use Rattle.environment_commands.specs.Effects.{ListsAll, IsEnvironmentShow
 
 use broker_core::answer::{Answer, DeployedItem, DeployedItems, Missing, Shown, Versions};
 use broker_core::command::{Marks, Version};
-use broker_core::name::Name;
 use broker_core::policy::Caller;
+use broker_names::name::Name;
 use deploy_tables::{deployed, released};
 use registry_tables::marks_of;
 use sqlite::{Alter, Connection};

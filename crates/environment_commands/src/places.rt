@@ -9,8 +9,8 @@ ghost use Rattle.environment_commands.specs.Places.{IsVersionRead, IsPlaceRead, 
 
 use broker_core::answer::{Answer, Missing};
 use broker_core::command::{Marks, Version};
-use broker_core::name::Name;
 use broker_core::policy::{Caller, Rule};
+use broker_names::name::Name;
 use caller_facts::rules::{OwnerFacts, read_grant, read_owner};
 use registry_tables::{marks_of, version_of};
 use sqlite::{Alter, Connection};

@@ -6,7 +6,8 @@ use Rattle.httparse.specs.Grammar.{RequestHead, IsRequestHead, Field, IsField, I
 use Rattle.httparse.proofs.OnLiterals.{httparse_on_literals}
 use Rattle.percent_encoding.proofs.OnLiterals.{percent_encoding_on_literals}
 use Rattle.serde_json.{specs.Data.{Data, string, object, member, no_members}, proofs.OnLiterals.{serde_json_on_literals}}
-use Rattle.broker_core.specs.{Name.{IsName, is_name, is_token_byte as is_callers_byte}, Text.{Text, version}, declared.command.Command.TheVariants.{Deploy}}
+use Rattle.broker_names.specs.Name.{IsName, is_name, is_token_byte as is_callers_byte}
+use Rattle.broker_core.specs.{Text.{Text, version}, declared.command.Command.TheVariants.{Deploy}}
 use Rattle.http_messages.specs.Fields.{same_name, values_named}
 use Rattle.http_messages.specs.Heads.{IsHeadText, IsJudged, IsBodyLength, judge_head, judge, body_length, served_method, fields_of}
 use Rattle.http_messages.specs.{Message.{Message, message}, Messages.{BeginsWithMessage}}

@@ -1,6 +1,6 @@
 -- A text of which it isn't true that it is no token is one.
 use Rattle.std.proofs.{Common.{◌≡◌, ◌≤◌, ◌<◌, ℕ, Bool, true, false, List, length, IsTrue, refl, arith}, lemmas.Bool.{ltb-true, ltb-false}, Math.Dec.{ltb}}
-use Rattle.broker_core.specs.Name.{IsToken}
+use Rattle.broker_names.specs.Name.{IsToken}
 
 at_most : (m n : ℕ) → ¬ (¬ (m ≤ n)) → m ≤ n
 at_most m n h = go (ltb n m) refl

@@ -3,7 +3,7 @@ use Rattle.std.specs.Prelude.{◌≡◌, ℕ, ◌==◌, Bool, false, List, lengt
 use Rattle.serde_json.specs.Data.{Data, null, boolean, number, string, array, object}
 use Rattle.serde_json.specs.Find.{get, as_str, as_bool, as_object}
 use Rattle.serde_json.specs.Read.{read as read_text}
-use Rattle.broker_core.specs.Name.{IsName, IsToken}
+use Rattle.broker_names.specs.Name.{IsName, IsToken}
 use Rattle.broker_core.specs.Text.{Text}
 use Rattle.broker_core.specs.declared.command.FormFault.{FormFault}
 use Rattle.broker_core.specs.declared.command.FormFault.TheVariants as fault

@@ -1,7 +1,7 @@
 -- Names in a path (escapes as in RFC 3986, section 2.1).
 use Rattle.std.specs.Prelude.{◌≡◌, ℕ, IsUtf8, Option, Some, None, Result, Ok, Err}
 use Rattle.percent_encoding.specs.Percent.{percent_decode}
-use Rattle.broker_core.specs.Name.{IsName}
+use Rattle.broker_names.specs.Name.{IsName}
 use Rattle.broker_core.specs.Text.{Text}
 use Rattle.broker_core.specs.declared.command.FormFault.{FormFault}
 use Rattle.broker_core.specs.declared.command.FormFault.TheVariants as fault

@@ -3,7 +3,7 @@ use Rattle.std.specs.Prelude.{◌≡◌, ℕ, ◌≤◌, List, [], ◌∷◌, le
 use Rattle.std.specs.String.{string_bytes}
 use Rattle.std.specs.Str.Lossy.{utf8_lossy}
 use Rattle.form_urlencoded.specs.Form.{raw_pairs, decode}
-use Rattle.broker_core.specs.Name.{IsName}
+use Rattle.broker_names.specs.Name.{IsName}
 use Rattle.broker_core.specs.Text.{Text}
 use Rattle.broker_core.specs.declared.command.FormFault.{FormFault}
 use Rattle.broker_core.specs.declared.command.FormFault.TheVariants as fault

@@ -1,6 +1,6 @@
 -- The token of a request (RFC 6750, section 2.1; what a token is, is this project's own choice).
 use Rattle.std.specs.Prelude.{◌≡◌, ℕ, ◌==◌, List, [], ◌∷◌, take, drop, codes, if◌then◌else◌, Option, Some, None}
-use Rattle.broker_core.specs.Name.{IsToken}
+use Rattle.broker_names.specs.Name.{IsToken}
 use Rattle.http_messages.specs.Fields.{same_name}
 
 abbrev pub space : ℕ

@@ -5,13 +5,13 @@ ghost use Rattle.serde_json.specs.Data.{Data};
 ghost use Rattle.serde_json.specs.Find.{get, as_str, as_bool};
 ghost use Rattle.serde_json.specs.Errors.{IsMemory};
 ghost use Rattle.serde_json.specs.View.{view};
-ghost use Rattle.broker_core.specs.Name.{IsToken};
+ghost use Rattle.broker_names.specs.Name.{IsToken};
 ghost use Rattle.http_requests.specs.Views.{object_in};
 ghost use Rattle.http_requests.specs.Bodies.{IsData, IsObject, IsTextNamed, HasName, IsNameField, IsGivenName, IsOptionalName, IsTokenText, IsTokenField, non_null, given_truth, optional_truth, or_empty, truth_field, truth_or};
 
 use crate::names::{Parsed, name_of};
 use broker_core::command::FormFault;
-use broker_core::name::{Name, Text, Token, TokenFault};
+use broker_names::name::{Name, Text, Token, TokenFault};
 use serde_json::{Error, Value};
 use std::alloc::{AllocError, Global};
 

@@ -13,7 +13,7 @@ use crate::bodies::{Fields, or_empty};
 use crate::names::{Parsed, path_name};
 use crate::queries::query_name;
 use broker_core::command::{Command, FormFault, Marks, PactPath, Report, Version};
-use broker_core::name::{Body, Name, Token};
+use broker_names::name::{Body, Name, Token};
 use http_routes::{Operation, places};
 use std::alloc::{AllocError, Global};
 

@@ -1,13 +1,13 @@
 //! Names in a path.
 ghost use Rattle.std.specs.Prelude.{◌≡◌, ◌<◌, ◌++◌, length, IfOk, IfErr, MatchOption};
 ghost use Rattle.percent_encoding.specs.Percent.{percent_decode};
-ghost use Rattle.broker_core.specs.Name.{IsName};
-ghost use Rattle.broker_core.specs.declared.name.TheConstants.{LONGEST_NAME};
+ghost use Rattle.broker_names.specs.Name.{IsName};
+ghost use Rattle.broker_names.specs.declared.name.TheConstants.{LONGEST_NAME};
 ghost use Rattle.http_requests.specs.Names.{IsNamed, IsPathName, HasPathName};
 
 use arrayvec::ArrayVec;
 use broker_core::command::FormFault;
-use broker_core::name::{LONGEST_NAME, Name, NameFault};
+use broker_names::name::{LONGEST_NAME, Name, NameFault};
 use http_routes::segment;
 use percent_encoding::percent_decode;
 use std::alloc::{AllocError, Global};
@@ -43,7 +43,7 @@ fn decoded(segment: &[u8]) -> Option<ArrayVec<u8, LONGEST_NAME>>
 }
 
 /// The name that a segment of a path means, if it means one. Memory is taken only for a name.
-#[tactic(auto, unfolding(broker_core::specs::Name::is_name))]
+#[tactic(auto, unfolding(broker_names::specs::Name::is_name))]
 fn decode_name(alloc: Global, segment: &[u8]) -> Result<Option<Name>, AllocError>
     ensures named { IfOk result (IsNamed (percent_decode segment.now)) }
     ensures memory { IfErr result (λ _. IsName (percent_decode segment.now)) }

@@ -5,7 +5,7 @@ ghost use Rattle.http_requests.specs.Queries.{values_at, AreValues, IsOnce, IsOn
 
 use crate::names::{Parsed, name_of};
 use broker_core::command::FormFault;
-use broker_core::name::{Name, Text};
+use broker_names::name::{Name, Text};
 use form_urlencoded::{decode, raw_pairs};
 use std::alloc::{AllocError, Global};
 

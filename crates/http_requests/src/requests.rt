@@ -11,7 +11,7 @@ use crate::commands::command_of;
 use crate::target::split_target;
 use crate::tokens::caller_token;
 use broker_core::command::Command;
-use broker_core::name::Token;
+use broker_names::name::Token;
 use http_messages::fields::field_of;
 use http_messages::head::{Head, Refusal, Refused};
 use http_routes::{Operation, Resource, RouteTable, operation_at};

@@ -1,11 +1,11 @@
 //! The token of a request.
 ghost use Rattle.std.specs.Prelude.{◌≡◌, ℕ, List, drop, IfOk, IfErr, Option, Some, None, MatchOption};
 ghost use Rattle.std.specs.Option.{option_map};
-ghost use Rattle.broker_core.specs.Name.{IsToken};
+ghost use Rattle.broker_names.specs.Name.{IsToken};
 ghost use Rattle.http_messages.specs.Fields.{IsField, same_name};
 ghost use Rattle.http_requests.specs.Tokens.{skip_spaces, behind_spaces, credentials, only_credentials, IsTokenOf, HasTokenIn};
 
-use broker_core::name::{Token, TokenFault};
+use broker_names::name::{Token, TokenFault};
 use http_messages::fields::Field;
 use std::alloc::{AllocError, Global};
 

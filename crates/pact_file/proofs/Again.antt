@@ -3,7 +3,7 @@ use Rattle.std.specs.{Option.{ok_or}, Str.{IsUtf8, bytes_eq}}
 use Rattle.std.proofs.Common.{◌≡◌, ◌⊎◌, inl, inr, ℕ, suc, ◌+◌, ◌≤◌, List, [], ◌∷◌, length, codes, map, not, Bool, true, false, cond, nat_le, Option, Some, None, option_and_then, Result, Ok, Err, refl, sym, ap, ◌∙◌, subst, leb-true, le-leb, arith}
 use Rattle.serde_json.specs.{Data.{Data, Items, no_items, item}, Events.{items_len}, Find.{get, as_array}, View.{items_of}}
 use Rattle.serde_json.proofs.OnLiterals.{serde_json_on_literals}
-use Rattle.broker_core.specs.Name.{is_name}
+use Rattle.broker_names.specs.Name.{is_name}
 use Rattle.pact_file.specs.File.{most_bytes, most_interactions, file_of, is_version_3, has_no_messages, side_of, sides_of, items_of as items_at}
 use Rattle.pact_file.specs.declared.fault.PactFault.{PactFault}
 use Rattle.pact_file.specs.declared.fault.PactFault.TheVariants.{SameInteraction, Shape, Version, Messages, SelfContract, TooMany, TooLong}

@@ -6,7 +6,7 @@ use Rattle.std.specs.Str.{bytes_eq}
 use Rattle.serde_json.specs.Data.{Data, Num, null, boolean, number, string, array, object, unsigned, negative, float}
 use Rattle.serde_json.specs.Events.{items_len}
 use Rattle.serde_json.specs.Find.{get}
-use Rattle.broker_core.specs.Name.{is_name}
+use Rattle.broker_names.specs.Name.{is_name}
 use Rattle.pact_rules.specs.Outcome.{◌>>=◌, guard}
 use Rattle.pact_file.specs.Objects.{object_of, with_fault}
 use Rattle.pact_file.specs.Parts.{text_at, object_at, list_at, listed}

@@ -24,7 +24,7 @@ use crate::order::in_key_order;
 use crate::pact::{Interaction, Pact};
 use crate::parts::{list_member, object_member, text_member};
 use crate::texts::is_short;
-use broker_core::name::Name;
+use broker_names::name::Name;
 use pact_rules::Patterns;
 use serde_json::Value;
 use std::alloc::Global;

@@ -1,10 +1,10 @@
 //! The forms of tokens and names among the options.
 ghost use Rattle.std.specs.Prelude.{◌≡◌, ◌↔◌, IfErr, IfOk, IsErrOf};
-ghost use Rattle.broker_core.specs.Name.{IsName, IsToken};
+ghost use Rattle.broker_names.specs.Name.{IsName, IsToken};
 ghost use Rattle.program_io.specs.Reported.{IsNoName, IsTokenFault};
 
 use crate::fault::RunFault;
-use broker_core::name::{Name, NameFault, Token, TokenFault};
+use broker_names::name::{Name, NameFault, Token, TokenFault};
 use std::alloc::Global;
 
 /// A token, by its text.

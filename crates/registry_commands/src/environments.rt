@@ -7,8 +7,8 @@ ghost use Rattle.registry_commands.specs.Facts.{RefusesMarks, AnswersPutEnvironm
 
 use broker_core::answer::{Answer, Clash, Detail};
 use broker_core::command::{FormFault, Marks};
-use broker_core::name::{Name, Text};
 use broker_core::policy::{Caller, Rule};
+use broker_names::name::{Name, Text};
 use caller_facts::rules::is_office;
 use command_facts::change::told;
 use registry_tables::{add_environment, marks_of};

@@ -6,8 +6,8 @@ ghost use Rattle.command_facts.specs.Performs.{Carries, CarriesCalmly};
 ghost use Rattle.registry_commands.specs.Facts.{IsGrantRead, AnswersPutGrant, AddsNewGrant, AnswersDeleteGrant, TakesGrant};
 
 use broker_core::answer::{Answer, Detail, Missing};
-use broker_core::name::Name;
 use broker_core::policy::{Caller, Rule};
+use broker_names::name::Name;
 use caller_facts::rules::is_office;
 use command_facts::change::told;
 use registry_tables::{add_grant, gated, granted, has_team, remove_grant};

@@ -7,8 +7,8 @@ ghost use Rattle.registry_commands.specs.Facts.{IsPacticipantRead, AnswersPutPac
 ghost use Rattle.broker_core.specs.declared.command.Command.TheVariants.{PutPacticipant};
 
 use broker_core::answer::{Answer, Clash, Detail, Missing};
-use broker_core::name::Name;
 use broker_core::policy::{Caller, Rule};
+use broker_names::name::Name;
 use caller_facts::rules::is_office;
 use command_facts::change::told;
 use registry_tables::{add_pacticipant, has_team, owner_of};

@@ -10,8 +10,8 @@ ghost use Rattle.registry_commands.specs.Facts.{IsTeamRead, PutsTeam, AnswersPut
 ghost use Rattle.broker_core.specs.declared.command.Command.TheVariants.{PutTeam};
 
 use broker_core::answer::{Answer, Clash, Detail};
-use broker_core::name::{Name, Token};
 use broker_core::policy::{Caller, Rule};
+use broker_names::name::{Name, Token};
 use caller_facts::callers::{digest_of, holder_of};
 use caller_facts::rules::is_office;
 use command_facts::change::told;

@@ -14,8 +14,8 @@ ghost use Rattle.registry_commands.specs.Facts.{texts_of, IsNumberRead, IsRoomRe
 use broker_core::answer::{Answer, Detail, Missing};
 use broker_core::command::Version;
 use broker_core::limit::room;
-use broker_core::name::Name;
 use broker_core::policy::{Caller, Rule};
+use broker_names::name::Name;
 use broker_tables::next_number;
 use caller_facts::rules::{OwnerFacts, read_owner};
 use command_facts::change::told;

@@ -8,7 +8,7 @@ ghost use Rattle.uses.specs.Deploying.{is_accepted, IsDeployedOrRefused};
 use answer_texts::Answer;
 use broker_core::answer::Answer as Outcome;
 use broker_core::command::{Command, Version};
-use broker_core::name::{Name, NameFault};
+use broker_names::name::{Name, NameFault};
 use broker_service::Broker;
 use sqlite::Alter;
 use std::alloc::Global;

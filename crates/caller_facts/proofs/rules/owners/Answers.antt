@@ -1,6 +1,6 @@
 use Rattle.std.{specs.{Prelude.{IsSomeAnd, String, string_bytes}, declared.alloc.Global.{Global}}, proofs.Common.{◌≡◌, ◌↔◌, Option, List, ℕ, sym, subst}}
 use Rattle.table_access.specs.declared.StoreFault.TheVariants.{Store}
-use Rattle.broker_core.specs.Name.{IsName}
+use Rattle.broker_names.specs.Name.{IsName}
 use Rattle.caller_facts.proofs.rules.owners.Goals as goal
 
 pub returns-in-Err-clause-cause : goal.returns-in-Err-clause-cause

@@ -2,7 +2,8 @@ use Rattle.std.specs.{Prelude.{IsSomeAnd, String, string_bytes}, declared.alloc.
 use Rattle.std.proofs.Common.{◌≡◌, ◌↔◌, Option, Some, None, ◌∙◌, ap, inr, refl, sym, option_map}
 use Rattle.sqlite.specs.Held.{state}
 use Rattle.table_access.{specs.declared.StoreFault.{StoreFault}, proofs.CallLemmas.{then_stop}}
-use Rattle.broker_core.specs.{Name.{IsName}, Text.{Text}}
+use Rattle.broker_names.specs.Name.{IsName}
+use Rattle.broker_core.specs.Text.{Text}
 use Rattle.table_access.specs.declared.StoreFault.TheVariants as faults
 use Rattle.caller_facts.proofs.rules.read_owner.Goals as goal
 

@@ -1,6 +1,6 @@
 use Rattle.std.proofs.{Common.{◌≡◌, ◌<◌, ℕ, IsTrue, subst, arith}, lemmas.Bool.Decides.{nat_tests}, lemmas.Str.{IsUtf8-from_ascii}}
 use Rattle.std.proofs.lemmas.Str.Ascii.{IsAscii-from_all}
-use Rattle.broker_core.specs.Name.{IsToken, is_token_byte}
+use Rattle.broker_names.specs.Name.{IsToken, is_token_byte}
 use Rattle.http_requests.proofs.TokenLemmas.{is_token}
 use Rattle.http_requests.proofs.tokens.token_of.Goals as goal
 

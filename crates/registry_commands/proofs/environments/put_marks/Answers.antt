@@ -1,5 +1,6 @@
 use Rattle.std.proofs.Common.{[], ◌∷◌, codes, refl, Some, sym, ◌∙◌, ap, subst}
-use Rattle.broker_core.specs.{Text.{put_at, same_text, Text}, Name.{IsName}}
+use Rattle.broker_names.specs.Name.{IsName}
+use Rattle.broker_core.specs.Text.{put_at, same_text, Text}
 use Rattle.command_facts.proofs.{CarryLemmas.{tells, makes}, ShortTexts.{name_short}}
 use Rattle.registry_commands.proofs.environments.put_marks.Goals as goal
 

@@ -1,5 +1,6 @@
 use Rattle.std.{specs.Option.{is_some}, proofs.Common.{[], ◌∷◌, codes, refl, Some, sym, ◌∙◌, ap, subst}}
-use Rattle.broker_core.specs.{Text.{put_at, same_text}, Name.{IsName}}
+use Rattle.broker_names.specs.Name.{IsName}
+use Rattle.broker_core.specs.Text.{put_at, same_text}
 use Rattle.command_facts.proofs.{CarryLemmas.{tells, makes}, ShortTexts.{name_short}}
 use Rattle.registry_commands.proofs.put_pacticipant.put_pacticipant.Goals as goal
 

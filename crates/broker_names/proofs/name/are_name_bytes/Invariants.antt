@@ -1,6 +1,6 @@
 use Rattle.std.proofs.Common.{◌≡◌, drop}
-use Rattle.broker_core.specs.Name.{are_name_bytes}
-use Rattle.broker_core.proofs.name.are_name_bytes.Given as goal
+use Rattle.broker_names.specs.Name.{are_name_bytes}
+use Rattle.broker_names.proofs.name.are_name_bytes.Given as goal
 
 -- what is left answers for all
 abbrev pub invariant-loop-byte : goal.invariant-loop-byte

@@ -3,7 +3,7 @@ ghost use Rattle.std.specs.Prelude.{◌≡◌, ◌↔◌, IfOk, IsErrOf, IsTrue,
 ghost use Rattle.std.specs.Ordering.{nat_cmp};
 ghost use Rattle.std.specs.Cmp.Lexicographic.{pointwise, slice_cmp, nat_list_eq_equiv, nat_list_cmp_total, texts_ties, texts_po};
 ghost use Rattle.std.specs.Cmp.{partial_equiv_from_equiv};
-ghost use Rattle.broker_core.specs.Name.{IsName, IsToken, are_name_bytes as are_name_bytes_of, is_name, is_token_byte};
+ghost use Rattle.broker_names.specs.Name.{IsName, IsToken, are_name_bytes as are_name_bytes_of, is_name, is_token_byte};
 
 use std::alloc::{AllocError, Global};
 use std::cmp::Ordering;
@@ -30,7 +30,7 @@ pub struct Name {
 
 impl Model for Name {
     ghost use Rattle.std.specs.Prelude.{ℕ, List, string_bytes};
-    ghost use Rattle.broker_core.specs.Name.{IsName};
+    ghost use Rattle.broker_names.specs.Name.{IsName};
 
     ghost Value = { List ℕ };
 
@@ -93,7 +93,7 @@ impl Name {
     }
 
     /// That this is a name, as its type promises. Nothing is done.
-    pub(crate) fn is_name(&self)
+    pub fn is_name(&self)
         ensures { IsName self.now }
     {
         let _ = &self.text;
@@ -156,7 +156,7 @@ pub struct Token {
 
 impl Model for Token {
     ghost use Rattle.std.specs.Prelude.{ℕ, List, string_bytes};
-    ghost use Rattle.broker_core.specs.Name.{IsToken};
+    ghost use Rattle.broker_names.specs.Name.{IsToken};
 
     ghost Value = { List ℕ };
 
@@ -215,7 +215,7 @@ impl Token {
     }
 
     /// That this is a token, as its type promises. Nothing is done.
-    pub(crate) fn is_token(&self)
+    pub fn is_token(&self)
         ensures { IsToken self.now }
     {
         let _ = &self.secret;
