@@ -2,11 +2,12 @@
 use Rattle.std.specs.Io.KnownBytes.{Appends, Consumes}
 use Rattle.std.proofs.Common.{◌≡◌, ℕ, ◌+◌, ◌<◌, false, List, [], ◌∷◌, ◌++◌, Option, Result, length, take, drop, refl, sym, ap, ◌∙◌, subst, append_assoc, append-nil, arith}
 use Rattle.std.proofs.KnownBytes.{Appends-trans, Consumes-trans}
-use Rattle.http_messages.specs.{Message.{Message}, Reading.{LeavesAtFault, IsOutcome}, declared.reading.ReadFault.{ReadFault}, declared.head.Head.{Head}}
-use Rattle.http_messages.specs.{declared.head.Refused.{Refused}, declared.reading.ReadOutcome.{ReadOutcome}}
+use Rattle.http_messages.specs.{Message.{Message}, Reading.{LeavesAtFault, IsOutcome, TellsFailure}, declared.reading.ReadFault.{ReadFault}}
+use Rattle.http_messages.specs.{declared.head.Head.{Head}, declared.head.Refused.{Refused}, declared.reading.ReadOutcome.{ReadOutcome}}
 use Rattle.http_messages.{specs.Messages.{BeginsWithMessage, HasNoMessage, message_of}, proofs.MessagesLemmas.{BeginsWithMessage-more}}
-use Rattle.broker_http.specs.{Faults.{fault_of_read}, Serving.{ServesUntil}, Stream.{texts, AllOpen, Responses, ExchangeCut, StreamCut, StreamEnds}}
-use Rattle.broker_http.specs.{declared.served.ServeFault.{ServeFault}, declared.served.Ended.{Ended}, declared.served.Ended.TheVariants.{AtEnd, Rest, Closed}}
+use Rattle.broker_http.specs.{Faults.{fault_of_read, TellsReader}, Serving.{ServesUntil}}
+use Rattle.broker_http.specs.{Stream.{texts, AllOpen, Responses, ExchangeCut, StreamCut, StreamEnds}, declared.served.ServeFault.{ServeFault}}
+use Rattle.broker_http.specs.{declared.served.Ended.{Ended}, declared.served.Ended.TheVariants.{AtEnd, Rest, Closed}}
 use Rattle.http_responses.specs.Responses.{Response}
 use Rattle.http_messages.specs.declared.reading.ReadFault.TheVariants as reads
 use Rattle.http_messages.specs.declared.reading.ReadOutcome.TheVariants as outcomes
@@ -130,3 +131,16 @@ module _ {S : Type 0} (Exchange : S → Message → Response → S → Type 0) w
         StreamCut-read fault responses opened,
         out,
       )
+
+  -- a fault at one message isn't the reader's
+  pub tells_none : (s : S) (m : Message) (t : S) (old new : Option (List ℕ)) (fault : ServeFault) (P : Type 0) → ExchangeCut Exchange s m t old new fault → TellsReader fault P
+  tells_none s m t old new (faults.Read failed) P broken = absurd broken
+  tells_none s m t old new (faults.Turn over) P broken = tt
+  tells_none s m t old new faults.Count P broken = tt
+  tells_none s m t old new (faults.Write fault) P broken = tt
+  tells_none s m t old new faults.Memory P broken = tt
+
+-- the fault of reading a message, as one of serving, says no more of the reader
+pub tells_reader : (fault : ReadFault) (P : Type 0) → TellsFailure fault P → TellsReader (fault_of_read fault) P
+tells_reader (reads.Reader failed) P p = p
+tells_reader reads.Memory P p = tt

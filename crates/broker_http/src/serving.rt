@@ -1,12 +1,14 @@
 //! Serving a stream.
-ghost use Rattle.std.specs.Prelude.{◌≡◌, ◌+◌, ◌≤◌, length, take, drop};
+ghost use Rattle.std.specs.Prelude.{◌≡◌, ◌+◌, ◌≤◌, length, take, drop, IfErr};
 ghost use Rattle.std.specs.Io.KnownBytes.{Keeps};
 ghost use Rattle.broker_http.specs.Calls.{IsAnsweredByBroker, IsServed};
+ghost use Rattle.broker_http.specs.Faults.{TellsReader};
 
 use crate::exchange::answer;
 use crate::served::{Ended, ServeFault, Served};
 use broker_database::Service;
 use http_messages::buffer::{Buffer, drop_front};
+use http_messages::device::FallibleRead;
 use http_messages::reading::{ReadOutcome, read_message};
 use http_messages::turn::TurnOver;
 use http_routes::RouteTable;
@@ -42,16 +44,17 @@ fn message_parts(bytes: &[u8], head_len: usize, body_len: usize) -> (&[u8], &[u8
 /// Answers the messages of a stream one after another, by what the broker promises of each command on any disk.
 ///
 /// It is apart from `serve_for`, whose clause on the machine follows from this one at once.
-fn serve_all<T: Turn<R>, R: Read, W: Write, B: Service>(
+fn serve_all<T: Turn<R>, R: FallibleRead, W: Write, B: Service>(
     alloc: Global,
     routes: &RouteTable,
     broker: &mut B,
     reader: &mut R,
     writer: &mut W,
 ) -> Result<Served, ServeFault>
-    ensures { IsAnsweredByBroker B.shown (B.seen broker.old) (B.seen broker.new)
+    ensures answers { IsAnsweredByBroker B.shown (B.seen broker.old) (B.seen broker.new)
         (R.remaining reader.old) (R.remaining reader.new)
         (W.contents writer.old) (W.contents writer.new) result }
+    ensures failed { IfErr result (λ fault. TellsReader fault (R.HasFailed reader.new)) }
 {
     let mut buffer = Buffer::new(alloc);
     for answered in 0..u64::MAX {
@@ -86,16 +89,17 @@ fn serve_all<T: Turn<R>, R: Read, W: Write, B: Service>(
 }
 
 /// Answers the requests of a stream as `serve` does, until its turn is over.
-pub(crate) fn serve_for<T: Turn<R>, R: Read, W: Write, B: Service>(
+pub(crate) fn serve_for<T: Turn<R>, R: FallibleRead, W: Write, B: Service>(
     alloc: Global,
     routes: &RouteTable,
     broker: &mut B,
     reader: &mut R,
     writer: &mut W,
 ) -> Result<Served, ServeFault>
-    ensures { IsServed B.shown (B.seen broker.old) (B.seen broker.new)
+    ensures served { IsServed B.shown (B.seen broker.old) (B.seen broker.new)
         (R.remaining reader.old) (R.remaining reader.new)
         (W.contents writer.old) (W.contents writer.new) result }
+    ensures failed { IfErr result (λ fault. TellsReader fault (R.HasFailed reader.new)) }
 {
     serve_all::<T, R, W, B>(alloc, routes, broker, reader, writer)
 }
@@ -114,16 +118,17 @@ pub(crate) fn serve_for<T: Turn<R>, R: Read, W: Write, B: Service>(
 /// `ServeFault::Memory`: there was no memory for a message or its answer; nothing was done for it, and
 /// all answers before are out.
 /// The writer is not flushed. The table of routes can be made once for all streams.
-pub fn serve<R: Read, W: Write, B: Service>(
+pub fn serve<R: FallibleRead, W: Write, B: Service>(
     alloc: Global,
     routes: &RouteTable,
     broker: &mut B,
     reader: &mut R,
     writer: &mut W,
 ) -> Result<Served, ServeFault>
-    ensures { IsServed B.shown (B.seen broker.old) (B.seen broker.new)
+    ensures served { IsServed B.shown (B.seen broker.old) (B.seen broker.new)
         (R.remaining reader.old) (R.remaining reader.new)
         (W.contents writer.old) (W.contents writer.new) result }
+    ensures failed { IfErr result (λ fault. TellsReader fault (R.HasFailed reader.new)) }
 {
     serve_for::<Endless, R, W, B>(alloc, routes, broker, reader, writer)
 }

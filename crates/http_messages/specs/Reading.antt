@@ -21,6 +21,11 @@ LeavesAtFault before after old new Memory =
     (more : List ℕ) × (lost : List ℕ)
     × Consumes before after (more ++ lost) × (0 < length lost) × (new ≡ old ++ more)
 
+-- the reader has failed, if this fault says so
+abbrev pub TellsFailure : ReadFault → Type 0 → Type 0
+TellsFailure (Reader failed) HasFailed = HasFailed
+TellsFailure Memory HasFailed = Unit {0}
+
 -- the buffer begins with that message, whose head says this, or with none
 abbrev pub IsOutcome : List ℕ → ReadOutcome → Type 0
 IsOutcome bytes (outcomes.Message head_len body_len head) =

@@ -1,5 +1,5 @@
 //! One read of a device.
-ghost use Rattle.std.specs.Prelude.{◌≡◌, Ok, IsErr, MatchResult};
+ghost use Rattle.std.specs.Prelude.{◌≡◌, ⊤, Ok, IsErr, IfErr, MatchResult};
 ghost use Rattle.std.specs.Io.{ReadsAtMost};
 ghost use Rattle.std.specs.Io.KnownBytes.{ReadConsumes};
 
@@ -19,10 +19,20 @@ fn given(read: io::Result<usize>) -> Result<usize, ReaderFailed>
     }
 }
 
-/// Reads once.
-pub(crate) fn read_once<R: Read>(reader: &mut R, buf: &mut [u8]) -> Result<usize, ReaderFailed>
-    ensures bound { ReadsAtMost result buf.new }
-    ensures bytes { ReadConsumes (R.remaining reader.old) (R.remaining reader.new) result buf.new }
-{
-    given(reader.read(buf))
+/// A reader that may fail. Each reader is one.
+pub trait FallibleRead: Read {
+    /// A read of it has given an error. Of a reader at hand nothing is known.
+    ghost HasFailed: { Self → Type 0 } = { λ _. ⊤ };
+
+    /// Reads once.
+    fn read_once(&mut self, buf: &mut [u8]) -> Result<usize, ReaderFailed>
+        ensures bound { ReadsAtMost result buf.new }
+        ensures bytes { ReadConsumes (Self.remaining self.old) (Self.remaining self.new) result buf.new }
+        ensures failed { IfErr result (λ _. HasFailed self.new) };
+}
+
+impl<R: Read> FallibleRead for R {
+    fn read_once(&mut self, buf: &mut [u8]) -> Result<usize, ReaderFailed> {
+        given(self.read(buf))
+    }
 }

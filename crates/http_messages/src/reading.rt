@@ -3,14 +3,13 @@ ghost use Rattle.std.specs.Prelude.{◌≡◌, ℕ, ◌+◌, ◌<◌, ◌≤◌,
 ghost use Rattle.std.specs.Io.KnownBytes.{IsAtEnd};
 ghost use Rattle.http_messages.specs.Limits.{head_limit, body_limit};
 ghost use Rattle.http_messages.specs.Messages.{HasMessage, HasNoHead, HasNoMessage, IsHeadFound};
-ghost use Rattle.http_messages.specs.Reading.{Gains, LeavesAtFault, ReadsMessage, FailsToReadMessage};
+ghost use Rattle.http_messages.specs.Reading.{Gains, LeavesAtFault, ReadsMessage, FailsToReadMessage, TellsFailure};
 ghost use Rattle.http_messages.specs.Views.{announced};
 
 use crate::buffer::Buffer;
-use crate::device::{ReaderFailed, read_once};
+use crate::device::{FallibleRead, ReaderFailed};
 use crate::head::{BODY_LIMIT, Head, Refused, read_head};
 use crate::messages::{HEAD_LIMIT, whole_head};
-use std::io::Read;
 use thiserror::Error;
 
 /// How many bytes one read of a head takes at most, with what follows it.
@@ -68,7 +67,7 @@ pub fn is_message_there(bytes: &[u8]) -> bool
 }
 
 /// Reads once, at most so many bytes and `SIZE`, to the end of the buffer. It gets none only at the reader's end.
-fn read_piece<R: Read, const SIZE: usize>(
+fn read_piece<R: FallibleRead, const SIZE: usize>(
     reader: &mut R,
     buffer: &mut Buffer,
     most: usize,
@@ -83,11 +82,12 @@ fn read_piece<R: Read, const SIZE: usize>(
     ensures err { IfErr result
         (LeavesAtFault (R.remaining reader.old) (R.remaining reader.new)
         buffer.old.items buffer.new.items) }
+    ensures failed { IfErr result (λ fault. TellsFailure fault (R.HasFailed reader.new)) }
     ensures kept { OnErr result (buffer.new.items ≡ buffer.old.items) }
 {
     let mut piece = [0u8; SIZE];
     let most = most.min(SIZE);
-    let count = match read_once(reader, &mut piece[..most]) {
+    let count = match reader.read_once(&mut piece[..most]) {
         Ok(count) => count,
         Err(failed) => return Err(ReadFault::Reader(failed)),
     };
@@ -101,7 +101,7 @@ fn read_piece<R: Read, const SIZE: usize>(
 }
 
 /// Reads once of a body of which so many bytes are wanted, at most as many, in a large piece if it pays.
-fn read_body_piece<R: Read>(
+fn read_body_piece<R: FallibleRead>(
     reader: &mut R,
     buffer: &mut Buffer,
     most: usize,
@@ -115,6 +115,7 @@ fn read_body_piece<R: Read>(
     ensures err { IfErr result
         (LeavesAtFault (R.remaining reader.old) (R.remaining reader.new)
         buffer.old.items buffer.new.items) }
+    ensures failed { IfErr result (λ fault. TellsFailure fault (R.HasFailed reader.new)) }
     ensures kept { OnErr result (buffer.new.items ≡ buffer.old.items) }
 {
     if most > PIECE {
@@ -125,7 +126,10 @@ fn read_body_piece<R: Read>(
 }
 
 /// Reads until the buffer begins with a whole head, and gives its length: none if the reader ends before.
-fn read_head_bytes<R: Read>(reader: &mut R, buffer: &mut Buffer) -> Result<Option<usize>, ReadFault>
+fn read_head_bytes<R: FallibleRead>(
+    reader: &mut R,
+    buffer: &mut Buffer,
+) -> Result<Option<usize>, ReadFault>
     ensures ok { OnOk result
         (Gains (R.remaining reader.old) (R.remaining reader.new)
         buffer.old.items buffer.new.items) }
@@ -134,6 +138,7 @@ fn read_head_bytes<R: Read>(reader: &mut R, buffer: &mut Buffer) -> Result<Optio
     ensures err { IfErr result
         (LeavesAtFault (R.remaining reader.old) (R.remaining reader.new)
         buffer.old.items buffer.new.items) }
+    ensures failed { IfErr result (λ fault. TellsFailure fault (R.HasFailed reader.new)) }
     ensures none { OnErr result (HasNoHead buffer.new.items) }
     ensures bound { length buffer.new.items ≤ max (length buffer.old.items) head_limit }
 {
@@ -148,7 +153,11 @@ fn read_head_bytes<R: Read>(reader: &mut R, buffer: &mut Buffer) -> Result<Optio
 }
 
 /// Reads until the buffer has so many bytes, and says whether it has them: not if the reader ends before.
-fn read_up_to<R: Read>(reader: &mut R, buffer: &mut Buffer, len: usize) -> Result<bool, ReadFault>
+fn read_up_to<R: FallibleRead>(
+    reader: &mut R,
+    buffer: &mut Buffer,
+    len: usize,
+) -> Result<bool, ReadFault>
     ensures ok { OnOk result
         (Gains (R.remaining reader.old) (R.remaining reader.new)
         buffer.old.items buffer.new.items) }
@@ -158,6 +167,7 @@ fn read_up_to<R: Read>(reader: &mut R, buffer: &mut Buffer, len: usize) -> Resul
     ensures err { IfErr result
         (LeavesAtFault (R.remaining reader.old) (R.remaining reader.new)
         buffer.old.items buffer.new.items) }
+    ensures failed { IfErr result (λ fault. TellsFailure fault (R.HasFailed reader.new)) }
     ensures lacks { OnErr result (length buffer.new.items < len) }
     ensures bound { length buffer.new.items ≤ max (length buffer.old.items) len }
 {
@@ -173,11 +183,15 @@ fn read_up_to<R: Read>(reader: &mut R, buffer: &mut Buffer, len: usize) -> Resul
 ///
 /// Each read asks for no more than what the head may still want, or the body still wants, so that the
 /// buffer never gets more than one head and one body. The head is parsed once.
-pub fn read_message<R: Read>(reader: &mut R, buffer: &mut Buffer) -> Result<ReadOutcome, ReadFault>
+pub fn read_message<R: FallibleRead>(
+    reader: &mut R,
+    buffer: &mut Buffer,
+) -> Result<ReadOutcome, ReadFault>
     ensures ok { IfOk result (ReadsMessage (R.remaining reader.old) (R.remaining reader.new)
         buffer.old.items buffer.new.items) }
     ensures err { IfErr result (FailsToReadMessage (R.remaining reader.old) (R.remaining reader.new)
         buffer.old.items buffer.new.items) }
+    ensures failed { IfErr result (λ fault. TellsFailure fault (R.HasFailed reader.new)) }
     ensures bound { length buffer.new.items ≤ max (length buffer.old.items) (head_limit + body_limit) }
 {
     let Some(head_len) = read_head_bytes(reader, buffer)? else {

@@ -4,7 +4,7 @@ use Rattle.std.proofs.{KnownBytes.{Consumes-kept, Consumes-nil, Consumes-trans, 
 use Rattle.std.proofs.lemmas.Bool.{eqb-false}
 use Rattle.http_messages.specs.Reading.{IsOutcome}
 use Rattle.broker_http.specs.{Calls.{ByBroker}, Stream.{texts}}
-use Rattle.broker_http.proofs.ResponsesLemmas.{Responses-came, Responses-answered, Responses-broken, Responses-unread, AllOpen-then, texts-then, StreamEnds-at_end, StreamEnds-rest}
+use Rattle.broker_http.proofs.ResponsesLemmas.{Responses-came, Responses-answered, Responses-broken, Responses-unread, AllOpen-then, texts-then, StreamEnds-at_end, StreamEnds-rest, tells_none, tells_reader}
 use Rattle.broker_http.proofs.serving.serve_all.Goals.{then-is_empty, else-is_empty}
 use Rattle.broker_http.proofs.serving.serve_all.Goals as goal
 
@@ -12,8 +12,8 @@ pub loop-answered-init : goal.loop-answered-init
 loop-answered-init g c =
     ([], [], Consumes-nil _, (refl, c.new-buffer.ensures), tt, refl, Appends-nil _)
 
-pub returns-in_err-head_len : goal.returns-in_err-head_len
-returns-in_err-head_len g c =
+pub returns-in_err-head_len-clause-answers : goal.returns-in_err-head_len-clause-answers
+returns-in_err-head_len-clause-answers g c =
     let so_far = c.loop-answered.invariant in
     let read = Consumes-kept _ _ _ so_far.0 so_far.2 c.is_over.ensures in
     let p = err_from_is_err_and c.from_residual.result c.from_residual.ensures.1 in
@@ -24,8 +24,8 @@ returns-in_err-head_len g c =
           read so_far.3 so_far.4 so_far.6 c.in_err-head_len.ensures.err.leaves;
     })
 
-pub returns-in-End : goal.returns-in-End
-returns-in-End g c =
+pub returns-in-End-clause-answers : goal.returns-in-End-clause-answers
+returns-in-End-clause-answers g c =
     let so_far = c.loop-answered.invariant in
     let read = Consumes-kept _ _ _ so_far.0 so_far.2 c.is_over.ensures in
     let came = c.in_ok-head_len.ensures.ok.gains in
@@ -50,8 +50,8 @@ returns-in-End g c =
       fault = tt;
     }
 
-pub returns-in_err-answer : goal.returns-in_err-answer
-returns-in_err-answer g c =
+pub returns-in_err-answer-clause-answers : goal.returns-in_err-answer-clause-answers
+returns-in_err-answer-clause-answers g c =
     let exchange = ByBroker g.B.Service.shown in
     let so_far = c.loop-answered.invariant in
     let read = Consumes-kept _ _ _ so_far.0 so_far.2 c.is_over.ensures in
@@ -78,8 +78,8 @@ returns-in_err-answer g c =
       );
     })
 
-pub returns-then-branch : goal.returns-then-branch
-returns-then-branch g c =
+pub returns-then-branch-clause-answers : goal.returns-then-branch-clause-answers
+returns-then-branch-clause-answers g c =
     let exchange = ByBroker g.B.Service.shown in
     let so_far = c.loop-answered.invariant in
     let read = Consumes-kept _ _ _ so_far.0 so_far.2 c.is_over.ensures in
@@ -126,8 +126,8 @@ loop-answered-preserved g c =
           (Appends-trans _ _ _ (texts so_far.1) response.text so_far.6 answered.3),
     )
 
-pub returns-in-Some : goal.returns-in-Some
-returns-in-Some g c =
+pub returns-in-Some-clause-answers : goal.returns-in-Some-clause-answers
+returns-in-Some-clause-answers g c =
     let so_far = c.loop-answered.invariant in
     let read = Consumes-kept _ _ _ so_far.0 so_far.2 c.is_over.ensures in
     record {
@@ -136,8 +136,8 @@ returns-in-Some g c =
       fault = (so_far.0, so_far.1, _, texts so_far.1, read, so_far.3, (so_far.4, refl), so_far.6);
     }
 
-pub returns : goal.returns
-returns g c =
+pub returns-clause-answers : goal.returns-clause-answers
+returns-clause-answers g c =
     let so_far = c.loop-answered.invariant in
     let all : length so_far.1 ≡ 2 ^ 64 - 1 = omega (arith, so_far.5, c.loop-answered-test.false) in
     record {
@@ -145,3 +145,13 @@ returns g c =
       end = tt;
       fault = (so_far.0, so_far.1, _, texts so_far.1, so_far.2, so_far.3, (so_far.4, refl, all), so_far.6);
     }
+
+pub returns-in_err-head_len-clause-failed : goal.returns-in_err-head_len-clause-failed
+returns-in_err-head_len-clause-failed g c =
+    let p = err_from_is_err_and c.from_residual.result c.from_residual.ensures.1 in
+    rw (p.1, p.2) (tells_reader c.in_err-head_len.field-0.0 _ c.in_err-head_len.ensures.failed)
+
+pub returns-in_err-answer-clause-failed : goal.returns-in_err-answer-clause-failed
+returns-in_err-answer-clause-failed g c =
+    let p = err_from_is_err_and c.from_residual-in_err-answer.result c.from_residual-in_err-answer.ensures.1 in
+    rw (p.1, p.2) (tells_none (ByBroker g.B.Service.shown) _ _ _ _ _ _ _ c.in_err-answer.ensures.fault)

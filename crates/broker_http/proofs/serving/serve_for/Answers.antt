@@ -50,10 +50,10 @@ module _ {X : Type 0} (shown : Held X → State) (s t : BrokerView X) (before af
         calm = stops_so shown mode s.connection t.connection (length m.0.steps) m.0.mode m.2.stops;
       }
 
-pub returns : goal.returns
-returns g c = record {
-  answers = c.serve_all.ensures;
-  machine = machines (g.B.Service.shown) _ _ _ _ _ _ c.serve_all.result c.serve_all.ensures;
-  survives = survives (g.B.Service.shown) _ _ _ _ _ _ c.serve_all.result c.serve_all.ensures;
-  survives_fault = survives_fault (g.B.Service.shown) _ _ _ _ _ _ c.serve_all.result c.serve_all.ensures;
+pub returns-clause-served : goal.returns-clause-served
+returns-clause-served g c = record {
+  answers = c.serve_all.ensures.answers;
+  machine = machines (g.B.Service.shown) _ _ _ _ _ _ c.serve_all.result c.serve_all.ensures.answers;
+  survives = survives (g.B.Service.shown) _ _ _ _ _ _ c.serve_all.result c.serve_all.ensures.answers;
+  survives_fault = survives_fault (g.B.Service.shown) _ _ _ _ _ _ c.serve_all.result c.serve_all.ensures.answers;
 }
