@@ -51,8 +51,8 @@ module _ {D : Type 0} (g : Ghosts D) where
       → KeepsAfter held (Serving ((record { token = Some token; command = command }, exit_of answer) ∷ []) ∷ [])
       (store_state store).may_leave
 
-  -- Of those that `serve` closed, or of which a sync failed: a period for each opening, of the commands that its broker
-  -- ran for its peers.
+  -- Of those that `serve` closed or gave up, or of which a sync failed: a period for each opening, of the commands that
+  -- its broker ran for its peers.
   abbrev pub ServingLeads : Type 0
   ServingLeads =
       (held : Image) (visits : List Visit) (rest : Leftover D g) (it : ServesOver g held visits rest)

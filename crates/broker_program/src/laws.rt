@@ -9,7 +9,7 @@ use sqlite_disk::Disk;
 /// of format 1 or one of today's, then whatever a crash leaves of what the command left keeps what the periods lead to.
 /// `init` makes a broker (`making`), `migrate` makes today's database with the same state (`migrating`), `can-i-deploy`
 /// serves one command (`asking`), and `serve` those of all its peers, of each opening those that its broker ran, until
-/// the file is closed or a sync of it fails (`serving`).
+/// the file is closed, a sync of it fails or it was given up and isn't opened again (`serving`).
 pub fn life_over_commands<D: Disk>()
     ensures making { MakingLeads D.Disk }
     ensures migrating { MigratingLeads D.Disk }

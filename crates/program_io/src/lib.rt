@@ -7,6 +7,7 @@ pub mod entrance;
 pub mod fault;
 pub mod forms;
 pub mod listening;
+mod loopback;
 pub mod normalise;
 pub mod output;
 pub mod report;

@@ -1,13 +1,14 @@
 //! Where connections come in, an address of loopback, and which of them comes next.
-ghost use Rattle.std.specs.Prelude.{◌≡◌, ◌≢◌, ◌+◌, ◌<◌, ◌≤◌, true, false, length, position, IfErr, IfNone, IfOk, IfSome, MatchOption};
-ghost use Rattle.program_io.specs.Listening.{HasPortOf, IsBoundAs, IsLoopback, IsOfLoopback, IsReady, ListensOn, next_of};
+ghost use Rattle.std.specs.Prelude.{◌≡◌, ◌≢◌, ◌+◌, ◌<◌, ◌≤◌, true, false, length, position, IfErr, IfOk, IfSome, MatchOption};
+ghost use Rattle.program_io.specs.Listening.{IsReady, ListensOn, next_of};
 
 use crate::fault::RunFault;
+use crate::loopback::{LoopbackListener, listener_on};
 use http_messages::messages::HEAD_LIMIT;
 use http_messages::patience::Door;
 use http_messages::reading::is_message_there;
 use std::io::ErrorKind;
-use std::net::{SocketAddr, TcpListener, TcpStream};
+use std::net::TcpStream;
 
 /// How many connections are taken in at most while another is served. Others wait at the system.
 const MOST_WAITING: usize = 64;
@@ -81,7 +82,7 @@ fn next_of(waiting: &[Waiting]) -> Option<usize>
 #[derive(Drop)]
 pub struct Entrance {
     /// It doesn't block, but while nobody is served.
-    listener: TcpListener,
+    listener: LoopbackListener,
     /// Those that came in while another was served, in this order.
     waiting: Vec<Waiting>,
     /// How many more are to be taken in.
@@ -178,65 +179,6 @@ impl Connections {
                 None
             }
         }
-    }
-}
-
-/// The address, if it is one of loopback.
-fn if_loopback(address: SocketAddr) -> Option<SocketAddr>
-    ensures some { IfSome result (λ found. (found ≡ address) × IsOfLoopback found) }
-    ensures none { IfNone result (¬ (IsOfLoopback address)) }
-{
-    if address.ip().is_loopback() {
-        Some(address)
-    } else {
-        None
-    }
-}
-
-/// The address that the text says, if it is one of loopback.
-fn loopback_of(listen: &str) -> Option<SocketAddr>
-    ensures some { IfSome result (IsLoopback listen.now) }
-    ensures none { IfNone result (¬ (ListensOn listen.now)) }
-{
-    match listen.parse::<SocketAddr>() {
-        Ok(address) => if_loopback(address),
-        Err(_) => None,
-    }
-}
-
-/// The address, if it is one of loopback with the port that was asked for. Port 0 asks for any.
-fn if_asked(found: SocketAddr, asked: SocketAddr) -> Option<SocketAddr>
-    ensures { IfSome result (λ bound. IsOfLoopback bound × HasPortOf asked bound) }
-{
-    let bound = if_loopback(found)?;
-    if asked.port() == 0 || bound.port() == asked.port() {
-        Some(bound)
-    } else {
-        None
-    }
-}
-
-/// The address on which the system says that this listens, if it is the one that was asked for.
-fn bound_to(listener: &TcpListener, asked: SocketAddr) -> Option<SocketAddr>
-    ensures { IfSome result (λ bound. IsOfLoopback bound × HasPortOf asked bound) }
-{
-    if_asked(listener.local_addr().ok()?, asked)
-}
-
-/// A listener on the address of loopback that the text says, and that address as the system says it.
-fn listener_on(rt: &HostRuntime, listen: &str) -> Result<(TcpListener, SocketAddr), RunFault>
-    ensures bound { IfOk result (λ found. IsBoundAs listen.now found.1) }
-    ensures cause { IfErr result (λ fault. fault ≡ RunFault.Listen) }
-{
-    let Some(address) = loopback_of(listen) else {
-        return Err(RunFault::Listen);
-    };
-    let Ok(listener) = TcpListener::bind(rt, address) else {
-        return Err(RunFault::Listen);
-    };
-    match bound_to(&listener, address) {
-        Some(bound) => Ok((listener, bound)),
-        None => Err(RunFault::Listen),
     }
 }
 

@@ -1,6 +1,6 @@
 use Rattle.std.proofs.{Common.{Option, None, Some, IfNone, subst}, NetLemmas.Theorems.{IsSocketText_unique}}
 use Rattle.program_io.specs.Listening.{IsOfLoopback}
-use Rattle.program_io.proofs.listening.loopback_of.Goals as goal
+use Rattle.program_io.proofs.loopback.loopback_of.Goals as goal
 
 if_none : {T P Q : Type 0} (o : Option T) → (P → Q) → IfNone o P → IfNone o Q
 if_none None f p = f p

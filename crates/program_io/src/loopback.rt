@@ -1,0 +1,89 @@
+//! A listener on an address of loopback.
+ghost use Rattle.std.specs.Prelude.{◌≡◌, IfErr, IfNone, IfOk, IfSome};
+ghost use Rattle.program_io.specs.Listening.{HasPortOf, IsBoundAs, IsLoopback, IsOfLoopback, ListensOn};
+
+use crate::fault::RunFault;
+use std::io;
+use std::net::{SocketAddr, TcpListener, TcpStream};
+
+/// A listener on an address of loopback, which is the one that was asked for. Only `bound_to` makes one, which can't
+/// listen on anything itself.
+#[derive(Drop)]
+pub(crate) struct LoopbackListener {
+    listener: TcpListener,
+}
+
+impl LoopbackListener {
+    /// The next connection, with its address.
+    pub(crate) fn accept(&self) -> io::Result<(TcpStream, SocketAddr)> {
+        self.listener.accept()
+    }
+
+    /// Whether `accept` comes back at once if nobody is there.
+    pub(crate) fn set_nonblocking(&self, nonblocking: bool) -> io::Result<()> {
+        self.listener.set_nonblocking(nonblocking)
+    }
+}
+
+/// The address, if it is one of loopback.
+fn if_loopback(address: SocketAddr) -> Option<SocketAddr>
+    ensures some { IfSome result (λ found. (found ≡ address) × IsOfLoopback found) }
+    ensures none { IfNone result (¬ (IsOfLoopback address)) }
+{
+    if address.ip().is_loopback() {
+        Some(address)
+    } else {
+        None
+    }
+}
+
+/// The address that the text says, if it is one of loopback.
+fn loopback_of(listen: &str) -> Option<SocketAddr>
+    ensures some { IfSome result (IsLoopback listen.now) }
+    ensures none { IfNone result (¬ (ListensOn listen.now)) }
+{
+    match listen.parse::<SocketAddr>() {
+        Ok(address) => if_loopback(address),
+        Err(_) => None,
+    }
+}
+
+/// The address, if it is one of loopback with the port that was asked for. Port 0 asks for any.
+fn if_asked(found: SocketAddr, asked: SocketAddr) -> Option<SocketAddr>
+    ensures { IfSome result (λ bound. IsOfLoopback bound × HasPortOf asked bound) }
+{
+    let bound = if_loopback(found)?;
+    if asked.port() == 0 || bound.port() == asked.port() {
+        Some(bound)
+    } else {
+        None
+    }
+}
+
+/// The listener, if the system says that it listens on the address that was asked for, and that address.
+fn bound_to(listener: TcpListener, asked: SocketAddr) -> Option<(LoopbackListener, SocketAddr)>
+    ensures { IfSome result (λ found. IsOfLoopback found.1 × HasPortOf asked found.1) }
+{
+    let bound = if_asked(listener.local_addr().ok()?, asked)?;
+    Some((LoopbackListener { listener }, bound))
+}
+
+/// A listener on the address of loopback that the text says, and that address as the system says it.
+pub(crate) fn listener_on(
+    rt: &HostRuntime,
+    listen: &str,
+) -> Result<(LoopbackListener, SocketAddr), RunFault>
+    ensures bound { IfOk result (λ found. IsBoundAs listen.now found.1) }
+    ensures cause { IfErr result (λ fault. fault ≡ RunFault.Listen) }
+{
+    let Some(address) = loopback_of(listen) else {
+        return Err(RunFault::Listen);
+    };
+    let Ok(listener) = TcpListener::bind(rt, address) else {
+        return Err(RunFault::Listen);
+    };
+    match bound_to(listener, address) {
+        Some(found) => Ok(found),
+        None => Err(RunFault::Listen),
+    }
+}
