@@ -6,7 +6,7 @@ use Rattle.sqlite.specs.State.{State}
 use Rattle.table_access.{specs.{Calls.{HasFailed}, declared.StoreFault.{StoreFault}}, proofs.CallLemmas.{call_with, failed_then, idle, seq, then_err, may_take}}
 use Rattle.broker_core.specs.{State.{State as Broker}, Change.{Transition, unchanged_with, done}, declared.answer.Answer.{Answer}}
 use Rattle.broker_core.specs.{declared.answer.Answer.TheVariants.{Done}, declared.answer.Detail.TheVariants.{Plain}}
-use Rattle.broker_tables.specs.Calm.{CalmQueriesBetween, FailsOnlyBy, HasFailedOrMemory, IsCalmFromBetween}
+use Rattle.broker_tables.specs.Calm.{CalmQueriesBetween, FailsOnlyBy, IsCalmFromBetween}
 use Rattle.broker_tables.specs.{Holds.{Holds, ChangesTakingBetween, ChangesBetween, QueriesBetween}, Refusals.{IsCalmTakingBetween, IsCalmUnlessBetween}}
 use Rattle.broker_tables.{specs.Room.{enough}, proofs.FailLemmas.{calm_after, calm_fails, fails_after, fails_more, fails_changing, taking}}
 use Rattle.broker_tables.proofs.{QueryLemmas.{stays_held}, RoomLemmas.{is_counted}}
@@ -74,12 +74,12 @@ pub carries : {A : Type 0} {any changes : Bool} {old mid new : State} {x : A} {r
     → ((s : Broker) → Allows s → P x s → Next s × ((out : Transition) → Q s out → R s out)) → CalmQueriesBetween any old mid (Ok x) P → CarriesBetween changes mid new Next Next TooBig Q r → CarriesBetween changes old new Allows Allows TooBig R r
 carries more one two = carries_from more (λ s held may told. more s may told) one two
 
--- a query, and then one whose change is never refused, whatever the state
+-- a query, and then one whose change is never refused, whatever the state, and that takes no memory
 pub carries_calmly : {A : Type 0} {any : Bool} {old mid new : State} {x : A} {r : Result Answer StoreFault} {TooBig : Type 0} {P : A → Broker → Type 0} {Allows Next : Broker → Type 0} {Q R : Broker → Transition → Type 0}
-    → ((s : Broker) → Allows s → P x s → Next s × ((out : Transition) → Q s out → R s out)) → CalmQueriesBetween any old mid (Ok x) P → PerformsWhereBetween mid new Next Q r → FailsOnlyBy mid new r (HasFailedOrMemory mid new) → CarriesBetween false old new Allows (λ _. ⊤) TooBig R r
+    → ((s : Broker) → Allows s → P x s → Next s × ((out : Transition) → Q s out → R s out)) → CalmQueriesBetween any old mid (Ok x) P → PerformsWhereBetween mid new Next Q r → FailsOnlyBy mid new r (HasFailed mid new) → CarriesBetween false old new Allows (λ _. ⊤) TooBig R r
 carries_calmly {A} {any} {old} {mid} {new} {x} {r} {TooBig} {P} {Allows} {Next} {Q} {R} more one two why = record {
   answers = where_then old mid new x r Allows P Next Q R more one.call two;
-  calm = calm_after old mid new x r P _ (λ _. ⊤) (λ _. ⊤) (λ s held may told. tt) one.call two (λ clean s here free. why clean s here);
+  calm = calm_after old mid new x r P _ (λ _. ⊤) (λ _. ⊤) (λ s held may told. tt) one.call two (λ clean s here free. IfErr-weaker r _ _ (λ e is. inl is) (why clean s here));
 }
 
 -- a query, and then a listing that is calm where the query found what it did

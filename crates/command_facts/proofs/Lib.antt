@@ -7,3 +7,4 @@ pub mod ShortTexts
 pub mod CallerSteps
 pub mod PerformLemmas
 pub mod CarryLemmas
+pub mod InPlace

@@ -29,7 +29,7 @@ struct BranchVersion {
 
 /// The number that the next version gets: those of all others are below.
 fn read_bound<S: Alter>(conn: &mut Connection<S>) -> Result<u32, StoreFault>
-    ensures { CalmQueries S.Store conn.old conn.new result (λ bound s. bound ≡ length s.versions + 1) }
+    ensures { CalmQueriesInPlace S.Store conn.old conn.new result (λ bound s. bound ≡ length s.versions + 1) }
 {
     let count = done!(version_count(conn));
     match next_number(count) {
@@ -91,7 +91,7 @@ fn read_branch<S: Alter>(
     consumer: &Name,
     branch: &Name,
 ) -> Result<Option<u32>, StoreFault>
-    ensures { CalmQueries S.Store conn.old conn.new result
+    ensures { CalmQueriesInPlace S.Store conn.old conn.new result
         (λ content s. IsBranchContent s provider.now consumer.now branch.now content) }
 {
     let bound = done!(read_bound(conn));

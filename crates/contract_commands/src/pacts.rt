@@ -1,5 +1,5 @@
 //! Contracts, shown by their version.
-ghost use Rattle.std.specs.Prelude.{◌≡◌, ℕ, List, Some};
+ghost use Rattle.std.specs.Prelude.{◌≡◌, ℕ, List, Some, Ok, IfErr};
 ghost use Rattle.broker_core.specs.Change.{text_of};
 ghost use Rattle.contract_commands.specs.Pacts.{ShowsReached, HasContent, HasReachedContent};
 ghost use Rattle.broker_core.specs.declared.command.Command.TheVariants.{GetPact};
@@ -28,13 +28,14 @@ fn show_pact_text<S: Alter>(conn: &mut Connection<S>, content: u32) -> Result<An
     Ok(Answer::Shown(Shown::Pact(text)))
 }
 
-/// Shows the text of a contract's content, or gives the refusal.
+/// Shows the text of a contract's content, or gives the refusal, for which nothing is asked.
 pub(crate) fn show_pact<S: Alter>(
     conn: &mut Connection<S>,
     place: Result<u32, Answer>,
 ) -> Result<Answer, StoreFault>
     ensures answers { Queries S.Store conn.old conn.new result (λ answer s. ShowsReached s place answer) }
     ensures calm { IsCalmFrom S.Store conn.old conn.new result (λ s. HasReachedContent s place) }
+    ensures refused { IfErr place (λ answer. (result ≡ Ok answer) × (conn.new ≡ conn.old)) }
 {
     match place {
         Ok(content) => show_pact_text(conn, content),

@@ -1,5 +1,7 @@
 //! Results of verification: how one comes in, and those that their senders claim.
 ghost use Rattle.std.specs.Prelude.{◌≡◌, ◌==◌, ◌&&◌, option_map};
+ghost use Rattle.sqlite.specs.Held.{state};
+ghost use Rattle.table_access.specs.Calls.{TellsMemory};
 ghost use Rattle.broker_core.specs.Text.{same_bool};
 ghost use Rattle.broker_core.specs.State.{State as BrokerState};
 ghost use Rattle.broker_core.specs.Change.{result_of_run as run_result};
@@ -217,6 +219,7 @@ fn claim<S: Alter>(
     ensures calm { FailsToChangeFrom S.Store conn.old conn.new result
         (AreLong provider.now report.now) (CanReceive provider.now content)
         (Claims provider.now report.now content success) }
+    ensures memory { TellsMemory (state S.Store conn.old) (state S.Store conn.new) result }
 {
     let found = Finding {
         content,

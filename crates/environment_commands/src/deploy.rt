@@ -1,4 +1,6 @@
 //! Deployment of a version.
+ghost use Rattle.sqlite.specs.Held.{state};
+ghost use Rattle.table_access.specs.Calls.{TellsMemory};
 ghost use Rattle.broker_core.specs.declared.command.Command.TheVariants.{Deploy};
 ghost use Rattle.command_facts.specs.Performs.{Carries, CarriesFrom};
 ghost use Rattle.environment_commands.specs.Effects.{CarriesOut, Deploys};
@@ -24,9 +26,10 @@ fn record_deployment<S: Alter>(
     instance: &str,
     number: u32,
 ) -> Result<Answer, StoreFault>
-    ensures { CarriesFrom S.Store conn.old conn.new result (HasNumber version.now number)
+    ensures carries { CarriesFrom S.Store conn.old conn.new result (HasNumber version.now number)
         (HasPlace environment.now version.now number) (IsLongPlace environment.now version.now instance.now)
         (Deploys environment.now version.now instance.now) }
+    ensures memory { TellsMemory (state S.Store conn.old) (state S.Store conn.new) result }
 {
     if done!(is_deployed(
         conn,

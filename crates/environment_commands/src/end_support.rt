@@ -2,7 +2,7 @@
 ghost use Rattle.std.specs.Prelude.{◌≡◌};
 ghost use Rattle.broker_core.specs.Change.{end_support as unsupported};
 ghost use Rattle.broker_core.specs.declared.command.Command.TheVariants.{EndSupport};
-ghost use Rattle.broker_tables.specs.Calm.{IsCalm};
+ghost use Rattle.broker_tables.specs.Calm.{IsCalmInPlace};
 ghost use Rattle.command_facts.specs.Performs.{CarriesCalmly, PerformsWhere};
 ghost use Rattle.environment_commands.specs.Places.{HasNumber};
 
@@ -24,7 +24,7 @@ fn remove_release<S: Alter>(
 ) -> Result<Answer, StoreFault>
     ensures answers { PerformsWhere S.Store conn.old conn.new result
         (HasNumber version.now number) (λ s out. out ≡ unsupported s environment.now version.now) }
-    ensures calm { IsCalm S.Store conn.old conn.new result }
+    ensures calm { IsCalmInPlace S.Store conn.old conn.new result }
 {
     if done!(deploy_tables::end_support(conn, environment.as_str(), number)) {
         Ok(Answer::Done(Detail::Plain))

@@ -1,5 +1,7 @@
 //! Release of a version.
 ghost use Rattle.std.specs.Prelude.{[], ◌∷◌};
+ghost use Rattle.sqlite.specs.Held.{state};
+ghost use Rattle.table_access.specs.Calls.{TellsMemory};
 ghost use Rattle.broker_core.specs.declared.command.Command.TheVariants.{Release};
 ghost use Rattle.broker_tables.specs.Refusals.{AreShort};
 ghost use Rattle.command_facts.specs.Performs.{Carries, CarriesFrom};
@@ -25,9 +27,10 @@ fn record_release<S: Alter>(
     version: &Version,
     number: u32,
 ) -> Result<Answer, StoreFault>
-    ensures { CarriesFrom S.Store conn.old conn.new result (HasNumber version.now number)
+    ensures carries { CarriesFrom S.Store conn.old conn.new result (HasNumber version.now number)
         (HasPlace environment.now version.now number) (¬ AreShort (environment.now ∷ []))
         (Releases environment.now version.now) }
+    ensures memory { TellsMemory (state S.Store conn.old) (state S.Store conn.new) result }
 {
     if done!(is_released(conn, environment.as_str(), number)) {
         return Ok(Answer::Already(Detail::Plain));

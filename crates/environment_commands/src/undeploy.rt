@@ -2,7 +2,7 @@
 ghost use Rattle.std.specs.Prelude.{◌≡◌};
 ghost use Rattle.broker_core.specs.Change.{undeploy as undeployment};
 ghost use Rattle.broker_core.specs.declared.command.Command.TheVariants.{Undeploy};
-ghost use Rattle.broker_tables.specs.Calm.{IsCalm};
+ghost use Rattle.broker_tables.specs.Calm.{IsCalmInPlace};
 ghost use Rattle.command_facts.specs.Performs.{CarriesCalmly, PerformsWhere};
 ghost use Rattle.environment_commands.specs.Places.{HasNumber};
 
@@ -26,7 +26,7 @@ fn remove_deployment<S: Alter>(
 ) -> Result<Answer, StoreFault>
     ensures answers { PerformsWhere S.Store conn.old conn.new result
         (HasNumber version.now number) (λ s out. out ≡ undeployment s environment.now version.now instance.now) }
-    ensures calm { IsCalm S.Store conn.old conn.new result }
+    ensures calm { IsCalmInPlace S.Store conn.old conn.new result }
 {
     if done!(take_out(
         conn,

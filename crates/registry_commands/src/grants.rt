@@ -1,5 +1,7 @@
 //! PUT and DELETE of a grant.
 ghost use Rattle.std.specs.Prelude.{IfSome, IfNone};
+ghost use Rattle.sqlite.specs.Held.{state};
+ghost use Rattle.table_access.specs.Calls.{TellsMemory};
 ghost use Rattle.broker_core.specs.declared.command.Command.TheVariants.{PutGrant, DeleteGrant};
 ghost use Rattle.broker_tables.specs.Calm.{CalmQueriesInPlace};
 ghost use Rattle.command_facts.specs.Performs.{Carries, CarriesCalmly};
@@ -88,8 +90,8 @@ fn decide_delete_grant(alloc: Global, caller: &Caller, facts: GrantFacts) -> Opt
 /// Adds a grant, for the office; or answers why not, and nothing changes.
 ///
 /// # Errors
-/// `StoreFault::Memory` if the database is out of memory; `StoreFault::Store` if it refused a statement, or a row
-/// breaks the rules of its table.
+/// `StoreFault::Memory` if the database is out of memory, which ended the transaction; `StoreFault::Store` if it refused
+/// a statement, or a row breaks the rules of its table.
 pub fn put_grant<S: Alter>(
     alloc: Global,
     conn: &mut Connection<S>,
@@ -97,7 +99,8 @@ pub fn put_grant<S: Alter>(
     team: &Name,
     environment: &Name,
 ) -> Result<Answer, StoreFault>
-    ensures { Carries S.Store conn.old conn.new result caller.now (PutGrant team.now environment.now) }
+    ensures carries { Carries S.Store conn.old conn.new result caller.now (PutGrant team.now environment.now) }
+    ensures memory { TellsMemory (state S.Store conn.old) (state S.Store conn.new) result }
 {
     let facts = done!(read_grant_facts(conn, team, environment));
     match decide_put_grant(alloc, caller, facts) {
@@ -107,11 +110,11 @@ pub fn put_grant<S: Alter>(
 }
 
 /// Takes a grant away, for the office; or answers why not, and nothing changes. In a state that can be read back only a
-/// failure of the store, or `Memory`, keeps it from either.
+/// failure of the store keeps it from either.
 ///
 /// # Errors
-/// `StoreFault::Memory` if the database is out of memory; `StoreFault::Store` if it refused a statement, or a row
-/// breaks the rules of its table.
+/// `StoreFault::Memory` if the database is out of memory, which ended the transaction; `StoreFault::Store` if it refused
+/// a statement, or a row breaks the rules of its table.
 pub fn delete_grant<S: Alter>(
     alloc: Global,
     conn: &mut Connection<S>,
@@ -119,7 +122,8 @@ pub fn delete_grant<S: Alter>(
     team: &Name,
     environment: &Name,
 ) -> Result<Answer, StoreFault>
-    ensures { CarriesCalmly S.Store conn.old conn.new result caller.now (DeleteGrant team.now environment.now) }
+    ensures carries { CarriesCalmly S.Store conn.old conn.new result caller.now (DeleteGrant team.now environment.now) }
+    ensures memory { TellsMemory (state S.Store conn.old) (state S.Store conn.new) result }
 {
     let facts = done!(read_grant_facts(conn, team, environment));
     match decide_delete_grant(alloc, caller, facts) {

@@ -16,10 +16,10 @@ pub returns-in-PutEnvironment : goal.returns-in-PutEnvironment
 returns-in-PutEnvironment g c = follows c.args.caller.now c.in-PutEnvironment.is c.put_environment.ensures
 
 pub returns-in-PutGrant : goal.returns-in-PutGrant
-returns-in-PutGrant g c = follows c.args.caller.now c.in-PutGrant.is c.put_grant.ensures
+returns-in-PutGrant g c = follows c.args.caller.now c.in-PutGrant.is c.put_grant.ensures.carries
 
 pub returns-in-DeleteGrant : goal.returns-in-DeleteGrant
-returns-in-DeleteGrant g c = follows c.args.caller.now c.in-DeleteGrant.is c.delete_grant.ensures
+returns-in-DeleteGrant g c = follows c.args.caller.now c.in-DeleteGrant.is c.delete_grant.ensures.carries
 
 pub returns-in-PutVersion : goal.returns-in-PutVersion
 returns-in-PutVersion g c = follows c.args.caller.now c.in-PutVersion.is c.put_version.ensures

@@ -1,7 +1,7 @@
-use Rattle.std.proofs.Common.{◌+◌, ap, ◌∙◌, arith}
+use Rattle.std.proofs.Common.{◌+◌, Err, ap, refl, ◌∙◌, arith}
 use Rattle.sqlite.specs.Held.{state}
 use Rattle.table_access.specs.declared.StoreFault.TheVariants.{Store}
-use Rattle.broker_tables.proofs.QueryLemmas.{read_never, calm_answers}
+use Rattle.broker_tables.proofs.QueryLemmas.{read_result, calm_answers}
 use Rattle.contract_commands.proofs.branch_pact.read_bound.Goals as goal
 
 pub returns-in-Some : goal.returns-in-Some
@@ -11,5 +11,5 @@ returns-in-Some g c =
 -- there are fewer than 2^32 - 1
 pub returns-in-None : goal.returns-in-None
 returns-in-None g c =
-    read_never (state g.S.Store c.args.conn.now) (state g.S.Store c.version_count.new.conn) c.in-Ok.value Store _ _
+    read_result (state g.S.Store c.args.conn.now) (state g.S.Store c.version_count.new.conn) c.in-Ok.value (Err Store) _ _ tt (λ none. refl)
     (λ s here is. let count = (is s here.held).0 in let high = c.in-None.ensures.none in let few = here.readable.few_versions in omega (arith, count, high, few)) c.in-Ok.ensures.call

@@ -1,5 +1,6 @@
+use Rattle.std.proofs.Common.{Err}
 use Rattle.sqlite.specs.Held.{state}
-use Rattle.broker_tables.proofs.QueryLemmas.{query_failed, calm_both}
+use Rattle.broker_tables.proofs.QueryLemmas.{in_place, query_failed, calm_both}
 use Rattle.contract_commands.proofs.BranchLast.{reaches_branch}
 use Rattle.contract_commands.proofs.branch_pact.read_branch_to_show.Goals as goal
 
@@ -14,4 +15,4 @@ returns g c =
 pub returns-in-Err-read_branch : goal.returns-in-Err-read_branch
 returns-in-Err-read_branch g c =
     query_failed (state g.S.Store c.args.conn.now) (state g.S.Store c.read_sides_to_show.new.conn) (state g.S.Store c.read_branch.new.conn) c.in-Ok.value c.in-Err-read_branch.fault _ _ _
-    c.in-Ok.ensures c.in-Err-read_branch.ensures
+    c.in-Ok.ensures (in_place (state g.S.Store c.read_sides_to_show.new.conn) (state g.S.Store c.read_branch.new.conn) (Err c.in-Err-read_branch.fault) _ c.in-Err-read_branch.ensures)

@@ -20,7 +20,7 @@ pub returns-then-permitted : goal.returns-then-permitted
 returns-then-permitted g c =
     carries_more (λ s out it. it) (λ long named. long (name_short _ named.0, (name_short _ named.1.0, (subst (λ (t : List ℕ). length t ≤ 10 ^ 7) (sym c.instance_text.ensures) (instance_short _ named.2), tt))))
     (carries_from (λ s admitted says. (admitted.1, permitted_deploys s _ _ c.args.instance.now c.instance_text.result.now _ _ c.instance_text.ensures c.if-permitted.true (says admitted)))
-    (λ s held admitted says. (has_place s _ _ _ admitted, permitted_deploys s _ _ c.args.instance.now c.instance_text.result.now _ _ c.instance_text.ensures c.if-permitted.true (says admitted))) c.in-Ok.ensures c.record_deployment.ensures)
+    (λ s held admitted says. (has_place s _ _ _ admitted, permitted_deploys s _ _ c.args.instance.now c.instance_text.result.now _ _ c.instance_text.ensures c.if-permitted.true (says admitted))) c.in-Ok.ensures c.record_deployment.ensures.carries)
 
 pub returns-else-permitted : goal.returns-else-permitted
 returns-else-permitted g c =

@@ -20,7 +20,7 @@ pub returns-then-permitted : goal.returns-then-permitted
 returns-then-permitted g c =
     carries_more (λ s out it. it) (λ long named. long (name_short _ named.0, tt))
     (carries_from (λ s admitted says. (admitted.1, permitted_releases s _ _ _ _ c.if-permitted.true (says admitted)))
-    (λ s held admitted says. (has_place s _ _ _ admitted, permitted_releases s _ _ _ _ c.if-permitted.true (says admitted))) c.in-Ok.ensures c.record_release.ensures)
+    (λ s held admitted says. (has_place s _ _ _ admitted, permitted_releases s _ _ _ _ c.if-permitted.true (says admitted))) c.in-Ok.ensures c.record_release.ensures.carries)
 
 pub returns-else-permitted : goal.returns-else-permitted
 returns-else-permitted g c =
