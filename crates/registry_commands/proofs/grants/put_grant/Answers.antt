@@ -1,5 +1,6 @@
 use Rattle.std.{specs.Option.{is_some}, proofs.Common.{[], ◌∷◌, codes, refl, ◌≡◌, true, false, sym, ◌∙◌, ap, subst}}
-use Rattle.broker_core.specs.{Text.{put_at, same_text, same_pair, Text}, Name.{IsName}}
+use Rattle.broker_names.specs.Name.{IsName}
+use Rattle.broker_core.specs.Text.{put_at, same_text, same_pair, Text}
 use Rattle.sqlite.specs.Held.{state}
 use Rattle.table_access.proofs.CallLemmas.{memory_ok}
 use Rattle.command_facts.proofs.{CarryLemmas.{tells, makes}, InPlace.{told_in_place}, ShortTexts.{name_short}}
