@@ -6,10 +6,10 @@ use Rattle.sqlite.specs.State.{State}
 use Rattle.table_access.{specs.{Calls.{HasFailed}, declared.StoreFault.{StoreFault}}, proofs.CallLemmas.{call_with, failed_then, idle, seq, then_err, may_take}}
 use Rattle.broker_core.specs.{State.{State as Broker}, Change.{Transition, unchanged_with, done}, declared.answer.Answer.{Answer}}
 use Rattle.broker_core.specs.{declared.answer.Answer.TheVariants.{Done}, declared.answer.Detail.TheVariants.{Plain}}
-use Rattle.broker_tables.specs.Calm.{CalmQueriesBetween, FailsOnlyBy, IsCalmFromBetween}
-use Rattle.broker_tables.specs.{Holds.{Holds, ChangesTakingBetween, ChangesBetween, QueriesBetween}, Refusals.{IsCalmTakingBetween, IsCalmUnlessBetween}}
-use Rattle.broker_tables.{specs.Room.{enough}, proofs.FailLemmas.{calm_after, calm_fails, fails_after, fails_more, fails_changing, taking}}
-use Rattle.broker_tables.proofs.{QueryLemmas.{stays_held}, RoomLemmas.{is_counted}}
+use Rattle.broker_tables.specs.{Calm.{CalmQueriesBetween, FailsOnlyBy, IsCalmFromBetween}, Holds.{Holds, ChangesTakingBetween, ChangesBetween, QueriesBetween}}
+use Rattle.broker_tables.specs.{Refusals.{IsCalmTakingBetween, IsCalmUnlessBetween}, Room.{enough}}
+use Rattle.broker_tables.proofs.{FailLemmas.{calm_after, calm_fails, fails_after, fails_more, fails_changing, taking}, QueryLemmas.{stays_held}}
+use Rattle.broker_tables.proofs.RoomLemmas.{is_counted}
 use Rattle.command_facts.specs.Performs.{PerformsBetween, PerformsWhereBetween, FailsBetween, CarriesBetween, IsToChange, told_done}
 use Rattle.command_facts.proofs.PerformLemmas.{held_on, where_answered, where_changing, where_then}
 

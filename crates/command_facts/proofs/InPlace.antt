@@ -1,8 +1,8 @@
 -- That a command which takes no memory of its own is out of it only as the store is.
-use Rattle.std.specs.Prelude.{⊤}
-use Rattle.std.proofs.Common.{Bool, false, ◌≡◌, Ok, Err, Result, sym, subst}
+use Rattle.std.{specs.Prelude.{⊤}, proofs.Common.{Bool, false, ◌≡◌, Ok, Err, Result, sym, subst}}
 use Rattle.sqlite.specs.State.{State}
-use Rattle.table_access.{specs.{Calls.{CallsBetween, CallsStoreBetween, TellsMemory}, declared.StoreFault.{StoreFault}}, proofs.CallLemmas.{memory_ok, seq, then_err}}
+use Rattle.table_access.specs.{Calls.{CallsBetween, CallsStoreBetween, TellsMemory}, declared.StoreFault.{StoreFault}}
+use Rattle.table_access.proofs.CallLemmas.{memory_ok, seq, then_err}
 use Rattle.broker_core.specs.{declared.answer.Answer.{Answer}, declared.answer.Answer.TheVariants.{Done}, declared.answer.Detail.TheVariants.{Plain}}
 use Rattle.command_facts.specs.Performs.{told_done}
 

@@ -1,5 +1,4 @@
-use Rattle.std.specs.Prelude.{⊤}
-use Rattle.std.proofs.Common.{◌≡◌, ◌∙◌, false, arith}
+use Rattle.std.{specs.Prelude.{⊤}, proofs.Common.{◌≡◌, ◌∙◌, false, arith}}
 use Rattle.sqlite.specs.Held.{state}
 use Rattle.broker_core.specs.{State.{claimed_result}, Change.{Transition, report}, declared.answer.Answer.{Answer}, declared.answer.Detail.TheVariants.{Result}}
 use Rattle.contract_commands.specs.{Results.{CanReceive, IsToReport, Claims, told_as, reported_version}, declared.results.Reported.{Reported}}
