@@ -18,8 +18,10 @@ opening_text opening.Memory = codes "open 4"
 opening_text opening.Store = codes "open 5"
 
 abbrev pub serving_text : ServeFault → List ℕ
-serving_text serving.Read = codes "serve 1"
-serving_text serving.Write = codes "serve 2"
+serving_text (serving.Read failed) = codes "serve 1"
+serving_text (serving.Turn over) = codes "serve 1"
+serving_text serving.Count = codes "serve 1"
+serving_text (serving.Write fault) = codes "serve 2"
 serving_text serving.Memory = codes "serve 3"
 
 abbrev pub fault_text : RunFault → List ℕ

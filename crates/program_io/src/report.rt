@@ -29,8 +29,8 @@ fn serving_text(fault: ServeFault) -> &'static str
     ensures { result.now ≡ spec_text fault }
 {
     match fault {
-        ServeFault::Read => "serve 1",
-        ServeFault::Write => "serve 2",
+        ServeFault::Read(_) | ServeFault::Turn(_) | ServeFault::Count => "serve 1",
+        ServeFault::Write(_) => "serve 2",
         ServeFault::Memory => "serve 3",
     }
 }
