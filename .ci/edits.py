@@ -138,11 +138,13 @@ def taken_as_proved(crate, changed):
 
 
 def rounds_of(crate, edits):
-    """The edits in rounds: in one round no two change one function. One that changes what is in none is alone."""
+    """The edits in rounds: in one round no two change one function, and none writes an old text of another's once more.
+    One that changes what is in no function is alone."""
     rounds = []
     for edit in edits:
         changed = functions_of(crate, edit)
         free = [it for it in rounds if None not in changed | it[1] and not changed & it[1]]
+        free = [it for it in free if not texts_with(crate, [*it[0], edit])[1]]
         if free:
             free[0][0].append(edit)
             free[0][1].update(changed)
