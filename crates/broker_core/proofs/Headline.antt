@@ -5,7 +5,7 @@ use Rattle.std.proofs.Common.{◌≡◌, ◌≢◌, ◌⊎◌, List, [], ◌∷�
 use Rattle.std.proofs.lemmas.Map.Views.{Contains-from_any}
 use Rattle.broker_core.specs.declared.answer.Answer.TheVariants.{Done, Already, NotPermitted, BadForm, Denied, Unknown}
 use Rattle.broker_core.specs.Gate.{Stands, consumer_of, NeedsStanding, NeedsAbsent, NeedsAsProvider, IsNeed, IsGood, IsPermitted, Judges}
-use Rattle.broker_core.specs.Request.{refusal, refused, unless, is_known, has_grant, rule_of}
+use Rattle.broker_core.specs.Request.{asks, refusal, refused, unless, is_known, has_grant}
 use Rattle.broker_core.specs.Change.{Transition, unchanged_with, already, done, deploy, release, instance_of, is_text}
 use Rattle.broker_core.specs.Headline.{IsVerified, AreVerified, NoneIsAbsent, PermitsVerified, NamesExist, HasCaller, IsGranted, MayBeRecorded, IsRefusal, IsRecordedExactly, DeploysExactly, ReleasesExactly}
 use Rattle.broker_core.specs.{declared.policy.Caller.{Caller}, declared.policy.Caller.TheVariants.{Office, Team}, declared.command.Command.{Command}}
@@ -64,7 +64,7 @@ told (Some what) allowed = Some (Unknown what)
 told None true = None
 told None false = Some (Denied A7)
 
-told_of : (c : Command) → rule_of c ≡ A7 → (m : Option Missing) (b : Bool) → refused c m b ≡ told m b
+told_of : (c : Command) → (asks c).rule ≡ A7 → (m : Option Missing) (b : Bool) → refused c m b ≡ told m b
 unfolding told
 told_of c rule (Some what) b = refl
 told_of c rule None true = refl
@@ -186,7 +186,7 @@ module _ (parts : Primitives) (s : State) (token : Option Text) (e : Text) (v : 
               refuses IsRecorded out (Denied A7) is (known, names, bars) (λ may. bars may.granted) (denied_differs A7)
 
   -- the whole step
-  by_step : (IsRecorded : State → Type 0) (out : Transition) (c : Command) → rule_of c ≡ A7 → ((f : Option FormFault) → FindsFault parts c f → f ≡ None)
+  by_step : (IsRecorded : State → Type 0) (out : Transition) (c : Command) → (asks c).rule ≡ A7 → ((f : Option FormFault) → FindsFault parts c f → f ≡ None)
       → ((caller : Caller) → refusal s caller c ≡ refused c (unless (is_some (s.environments e)) missing.Environment (unless (is_some (s.pacticipants v.pacticipant)) missing.Pacticipant (unless (is_known s v) missing.Version None))) (owns s e v caller))
       → (NamesExist s e v → IsGranted parts s token e v → TakesEffect parts s c out → Ends IsRecorded out)
       → Step parts s token c out → Ends IsRecorded out

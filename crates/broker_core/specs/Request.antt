@@ -1,6 +1,6 @@
 -- what each command asks for before its state is looked at: what must exist, and by which rule it is judged (this
 -- project's own choice)
-use Rattle.std.specs.Prelude.{List, [], ◌∷◌, Bool, true, false, ◌&&◌, Option, Some, None, filter, filter_map, is_some}
+use Rattle.std.specs.Prelude.{List, [], ◌∷◌, ◌++◌, Bool, true, false, ◌&&◌, Option, Some, None, filter, filter_map, is_some}
 use Rattle.std.specs.List.{last_or, list_any}
 use Rattle.broker_core.specs.declared.policy.Caller.{Caller}
 use Rattle.broker_core.specs.declared.policy.Caller.TheVariants.{Office, Team}
@@ -31,121 +31,87 @@ branch_version s provider consumer branch =
     (λ v. same_text v.pacticipant consumer && (s.branches (v, branch) && is_some (s.contracts (v, provider))))
     s.versions)
 
+-- something that has to exist: whether it does in a state, and what is said to be missing if it doesn't
+abbrev pub Wanted : Type 0
+Wanted = State → Bool × Missing
+
+abbrev pub team_there : Text → Wanted
+team_there team s = (is_some (s.teams team), missing.Team)
+
+abbrev pub pacticipant_there : Text → Wanted
+pacticipant_there p s = (is_some (s.pacticipants p), missing.Pacticipant)
+
+abbrev pub environment_there : Text → Wanted
+environment_there e s = (is_some (s.environments e), missing.Environment)
+
+abbrev pub version_there : Version → Wanted
+version_there v s = (is_known s v, missing.Version)
+
+abbrev pub contract_there : PactPath → Wanted
+contract_there path s = (is_some (s.contracts (consumer_version path, path.provider)), missing.Contract)
+
+abbrev pub branch_there : Text → Text → Text → Wanted
+branch_there provider consumer branch s = (is_some (branch_version s provider consumer branch), missing.Contract)
+
+-- a version with its pacticipant, two pacticipants, and a contract between them
+abbrev pub version_of : Version → List Wanted
+version_of v = pacticipant_there v.pacticipant ∷ version_there v ∷ []
+
+abbrev pub two_sides : Text → Text → List Wanted
+two_sides provider consumer = pacticipant_there provider ∷ pacticipant_there consumer ∷ []
+
+abbrev pub contract_of : PactPath → List Wanted
+contract_of path =
+    two_sides path.provider path.consumer ++ version_there (consumer_version path) ∷ contract_there path ∷ []
+
+-- what a command asks before its state is looked at
+pub record Asked : Type 0 where
+  -- what has to exist, in this order
+  pub wanted : List Wanted
+  -- the rule of the policy by which it is judged
+  pub rule : Rule
+  -- the pacticipants whose owners count as owners here
+  pub sides : List Text
+  -- the environment for which a grant is asked
+  pub target : Option Text
+
+abbrev pub asked : List Wanted → Rule → List Text → Option Text → Asked
+asked wanted rule sides target = record { wanted = wanted; rule = rule; sides = sides; target = target }
+
+-- a malformed command gets no further than its form
+abbrev pub asks : Command → Asked
+asks (PutTeam team token) = asked [] A2 [] None
+asks (PutPacticipant p team) = asked (team_there team ∷ []) A2 [] None
+asks (PutEnvironment e marks) = asked [] A2 [] None
+asks (PutGrant team e) = asked (team_there team ∷ environment_there e ∷ []) A2 [] None
+asks (DeleteGrant team e) = asked (team_there team ∷ environment_there e ∷ []) A2 [] None
+asks (PutVersion v branch) = asked (pacticipant_there v.pacticipant ∷ []) A3 (v.pacticipant ∷ []) None
+asks (PutPact path file) = asked (two_sides path.provider path.consumer) A3 (path.consumer ∷ []) None
+asks (GetPact path) = asked (contract_of path) A5 (path.provider ∷ path.consumer ∷ []) None
+asks (GetBranchPact provider consumer branch) =
+    asked (two_sides provider consumer ++ branch_there provider consumer branch ∷ []) A5 (provider ∷ consumer ∷ []) None
+asks (PostResult path report success) = asked (contract_of path) A4 (path.provider ∷ []) None
+asks (PostReplies path report replies) = asked (contract_of path) A4 (path.provider ∷ []) None
+asks (Deploy e v instance) = asked (environment_there e ∷ version_of v) A7 (v.pacticipant ∷ []) (Some e)
+asks (Undeploy e v instance) = asked (environment_there e ∷ version_of v) A7 (v.pacticipant ∷ []) (Some e)
+asks (Release e v) = asked (environment_there e ∷ version_of v) A7 (v.pacticipant ∷ []) (Some e)
+asks (EndSupport e v) = asked (environment_there e ∷ version_of v) A7 (v.pacticipant ∷ []) (Some e)
+asks (GetEnvironment e) = asked (environment_there e ∷ []) A8 [] None
+asks (CanIDeploy v e) = asked (version_of v ++ environment_there e ∷ []) A6 (v.pacticipant ∷ []) None
+asks (GetMatrix v) = asked (version_of v) A6 (v.pacticipant ∷ []) None
+asks (Malformed fault) = asked [] A1 [] None
+
 -- the first that isn't there
 abbrev pub unless : Bool → Missing → Option Missing → Option Missing
 unless true what rest = rest
 unless false what rest = Some what
 
-abbrev pub unless_team : State → Text → Option Missing → Option Missing
-unless_team s team = unless (is_some (s.teams team)) missing.Team
+abbrev pub first_absent : State → List Wanted → Option Missing
+first_absent s [] = None
+first_absent s (wanted ∷ more) = unless (wanted s).0 (wanted s).1 (first_absent s more)
 
-abbrev pub unless_pacticipant : State → Text → Option Missing → Option Missing
-unless_pacticipant s p = unless (is_some (s.pacticipants p)) missing.Pacticipant
-
-abbrev pub unless_environment : State → Text → Option Missing → Option Missing
-unless_environment s e = unless (is_some (s.environments e)) missing.Environment
-
-abbrev pub unless_version : State → Version → Option Missing → Option Missing
-unless_version s v rest = unless_pacticipant s v.pacticipant (unless (is_known s v) missing.Version rest)
-
-abbrev pub unless_sides : State → PactPath → Option Missing → Option Missing
-unless_sides s path rest = unless_pacticipant s path.provider (unless_pacticipant s path.consumer rest)
-
-abbrev pub unless_contract : State → PactPath → Option Missing → Option Missing
-unless_contract s path rest = unless_sides s path
-    (unless (is_known s (consumer_version path)) missing.Version
-    (unless (is_some (s.contracts (consumer_version path, path.provider))) missing.Contract rest))
-
--- what must exist, in order: the first that doesn't
 abbrev pub first_missing : State → Command → Option Missing
-first_missing s (PutTeam team token) = None
-first_missing s (PutPacticipant p team) = unless_team s team None
-first_missing s (PutEnvironment e marks) = None
-first_missing s (PutGrant team e) = unless_team s team (unless_environment s e None)
-first_missing s (DeleteGrant team e) = unless_team s team (unless_environment s e None)
-first_missing s (PutVersion v branch) = unless_pacticipant s v.pacticipant None
-first_missing s (PutPact path file) = unless_sides s path None
-first_missing s (GetPact path) = unless_contract s path None
-first_missing s (GetBranchPact provider consumer branch) =
-    unless_pacticipant s provider
-    (unless_pacticipant s consumer
-    (unless (is_some (branch_version s provider consumer branch)) missing.Contract None))
-first_missing s (PostResult path report success) = unless_contract s path None
-first_missing s (PostReplies path report replies) = unless_contract s path None
-first_missing s (Deploy e v instance) = unless_environment s e (unless_version s v None)
-first_missing s (Undeploy e v instance) = unless_environment s e (unless_version s v None)
-first_missing s (Release e v) = unless_environment s e (unless_version s v None)
-first_missing s (EndSupport e v) = unless_environment s e (unless_version s v None)
-first_missing s (GetEnvironment e) = unless_environment s e None
-first_missing s (CanIDeploy v e) = unless_version s v (unless_environment s e None)
-first_missing s (GetMatrix v) = unless_version s v None
-first_missing s (Malformed fault) = None
-
--- the rule of the policy by which it is judged. A malformed command gets no further than its form
-abbrev pub rule_of : Command → Rule
-rule_of (PutTeam team token) = A2
-rule_of (PutPacticipant p team) = A2
-rule_of (PutEnvironment e marks) = A2
-rule_of (PutGrant team e) = A2
-rule_of (DeleteGrant team e) = A2
-rule_of (PutVersion v branch) = A3
-rule_of (PutPact path file) = A3
-rule_of (GetPact path) = A5
-rule_of (GetBranchPact provider consumer branch) = A5
-rule_of (PostResult path report success) = A4
-rule_of (PostReplies path report replies) = A4
-rule_of (Deploy e v instance) = A7
-rule_of (Undeploy e v instance) = A7
-rule_of (Release e v) = A7
-rule_of (EndSupport e v) = A7
-rule_of (GetEnvironment e) = A8
-rule_of (CanIDeploy v e) = A6
-rule_of (GetMatrix v) = A6
-rule_of (Malformed fault) = A1
-
--- the pacticipants whose owners count as owners here
-abbrev pub sides_of : Command → List Text
-sides_of (PutTeam team token) = []
-sides_of (PutPacticipant p team) = []
-sides_of (PutEnvironment e marks) = []
-sides_of (PutGrant team e) = []
-sides_of (DeleteGrant team e) = []
-sides_of (PutVersion v branch) = v.pacticipant ∷ []
-sides_of (PutPact path file) = path.consumer ∷ []
-sides_of (GetPact path) = path.provider ∷ path.consumer ∷ []
-sides_of (GetBranchPact provider consumer branch) = provider ∷ consumer ∷ []
-sides_of (PostResult path report success) = path.provider ∷ []
-sides_of (PostReplies path report replies) = path.provider ∷ []
-sides_of (Deploy e v instance) = v.pacticipant ∷ []
-sides_of (Undeploy e v instance) = v.pacticipant ∷ []
-sides_of (Release e v) = v.pacticipant ∷ []
-sides_of (EndSupport e v) = v.pacticipant ∷ []
-sides_of (GetEnvironment e) = []
-sides_of (CanIDeploy v e) = v.pacticipant ∷ []
-sides_of (GetMatrix v) = v.pacticipant ∷ []
-sides_of (Malformed fault) = []
-
--- the environment for which a grant is asked
-abbrev pub target_of : Command → Option Text
-target_of (PutTeam team token) = None
-target_of (PutPacticipant p team) = None
-target_of (PutEnvironment e marks) = None
-target_of (PutGrant team e) = None
-target_of (DeleteGrant team e) = None
-target_of (PutVersion v branch) = None
-target_of (PutPact path file) = None
-target_of (GetPact path) = None
-target_of (GetBranchPact provider consumer branch) = None
-target_of (PostResult path report success) = None
-target_of (PostReplies path report replies) = None
-target_of (Deploy e v instance) = Some e
-target_of (Undeploy e v instance) = Some e
-target_of (Release e v) = Some e
-target_of (EndSupport e v) = Some e
-target_of (GetEnvironment e) = None
-target_of (CanIDeploy v e) = None
-target_of (GetMatrix v) = None
-target_of (Malformed fault) = None
+first_missing s command = first_absent s (asks command).wanted
 
 abbrev pub has_grant : State → Caller → Option Text → Bool
 has_grant s (Team team) (Some e) = s.grants (team, e)
@@ -155,14 +121,14 @@ has_grant s Office target = false
 -- whether the policy lets the caller
 abbrev pub is_allowed : State → Caller → Command → Bool
 is_allowed s caller command =
-    allows (rule_of command) caller (filter_map s.pacticipants (sides_of command))
-    (has_grant s caller (target_of command))
+    allows (asks command).rule caller (filter_map s.pacticipants (asks command).sides)
+    (has_grant s caller (asks command).target)
 
 -- what isn't there is told before what isn't allowed
 abbrev pub refused : Command → Option Missing → Bool → Option Answer
 refused command (Some what) allowed = Some (Unknown what)
 refused command None true = None
-refused command None false = Some (Denied (rule_of command))
+refused command None false = Some (Denied (asks command).rule)
 
 -- the refusal of a well formed command, if there is one: existence is looked at before the policy
 abbrev pub refusal : State → Caller → Command → Option Answer

@@ -3,7 +3,7 @@ use Rattle.std.specs.{List.{cons_option, position_or_len, list_any}, Option.{opt
 use Rattle.std.proofs.Common.{◌≡◌, ℕ, ◌+◌, ◌≤◌, List, [], ◌∷◌, ◌++◌, length, Bool, true, false, not, ◌&&◌, ◌||◌, cond, is_some, Option, Some, None, MatchOption, refl, sym, ap, ◌∙◌, subst, arith, if◌then◌else◌}
 use Rattle.broker_core.specs.{Text.{Text, same_text, same_pair, same_version, put_at}, State.{State}, Policy.{allows}, Limit.{has_room}}
 use Rattle.broker_core.specs.Change.{Transition, unchanged_with, put_pact, republished, text_of, can_name, named, stored, is_stored, content_number}
-use Rattle.broker_core.specs.Request.{consumer_version, unless, unless_contract, refused, refusal, has_grant, is_known, is_allowed, first_missing, target_of}
+use Rattle.broker_core.specs.Request.{consumer_version, Asked, contract_of, asks, first_absent, unless, refused, refusal, has_grant, is_known, is_allowed, first_missing}
 use Rattle.broker_core.specs.{Machine.{TakesEffect, FindsFault, StepOfCaller, fault_of_reading}, Machine.Reading.{IsPact}, declared.policy.Caller.{Caller}}
 use Rattle.broker_core.specs.{declared.policy.Caller.TheVariants.{Office, Team}, declared.policy.Rule.TheVariants.{A3, A4, A5}}
 use Rattle.broker_core.specs.{declared.command.Command.{Command}, declared.command.Command.TheVariants.{PutPact, GetPact}, declared.command.PactPath.{PactPath}}
@@ -121,21 +121,20 @@ two_owners (Some a) None (Team t) granted = or_none (same_text t a || false)
 two_owners (Some a) (Some b) (Team t) granted = or_both (same_text t a) (same_text t b)
 
 module _ (s : State) (caller : Caller) (path : PactPath) (rule : Rule) (owned : List Text) (place : ContractPlace) (h : IsPlaceRead s caller rule owned path place) where
-  what_lacks : unless_contract s path None ≡ missing_part place
+  what_lacks : first_absent s (contract_of path) ≡ missing_part place
   what_lacks = λ i. unless (h.0.provider_is i) missing.Pacticipant (unless (h.0.consumer_is i) missing.Pacticipant (unless (h.1.known_is i) missing.Version (unless (is_some (h.1.content_is i)) missing.Contract None)))
 
   -- a command that asks for the contract is refused as its sides and its contract say
   asker_refused : (command : Command) → AsksContract path rule owned command → refusal s caller command ≡ refused command (missing_part place) place.sides.is_allowed
-  asker_refused command asks =
-      let granted = has_grant s caller (target_of command) in
-      let asked : is_allowed s caller command ≡ allows rule caller (filter_map s.pacticipants owned) granted = λ i. allows (asks.rule_is i) caller (filter_map s.pacticipants (asks.owned_is i)) granted in
-      let may : is_allowed s caller command ≡ place.sides.is_allowed = asked ∙ h.0.may_is granted in
-      let lacks : first_missing s command ≡ missing_part place = asks.missing_is s ∙ what_lacks in
+  asker_refused command is =
+      let lets = λ (a : Asked). allows a.rule caller (filter_map s.pacticipants a.sides) (has_grant s caller a.target) in
+      let may : is_allowed s caller command ≡ place.sides.is_allowed = ap lets is ∙ h.0.may_is (has_grant s caller None) in
+      let lacks : first_missing s command ≡ missing_part place = ap (λ (a : Asked). first_absent s a.wanted) is ∙ what_lacks in
       λ i. refused command (lacks i) (may i)
 
   pub asker_reaches : (r : Result ℕ Answer) → Admits rule place.contract.content (missing_part place) place.sides.is_allowed r → Reaches s caller path rule owned r
-  asker_reaches (Ok found) is = (h.1.content_is ∙ is.0, λ command asks. asker_refused command asks ∙ is.1 command asks.rule_is)
-  asker_reaches (Err answer) is = λ command asks. asker_refused command asks ∙ is command asks.rule_is
+  asker_reaches (Ok found) is = (h.1.content_is ∙ is.0, λ command asking. asker_refused command asking ∙ is.1 command (ap (λ (a : Asked). a.rule) asking))
+  asker_reaches (Err answer) is = λ command asking. asker_refused command asking ∙ is command (ap (λ (a : Asked). a.rule) asking)
 
 -- what a contract shows
 shows_contract : (s : State) (caller : Caller) (path : PactPath) (content : ℕ) (text : Text) → s.contracts (consumer_version path, path.provider) ≡ Some content → refusal s caller (GetPact path) ≡ None → text_of s content ≡ Some text
@@ -252,7 +251,7 @@ form_same f e h = cc
 -- ---- what is shown of a contract that was reached
 
 asks_to_show : (path : PactPath) → AsksContract path A5 (path.provider ∷ path.consumer ∷ []) (GetPact path)
-asks_to_show path = record { rule_is = refl; owned_is = refl; missing_is = λ s. refl }
+asks_to_show path = refl
 
 pub shown_reached : (s : State) (caller : Caller) (path : PactPath) (place : Result ℕ Answer) (answer : Answer) → Reaches s caller path A5 (path.provider ∷ path.consumer ∷ []) place → ShowsReached s place answer
     → StepOfCaller broker_primitives s caller (GetPact path) (unchanged_with s answer)

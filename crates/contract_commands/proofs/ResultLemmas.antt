@@ -8,7 +8,7 @@ use Rattle.broker_tables.proofs.{RoomLemmas.{takes_none}, NumberLemmas.{number_t
 use Rattle.command_facts.proofs.PerformLemmas.{after_read}
 use Rattle.broker_core.specs.{Text.{Text, same_bool, same_version, version}, State.{State, Verification}, Limit.{has_room}}
 use Rattle.broker_core.specs.Change.{Transition, unchanged_with, named, can_name, report, result_of_run, says_same}
-use Rattle.broker_core.specs.{Request.{is_known, unless, unless_contract, is_allowed, refused, refusal}, declared.policy.Caller.{Caller}}
+use Rattle.broker_core.specs.{Request.{is_known, Asked, contract_of, first_absent, unless, is_allowed, refused, refusal}, declared.policy.Caller.{Caller}}
 use Rattle.broker_core.specs.{declared.policy.Rule.TheVariants.{A4}, declared.command.Command.{Command}}
 use Rattle.broker_core.specs.{declared.command.Command.TheVariants.{PostResult, PostReplies}, declared.command.PactPath.{PactPath}}
 use Rattle.broker_core.specs.{declared.command.Report.{Report}, declared.command.Version.{Version}, declared.answer.Answer.{Answer}}
@@ -25,10 +25,10 @@ use Rattle.broker_core.specs.declared.answer.Missing.TheVariants as missing
 -- ---- the two commands ask for the contract of their path
 
 pub asks_to_claim : (path : PactPath) (r : Report) (success : Bool) → AsksContract path A4 (path.provider ∷ []) (PostResult path r success)
-asks_to_claim path r success = record { rule_is = refl; owned_is = refl; missing_is = λ s. refl }
+asks_to_claim path r success = refl
 
 pub asks_to_check : (path : PactPath) (r : Report) (replies : Text) → AsksContract path A4 (path.provider ∷ []) (PostReplies path r replies)
-asks_to_check path r replies = record { rule_is = refl; owned_is = refl; missing_is = λ s. refl }
+asks_to_check path r replies = refl
 
 first_there : (command : Command) (b may : Bool) (what : Missing) (rest : Option Missing) → refused command (unless b what rest) may ≡ None → b ≡ true
 first_there command true may what rest h = refl
@@ -36,8 +36,8 @@ first_there command false may what rest h = absurd cc
 
 -- where nothing refuses, the provider is there
 pub provider_there : (s : State) (caller : Caller) (path : PactPath) (command : Command) → AsksContract path A4 (path.provider ∷ []) command → refusal s caller command ≡ None → HasPacticipant s path.provider
-provider_there s caller path command asks none =
-    let told : refused command (unless_contract s path None) (is_allowed s caller command) ≡ None = sym (ap (λ o. refused command o (is_allowed s caller command)) (asks.missing_is s)) ∙ none in
+provider_there s caller path command is none =
+    let told : refused command (first_absent s (contract_of path)) (is_allowed s caller command) ≡ None = sym (ap (λ (a : Asked). refused command (first_absent s a.wanted) (is_allowed s caller command)) is) ∙ none in
     first_there command (is_some (s.pacticipants path.provider)) (is_allowed s caller command) missing.Pacticipant _ told
 
 -- ---- a run that was used

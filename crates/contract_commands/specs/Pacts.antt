@@ -6,7 +6,7 @@ use Rattle.broker_core.specs.Policy.{allows}
 use Rattle.broker_core.specs.Change.{Transition, named, text_of, put_pact}
 use Rattle.broker_core.specs.Machine.{StepOfCaller}
 use Rattle.broker_core.specs.Machine.Reading.{IsPact}
-use Rattle.broker_core.specs.Request.{consumer_version, is_known, rule_of, sides_of, first_missing, unless, unless_contract, refused, refusal}
+use Rattle.broker_core.specs.Request.{consumer_version, is_known, contract_of, asks, asked, unless, refused, refusal}
 use Rattle.broker_core.specs.declared.answer.Answer.{Answer}
 use Rattle.broker_core.specs.declared.answer.Answer.TheVariants.{BadForm, Shown}
 use Rattle.broker_core.specs.declared.answer.Missing.{Missing}
@@ -64,9 +64,9 @@ missing_of_branch sides content = missing_side sides (unless (is_some content) m
 -- the content, where no command by this rule is refused for what is missing or for who asks; or the refusal
 abbrev pub Admits : Rule → Option ℕ → Option Missing → Bool → Result ℕ Answer → Type 0
 Admits rule content lacks may (Ok found) =
-    (content ≡ Some found) × ((command : Command) → rule_of command ≡ rule → refused command lacks may ≡ None)
+    (content ≡ Some found) × ((command : Command) → (asks command).rule ≡ rule → refused command lacks may ≡ None)
 Admits rule content lacks may (Err answer) =
-    (command : Command) → rule_of command ≡ rule → refused command lacks may ≡ Some answer
+    (command : Command) → (asks command).rule ≡ rule → refused command lacks may ≡ Some answer
 
 -- both sides of a contract are there
 abbrev pub HasSides : Broker → PactPath → Type 0
@@ -122,10 +122,8 @@ Publishes s caller path text out =
     → StepOfCaller broker_primitives s caller (PutPact path file) out
 
 -- a command that asks for the contract of a path, by this rule for these owners
-pub record AsksContract (path : PactPath) (rule : Rule) (owned : List Text) (command : Command) : Type 0 where
-  pub rule_is : rule_of command ≡ rule
-  pub owned_is : sides_of command ≡ owned
-  pub missing_is : (s : Broker) → first_missing s command ≡ unless_contract s path None
+abbrev pub AsksContract : PactPath → Rule → List Text → Command → Type 0
+AsksContract path rule owned command = asks command ≡ asked (contract_of path) rule owned None
 
 -- the content of the contract, where nothing refuses such a command, or the refusal
 abbrev pub Reaches : Broker → Caller → PactPath → Rule → List Text → Result ℕ Answer → Type 0

@@ -2,7 +2,7 @@
 ghost use Rattle.std.specs.Prelude.{◌≡◌, ◌∷◌, [], Some, None};
 ghost use Rattle.broker_core.specs.Text.{version as version_named};
 ghost use Rattle.broker_core.specs.Change.{text_of};
-ghost use Rattle.broker_core.specs.Request.{refused, rule_of};
+ghost use Rattle.broker_core.specs.Request.{asks, refused};
 ghost use Rattle.broker_core.specs.declared.policy.Rule.TheVariants.{A3, A4, A5};
 ghost use Rattle.broker_core.specs.declared.command.Command.{Command as CommandModel};
 ghost use Rattle.broker_tables.specs.Holds.{Queries};
@@ -150,7 +150,7 @@ pub(crate) fn read_text<S: Alter>(
 
 /// The refusal of a command on the two sides of a contract, if there is one.
 pub(crate) fn refuse_sides(rule: Rule, sides: Sides) -> Option<Answer>
-    ensures { (command : CommandModel) → rule_of command ≡ rule
+    ensures { (command : CommandModel) → (asks command).rule ≡ rule
         → result ≡ refused command (missing_side sides None) sides.is_allowed }
 {
     if !sides.has_provider || !sides.has_consumer {

@@ -1,13 +1,13 @@
 -- What refuses a command on a version and an environment, from what was read.
 use Rattle.std.{specs.Prelude.{Option, Some, None, is_some, filter_map}, proofs.Common.{◌≡◌, inl, inr, Bool, true, false, ◌∷◌, [], refl, ap, ◌∙◌}}
 use Rattle.broker_core.specs.{Text.{Text}, State.{State}, Policy.{allows}}
-use Rattle.broker_core.specs.{Request.{refusal, refused, rule_of, unless, unless_environment, unless_version, has_grant}, declared.answer.Answer.{Answer}}
+use Rattle.broker_core.specs.{Request.{asks, refusal, refused, unless, has_grant}, declared.answer.Answer.{Answer}}
 use Rattle.broker_core.specs.{declared.answer.Answer.TheVariants.{Denied}, declared.answer.Missing.{Missing}, declared.command.Command.{Command}}
 use Rattle.broker_core.specs.{declared.command.Command.TheVariants.{Deploy, Undeploy, Release, EndSupport}, declared.command.Marks.{Marks}}
 use Rattle.broker_core.specs.{declared.command.Version.{Version}, declared.policy.Caller.{Caller}, declared.policy.Rule.{Rule}}
 use Rattle.broker_core.specs.declared.policy.Rule.TheVariants.{A7}
 use Rattle.caller_facts.specs.Owners.{owners_of}
-use Rattle.environment_commands.specs.{Places.{IsVersionRead, HasPlace, IsAdmitted, ChangesPlace}, declared.places.Admitted.{Admitted}}
+use Rattle.environment_commands.specs.{Places.{IsVersionRead, HasPlace, IsAdmitted, ChangesPlace, unless_environment, unless_version}, declared.places.Admitted.{Admitted}}
 use Rattle.environment_commands.specs.declared.places.VersionFacts.{VersionFacts}
 use Rattle.broker_core.specs.declared.answer.Missing.TheVariants as missing
 
@@ -34,7 +34,7 @@ has_place s e v place it = (ap is_some it.0, it.1)
 
 module _ (s : State) (caller : Caller) (e : Text) (v : Version) (what : Option Missing) (allowed : Bool) (first : unless_environment s e (unless_version s v None) ≡ what)
     (may : allows A7 caller (filter_map s.pacticipants (v.pacticipant ∷ [])) (has_grant s caller (Some e)) ≡ allowed) where
-  by_rule : (command : Command) → rule_of command ≡ A7 → (m : Option Missing) (b : Bool) → refused command m b ≡ refused (Release e v) m b
+  by_rule : (command : Command) → (asks command).rule ≡ A7 → (m : Option Missing) (b : Bool) → refused command m b ≡ refused (Release e v) m b
   by_rule command is (Some m) b = refl
   by_rule command is None true = refl
   by_rule command is None false = ap (λ (rule : Rule). Some (Denied rule)) is

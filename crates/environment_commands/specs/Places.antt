@@ -3,7 +3,7 @@
 use Rattle.std.specs.Prelude.{◌≡◌, ◌⊎◌, [], ◌∷◌, ℕ, Option, Some, None, Bool, false, is_some, Result, Ok, Err}
 use Rattle.broker_core.specs.Text.{Text}
 use Rattle.broker_core.specs.State.{State as Broker}
-use Rattle.broker_core.specs.Request.{has_grant, is_known, refusal, unless_version}
+use Rattle.broker_core.specs.Request.{has_grant, is_known, refusal, unless}
 use Rattle.broker_core.specs.declared.answer.Answer.{Answer}
 use Rattle.broker_core.specs.declared.answer.Missing.{Missing}
 use Rattle.broker_core.specs.declared.command.Command.{Command}
@@ -20,6 +20,7 @@ use Rattle.deploy_tables.specs.Deployments.{IsEnvironment}
 use Rattle.environment_commands.specs.declared.places.Admitted.{Admitted}
 use Rattle.environment_commands.specs.declared.places.PlaceFacts.{PlaceFacts}
 use Rattle.environment_commands.specs.declared.places.VersionFacts.{VersionFacts}
+use Rattle.broker_core.specs.declared.answer.Missing.TheVariants as missing
 
 -- of a version: whether its pacticipant is there, whether the rule lets the caller, with a grant or without, and its
 -- number
@@ -59,6 +60,15 @@ ChangesPlace e v command =
 
 -- ---- what was read refuses, or doesn't
 
+-- the first that isn't there: the environment, or what comes next
+abbrev pub unless_environment : Broker → Text → Option Missing → Option Missing
+unless_environment s e next = unless (is_some (s.environments e)) missing.Environment next
+
+-- the same of a version, whose pacticipant comes before it
+abbrev pub unless_version : Broker → Version → Option Missing → Option Missing
+unless_version s v next =
+    unless (is_some (s.pacticipants v.pacticipant)) missing.Pacticipant (unless (is_known s v) missing.Version next)
+
 -- where this was read of a version, what is missing first follows so from what is missing next
 abbrev pub MissesFirst : VersionFacts → (Option Missing → Option Missing) → Type 0
 MissesFirst found first = (s : Broker) (v : Version) (next : Option Missing)
@@ -85,6 +95,15 @@ abbrev pub GateHasRefusal : VersionFacts → Option Marks → Option Answer → 
 GateHasRefusal version marks answer = (s : Broker) (caller : Caller) (v : Version) (e : Text)
     → IsVersionRead s caller A6 v false version → s.environments e ≡ marks
     → refusal s caller (CanIDeploy v e) ≡ answer
+
+-- the first that isn't there: the environment, or what comes next
+abbrev pub unless_environment : Broker → Text → Option Missing → Option Missing
+unless_environment s e next = unless (is_some (s.environments e)) missing.Environment next
+
+-- the same of a version, whose pacticipant comes before it
+abbrev pub unless_version : Broker → Version → Option Missing → Option Missing
+unless_version s v next =
+    unless (is_some (s.pacticipants v.pacticipant)) missing.Pacticipant (unless (is_known s v) missing.Version next)
 
 -- where this was read of a version, the question for its matrix has this refusal, or none
 abbrev pub MatrixHasRefusal : VersionFacts → Option Answer → Type 0

@@ -3,7 +3,7 @@ use Rattle.std.{specs.Prelude.{MatchOption}, proofs.Common.{◌≡◌, ◌⊎◌
 use Rattle.sqlite.specs.{Held.{Held}, State.{State, HasCleanDisk}}
 use Rattle.table_access.specs.Calls.{HasFailed}
 use Rattle.broker_core.specs.{Change.{Transition, unchanged_with}, Laws.{IsDone}, Machine.{Step, StepOfCaller, TakesEffect}}
-use Rattle.broker_core.specs.{Request.{first_missing, is_allowed, refused, rule_of}, State.{State as Broker}, Text.{Text}, declared.policy.Caller.{Caller}}
+use Rattle.broker_core.specs.{Request.{asks, first_missing, is_allowed, refused}, State.{State as Broker}, Text.{Text}, declared.policy.Caller.{Caller}}
 use Rattle.broker_core.specs.{declared.policy.Rule.TheVariants.{A1}, declared.answer.Answer.{Answer}}
 use Rattle.broker_core.specs.{declared.answer.Answer.TheVariants.{BadForm, Denied, Shown, Store, Unknown}, declared.answer.Missing.{Missing}}
 use Rattle.broker_core.specs.declared.command.Command.{Command}
@@ -22,70 +22,70 @@ module _ (s : Broker) (out : Transition) where
   unless_refused : (command : Command) (what : Option Missing) (allowed : Bool) (T : Type 0) → MatchOption (refused command what allowed) T (λ answer. out ≡ unchanged_with s answer) → T ⊎ IsTold
   unless_refused command (Some what) allowed T is = inr (Unknown what, is, λ no. no)
   unless_refused command None true T it = inl it
-  unless_refused command None false T is = inr (Denied (rule_of command), is, λ no. no)
+  unless_refused command None false T is = inr (Denied (asks command).rule, is, λ no. no)
 
   effect : (command : Command) → is_question command ≡ true → TakesEffect broker_primitives s command out → IsTold
-  effect (GetPact path) asks (text, has, is) = (Shown (shows.Pact text), is, λ no. no)
-  effect (GetBranchPact provider consumer branch) asks (v, there, (text, has, is)) = (Shown (shows.Pact text), is, λ no. no)
-  effect (GetEnvironment e) asks (marks, there, (items, deployed, (versions, released, is))) = (Shown (shows.Environment e marks items versions), is, λ no. no)
-  effect (CanIDeploy v e) asks (marks, there, (permitted, faults, judged, is)) = (Shown (shows.Gate e marks permitted faults), is, λ no. no)
-  effect (GetMatrix v) asks (rows, listed, is) = (Shown (shows.Matrix rows), is, λ no. no)
-  effect (PutTeam team token) asks it = absurd (cc)
-  effect (PutPacticipant p team) asks it = absurd (cc)
-  effect (PutEnvironment e marks) asks it = absurd (cc)
-  effect (PutGrant team e) asks it = absurd (cc)
-  effect (DeleteGrant team e) asks it = absurd (cc)
-  effect (PutVersion v branch) asks it = absurd (cc)
-  effect (PutPact path file) asks it = absurd (cc)
-  effect (PostResult path report success) asks it = absurd (cc)
-  effect (PostReplies path report replies) asks it = absurd (cc)
-  effect (Deploy e v instance) asks it = absurd (cc)
-  effect (Undeploy e v instance) asks it = absurd (cc)
-  effect (Release e v) asks it = absurd (cc)
-  effect (EndSupport e v) asks it = absurd (cc)
-  effect (Malformed fault) asks it = absurd (cc)
+  effect (GetPact path) question (text, has, is) = (Shown (shows.Pact text), is, λ no. no)
+  effect (GetBranchPact provider consumer branch) question (v, there, (text, has, is)) = (Shown (shows.Pact text), is, λ no. no)
+  effect (GetEnvironment e) question (marks, there, (items, deployed, (versions, released, is))) = (Shown (shows.Environment e marks items versions), is, λ no. no)
+  effect (CanIDeploy v e) question (marks, there, (permitted, faults, judged, is)) = (Shown (shows.Gate e marks permitted faults), is, λ no. no)
+  effect (GetMatrix v) question (rows, listed, is) = (Shown (shows.Matrix rows), is, λ no. no)
+  effect (PutTeam team token) question it = absurd (cc)
+  effect (PutPacticipant p team) question it = absurd (cc)
+  effect (PutEnvironment e marks) question it = absurd (cc)
+  effect (PutGrant team e) question it = absurd (cc)
+  effect (DeleteGrant team e) question it = absurd (cc)
+  effect (PutVersion v branch) question it = absurd (cc)
+  effect (PutPact path file) question it = absurd (cc)
+  effect (PostResult path report success) question it = absurd (cc)
+  effect (PostReplies path report replies) question it = absurd (cc)
+  effect (Deploy e v instance) question it = absurd (cc)
+  effect (Undeploy e v instance) question it = absurd (cc)
+  effect (Release e v) question it = absurd (cc)
+  effect (EndSupport e v) question it = absurd (cc)
+  effect (Malformed fault) question it = absurd (cc)
 
   of_caller : (caller : Caller) (command : Command) → is_question command ≡ true → StepOfCaller broker_primitives s caller command out → IsTold
-  of_caller caller command asks (None, finds, it) = elim (unless_refused command (first_missing s command) (is_allowed s caller command) (TakesEffect broker_primitives s command out) it) [
-    | inl takes ↦ effect command asks takes
+  of_caller caller command question (None, finds, it) = elim (unless_refused command (first_missing s command) (is_allowed s caller command) (TakesEffect broker_primitives s command out) it) [
+    | inl takes ↦ effect command question takes
     | inr told ↦ told
   ]
-  of_caller caller command asks (Some fault, finds, is) = (BadForm fault, is, λ no. no)
+  of_caller caller command question (Some fault, finds, is) = (BadForm fault, is, λ no. no)
 
   -- so it is of each step of a question
   told : (token : Option Text) (command : Command) → is_question command ≡ true → Step broker_primitives s token command out → IsTold
-  told token command asks (None, calls, is) = (Denied A1, is, λ no. no)
-  told token command asks (Some caller, calls, it) = of_caller caller command asks it
+  told token command question (None, calls, is) = (Denied A1, is, λ no. no)
+  told token command question (Some caller, calls, it) = of_caller caller command question it
 
 -- no pattern is asked
 no_pattern : (s : Broker) (caller : Caller) (command : Command) → is_question command ≡ true → ComparesPattern s caller command → ⊥
-no_pattern s caller (GetPact path) asks it = it
-no_pattern s caller (GetBranchPact provider consumer branch) asks it = it
-no_pattern s caller (GetEnvironment e) asks it = it
-no_pattern s caller (CanIDeploy v e) asks it = it
-no_pattern s caller (GetMatrix v) asks it = it
-no_pattern s caller (PutTeam team token) asks it = it
-no_pattern s caller (PutPacticipant p team) asks it = it
-no_pattern s caller (PutEnvironment e marks) asks it = it
-no_pattern s caller (PutGrant team e) asks it = it
-no_pattern s caller (DeleteGrant team e) asks it = it
-no_pattern s caller (PutVersion v branch) asks it = it
-no_pattern s caller (PutPact path file) asks it = it
-no_pattern s caller (PostResult path report success) asks it = it
-no_pattern s caller (PostReplies path report replies) asks it = absurd (cc)
-no_pattern s caller (Deploy e v instance) asks it = it
-no_pattern s caller (Undeploy e v instance) asks it = it
-no_pattern s caller (Release e v) asks it = it
-no_pattern s caller (EndSupport e v) asks it = it
-no_pattern s caller (Malformed fault) asks it = it
+no_pattern s caller (GetPact path) question it = it
+no_pattern s caller (GetBranchPact provider consumer branch) question it = it
+no_pattern s caller (GetEnvironment e) question it = it
+no_pattern s caller (CanIDeploy v e) question it = it
+no_pattern s caller (GetMatrix v) question it = it
+no_pattern s caller (PutTeam team token) question it = it
+no_pattern s caller (PutPacticipant p team) question it = it
+no_pattern s caller (PutEnvironment e marks) question it = it
+no_pattern s caller (PutGrant team e) question it = it
+no_pattern s caller (DeleteGrant team e) question it = it
+no_pattern s caller (PutVersion v branch) question it = it
+no_pattern s caller (PutPact path file) question it = it
+no_pattern s caller (PostResult path report success) question it = it
+no_pattern s caller (PostReplies path report replies) question it = absurd (cc)
+no_pattern s caller (Deploy e v instance) question it = it
+no_pattern s caller (Undeploy e v instance) question it = it
+no_pattern s caller (Release e v) question it = it
+no_pattern s caller (EndSupport e v) question it = it
+no_pattern s caller (Malformed fault) question it = it
 
 -- what is promised of a question
-module _ {X : Type 0} (shown : Held X → State) (old : BrokerView X) (token : Text) (command : Command) (asks : is_question command ≡ true) (answer : Answer) (new : BrokerView X) (it : Applied shown old (Some token) command answer new) where
+module _ {X : Type 0} (shown : Held X → State) (old : BrokerView X) (token : Text) (command : Command) (question : is_question command ≡ true) (answer : Answer) (new : BrokerView X) (it : Applied shown old (Some token) command answer new) where
   module _ (clean : HasCleanDisk (shown new.connection)) (going : old.is_stopped ≡ false) (works : ¬ (HasFailed (shown old.connection) (shown new.connection) faults.Store)) (s : Broker) (readable : HoldsReadable s (shown old.connection)) where
     no_store : answer ≡ Store → ⊥
     no_store is = elim (it.calm clean going is s readable) [
       | inl failed ↦ works failed
-      | inr kept ↦ let done = kept.0 in let same = told s done.0 (Some token) command asks done.2 in same.2 (subst (λ (out : Transition). IsDone out.answer) same.1 done.1)
+      | inr kept ↦ let done = kept.0 in let same = told s done.0 (Some token) command question done.2 in same.2 (subst (λ (out : Transition). IsDone out.answer) same.1 done.1)
     ]
 
     runs : (b : Bool) → new.is_stopped ≡ b → new.is_stopped ≡ false
@@ -94,7 +94,7 @@ module _ {X : Type 0} (shown : Held X → State) (old : BrokerView X) (token : T
 
     by_step : Steps s (Some token) command (shown new.connection) answer → IsOnlyAsked shown s token command answer new
     by_step steps =
-        let same = told s (record { answer = answer; state = steps.next }) (Some token) command asks steps.step in
+        let same = told s (record { answer = answer; state = steps.next }) (Some token) command question steps.step in
         let state : steps.next ≡ s = ap (λ (out : Transition). out.state) same.1 in
         record {
           answered = inl (subst (λ (t : Broker). Step broker_primitives s (Some token) command (record { answer = answer; state = t })) state steps.step);
@@ -103,7 +103,7 @@ module _ {X : Type 0} (shown : Held X → State) (old : BrokerView X) (token : T
         }
 
     by_pattern : KeepsAtPattern s (Some token) command (shown new.connection) answer → ⊥
-    by_pattern at = let asked = at.1 in no_pattern s asked.0 command asks asked.2
+    by_pattern at = let asked = at.1 in no_pattern s asked.0 command question asked.2
 
     pub goes_on : IsOnlyAsked shown s token command answer new
     goes_on = elim (it.applies clean going s readable.held) [

@@ -1,6 +1,6 @@
 use Rattle.std.proofs.Common.{None, false, ◌∙◌}
-use Rattle.broker_core.specs.{Request.{refused, unless_environment}, declared.command.Command.TheVariants.{CanIDeploy}, declared.policy.Rule.TheVariants.{A6}}
-use Rattle.environment_commands.proofs.PlaceLemmas.{as_read, with_marks, without_marks}
+use Rattle.broker_core.specs.{Request.{refused}, declared.command.Command.TheVariants.{CanIDeploy}, declared.policy.Rule.TheVariants.{A6}}
+use Rattle.environment_commands.{specs.Places.{unless_environment}, proofs.PlaceLemmas.{as_read, with_marks, without_marks}}
 use Rattle.environment_commands.proofs.can_i_deploy.admitted_to_ask.Goals as goal
 
 pub returns-in-Err-clause-refused : goal.returns-in-Err-clause-refused
