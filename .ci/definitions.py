@@ -115,13 +115,14 @@ def used_types(crate):
 
 def views_of(crate):
     """What contracts see of the types of src/: of each a key, a place and its lines, if it has an `impl Model`, and what
-    that names; and the types of which it consists."""
+    that names; and the types of which it consists. How the logic stores them (`ghost coded`) isn't among it: a code
+    comes with the proof that each value can be read back, and no clause depends on which one it is."""
     others = dict(used_types(crate))
     for path in files_of(crate, "src", ".rt"):
         text, module = text_of(path), os.path.relpath(path, f"{TOP}/crates/{crate}/src")[:-3].replace("/", ".")
         named = named_in(text)
         for it in re.finditer(r"(?m)^impl(?:<[^>]*>)? Model for (\w+).*\n((?:[^}\n].*\n|\n)*)\}", text):
-            own = "\n".join(re.findall(r"(?m)^    ghost .*$", it[2]))
+            own = re.sub(r"(?m)^ *ghost (?:use|coded)\b[^;]*;\n|^\s*\n", "", it[2]).rstrip("\n")
             line = text.count("\n", 0, it.start()) + 1
             place = f"{os.path.relpath(path, TOP)}:{line}", len(own.split("\n"))
             yield (crate, f"declared.{module}.{it[1]}", it[1]), place, cited_in(text, own, named)

@@ -1,0 +1,31 @@
+-- What two wrong bodies leave: clauses that end in an existential exclude it, whatever witness is given.
+use Rattle.std.{specs.Prelude.{Option}, proofs.Common.{◌≡◌, ◌≢◌, ◌⊎◌, inl, inr, ℕ, List, [], ◌∷◌, ◌++◌, length, true, refl, sym, ap, ◌∙◌, arith, length-append}}
+use Rattle.sqlite_disk.specs.declared.Disk.{Ghosts}
+use Rattle.sqlite.specs.{Recovery.{Image}, declared.FileStore.{FileStore}}
+use Rattle.clap.specs.Words.{Text}
+use Rattle.broker_database.specs.BrokerView.{BrokerView}
+use Rattle.command_line.specs.Lines.{is_line}
+use Rattle.program_io.specs.Entrance.{Peer, Queue, IsLetIn}
+use Rattle.broker_program.specs.{Running.{RanOver}, Serving.{ServesNext}, declared.left.Ended.{Ended}}
+
+longer : {A : Type 0} (xs : List A) (x : A) → ¬ (xs ++ x ∷ [] ≡ xs)
+longer xs x same = let counts = ap length same in omega (arith, counts, length-append xs (x ∷ []))
+
+-- `each_second_connection_unserved`: a peer that was let in, and then wasn't let go, was neither lost nor served
+module _ {D : Type 0} {g : Ghosts D} (s t : BrokerView (FileStore D g)) (old new : Queue) (peer : Peer) where
+  pub no_peer_is_dropped : IsLetIn old new peer → ¬ (ServesNext s t old new)
+  no_peer_is_dropped (rest, first, let_in) (inl (lost, kept)) =
+      longer old.came peer (sym (ap (λ (q : Queue). q.came) let_in) ∙ ap (λ (q : Queue). q.came) lost.3)
+  no_peer_is_dropped (rest, first, let_in) (inr (visit, (mid, comes, let_go), serves)) =
+      let went : mid.went ≡ old.went = ap (λ (q : Queue). q.went) comes.2 in
+      longer mid.went visit.after (sym (ap (λ (q : Queue). q.went) let_go) ∙ ap (λ (q : Queue). q.went) let_in ∙ sym went)
+
+-- `status_halved_in_process`: words that are no command line don't end with 1, whatever the streams were
+module _ {D I O E : Type 0} {g : Ghosts D} (held : Image) (remaining : I → Option (List ℕ)) (contents : O → Option (List ℕ)) (shows : E → Option (List ℕ)) where
+  pub no_mistake_ends_with_1 : (words : List Text) (end : Ended D g) → is_line words ≢ true → RanOver held remaining contents shows words end → end.status ≢ 1
+  no_mistake_ends_with_1 words end no (before, after, old, new, untold, told, ran) is = elim (ran.told_of no) [
+    | inl mistake ↦ let clash = sym is ∙ mistake.1.0 in absurd cc
+    | inr (inl (asks, inl shown)) ↦ let clash = sym is ∙ shown.0 in absurd cc
+    | inr (inl (asks, inr lost)) ↦ let clash = sym is ∙ lost.0 in absurd cc
+    | inr (inr lacks) ↦ let clash = sym is ∙ lacks.0 in absurd cc
+  ]

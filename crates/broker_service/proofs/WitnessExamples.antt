@@ -1,0 +1,37 @@
+-- What a wrong body leaves: a clause that ends in an existential excludes it, whatever witness is given.
+use Rattle.std.{specs.Prelude.{IsTrue}, proofs.Common.{◌≡◌, ◌≢◌, inl, inr, Option, Result, Err, true, false, sym, subst, ◌∙◌, arith}}
+use Rattle.sqlite.specs.{Held.{Held}, State.{State, HasCleanDisk, HasCause, store_error}}
+use Rattle.sqlite_trees.specs.declared.error.StoreError.{StoreError}
+use Rattle.sqlite_trees.specs.declared.error.StoreError.TheVariants.{OutOfMemory, Io, Corrupt, Full, Broken, Unstorable}
+use Rattle.table_access.specs.Calls.{HasFailed, fault_of}
+use Rattle.broker_core.specs.{SoundNames.{AreNames}, State.{State as Broker}, Text.{Text}, declared.answer.Answer.{Answer}, declared.command.Command.{Command}}
+use Rattle.broker_tables.specs.Room.{HasRoomFor, enough}
+use Rattle.broker_database.specs.{Causes.{HoldsReadable}, declared.ending.Failure.{Failure}, declared.ending.Failure.TheVariants.{Call}}
+use Rattle.broker_service.specs.Transacted.{Transacted}
+use Rattle.table_access.specs.declared.StoreFault.TheVariants as faults
+
+-- no call on the disk failed in between
+abbrev DiskWorks : State → State → Type 0
+DiskWorks old new = ¬ (HasCause old new ⊥ Io)
+
+-- a store that was open, over a disk that works, hasn't failed by Store
+no_failure : (old new : State) → IsTrue old.is_open → DiskWorks old new → ¬ (HasFailed old new faults.Store)
+no_failure old new was_open works failed = by failed.cause failed.fault_is failed.has where
+  by : (cause : StoreError) → faults.Store ≡ fault_of (store_error cause) → HasCause old new ⊥ cause → ⊥
+  by OutOfMemory is has = absurd cc
+  by Io is has = works has
+  by Corrupt is has = works has
+  by Full is has = works has
+  by Broken is shut = let clash : true ≡ false = sym was_open ∙ shut in absurd cc
+  by Unstorable is has = has
+
+-- `done_command_given_up`: over a disk that works, and tables that have numbers for its rows, no command is given up by
+-- Store
+module _ {X : Type 0} (shown : Held X → State) (token : Option Text) (command : Command) (old new : Held X) (result : Result Answer Failure) where
+  pub no_done_command_is_given_up : Transacted shown token command old new result → HasCleanDisk (shown new) → AreNames command
+      → (s : Broker) → HoldsReadable s (shown old) → IsTrue (shown old).is_open → DiskWorks (shown old) (shown new) → HasRoomFor enough (shown old).now
+      → result ≢ Err (Call faults.Store)
+  no_done_command_is_given_up it clean names s holds was_open works room is = elim (it.calm clean names s holds is) [
+    | inl failed ↦ no_failure (shown old) (shown new) was_open works failed
+    | inr inside ↦ no_failure (shown old) (shown new) was_open works (inside.1 room)
+  ]
