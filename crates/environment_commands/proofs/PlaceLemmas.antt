@@ -1,14 +1,13 @@
 -- What refuses a command on a version and an environment, from what was read.
 use Rattle.std.{specs.Prelude.{Option, Some, None, is_some, filter_map}, proofs.Common.{◌≡◌, inl, inr, Bool, true, false, ◌∷◌, [], refl, ap, ◌∙◌}}
-use Rattle.broker_core.specs.{Text.{Text}, State.{State}, Policy.{allows}}
-use Rattle.broker_core.specs.{Request.{asks, refusal, refused, unless, has_grant}, declared.answer.Answer.{Answer}}
+use Rattle.broker_core.specs.{Text.{Text}, State.{State}, Policy.{allows}, Request.{asks, refusal, refused, unless, has_grant}, declared.answer.Answer.{Answer}}
 use Rattle.broker_core.specs.{declared.answer.Answer.TheVariants.{Denied}, declared.answer.Missing.{Missing}, declared.command.Command.{Command}}
 use Rattle.broker_core.specs.{declared.command.Command.TheVariants.{Deploy, Undeploy, Release, EndSupport}, declared.command.Marks.{Marks}}
 use Rattle.broker_core.specs.{declared.command.Version.{Version}, declared.policy.Caller.{Caller}, declared.policy.Rule.{Rule}}
 use Rattle.broker_core.specs.declared.policy.Rule.TheVariants.{A7}
 use Rattle.caller_facts.specs.Owners.{owners_of}
-use Rattle.environment_commands.specs.{Places.{IsVersionRead, HasPlace, IsAdmitted, ChangesPlace, unless_environment, unless_version}, declared.places.Admitted.{Admitted}}
-use Rattle.environment_commands.specs.declared.places.VersionFacts.{VersionFacts}
+use Rattle.environment_commands.specs.Places.{IsVersionRead, HasPlace, IsAdmitted, ChangesPlace, unless_environment, unless_version}
+use Rattle.environment_commands.specs.{declared.places.Admitted.{Admitted}, declared.places.VersionFacts.{VersionFacts}}
 use Rattle.broker_core.specs.declared.answer.Missing.TheVariants as missing
 
 -- the owner of one pacticipant, as the policy asks for it

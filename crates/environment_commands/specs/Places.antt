@@ -96,15 +96,6 @@ GateHasRefusal version marks answer = (s : Broker) (caller : Caller) (v : Versio
     → IsVersionRead s caller A6 v false version → s.environments e ≡ marks
     → refusal s caller (CanIDeploy v e) ≡ answer
 
--- the first that isn't there: the environment, or what comes next
-abbrev pub unless_environment : Broker → Text → Option Missing → Option Missing
-unless_environment s e next = unless (is_some (s.environments e)) missing.Environment next
-
--- the same of a version, whose pacticipant comes before it
-abbrev pub unless_version : Broker → Version → Option Missing → Option Missing
-unless_version s v next =
-    unless (is_some (s.pacticipants v.pacticipant)) missing.Pacticipant (unless (is_known s v) missing.Version next)
-
 -- where this was read of a version, the question for its matrix has this refusal, or none
 abbrev pub MatrixHasRefusal : VersionFacts → Option Answer → Type 0
 MatrixHasRefusal version answer = (s : Broker) (caller : Caller) (v : Version)
