@@ -10,7 +10,7 @@ use Rattle.pact_file.specs.{Objects.{json_of, object_of, tree_or_fault, with_fau
 use Rattle.pact_file.specs.{Parts.{states_in, all_of, status_in, headers_found}, Headers.{HasHeaders}, Rules.{RulesRead}, Pact.{Pact, Interaction, normal_text}}
 use Rattle.pact_file.specs.{Normal.{Normal, InteractionRead, InteractionsRead, InOrder, if_short}, declared.fault.PactFault.TheVariants.{TooLong}}
 use Rattle.pact_file.specs.{declared.object.FileFault.{FileFault}, declared.object.FileFault.TheVariants.{NotJson, NotObject}}
-use Rattle.pact_rules.specs.{Outcome.{◌>>=◌, guard}, Reading.{EachRead}, Rules.{no_rules}, TreeReading.{tree_in}}
+use Rattle.pact_rules.specs.{Outcome.{◌>>=◌, guard}, Reading.{EachRead}, Rules.{no_rules}, Trees.{checked_tree}}
 use Rattle.command_facts.specs.Primitives.{broker_primitives}
 use Rattle.broker_http.proofs.PlainRequests.{in_ascii}
 
@@ -59,7 +59,7 @@ json_read = ap (λ b. if b then ok_or (read pact_file) NotJson else Err NotJson)
 object_read : object_of pact_file ≡ Ok file_data
 unfolding object_of serde_json_on_literals
 object_read =
-    ap (λ (r : Outcome Data FileFault). r >>= (λ whole. tree_or_fault (tree_in whole) >>= (λ tree. guard (is_some (as_object whole)) NotObject >>= (λ is. Ok whole)))) json_read
+    ap (λ (r : Outcome Data FileFault). r >>= (λ whole. tree_or_fault (checked_tree whole) >>= (λ tree. guard (is_some (as_object whole)) NotObject >>= (λ is. Ok whole)))) json_read
 
 file_read : file_of pact_file ≡ Ok file_data
 unfolding file_of

@@ -8,7 +8,7 @@ use Rattle.pact_file.specs.{Normal.{InteractionRead, InteractionsRead, InOrder, 
 use Rattle.pact_file.specs.{Parts.{optional_at}, Rules.{TableRead, rules_or_fault, RulesRead, IsRulesOf}, declared.fault.PactFault.{PactFault}}
 use Rattle.pact_file.proofs.{Agreement.{one_answer}, Again.{one_read}, SetLemmas.{one_such}, Steps.{ok_same, ok_err, err_same}}
 use Rattle.command_facts.specs.Readings.{TellsRefusal, HasPatternIfPact, IsNoPact, IsPatternAsked}
-use Rattle.pact_rules.specs.{Lists.{OneOf, IsIn}, Rules.{Rules as Table, has_regex}, RuleReading.{IsReading}, declared.rule_fault.RuleFault.{RuleFault}}
+use Rattle.pact_rules.specs.{Lists.{OneOf, IsIn}, Rules.{Rules as Table, has_regex}, declared.rule_fault.RuleFault.{RuleFault}}
 use Rattle.pact_rules.specs.{declared.rule_fault.RuleFault.TheVariants.{Pattern}, Reading.{just, Follows, ◌>>=◌, EachRead}}
 use Rattle.pact_rules.proofs.ReadingLemmas.{refused_regex}
 use Rattle.reply_check.specs.{Recorded.{Reply}, Verdicts.{IsKnown, AreKnown, IsFirstUnknown, UsesPattern}, Meeting.{HasPattern}}
@@ -52,9 +52,7 @@ just_then {A} P read next tells =
 
 table_tells : (o : Option Data) (t : Table) → TableRead o (Err Pattern) → TableRead o (Ok t) → has_regex t ≡ true
 table_tells None t h k = absurd cc
-table_tells (Some d) t h k =
-    let same : h.0 ≡ k.0 = same_Some _ _ (sym h.1 ∙ k.1) in
-    refused_regex k.0 t k.2 (subst (λ n. IsReading n (Err Pattern)) same h.2)
+table_tells (Some d) t h k = refused_regex d t k h
 
 table_refused : (i : ℕ) (r : Result Table RuleFault) (s : Result Table PactFault) → IsRefusal s → rules_or_fault i r ≡ s → r ≡ Err Pattern
 table_refused i (Ok t) s (j, is) h = let clash : Path (Result Table PactFault) (Ok t) (Err (Rules j Pattern)) = h ∙ is in absurd cc

@@ -1,7 +1,7 @@
 -- The normal text of a pact is read as that pact.
 use Rattle.std.specs.{Option.{ok_or}, Str.{IsUtf8, bytes_eq}}
 use Rattle.std.proofs.Common.{◌≡◌, ◌⊎◌, inl, inr, ℕ, suc, ◌+◌, ◌≤◌, List, [], ◌∷◌, length, codes, map, not, Bool, true, false, cond, nat_le, Option, Some, None, option_and_then, Result, Ok, Err, refl, sym, ap, ◌∙◌, subst, leb-true, le-leb, arith}
-use Rattle.serde_json.specs.{Data.{Data, Items, no_items, item}, Events.{items_len}, Find.{get, as_array}, View.{items_of}}
+use Rattle.serde_json.specs.{Data.{Data, Items, no_items, item, depth}, Events.{items_len}, Find.{get, as_array}, View.{items_of}}
 use Rattle.serde_json.proofs.OnLiterals.{serde_json_on_literals}
 use Rattle.broker_names.specs.Name.{is_name}
 use Rattle.pact_file.specs.File.{most_bytes, most_interactions, file_of, is_version_3, has_no_messages, side_of, sides_of, items_of as items_at}
@@ -14,7 +14,7 @@ use Rattle.pact_file.specs.{Sorting.{insert_all_sorted, same_text}, Sound.{IsSou
 use Rattle.pact_file.{specs.declared.fault.Place.TheVariants.{Consumer, ConsumerName, Provider, ProviderName, Interactions}, proofs.Agreement.{one_answer}}
 use Rattle.pact_file.proofs.{Objects.{is_json}, Itself.{interaction_again, listed_again}, Steps.{bind_ok, found_ok, guard_ok, ok_same}}
 use Rattle.pact_file.proofs.{OrderedSets.{IsGood, key_total, ordered, ordered_few, one_order}, ReadBack.{read-compact_text}}
-use Rattle.pact_file.proofs.{ReadLemmas.{read_ok, is_tree, file_sound, items_sound, each_one, each_sound, interactions_sound}, SetLemmas.{rising_apart}}
+use Rattle.pact_file.proofs.{ReadLemmas.{read_ok, file_sound, items_sound, each_one, each_sound, interactions_sound}, SetLemmas.{rising_apart}}
 use Rattle.pact_file.proofs.{SoundData.{kept, whole, shallow, text_utf8}, SoundParts.{of_object_at, of_text_at, of_pact}}
 use Rattle.pact_rules.specs.{Outcome.{guard}, Reading.{just, EachRead}, Lists.{IsIn}}
 
@@ -137,8 +137,8 @@ file_again p h short =
     let d = pact_data p in
     let json : json_of (normal_text p) ≡ Ok (pact_data p) =
     is_json (normal_text p) (pact_data p) (text_utf8 100 (pact_data p) h) (read-compact_text (pact_data p) (kept 100 (pact_data p) h) (whole 100 (pact_data p) h) (omega (arith, shallow 100 (pact_data p) h))) in
-    let tree = is_tree 100 (pact_data p) (omega arith) h in
-    rw (short, json, tree.1) refl
+    let few : nat_le (depth d) 100 ≡ true = le-leb (depth d) 100 (shallow 100 d h) in
+    rw (short, json, few, whole 100 d h) refl
 
 short_case : (t : Bool) (p q : Pact) → cond t (Ok p) (Err TooLong) ≡ Ok q → (p ≡ q) × (t ≡ true)
 short_case true p q h = (ok_same _ _ h, refl)

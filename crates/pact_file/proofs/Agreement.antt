@@ -1,10 +1,8 @@
 -- Two readings of one file agree, but where a pattern was refused.
 use Rattle.std.proofs.Common.{◌≡◌, ◌⊎◌, inl, inr, ℕ, ◌+◌, List, [], ◌∷◌, codes, Option, Some, None, Result, Ok, Err, sym, ap, ◌∙◌, subst}
-use Rattle.std.proofs.lemmas.Option.{same_Some}
 use Rattle.serde_json.specs.Data.{Data}
-use Rattle.pact_rules.specs.{Rules.{Rules as Table}, RuleReading.{IsReading}, declared.rule_fault.RuleFault.{RuleFault}}
-use Rattle.pact_rules.specs.{declared.rule_fault.RuleFault.TheVariants.{Pattern}, Reading.{just, Follows, ◌>>=◌, EachRead}}
-use Rattle.pact_rules.proofs.ReadingLemmas.{reading_agrees}
+use Rattle.pact_rules.specs.{Rules.{Rules as Table}, declared.rule_fault.RuleFault.{RuleFault}, declared.rule_fault.RuleFault.TheVariants.{Pattern}}
+use Rattle.pact_rules.{specs.Reading.{just, Follows, ◌>>=◌, EachRead}, proofs.ReadingLemmas.{reading_agrees}}
 use Rattle.pact_file.specs.{File.{file_of, sides_of, items_of}, Interactions.{parts_at, at}, Headers.{HeadersRead}, declared.fault.Part.TheVariants.{Headers}}
 use Rattle.pact_file.specs.{Normal.{InteractionRead, InteractionsRead, Normal, IsRefusal, if_short}, Parts.{optional_at}}
 use Rattle.pact_file.specs.{Rules.{TableRead, rules_or_fault, RulesRead}, declared.fault.PactFault.{PactFault}, declared.fault.PactFault.TheVariants.{Rules}}
@@ -48,9 +46,7 @@ TablesAgree r s = (r ≡ s) ⊎ ((r ≡ Err Pattern) ⊎ (s ≡ Err Pattern))
 
 table_definite : (o : Option Data) (r s : Result Table RuleFault) → TableRead o r → TableRead o s → TablesAgree r s
 table_definite None r s h k = inl (h ∙ sym k)
-table_definite (Some d) r s h k =
-    let same : k.0 ≡ h.0 = same_Some _ _ (sym k.1 ∙ h.1) in
-    reading_agrees h.0 r s h.2 (subst (λ n. IsReading n s) same k.2)
+table_definite (Some d) r s h k = reading_agrees d r s h k
 
 rules_fault_definite : (i : ℕ) (r s : Result Table RuleFault) (a b : Result Table PactFault) → TablesAgree r s → rules_or_fault i r ≡ a → rules_or_fault i s ≡ b → Agree a b
 rules_fault_definite i r s a b (inl same) h k = inl (sym h ∙ ap (rules_or_fault i) same ∙ k)

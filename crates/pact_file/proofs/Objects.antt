@@ -2,10 +2,10 @@
 use Rattle.std.specs.{Str.{IsUtf8, is_utf8}, Prelude.{⊤}, Option.{ok_or}}
 use Rattle.std.proofs.Common.{◌≡◌, arith, Bool, true, false, cond, is_some, nat_le, leb-true, List, [], ◌∷◌, ℕ, Option, Some, None, Result, Ok, Err, refl, sym, ap, ◌∙◌, subst}
 use Rattle.std.proofs.lemmas.Str.{is_utf8-from_IsUtf8, IsUtf8-from_is_utf8}
-use Rattle.serde_json.specs.{Data.{Data, depth}, Read.{read}, Find.{as_object}, View.{view}, declared.value.Value.{Value}}
+use Rattle.serde_json.specs.{Data.{Data, depth}, Read.{read}, Find.{as_object}, Written.{has_float}, View.{view}, declared.value.Value.{Value}}
 use Rattle.serde_json.proofs.OnLiterals.{serde_json_on_literals}
-use Rattle.pact_rules.specs.{declared.tree.TreeFault.TheVariants.{TooDeep}, Outcome.{guard, Gives}, Trees.{Node}, TreeReading.{whole_tree, whole_or, tree_in}}
-use Rattle.pact_rules.{specs.declared.tree.TreeFault.{TreeFault}, proofs.Bridge.{no_float}}
+use Rattle.pact_rules.specs.{declared.tree.TreeFault.{TreeFault}, declared.tree.TreeFault.TheVariants.{NotWhole, TooDeep}, Outcome.{guard, Gives}}
+use Rattle.pact_rules.specs.Trees.{checked_tree}
 use Rattle.pact_file.specs.{File.{as_file_fault}, Objects.{IsSomeText, json_of, tree_or_fault, object_of, with_fault}, Sound.{IsSound}}
 use Rattle.pact_file.specs.{declared.fault.PactFault.{PactFault}, declared.fault.PactFault.TheVariants.{Memory as PactMemory}}
 use Rattle.pact_file.specs.{declared.object.FileFault.{FileFault}, declared.object.FileFault.TheVariants.{NotJson, NotObject, Memory}}
@@ -31,26 +31,22 @@ json_case : (t : Bool) (o : Option Data) (d : Data) → cond t (ok_or o NotJson)
 json_case true o d h = (refl, found_ok o NotJson d h)
 json_case false o d h = absurd cc
 
-tree_ok : {A : Type 0} (r : Result A TreeFault) (x : ⊤) → tree_or_fault r ≡ Ok x → (a : A) × (r ≡ Ok a)
-tree_ok (Ok a) x h = (a, refl)
-tree_ok (Err e) x h = absurd cc
-
-whole_case : (t : Bool) (o : Option Node) (n : Node) → cond t (whole_or o) (Err TooDeep) ≡ Ok n → (t ≡ true) × (o ≡ Some n)
-whole_case true (Some m) n h = (refl, ap Some (ok_same _ _ h))
-whole_case t o n h = absurd cc
+tree_ok : (deep float : Bool) (x : ⊤) → tree_or_fault (cond deep (cond float (Err NotWhole) (Ok tt)) (Err TooDeep)) ≡ Ok x → (deep ≡ true) × (float ≡ false)
+tree_ok true false x h = (refl, refl)
+tree_ok true true x h = absurd cc
+tree_ok false float x h = absurd cc
 
 -- where a text reads as one object, that is sound data, nesting at most 100
 pub object_sound : (bytes : List ℕ) (d : Data) → object_of bytes ≡ Ok d → IsSound 100 d
 unfolding object_of json_of
 object_sound bytes d e =
     let json = bind_ok (json_of bytes) _ d e in
-    let tree = bind_ok (tree_or_fault (tree_in json.0)) _ d json.2 in
+    let tree = bind_ok (tree_or_fault (checked_tree json.0)) _ d json.2 in
     let is = bind_ok (guard (is_some (as_object json.0)) NotObject) _ d tree.2 in
     let found_text = json_case (is_utf8 bytes) (read bytes) json.0 json.1 in
-    let found = tree_ok (tree_in json.0) tree.0 tree.1 in
-    let parts = whole_case (nat_le (depth json.0) 100) (whole_tree json.0) found.0 found.1 in
+    let found = tree_ok (nat_le (depth json.0) 100) (has_float json.0) tree.0 tree.1 in
     subst (IsSound 100) (ok_same _ _ is.2)
-    (sound 100 json.0 (read_kept bytes json.0 (IsUtf8-from_is_utf8 bytes found_text.0) found_text.1) (no_float json.0 found.0 parts.1) (leb-true (depth json.0) 100 parts.0))
+    (sound 100 json.0 (read_kept bytes json.0 (IsUtf8-from_is_utf8 bytes found_text.0) found_text.1) found.1 (leb-true (depth json.0) 100 found.0))
 
 -- ---- what is read is a text
 
@@ -65,7 +61,7 @@ unfolding json_of
 of_text bytes text r is utf8 h = rw (is_utf8-from_IsUtf8 bytes utf8) (subst (λ t. Gives Memory view r (ok_or (read t) NotJson)) is h)
 
 -- a value that is no tree isn't told as want of memory
-pub tree_apart : {A : Type 0} (r : Result A TreeFault) (e : FileFault) → Err e ≡ tree_or_fault r → e ≡ Memory → ⊥
+pub tree_apart : (r : Result ⊤ TreeFault) (e : FileFault) → Err e ≡ tree_or_fault r → e ≡ Memory → ⊥
 tree_apart (Ok x) e h is = absurd cc
 tree_apart (Err f) e h is = absurd cc
 

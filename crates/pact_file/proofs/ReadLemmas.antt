@@ -3,9 +3,8 @@ use Rattle.std.specs.{Prelude.{⊤}, Option.{ok_or}}
 use Rattle.std.proofs.Common.{◌≡◌, inl, inr, ℕ, zero, suc, ◌+◌, ◌≤◌, ◌<◌, nat_le, List, [], ◌∷◌, length, map, codes, get_or, Bool, true, cond, is_some, Some, None, option_and_then, Result, Ok, Err, refl, sym, ap, ◌∙◌, subst, ⊎_elim, le-leb, arith}
 use Rattle.serde_json.specs.{declared.value.Value.{Value}, Data.{Data, Items, no_items, item, depth}, Events.{items_len}, Find.{get, as_array, as_object}}
 use Rattle.serde_json.specs.View.{view, items_view, items_of}
-use Rattle.pact_rules.specs.{Reading.{◌>>=◌, just, EachRead, GivesOne}, Lists.{IsIn}, Trees.{Node}, Rules.{no_rules, Rules as Table}, RuleReading.{IsReading}}
-use Rattle.pact_rules.specs.{TreeReading.{whole_tree, tree_in}, declared.tree.TreeFault.{TreeFault}, declared.rule_fault.RuleFault.{RuleFault}}
-use Rattle.pact_rules.{specs.Outcome.{guard, Gives}, proofs.Bridge.{has_tree}}
+use Rattle.pact_rules.specs.{Reading.{◌>>=◌, just, EachRead, GivesOne}, Lists.{IsIn}, Rules.{no_rules, Rules as Table}, RuleReading.{IsReading}}
+use Rattle.pact_rules.specs.{Outcome.{guard, Gives}, declared.rule_fault.RuleFault.{RuleFault}}
 use Rattle.pact_file.specs.declared.fault.Part.TheVariants.{Headers, Whole, Description, States, Request, Response, Status}
 use Rattle.pact_file.specs.{File.{most_bytes, most_interactions, as_file_fault, file_of, sides_of, items_of as items_at, seen_of}, Interactions.{at, parts_at}}
 use Rattle.pact_file.specs.{Headers.{HeadersRead}, Normal.{InteractionRead, InteractionsRead, PactRead, Normal, if_short}}
@@ -13,21 +12,10 @@ use Rattle.pact_file.specs.Pact.{Interaction, Pact, interaction_data, pact_with,
 use Rattle.pact_file.specs.{Parts.{text_at, object_at, states_in, status_in, listed, optional_at}, Rules.{TableRead, rules_or_fault, RulesRead, IsRulesOf}}
 use Rattle.pact_file.specs.{Sound.{IsSound, AreSound}, PartsView.{as_pact_fault}, declared.fault.PactFault.{PactFault}}
 use Rattle.pact_file.specs.{declared.fault.PactFault.TheVariants.{Memory, Rules, Shape, TooLong, TooMany}, declared.fault.Place.TheVariants.{Interactions}}
-use Rattle.pact_file.{specs.Objects.{IsSomeText, json_of, object_of}, proofs.SoundParts.{of_get, of_object_at, of_text_at, of_array, of_states, of_parts}}
+use Rattle.pact_file.specs.Objects.{IsSomeText, json_of, object_of}
+use Rattle.pact_file.proofs.SoundParts.{of_get, object_there, of_object_at, of_text_at, of_array, of_states, of_parts}
 use Rattle.pact_file.proofs.{Steps.{bind_ok, bind_second, first_of, found_ok, ok_same, ok_err, then_some}, Objects.{object_ok, object_sound, json_text}}
-use Rattle.pact_file.proofs.SoundData.{shallow, whole as is_whole}
 use Rattle.pact_rules.specs.declared.rule_fault.RuleFault.TheVariants as rule_fault
-
--- ---- trees
-
-pub is_tree : (n : ℕ) (d : Data) → n ≤ 100 → IsSound n d → (t : Node) × (tree_in d ≡ Ok t)
-is_tree n d few h =
-    let t = has_tree d (is_whole n d h) in
-    let fits : nat_le (depth d) 100 ≡ true = le-leb (depth d) 100 (omega (arith, shallow n d h)) in
-    (t.0, rw (fits, t.1) refl)
-
-pub no_tree_fault : {P : Type 0} (n : ℕ) (d : Data) (e : TreeFault) → n ≤ 100 → IsSound n d → tree_in d ≡ Err e → P
-no_tree_fault n d e few h is = let t = is_tree n d few h in let clash : Ok t.0 ≡ Err e = sym t.1 ∙ is in absurd cc
 
 -- ---- rules
 
@@ -39,13 +27,13 @@ pub no_rules_of : (response : Data) (t : Table) → None ≡ optional_at (codes 
 unfolding IsRulesOf
 no_rules_of response t none is = subst (λ o. TableRead o (Ok t)) none (ap Ok is)
 
-pub rules_some : (i : ℕ) (response d : Data) (n : Node) (r : Result Table RuleFault) → Some d ≡ optional_at (codes "matchingRules") response → whole_tree d ≡ Some n → IsReading n r → RulesRead i response (rules_or_fault i r)
+pub rules_some : (i : ℕ) (response d : Data) (r : Result Table RuleFault) → Some d ≡ optional_at (codes "matchingRules") response → IsReading d r → RulesRead i response (rules_or_fault i r)
 unfolding RulesRead
-rules_some i response d n r some is h = (r, subst (λ o. TableRead o r) some (n, is, h), refl)
+rules_some i response d r some h = (r, subst (λ o. TableRead o r) some h, refl)
 
-pub rules_of : (response d : Data) (n : Node) (t : Table) → Some d ≡ optional_at (codes "matchingRules") response → whole_tree d ≡ Some n → IsReading n (Ok t) → IsRulesOf response t
+pub rules_of : (response d : Data) (t : Table) → Some d ≡ optional_at (codes "matchingRules") response → IsReading d (Ok t) → IsRulesOf response t
 unfolding IsRulesOf
-rules_of response d n t some is h = subst (λ o. TableRead o (Ok t)) some (n, is, h)
+rules_of response d t some h = subst (λ o. TableRead o (Ok t)) some h
 
 pub pact_fault_apart : (i : ℕ) (fault : RuleFault) → ¬ (as_pact_fault i fault ≡ Memory) → (¬ (fault ≡ rule_fault.Memory)) × (as_pact_fault i fault ≡ Rules i fault)
 pact_fault_apart i rule_fault.Memory h = absurd (h refl)
@@ -73,6 +61,20 @@ parts_sound i d x h e =
     subst (λ (z : Interaction). IsSound 98 (interaction_data z)) {x = y} same
     (of_parts 95 y (of_text_at 97 (codes "description") d b.0 h (found_ok _ _ b.0 b.1)) (of_states 95 d s.0 h (found_ok _ _ s.0 s.1))
     (of_object_at 97 (codes "request") d q.0 h (found_ok _ _ q.0 q.1)) (of_object_at 97 (codes "response") d r.0 h (found_ok _ _ r.0 r.1)))
+
+-- the response is a member of the interaction
+pub response_is : (i : ℕ) (d : Data) (x : Interaction) → parts_at i d ≡ Ok x → get (codes "response") d ≡ Some x.response
+unfolding parts_at
+response_is i d x e =
+    let a = bind_ok (guard (is_some (as_object d)) (at i Whole)) _ x e in
+    let b = bind_ok (ok_or (text_at (codes "description") d) (at i Description)) _ x a.2 in
+    let s = bind_ok (ok_or (states_in d) (at i States)) _ x b.2 in
+    let q = bind_ok (ok_or (object_at (codes "request") d) (at i Request)) _ x s.2 in
+    let r = bind_ok (ok_or (object_at (codes "response") d) (at i Response)) _ x q.2 in
+    let n = bind_ok (ok_or (status_in r.0) (at i Status)) _ x r.2 in
+    let y : Interaction = record { description = b.0; states = s.0; request = q.0; response = r.0 } in
+    let same : y ≡ x = ok_same _ _ n.2 in
+    object_there (codes "response") d r.0 (found_ok _ _ r.0 r.1) ∙ ap (λ (z : Interaction). Some z.response) same
 
 pub interaction_sound : (i : ℕ) (d : Data) (x : Interaction) → IsSound 98 d → InteractionRead i d (Ok x) → IsSound 98 (interaction_data x)
 unfolding InteractionRead
@@ -131,12 +133,6 @@ of_file bytes d (Err e) is h = λ memory. (Ok d, is, h memory)
 pub seen_items : (file : Data) (sides : List ℕ × List ℕ) (d : PactFault) → sides_of file ≡ Ok sides → seen_of file ≡ Err d → items_at file ≡ Err d
 seen_items file sides d h k = first_of (items_at file) d (bind_second (sides_of file) _ sides d h k)
 
-pub all_seen : (file : Data) (sides : List ℕ × List ℕ) (xs : List Interaction) (d : PactFault) → sides_of file ≡ Ok sides → InteractionsRead file (Ok xs) → seen_of file ≡ Err d → ⊥
-unfolding InteractionsRead
-all_seen file sides xs d h r k =
-    let items = read_ok (just (items_at file)) _ xs r in
-    ok_err items.0 d (sym items.1 ∙ seen_items file sides d h k)
-
 pub items_sound : (file : Data) (ds : List Data) → IsSound 100 file → items_at file ≡ Ok ds → AllSound ds
 unfolding items_at
 items_sound file ds h e =
@@ -144,12 +140,6 @@ items_sound file ds h e =
     let few = bind_ok (guard (nat_le (items_len items.0) most_interactions) TooMany) _ ds items.2 in
     let found = then_some as_array (get (codes "interactions") file) items.0 (found_ok _ _ items.0 items.1) in
     subst AllSound (ok_same _ _ few.2) (listed_sound items.0 (of_array 98 found.0 items.0 (of_get 99 (codes "interactions") file found.0 h found.1) found.2))
-
--- of the values of a list
-pub value_sound : (n : ℕ) (vs : List Value) (i : ℕ) (v : Value) → i < length vs → v ≡ get_or vs i v → AreSound n (items_view vs) → IsSound n (view v)
-value_sound n [] i v lt is h = absurd (omega arith)
-value_sound n (x ∷ vs) zero v lt is h = subst (λ y. IsSound n (view y)) (sym is) h.0
-value_sound n (x ∷ vs) (suc i) v lt is h = value_sound n vs i v (omega arith) is h.1
 
 -- values that are each sound, nesting at most 98, are sound as the items of one array
 pub values_sound : (vs : List Value) → AllSound (map view vs) → AreSound 98 (items_view vs)
@@ -179,7 +169,3 @@ interactions_sound file xs h r =
 pub short_is : (c q : List ℕ) (xs ys : List Interaction) (b t : Bool) → ys ≡ xs → b ≡ nat_le (length (normal_text (pact_with c q ys))) most_bytes → b ≡ t
     → if_short (pact_with c q xs) ≡ cond t (Ok (pact_with c q xs)) (Err TooLong)
 short_is c q xs ys b t same is h = ap (λ u. cond u (Ok (pact_with c q xs)) (Err TooLong)) (ap (λ zs. nat_le (length (normal_text (pact_with c q zs))) most_bytes) (sym same) ∙ sym is ∙ h)
-
--- a pact of equal parts
-pub same_pact : {c d q r : List ℕ} (xs : List Interaction) → c ≡ d → q ≡ r → ◌≡◌ {A = Pact} (record { consumer = c; provider = q; interactions = xs }) (record { consumer = d; provider = r; interactions = xs })
-same_pact xs e f = λ i. record { consumer = e i; provider = f i; interactions = xs }

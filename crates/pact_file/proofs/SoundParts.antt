@@ -36,9 +36,12 @@ object_is : (d e : Data) → if_object d ≡ Some e → d ≡ e
 object_is (object ms) e h = same_Some _ _ h
 object_is d e h = absurd cc
 
+pub object_there : (k : List ℕ) (whole d : Data) → object_at k whole ≡ Some d → get k whole ≡ Some d
+object_there k whole d e = let p = then_some if_object (get k whole) d e in p.1 ∙ ap Some (object_is p.0 d p.2)
+
 -- the object found under a key of sound data is sound, nesting one level less
 pub of_object_at : (n : ℕ) (k : List ℕ) (whole d : Data) → IsSound (suc n) whole → object_at k whole ≡ Some d → IsSound n d
-of_object_at n k whole d h e = let p = then_some if_object (get k whole) d e in of_get n k whole d h (p.1 ∙ ap Some (object_is p.0 d p.2))
+of_object_at n k whole d h e = of_get n k whole d h (object_there k whole d e)
 
 of_text : (n : ℕ) (d : Data) (s : List ℕ) → IsSound n d → as_str d ≡ Some s → IsUtf8 s
 of_text n (string t) s h e = subst IsUtf8 (same_Some _ _ e) h

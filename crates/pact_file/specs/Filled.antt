@@ -1,7 +1,7 @@
 -- For private clauses: what is kept beside an interaction is what its definitions give.
 use Rattle.std.specs.Prelude.{◌≡◌, ℕ, List, Option, Some}
 use Rattle.serde_json.specs.Written.{compact_text}
-use Rattle.pact_rules.specs.Trees.{Node}
+use Rattle.serde_json.specs.Data.{Data}
 use Rattle.pact_rules.specs.Rules.{Rules}
 use Rattle.pact_file.specs.Headers.{HasHeaders}
 use Rattle.pact_file.specs.Pact.{Header, Interaction, states_data, interaction_data}
@@ -9,7 +9,7 @@ use Rattle.pact_file.specs.Parts.{status_in, body_in}
 use Rattle.pact_file.specs.Rules.{IsRulesOf}
 use Rattle.pact_file.specs.Sound.{IsSound}
 
-pub record IsFilled (x : Interaction) (status : ℕ) (headers : List Header) (body : Option Node) (rules : Rules)
+pub record IsFilled (x : Interaction) (status : ℕ) (headers : List Header) (body : Option Data) (rules : Rules)
     (states_text text : List ℕ) : Type 0 where
   pub sound : IsSound 98 (interaction_data x)
   pub has_status : status_in x.response ≡ Some status

@@ -5,7 +5,7 @@ use Rattle.std.specs.Str.{IsUtf8, is_utf8}
 use Rattle.serde_json.specs.Data.{Data}
 use Rattle.serde_json.specs.Find.{as_object}
 use Rattle.serde_json.specs.Read.{read}
-use Rattle.pact_rules.specs.TreeReading.{tree_in}
+use Rattle.pact_rules.specs.Trees.{checked_tree}
 use Rattle.pact_rules.specs.declared.tree.TreeFault.{TreeFault}
 use Rattle.pact_rules.specs.Outcome.{◌>>=◌, guard}
 use Rattle.pact_file.specs.declared.object.FileFault.{FileFault}
@@ -19,15 +19,15 @@ IsSomeText bytes = IsUtf8 bytes × (0 < length bytes)
 unfoldable pub json_of : List ℕ → Result Data FileFault
 json_of bytes = if is_utf8 bytes then ok_or (read bytes) NotJson else Err NotJson
 
-abbrev pub tree_or_fault : {A : Type 0} → Result A TreeFault → Result ⊤ FileFault
-tree_or_fault (Ok x) = Ok tt
+abbrev pub tree_or_fault : Result ⊤ TreeFault → Result ⊤ FileFault
+tree_or_fault (Ok x) = Ok x
 tree_or_fault (Err e) = Err (Tree e)
 
 -- an object without fractions that nests not too deep
 unfoldable pub object_of : List ℕ → Result Data FileFault
 object_of bytes = do
   whole ← json_of bytes
-  tree ← tree_or_fault (tree_in whole)
+  tree ← tree_or_fault (checked_tree whole)
   is ← guard (is_some (as_object whole)) NotObject
   Ok whole
 

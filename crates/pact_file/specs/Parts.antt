@@ -5,8 +5,7 @@ use Rattle.std.specs.Option.{option_or}
 use Rattle.std.specs.Str.{str_to_ascii_lowercase}
 use Rattle.serde_json.specs.Data.{Data, null, boolean, number, string, array, object, Items, no_items, item, Members, no_members, member}
 use Rattle.serde_json.specs.Find.{get, as_str, as_array, as_object, as_number, as_u64}
-use Rattle.pact_rules.specs.Trees.{Node}
-use Rattle.pact_rules.specs.TreeReading.{whole_tree}
+use Rattle.serde_json.specs.Data.{Data}
 use Rattle.pact_file.specs.Pact.{State, Header}
 
 abbrev pub unless_null : Data → Option Data
@@ -92,9 +91,9 @@ status_from (Some d) = status_at d
 unfoldable pub status_in : Data → Option ℕ
 status_in response = status_from (optional_at (codes "status") response)
 
--- the tree under `body`
-unfoldable pub body_in : Data → Option Node
-body_in response = option_and_then whole_tree (get (codes "body") response)
+-- the value under `body`
+abbrev pub body_in : Data → Option Data
+body_in response = get (codes "body") response
 
 -- ---- headers
 

@@ -1,8 +1,7 @@
 -- The rules of a response, read by `pact_rules`. Whether a pattern is refused is open there, so this is a relation.
 use Rattle.std.specs.Prelude.{◌≡◌, ℕ, Option, Some, None, Result, Ok, Err, codes}
 use Rattle.serde_json.specs.Data.{Data}
-use Rattle.pact_rules.specs.Trees.{Node}
-use Rattle.pact_rules.specs.TreeReading.{whole_tree}
+use Rattle.serde_json.specs.Data.{Data}
 use Rattle.pact_rules.specs.Rules.{Rules as Table, no_rules}
 use Rattle.pact_rules.specs.RuleReading.{IsReading}
 use Rattle.pact_rules.specs.declared.rule_fault.RuleFault.{RuleFault}
@@ -13,7 +12,7 @@ use Rattle.pact_file.specs.Parts.{optional_at}
 -- no rules where they are absent
 abbrev pub TableRead : Option Data → Result Table RuleFault → Type 0
 TableRead None answer = answer ≡ Ok no_rules
-TableRead (Some d) answer = (n : Node) × (whole_tree d ≡ Some n) × IsReading n answer
+TableRead (Some d) answer = IsReading d answer
 
 abbrev pub rules_or_fault : ℕ → Result Table RuleFault → Result Table PactFault
 rules_or_fault i (Ok table) = Ok table

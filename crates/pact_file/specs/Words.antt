@@ -33,7 +33,6 @@ place_text (Interaction i part) = codes "interactions[" ++ (decimal i ++ (codes 
 abbrev pub tree_text : TreeFault → List ℕ
 tree_text tree_fault.NotWhole = codes "6.1"
 tree_text tree_fault.TooDeep = codes "6.2"
-tree_text tree_fault.Memory = codes "6.3"
 
 abbrev pub rule_number : RuleFault → List ℕ
 rule_number rule_fault.Form = codes "1"

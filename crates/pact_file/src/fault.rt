@@ -153,7 +153,6 @@ impl fmt::Display for Number<'_> {
             PactFault::Messages => "5",
             PactFault::Tree(TreeFault::NotWhole) => "6.1",
             PactFault::Tree(TreeFault::TooDeep) => "6.2",
-            PactFault::Tree(TreeFault::Memory) => "6.3",
             PactFault::Rules(index, RuleFault::Unsupported(name)) => {
                 return write!(f, "7.5 interactions[{}] {}", *index, name.as_str());
             }

@@ -1,12 +1,10 @@
 //! An interaction, in the order of its tests.
 
-ghost use Rattle.std.specs.Prelude.{◌≡◌, Some, option_map, string_bytes, IfOk};
+ghost use Rattle.std.specs.Prelude.{◌≡◌, Some, option_map, option_and_then, codes, string_bytes, IfOk};
+ghost use Rattle.serde_json.specs.Find.{get};
 ghost use Rattle.serde_json.specs.View.{view};
 ghost use Rattle.serde_json.specs.Written.{compact_text};
-ghost use Rattle.pact_rules.specs.TreeReading.{whole_tree};
-ghost use Rattle.pact_rules.specs.TreeView.{tree_view};
 ghost use Rattle.pact_file.specs.declared.fault.PactFault.TheVariants.{Memory};
-ghost use Rattle.pact_file.specs.Headers.{HasHeaders};
 ghost use Rattle.pact_file.specs.Interactions.{at, parts_at};
 ghost use Rattle.pact_file.specs.Normal.{InteractionRead};
 ghost use Rattle.pact_rules.specs.Outcome.{Gives};
@@ -19,11 +17,13 @@ ghost use Rattle.pact_file.specs.PartsView.{parts_view, as_pact_fault};
 
 use crate::fault::{PactFault, Part, Place};
 use crate::headers::read_headers;
-use crate::pact::{Header, Interaction};
-use crate::parts::{object_member, optional_member, read_states, status_of, text_member};
+use crate::pact::Interaction;
+use crate::parts::{
+    object_member, optional_member, read_states, status_of, take_member, text_member,
+};
 use crate::state::State;
 use crate::texts::{parts_text, states_text};
-use pact_rules::{Patterns, RuleFault, RuleTable, Tree, TreeFault, tree_of};
+use pact_rules::{Patterns, RuleFault, RuleTable};
 use serde_json::Value;
 use std::alloc::{AllocError, Global};
 
@@ -76,30 +76,13 @@ fn read_parts<'a>(alloc: Global, index: usize, value: &'a Value) -> Result<Parts
     })
 }
 
-/// The tree of a part: a part of a tree is a tree, so that only `Memory` is possible.
-fn part_of(alloc: Global, value: &Value) -> Result<Tree, AllocError>
-    requires { IsSound 96 (view value.now) }
-    ensures { IfOk result (λ t. whole_tree (view value.now) ≡ Some (tree_view t)) }
+/// The body of the response of an interaction, moved out of it: the value under `body`, which may be null, or None if
+/// the response has no such member.
+fn take_body(interaction: Value) -> Option<Value>
+    ensures { option_map view result
+        ≡ option_and_then body_in (get (codes "response") (view interaction)) }
 {
-    match tree_of(alloc, value) {
-        Ok(tree) => Ok(tree),
-        Err(TreeFault::Memory) => Err(AllocError),
-        Err(TreeFault::NotWhole) => unreachable!(),
-        Err(TreeFault::TooDeep) => unreachable!(),
-    }
-}
-
-/// The body of a response: the tree under `body`, which may be null, or None if the response has no such member. An
-/// error means out of memory.
-#[tactic(auto, unfolding(crate::specs::Parts::body_in))]
-pub fn body_of(alloc: Global, response: &Value) -> Result<Option<Tree>, AllocError>
-    requires { IsSound 97 (view response.now) }
-    ensures { IfOk result (λ o. option_map tree_view o ≡ body_in (view response.now)) }
-{
-    match response.get("body") {
-        None => Ok(None),
-        Some(body) => Ok(Some(part_of(alloc, body)?)),
-    }
+    take_member(take_member(interaction, "response")?, "body")
 }
 
 /// A fault of rules; `Memory` is that of the whole call.
@@ -118,82 +101,41 @@ fn read_rules(
     index: usize,
     response: &Value,
 ) -> Result<RuleTable, PactFault>
-    requires { IsSound 97 (view response.now) }
     ensures read { GivesOne Memory (λ t. t) result (RulesRead index (view response.now)) }
     ensures table { IfOk result (λ t. IsRulesOf (view response.now) t) }
 {
     match optional_member(response, "matchingRules") {
         None => Ok(RuleTable::none(alloc)),
-        Some(rules) => {
-            let tree = part_of(alloc, rules)?;
-            let read = RuleTable::read_with(alloc, patterns, &tree);
-            drop(tree);
-            match read {
-                Ok(table) => Ok(table),
-                Err(fault) => Err(rule_fault(index, fault)),
-            }
-        }
+        Some(rules) => match RuleTable::read_with(alloc, patterns, rules) {
+            Ok(table) => Ok(table),
+            Err(fault) => Err(rule_fault(index, fault)),
+        },
     }
 }
 
-/// What is kept of an interaction beside what was read of it.
+/// The texts that are kept of an interaction.
 #[derive(Drop)]
-struct Kept {
-    body: Option<Tree>,
-    states_text: String,
-    text: String,
+struct Texts {
+    states: String,
+    whole: String,
 }
 
-fn kept_of(alloc: Global, parts: &Parts<'_>) -> Result<Kept, AllocError>
+fn texts_of(alloc: Global, parts: &Parts<'_>) -> Result<Texts, AllocError>
     requires { IsSound 98 (interaction_data (parts_view parts.now)) }
-    ensures body { IfOk result (λ k.
-        option_map tree_view k.body ≡ body_in (view parts.now.response.now)) }
-    ensures states { IfOk result (λ k. string_bytes k.states_text
+    ensures states { IfOk result (λ t. string_bytes t.states
         ≡ compact_text (states_data parts.now.states.items)) }
-    ensures text { IfOk result (λ k. string_bytes k.text
+    ensures whole { IfOk result (λ t. string_bytes t.whole
         ≡ compact_text (interaction_data (parts_view parts.now))) }
 {
-    let states_text = states_text(alloc, parts.states.as_slice())?;
-    let text = parts_text(
+    let states = states_text(alloc, parts.states.as_slice())?;
+    let whole = parts_text(
         alloc,
         parts.description.as_str(),
-        states_text.as_str(),
+        states.as_str(),
         parts.request,
         parts.response,
     )?;
-    Ok(Kept {
-        body: body_of(alloc, parts.response)?,
-        states_text,
-        text,
-    })
-}
-
-/// The interaction of what was read. Nothing can fail here, where the parts are moved.
-fn interaction_of(
-    parts: Parts<'_>,
-    headers: Vec<Header>,
-    rules: RuleTable,
-    kept: Kept,
-) -> Interaction
-    requires sound { IsSound 98 (interaction_data (parts_view parts)) }
-    requires status { status_found (view parts.response.now) ≡ Some parts.status }
-    requires headers { HasHeaders (view parts.response.now) headers.items }
-    requires rules { IsRulesOf (view parts.response.now) rules }
-    requires body { option_map tree_view kept.body ≡ body_in (view parts.response.now) }
-    requires states { string_bytes kept.states_text ≡ compact_text (states_data parts.states.items) }
-    requires text { string_bytes kept.text ≡ compact_text (interaction_data (parts_view parts)) }
-    ensures { result ≡ parts_view parts.entry }
-{
-    Interaction {
-        description: parts.description,
-        states: parts.states,
-        status: parts.status,
-        headers,
-        body: kept.body,
-        rules,
-        states_text: kept.states_text,
-        text: kept.text,
-    }
+    Ok(Texts { states, whole })
 }
 
 /// The interaction at this index, or its first fault.
@@ -201,18 +143,35 @@ pub(crate) fn read_interaction(
     alloc: Global,
     patterns: &mut Patterns,
     index: usize,
-    value: &Value,
+    value: Value,
 ) -> Result<Interaction, PactFault>
-    requires { IsSound 98 (view value.now) }
-    ensures { GivesOne Memory (λ x. x) result (InteractionRead index (view value.now)) }
+    requires { IsSound 98 (view value) }
+    ensures { GivesOne Memory (λ x. x) result (InteractionRead index (view value)) }
 {
-    let parts = read_parts(alloc, index, value)?;
+    let parts = read_parts(alloc, index, &value)?;
     match read_headers(alloc, parts.response)? {
         None => Err(fault_at(index, Part::Headers)),
         Some(headers) => {
             let rules = read_rules(alloc, patterns, index, parts.response)?;
-            let kept = kept_of(alloc, &parts)?;
-            Ok(interaction_of(parts, headers, rules, kept))
+            let texts = texts_of(alloc, &parts)?;
+            let Parts {
+                description,
+                states,
+                request: _,
+                response: _,
+                status,
+            } = parts;
+            let body = take_body(value);
+            Ok(Interaction {
+                description,
+                states,
+                status,
+                headers,
+                body,
+                rules,
+                states_text: texts.states,
+                text: texts.whole,
+            })
         }
     }
 }

@@ -15,10 +15,9 @@ mod texts;
 
 pub use fault::{PactFault, Part, Place};
 pub use headers::read_headers;
-pub use interaction::body_of;
 pub use object::{FileFault, read_object};
 pub use pact::{Header, Interaction, Pact};
-pub use parts::{list_member, object_member, read_states, read_status, text_member};
+pub use parts::{read_states, read_status, take_list, take_object, text_member};
 pub use read::read_pact;
 pub use state::State;
 pub use texts::states_text;

@@ -5,7 +5,7 @@ ghost use Rattle.std.specs.Option.{ok_or};
 ghost use Rattle.pact_file.specs.Objects.{json_of, tree_or_fault, object_of, IsSomeText};
 ghost use Rattle.pact_file.specs.declared.object.FileFault.TheVariants.{Memory, NotJson};
 ghost use Rattle.pact_rules.specs.Outcome.{Gives};
-ghost use Rattle.pact_rules.specs.TreeReading.{tree_in};
+ghost use Rattle.pact_rules.specs.Trees.{checked_tree};
 ghost use Rattle.serde_json.specs.Read.{read};
 ghost use Rattle.serde_json.specs.View.{view};
 
@@ -53,7 +53,7 @@ fn read_json(alloc: Global, bytes: &[u8]) -> Result<Value, FileFault>
 }
 
 fn check_file(value: &Value) -> Result<(), FileFault>
-    ensures { result ≡ tree_or_fault (tree_in (view value.now)) }
+    ensures { result ≡ tree_or_fault (checked_tree (view value.now)) }
 {
     match check_tree(value) {
         Ok(()) => Ok(()),

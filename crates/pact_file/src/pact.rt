@@ -1,7 +1,7 @@
 //! What is read of a pact file.
 
 ghost use Rattle.std.specs.Prelude.{◌≡◌, Some, None, map, IfOk, string_bytes, option_map};
-ghost use Rattle.pact_rules.specs.TreeView.{tree_view, optional_view};
+ghost use Rattle.serde_json.specs.View.{view};
 ghost use Rattle.pact_file.specs.Headers.{HasHeaders};
 ghost use Rattle.pact_file.specs.Pact.{normal_text, states_data, interaction_data};
 ghost use Rattle.pact_file.specs.Parts.{status_in, body_in};
@@ -11,7 +11,8 @@ ghost use Rattle.serde_json.specs.Written.{compact_text};
 
 use crate::state::State;
 use crate::texts::text_of_pact;
-use pact_rules::{RuleTable, Tree};
+use pact_rules::RuleTable;
+use serde_json::Value;
 use std::alloc::AllocError;
 use std::marker::Model;
 
@@ -56,7 +57,7 @@ pub struct Interaction {
     pub(crate) states: Vec<State>,
     pub(crate) status: u16,
     pub(crate) headers: Vec<Header>,
-    pub(crate) body: Option<Tree>,
+    pub(crate) body: Option<Value>,
     pub(crate) rules: RuleTable,
     pub(crate) states_text: String,
     pub(crate) text: String,
@@ -64,7 +65,7 @@ pub struct Interaction {
 
 impl Model for Interaction {
     ghost use Rattle.std.specs.Prelude.{string_bytes, option_map};
-    ghost use Rattle.pact_rules.specs.TreeView.{tree_view};
+    ghost use Rattle.serde_json.specs.View.{view as seen};
     ghost use Rattle.pact_file.specs.Pact.{Interaction as InteractionModel, interaction_code};
     ghost use Rattle.pact_file.specs.Texts.{interaction_of_text};
     ghost use Rattle.pact_file.specs.Filled.{IsFilled};
@@ -78,7 +79,7 @@ impl Model for Interaction {
 
     ghost invariant = { λ a. IsFilled (interaction_of_text
         (string_bytes a.description) a.states.items (string_bytes a.text))
-        a.status a.headers.items (option_map tree_view a.body) a.rules
+        a.status a.headers.items (option_map seen a.body) a.rules
         (string_bytes a.states_text) (string_bytes a.text) };
 }
 
@@ -120,8 +121,8 @@ impl Interaction {
     }
 
     /// The body, if there is one.
-    pub fn body(&self) -> Option<&Tree>
-        ensures { optional_view result ≡ body_in self.now.response }
+    pub fn body(&self) -> Option<&Value>
+        ensures { option_map (λ v. view v.now) result ≡ body_in self.now.response }
     {
         self.body.as_ref()
     }

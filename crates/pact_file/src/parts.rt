@@ -1,13 +1,13 @@
 //! The parts of an interaction.
 
 ghost use Rattle.std.specs.Prelude.{◌≡◌, ◌∷◌, [], codes, map, option_map, IfOk};
-ghost use Rattle.serde_json.specs.Find.{get, as_str};
-ghost use Rattle.serde_json.specs.View.{view, items_view};
+ghost use Rattle.serde_json.specs.Find.{get, get_member, as_str};
+ghost use Rattle.serde_json.specs.View.{view, items_view, members_view};
 ghost use Rattle.pact_file.specs.Parts.{optional_at, text_at, object_at, list_at, state_in, all_of, one_state};
 ghost use Rattle.pact_file.specs.Parts.{states_from, states_in, status_at, status_in};
 
 use crate::state::State;
-use serde_json::Value;
+use serde_json::{Map, Value};
 use std::alloc::{AllocError, Global};
 
 /// An optional member: null counts as absent.
@@ -25,17 +25,51 @@ pub fn text_member<'a>(value: &'a Value, key: &str) -> Option<&'a str>
 }
 
 /// A member that is an object.
-pub fn object_member<'a>(value: &'a Value, key: &str) -> Option<&'a Value>
+pub(crate) fn object_member<'a>(value: &'a Value, key: &str) -> Option<&'a Value>
     ensures { option_map (λ v. view v.now) result ≡ object_at key.now (view value.now) }
 {
     value.get(key).filter(|found| found.is_object())
 }
 
 /// A member that is a list.
-pub fn list_member<'a>(value: &'a Value, key: &str) -> Option<&'a Vec<Value>>
+pub(crate) fn list_member<'a>(value: &'a Value, key: &str) -> Option<&'a Vec<Value>>
     ensures { option_map (λ v. items_view v.now.items) result ≡ list_at key.now (view value.now) }
 {
     value.get(key)?.as_array()
+}
+
+/// A member of a value, moved out of it.
+pub(crate) fn take_member(value: Value, key: &str) -> Option<Value>
+    ensures { option_map view result ≡ get key.now (view value) }
+{
+    match value {
+        Value::Object(members) => take_entry(members, key),
+        _ => None,
+    }
+}
+
+fn take_entry(members: Map<String, Value>, key: &str) -> Option<Value>
+    ensures { option_map view result ≡ get_member key.now (members_view members.entries) }
+{
+    let mut members = members;
+    members.remove(key)
+}
+
+/// A member that is an object, moved out of a value.
+pub fn take_object(value: Value, key: &str) -> Option<Value>
+    ensures { option_map view result ≡ object_at key.now (view value) }
+{
+    take_member(value, key).filter(|found| found.is_object())
+}
+
+/// A member that is a list, moved out of a value.
+pub fn take_list(value: Value, key: &str) -> Option<Vec<Value>>
+    ensures { option_map (λ v. items_view v.items) result ≡ list_at key.now (view value) }
+{
+    match take_member(value, key) {
+        Some(Value::Array(items)) => Some(items),
+        _ => None,
+    }
 }
 
 fn read_state(alloc: Global, value: &Value) -> Result<Option<State>, AllocError>

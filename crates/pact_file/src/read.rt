@@ -1,6 +1,6 @@
 //! Reading a pact file.
 
-ghost use Rattle.std.specs.Prelude.{◌≡◌, ◌<◌, ◌≤◌, Err, length, map, option_map, nat_le};
+ghost use Rattle.std.specs.Prelude.{◌≡◌, ◌<◌, ◌≤◌, Err, length, map, option_map, nat_le, string_bytes};
 ghost use Rattle.serde_json.specs.Events.{items_len};
 ghost use Rattle.serde_json.specs.View.{view, items_view};
 ghost use Rattle.pact_file.specs.declared.fault.PactFault.{PactFault as PactFaultModel};
@@ -22,7 +22,7 @@ use crate::interaction::read_interaction;
 use crate::object::{FileFault, read_object};
 use crate::order::in_key_order;
 use crate::pact::{Interaction, Pact};
-use crate::parts::{list_member, object_member, text_member};
+use crate::parts::{list_member, object_member, take_list, text_member};
 use crate::texts::is_short;
 use broker_names::name::Name;
 use pact_rules::Patterns;
@@ -146,14 +146,15 @@ fn read_sides(file: &Value) -> Result<(&str, &str), PactFault>
     Ok((consumer, provider))
 }
 
-fn read_list(alloc: Global, items: &[Value]) -> Result<Vec<Interaction>, PactFault>
-    requires { AreSound 98 (items_view items.now) }
+fn read_list(alloc: Global, items: Vec<Value>) -> Result<Vec<Interaction>, PactFault>
+    requires { AreSound 98 (items_view items.items) }
     ensures { GivesOne Memory (λ v. v.items) result
-        (EachRead InteractionRead 0 (map view items.now)) }
+        (EachRead InteractionRead 0 (map view items.items)) }
 {
     let mut patterns = Patterns::new(alloc);
     let mut found = Vec::new(alloc);
-    for (index, item) in items.iter().enumerate() {
+    for item in items {
+        let index = found.len();
         found.push(read_interaction(alloc, &mut patterns, index, item)?)?;
     }
     Ok(found)
@@ -179,13 +180,26 @@ fn items_in(file: &Value) -> Result<&Vec<Value>, PactFault>
     Ok(items)
 }
 
-fn read_interactions(alloc: Global, file: &Value) -> Result<Vec<Interaction>, PactFault>
-    requires { IsSound 100 (view file.now) }
-    ensures reading { GivesOne Memory (λ v. v.items) result (InteractionsRead (view file.now)) }
-    ensures items { (e : PactFaultModel) → items_of (view file.now) ≡ Err e → result ≡ Err e }
+/// The same, moved out of the file.
+#[tactic(auto, using(crate::proofs::Lists::listed_view), unfolding(crate::specs::File::items_of))]
+fn take_items(file: Value) -> Result<Vec<Value>, PactFault>
+    ensures { GivesAlways (λ v. map view v.items) result (items_of (view file)) }
 {
-    let items = items_in(file)?;
-    let found = read_list(alloc, items.as_slice())?;
+    let Some(items) = take_list(file, "interactions") else {
+        return Err(PactFault::Shape(Place::Interactions));
+    };
+    if !is_few(&items) {
+        return Err(PactFault::TooMany);
+    }
+    Ok(items)
+}
+
+fn read_interactions(alloc: Global, file: Value) -> Result<Vec<Interaction>, PactFault>
+    requires { IsSound 100 (view file) }
+    ensures { GivesOne Memory (λ v. v.items) result (InteractionsRead (view file)) }
+{
+    let items = take_items(file)?;
+    let found = read_list(alloc, items)?;
     in_key_order(alloc, found)
 }
 
@@ -203,38 +217,46 @@ pub fn read_pact(alloc: Global, bytes: &[u8]) -> Result<Pact, PactFault>
         return Err(PactFault::TooLong);
     }
     let file = read_file(alloc, bytes)?;
-    pact_of(alloc, &file)
+    pact_of(alloc, file)
 }
 
 /// The normal pact of a file that was read as JSON. What is wrong before its interactions is found before memory is
 /// taken.
-fn pact_of(alloc: Global, file: &Value) -> Result<Pact, PactFault>
-    requires { IsSound 100 (view file.now) }
-    ensures reading { GivesOne Memory (λ p. p) result (PactRead (view file.now)) }
-    ensures seen { (e : PactFaultModel) → seen_of (view file.now) ≡ Err e → result ≡ Err e }
+fn pact_of(alloc: Global, file: Value) -> Result<Pact, PactFault>
+    requires { IsSound 100 (view file) }
+    ensures reading { GivesOne Memory (λ p. p) result (PactRead (view file)) }
+    ensures seen { (e : PactFaultModel) → seen_of (view file) ≡ Err e → result ≡ Err e }
 {
-    let (consumer, provider) = read_sides(file)?;
+    let (consumer, provider) = read_sides(&file)?;
+    items_in(&file)?;
+    let consumer_name = String::from_str(alloc, consumer)?;
+    let provider_name = String::from_str(alloc, provider)?;
     let interactions = read_interactions(alloc, file)?;
-    short_pact(alloc, consumer, provider, interactions)
+    short_pact(alloc, consumer_name, provider_name, interactions)
 }
 
 /// The pact of these parts, if its normal text isn't too long.
 fn short_pact(
     alloc: Global,
-    consumer: &str,
-    provider: &str,
+    consumer: String,
+    provider: String,
     interactions: Vec<Interaction>,
 ) -> Result<Pact, PactFault>
     ensures { Gives Memory (λ p. p) result
-        (pact_if_short (pact_with consumer.now provider.now interactions.items)) }
+        (pact_if_short (pact_with (string_bytes consumer) (string_bytes provider) interactions.items)) }
 {
-    let has_room = is_short(alloc, consumer, provider, interactions.as_slice())?;
+    let has_room = is_short(
+        alloc,
+        consumer.as_str(),
+        provider.as_str(),
+        interactions.as_slice(),
+    )?;
     if !has_room {
         return Err(PactFault::TooLong);
     }
     Ok(Pact {
-        consumer: String::from_str(alloc, consumer)?,
-        provider: String::from_str(alloc, provider)?,
+        consumer,
+        provider,
         interactions,
     })
 }

@@ -1,11 +1,12 @@
 -- Worked examples, computed from the definitions.
 use Rattle.std.proofs.Common.{◌≡◌, ℕ, pos, negsuc, Bool, true, false, List, Option, Result, [], ◌∷◌, Some, None, Ok, Err, codes, refl}
-use Rattle.pact_rules.specs.{Trees.{Node, null, truth, whole, text, list, object, Nodes, no_nodes, node, Fields, no_fields, field}, Outcome.{◌>>=◌}}
-use Rattle.pact_rules.specs.declared.rule_fault.RuleFault.{RuleFault}
+use Rattle.pact_rules.specs.{Outcome.{◌>>=◌}, declared.rule_fault.RuleFault.{RuleFault}}
 use Rattle.pact_rules.specs.declared.rule_fault.RuleFault.TheVariants.{OldRules, BadPath, SamePathTwice, Unsupported, BadBound, Pattern, BadCombine}
 use Rattle.pact_rules.specs.{Rules.{equality, same_type, regex, include, integer, is_null, Entry, BodyRule, HeaderRule, has_regex}, Choice.{chosen}}
 use Rattle.pact_rules.specs.{Matching.{holds, entry_holds, has_keys_of}, Tables.{header_entry}, RuleReading.{found_in, table_in, no_pattern}, Walks.{own_place}}
-use Rattle.pact_paths.specs.{Paths.{Token, named, indexed, any, key, item, Location}, PathReading.{tokens_in}}
+use Rattle.serde_json.specs.Data.{Data, unsigned, negative, float, null, boolean, number, string, array, object, Items, no_items, item, Members, no_members, member}
+use Rattle.pact_paths.specs.{Paths.{Token, named, indexed, any, key, Location}, PathReading.{tokens_in}}
+use Rattle.pact_paths.specs.Paths as paths
 
 -- ---- the choice
 
@@ -17,7 +18,7 @@ rule path = record { path = path; entry = type_entry }
 
 -- item1.level[1].id
 abbrev deep : Location
-deep = key (codes "item1") ∷ key (codes "level") ∷ item 1 ∷ key (codes "id") ∷ []
+deep = key (codes "item1") ∷ key (codes "level") ∷ paths.item 1 ∷ key (codes "id") ∷ []
 
 abbrev item1_level : List Token → List Token
 item1_level more = named (codes "item1") ∷ named (codes "level") ∷ more
@@ -38,10 +39,10 @@ least_text : chosen (rule (named (codes "a") ∷ any ∷ []) ∷ rule (any ∷ n
 least_text = refl
 
 -- a shorter path cascades, away from its own place
-cascades : chosen (rule (named (codes "a") ∷ []) ∷ []) (key (codes "a") ∷ item 0 ∷ []) ≡ Some 0
+cascades : chosen (rule (named (codes "a") ∷ []) ∷ []) (key (codes "a") ∷ paths.item 0 ∷ []) ≡ Some 0
 cascades = refl
 
-not_own : own_place (rule (named (codes "a") ∷ []) ∷ []) (key (codes "a") ∷ item 0 ∷ []) ≡ false
+not_own : own_place (rule (named (codes "a") ∷ []) ∷ []) (key (codes "a") ∷ paths.item 0 ∷ []) ≡ false
 not_own = refl
 
 own : own_place (rule (named (codes "a") ∷ []) ∷ []) (key (codes "a") ∷ []) ≡ true
@@ -96,134 +97,134 @@ least_place = refl
 
 -- ---- matchers
 
-abbrev one : Node → Node
-one n = list (node n no_nodes)
+abbrev one : Data → Data
+one n = array (item n no_items)
 
 -- the least length counts at its own place alone
-least_at_own_place : holds (same_type (Some 1) None) (one (text (codes "a"))) (list no_nodes) true ≡ false
+least_at_own_place : holds (same_type (Some 1) None) (one (string (codes "a"))) (array no_items) true ≡ false
 least_at_own_place = refl
 
-least_elsewhere : holds (same_type (Some 1) None) (one (text (codes "a"))) (list no_nodes) false ≡ true
+least_elsewhere : holds (same_type (Some 1) None) (one (string (codes "a"))) (array no_items) false ≡ true
 least_elsewhere = refl
 
-other_kind : holds (same_type None None) (text (codes "a")) (whole (pos 1)) true ≡ false
+other_kind : holds (same_type None None) (string (codes "a")) (number (unsigned 1)) true ≡ false
 other_kind = refl
 
-equal_numbers : holds equality (whole (pos 1)) (whole (pos 2)) true ≡ false
+equal_numbers : holds equality (number (unsigned 1)) (number (unsigned 2)) true ≡ false
 equal_numbers = refl
 
 -- the values behind the keys are no matter of this place
-equal_keys : holds equality (object (field (codes "a") null no_fields)) (object (field (codes "a") (truth true) no_fields)) true ≡ true
+equal_keys : holds equality (object (member (codes "a") null no_members)) (object (member (codes "a") (boolean true) no_members)) true ≡ true
 equal_keys = refl
 
 -- ---- the keys of objects, whatever stands under them
 
-abbrev a_one : Fields → Fields
-a_one more = field (codes "a") (whole (pos 1)) more
+abbrev a_one : Members → Members
+a_one more = member (codes "a") (number (unsigned 1)) more
 
-keys_of_none : has_keys_of no_fields no_fields ≡ true
+keys_of_none : has_keys_of no_members no_members ≡ true
 keys_of_none = refl
 
-further_key : has_keys_of no_fields (a_one no_fields) ≡ true
+further_key : has_keys_of no_members (a_one no_members) ≡ true
 further_key = refl
 
-lacking_key : has_keys_of (a_one no_fields) no_fields ≡ false
+lacking_key : has_keys_of (a_one no_members) no_members ≡ false
 lacking_key = refl
 
-other_value : has_keys_of (a_one no_fields) (field (codes "a") null (field (codes "b") (whole (pos 2)) no_fields)) ≡ true
+other_value : has_keys_of (a_one no_members) (member (codes "a") null (member (codes "b") (number (unsigned 2)) no_members)) ≡ true
 other_value = refl
 
-other_key : has_keys_of (a_one (field (codes "c") (whole (pos 2)) no_fields)) (a_one (field (codes "b") (whole (pos 2)) no_fields)) ≡ false
+other_key : has_keys_of (a_one (member (codes "c") (number (unsigned 2)) no_members)) (a_one (member (codes "b") (number (unsigned 2)) no_members)) ≡ false
 other_key = refl
 
 -- ---- parts of texts
 
-part_of_text : holds (include (codes "b")) null (text (codes "abc")) true ≡ true
+part_of_text : holds (include (codes "b")) null (string (codes "abc")) true ≡ true
 part_of_text = refl
 
-truth_as_text : holds (include (codes "ru")) null (truth true) true ≡ true
+truth_as_text : holds (include (codes "ru")) null (boolean true) true ≡ true
 truth_as_text = refl
 
 null_has_no_text : holds (include []) null null true ≡ false
 null_has_no_text = refl
 
-null_or_type : entry_holds (record { any = true; matchers = is_null ∷ same_type None None ∷ [] }) (text (codes "Ada")) null true ≡ true
+null_or_type : entry_holds (record { any = true; matchers = is_null ∷ same_type None None ∷ [] }) (string (codes "Ada")) null true ≡ true
 null_or_type = refl
 
-neither : entry_holds (record { any = true; matchers = is_null ∷ same_type None None ∷ [] }) (text (codes "Ada")) (whole (pos 5)) true ≡ false
+neither : entry_holds (record { any = true; matchers = is_null ∷ same_type None None ∷ [] }) (string (codes "Ada")) (number (unsigned 5)) true ≡ false
 neither = refl
 
 -- ---- reading a table
 
-abbrev entry : Nodes → Node
-entry matchers = object (field (codes "matchers") (list matchers) no_fields)
+abbrev entry : Items → Data
+entry matchers = object (member (codes "matchers") (array matchers) no_members)
 
-abbrev match : List ℕ → Fields → Node
-match name more = object (field (codes "match") (text name) more)
+abbrev match : List ℕ → Members → Data
+match name more = object (member (codes "match") (string name) more)
 
-abbrev category : List ℕ → Fields → Node
-category name entries = object (field name (object entries) no_fields)
+abbrev category : List ℕ → Members → Data
+category name entries = object (member name (object entries) no_members)
 
-abbrev by_type : Nodes
-by_type = node (match (codes "type") no_fields) no_nodes
+abbrev by_type : Items
+by_type = item (match (codes "type") no_members) no_items
 
-abbrev at_root : Nodes → Node
-at_root matchers = category (codes "body") (field (codes "$") (entry matchers) no_fields)
+abbrev at_root : Items → Data
+at_root matchers = category (codes "body") (member (codes "$") (entry matchers) no_members)
 
-old_rules : found_in no_pattern (object (field (codes "$.id") (match (codes "type") no_fields) no_fields)) ≡ Err OldRules
+old_rules : found_in no_pattern (object (member (codes "$.id") (match (codes "type") no_members) no_members)) ≡ Err OldRules
 old_rules = refl
 
-same_path : found_in no_pattern (category (codes "body") (field (codes "$.a") (entry no_nodes) (field (codes "$['a']") (entry no_nodes) no_fields))) ≡ Err SamePathTwice
+same_path : found_in no_pattern (category (codes "body") (member (codes "$.a") (entry no_items) (member (codes "$['a']") (entry no_items) no_members))) ≡ Err SamePathTwice
 unfolding tokens_in
 same_path = refl
 
-same_name : found_in no_pattern (category (codes "header") (field (codes "A") (entry no_nodes) (field (codes "a") (entry no_nodes) no_fields))) ≡ Err SamePathTwice
+same_name : found_in no_pattern (category (codes "header") (member (codes "A") (entry no_items) (member (codes "a") (entry no_items) no_members))) ≡ Err SamePathTwice
 same_name = refl
 
-bad_path : found_in no_pattern (category (codes "body") (field (codes "item") null no_fields)) ≡ Err BadPath
+bad_path : found_in no_pattern (category (codes "body") (member (codes "item") null no_members)) ≡ Err BadPath
 bad_path = refl
 
 -- combine is looked at before the matchers
-combine_first : found_in no_pattern (category (codes "body") (field (codes "$") (object (field (codes "combine") (text (codes "XOR")) (field (codes "matchers") (list (node (match (codes "date") no_fields) no_nodes)) no_fields))) no_fields)) ≡ Err BadCombine
+combine_first : found_in no_pattern (category (codes "body") (member (codes "$") (object (member (codes "combine") (string (codes "XOR")) (member (codes "matchers") (array (item (match (codes "date") no_members) no_items)) no_members))) no_members)) ≡ Err BadCombine
 unfolding tokens_in
 combine_first = refl
 
 -- another category is a fault before its form is one
-unknown_category : found_in no_pattern (object (field (codes "cookies") null no_fields)) ≡ Err (Unsupported (codes "cookies"))
+unknown_category : found_in no_pattern (object (member (codes "cookies") null no_members)) ≡ Err (Unsupported (codes "cookies"))
 unknown_category = refl
 
-null_category : found_in no_pattern (object (field (codes "body") null no_fields)) ≡ Ok (record { body = []; headers = [] })
+null_category : found_in no_pattern (object (member (codes "body") null no_members)) ≡ Ok (record { body = []; headers = [] })
 null_category = refl
 
-number_in_header : found_in no_pattern (category (codes "header") (field (codes "x") (entry (node (match (codes "number") no_fields) no_nodes)) no_fields)) ≡ Err (Unsupported (codes "number"))
+number_in_header : found_in no_pattern (category (codes "header") (member (codes "x") (entry (item (match (codes "number") no_members) no_items)) no_members)) ≡ Err (Unsupported (codes "number"))
 number_in_header = refl
 
-nameless : found_in no_pattern (at_root (node (object no_fields) no_nodes)) ≡ Err (Unsupported (codes "?"))
+nameless : found_in no_pattern (at_root (item (object no_members) no_items)) ≡ Err (Unsupported (codes "?"))
 unfolding tokens_in
 nameless = refl
 
-least_over_most : found_in no_pattern (at_root (node (match (codes "type") (field (codes "max") (whole (pos 1)) (field (codes "min") (whole (pos 2)) no_fields))) no_nodes)) ≡ Err BadBound
+least_over_most : found_in no_pattern (at_root (item (match (codes "type") (member (codes "max") (number (unsigned 1)) (member (codes "min") (number (unsigned 2)) no_members))) no_items)) ≡ Err BadBound
 unfolding tokens_in
 least_over_most = refl
 
 -- bounds beside another name are further keys
-further_bounds : found_in no_pattern (at_root (node (match (codes "integer") (field (codes "min") (whole (negsuc 0)) no_fields)) no_nodes))
+further_bounds : found_in no_pattern (at_root (item (match (codes "integer") (member (codes "min") (number (negative (negsuc 0))) no_members)) no_items))
     ≡ Ok (record { body = record { path = []; entry = record { any = false; matchers = integer ∷ [] } } ∷ []; headers = [] })
 unfolding tokens_in
 further_bounds = refl
 
-refused_pattern : found_in no_pattern (at_root (node (match (codes "regex") (field (codes "regex") (text (codes "a")) no_fields)) no_nodes)) ≡ Err Pattern
+refused_pattern : found_in no_pattern (at_root (item (match (codes "regex") (member (codes "regex") (string (codes "a")) no_members)) no_items)) ≡ Err Pattern
 unfolding tokens_in
 refused_pattern = refl
 
 -- an entry without matchers is read, and isn't in the table
-without_effect : table_in no_pattern (object (field (codes "body") (object (field (codes "$") (entry no_nodes) no_fields)) (field (codes "path") (whole (pos 5)) no_fields)))
+without_effect : table_in no_pattern (object (member (codes "body") (object (member (codes "$") (entry no_items) no_members)) (member (codes "path") (number (unsigned 5)) no_members)))
     ≡ Ok (record { body = []; headers = [] })
 unfolding tokens_in
 without_effect = refl
 
 -- the entries are in the order of the paths' texts, here $.a and $.b, which isn't that of the keys
-in_text_order : table_in no_pattern (category (codes "body") (field (codes "$.b") (entry by_type) (field (codes "$['a']") (entry by_type) no_fields)))
+in_text_order : table_in no_pattern (category (codes "body") (member (codes "$.b") (entry by_type) (member (codes "$['a']") (entry by_type) no_members)))
     ≡ Ok (record { body = rule (named (codes "a") ∷ []) ∷ rule (named (codes "b") ∷ []) ∷ []; headers = [] })
 unfolding tokens_in
 in_text_order = refl
@@ -248,18 +249,18 @@ no_patterns = refl
 abbrev every_pattern : List ℕ → Bool
 every_pattern source = true
 
-abbrev by_pattern : Node
-by_pattern = object (field (codes "match") (text (codes "regex")) (field (codes "regex") (text (codes "json")) no_fields))
+abbrev by_pattern : Data
+by_pattern = object (member (codes "match") (string (codes "regex")) (member (codes "regex") (string (codes "json")) no_members))
 
 -- the entry of a header in a table that is read, and whether one has a pattern
-abbrev header_in : Node → List ℕ → Result (Option Entry) RuleFault
+abbrev header_in : Data → List ℕ → Result (Option Entry) RuleFault
 header_in tree name = table_in every_pattern tree >>= (λ rules. Ok (header_entry rules.headers name))
 
-abbrev has_regex_in : Node → Result Bool RuleFault
+abbrev has_regex_in : Data → Result Bool RuleFault
 has_regex_in tree = table_in every_pattern tree >>= (λ rules. Ok (has_regex rules))
 
-abbrev one_of_one : Node
-one_of_one = category (codes "header") (field (codes "Content-Type") (object (field (codes "combine") (text (codes "OR")) (field (codes "matchers") (list (node by_pattern no_nodes)) no_fields))) no_fields)
+abbrev one_of_one : Data
+one_of_one = category (codes "header") (member (codes "Content-Type") (object (member (codes "combine") (string (codes "OR")) (member (codes "matchers") (array (item by_pattern no_items)) no_members))) no_members)
 
 either_of_one : header_in one_of_one (codes "content-TYPE") ≡ Ok (Some (record { any = true; matchers = regex (codes "json") ∷ [] }))
 either_of_one = refl
@@ -267,17 +268,17 @@ either_of_one = refl
 part_of_name : header_in one_of_one (codes "content") ≡ Ok None
 part_of_name = refl
 
-all_of_two : header_in (category (codes "header") (field (codes "X") (entry (node (match (codes "equality") no_fields) by_type)) no_fields)) (codes "x")
+all_of_two : header_in (category (codes "header") (member (codes "X") (entry (item (match (codes "equality") no_members) by_type)) no_members)) (codes "x")
     ≡ Ok (Some (record { any = false; matchers = equality ∷ same_type None None ∷ [] }))
 all_of_two = refl
 
 pattern_of_header : has_regex_in one_of_one ≡ Ok true
 pattern_of_header = refl
 
-pattern_of_body : has_regex_in (at_root (node (match (codes "type") no_fields) (node by_pattern no_nodes))) ≡ Ok true
+pattern_of_body : has_regex_in (at_root (item (match (codes "type") no_members) (item by_pattern no_items))) ≡ Ok true
 unfolding tokens_in
 pattern_of_body = refl
 
-pattern_of_none : has_regex_in (object (field (codes "body") (object (field (codes "$") (entry no_nodes) no_fields)) (field (codes "path") (whole (pos 5)) no_fields))) ≡ Ok false
+pattern_of_none : has_regex_in (object (member (codes "body") (object (member (codes "$") (entry no_items) no_members)) (member (codes "path") (number (unsigned 5)) no_members))) ≡ Ok false
 unfolding tokens_in
 pattern_of_none = refl

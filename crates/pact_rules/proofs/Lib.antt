@@ -1,5 +1,3 @@
-pub mod TreeLemmas
-pub mod Bridge
 pub mod Each
 pub mod ChoiceLemmas
 pub mod MatchingLemmas

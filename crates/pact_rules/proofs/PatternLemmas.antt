@@ -3,11 +3,12 @@ use Rattle.std.specs.{List.{list_any, AllByRecursion}, Option.{ok_or}, Str.{str_
 use Rattle.std.proofs.Common.{◌≡◌, ◌⊎◌, ℕ, Bool, true, false, not, cond, List, [], ◌∷◌, ◌++◌, append_assoc, Option, Some, None, Result, Ok, Err, bytes_eq, codes, is_some, ◌&&◌, ◌||◌, refl, sym, ap, ◌∙◌, subst, inl, inr, ⊎_elim, arith}
 use Rattle.std.proofs.{lemmas.Bool.{or_left, or_right, or_cases}, lemmas.Bool.Decides.{nat_tests}}
 use Rattle.pact_rules.specs.declared.rule_fault.RuleFault.TheVariants.{Form, OldRules, BadPath, SamePathTwice, Unsupported, BadBound, Pattern, BadCombine, Memory}
-use Rattle.pact_rules.specs.RuleReading.{no_pattern, as_text, as_object, as_list, optional_at, bound, in_order, has_old_key, pattern_at, same_type_at, named_matcher, matcher_by, matcher_at, matchers_at, combine_of, entry_at, path_or_fault, path_at, entries_at, body_rule_at, body_at, header_rule_at, headers_at, body_in, headers_in, is_null_node, category_at, categories_at, found_in, table_in, FailsAs}
-use Rattle.pact_rules.specs.{Trees.{Node, Nodes, no_nodes, node, Fields, no_fields, field}, Matching.{is_pattern}, declared.rule_fault.RuleFault.{RuleFault}}
+use Rattle.pact_rules.specs.RuleReading.{no_pattern, as_text, as_list, optional_at, bound, in_order, has_old_key, pattern_at, same_type_at, named_matcher, matcher_by, matcher_at, matchers_at, combine_of, entry_at, path_or_fault, path_at, entries_at, body_rule_at, body_at, header_rule_at, headers_at, body_in, headers_in, is_null_node, category_at, categories_at, found_in, table_in, FailsAs}
+use Rattle.pact_rules.specs.{Matching.{is_pattern}, declared.rule_fault.RuleFault.{RuleFault}}
 use Rattle.pact_rules.specs.Rules.{Matcher, equality, same_type, regex, include, integer, is_null, Entry, BodyRule, HeaderRule, Rules, no_rules, IsOrderedBy, put, rule_text, name_key, has_effect, is_regex, IsRegex, entry_has_regex, has_regex}
 use Rattle.pact_rules.specs.{Tables.{HasValidPattern, IsTable, effective}, Outcome.{◌>>=◌, guard}}
 use Rattle.pact_rules.proofs.OrderLemmas.{all_put, order_put, any_put, order_kept, all_pass, any_kept}
+use Rattle.serde_json.specs.{Data.{Data, Items, no_items, item, Members, no_members, member}, Find.{as_object}}
 use Rattle.pact_paths.specs.{declared.path_reader.PathFault.{PathFault}, Paths.{Token}, PathReading.{path_in}, Readings.{IsReading as IsPathReading}}
 use Rattle.pact_paths.{specs.Spelling.{path_text}, proofs.ReadingLemmas.{path_reads}}
 use Rattle.pact_paths.specs.declared.path_reader.PathFault.TheVariants as read_fault
@@ -78,19 +79,19 @@ goes_if P Q false r s t u h k = k
 abbrev MatcherGoes : Result Matcher RuleFault → Result Matcher RuleFault → Type 0
 MatcherGoes all few = Goes HasValidPattern IsRegex all few
 
-pattern_goes : (fs : Fields) → MatcherGoes (pattern_at is_pattern fs) (pattern_at no_pattern fs)
+pattern_goes : (fs : Members) → MatcherGoes (pattern_at is_pattern fs) (pattern_at no_pattern fs)
 pattern_goes fs = goes_on HasValidPattern IsRegex (ok_or (as_text (optional_at fs (codes "regex"))) Pattern) _ _ (λ source. by source (is_pattern source) refl) where
   by : (source : List ℕ) (b : Bool) → is_pattern source ≡ b → MatcherGoes (guard b Pattern >>= (λ (u : Unit {0}). Ok (regex source))) (Err Pattern)
   by source true is x e = (subst HasValidPattern (same_Ok e) is, inr (refl, ap is_regex (sym (same_Ok e))))
   by source false is x e = cc
 
-same_type_goes : (fs : Fields) → MatcherGoes (same_type_at is_pattern fs) (same_type_at no_pattern fs)
+same_type_goes : (fs : Members) → MatcherGoes (same_type_at is_pattern fs) (same_type_at no_pattern fs)
 same_type_goes fs =
     goes_on HasValidPattern IsRegex (bound (optional_at fs (codes "min"))) _ _ (λ min.
     goes_on HasValidPattern IsRegex (bound (optional_at fs (codes "max"))) _ _ (λ max.
     goes_on HasValidPattern IsRegex (guard (in_order min max) BadBound) _ _ (λ u. goes_done HasValidPattern IsRegex (same_type min max) tt)))
 
-named_goes : (in_header : Bool) (fs : Fields) (name : List ℕ) → MatcherGoes (named_matcher is_pattern in_header fs name) (named_matcher no_pattern in_header fs name)
+named_goes : (in_header : Bool) (fs : Members) (name : List ℕ) → MatcherGoes (named_matcher is_pattern in_header fs name) (named_matcher no_pattern in_header fs name)
 named_goes in_header fs name =
     goes_if HasValidPattern IsRegex (bytes_eq name (codes "equality")) _ _ _ _ (goes_done HasValidPattern IsRegex equality tt)
     (goes_if HasValidPattern IsRegex (bytes_eq name (codes "type")) _ _ _ _ (same_type_goes fs)
@@ -101,14 +102,14 @@ named_goes in_header fs name =
     (goes_if HasValidPattern IsRegex (not in_header && bytes_eq name (codes "null")) _ _ _ _ (goes_done HasValidPattern IsRegex is_null tt)
     (goes_fault HasValidPattern IsRegex (Unsupported name)))))))
 
-matcher_by_goes : (in_header : Bool) (fs : Fields) (n : Option Node) → MatcherGoes (matcher_by is_pattern in_header fs n) (matcher_by no_pattern in_header fs n)
+matcher_by_goes : (in_header : Bool) (fs : Members) (n : Option Data) → MatcherGoes (matcher_by is_pattern in_header fs n) (matcher_by no_pattern in_header fs n)
 matcher_by_goes in_header fs None =
     goes_if HasValidPattern IsRegex (is_some (optional_at fs (codes "regex"))) _ _ _ _ (pattern_goes fs)
     (goes_if HasValidPattern IsRegex (is_some (optional_at fs (codes "min")) || is_some (optional_at fs (codes "max"))) _ _ _ _ (same_type_goes fs)
     (goes_fault HasValidPattern IsRegex (Unsupported (codes "?"))))
 matcher_by_goes in_header fs (Some n) = goes_on HasValidPattern IsRegex (ok_or (as_text (Some n)) Form) _ _ (λ name. named_goes in_header fs name)
 
-matcher_goes : (in_header : Bool) (n : Node) → MatcherGoes (matcher_at is_pattern in_header n) (matcher_at no_pattern in_header n)
+matcher_goes : (in_header : Bool) (n : Data) → MatcherGoes (matcher_at is_pattern in_header n) (matcher_at no_pattern in_header n)
 matcher_goes in_header n = goes_on HasValidPattern IsRegex (ok_or (as_object n) Form) _ _ (λ fs. matcher_by_goes in_header fs (optional_at fs (codes "match")))
 
 -- ---- an entry
@@ -119,9 +120,9 @@ AreValid ms = AllByRecursion HasValidPattern ms
 abbrev AnyRegex : List Matcher → Type 0
 AnyRegex ms = list_any is_regex ms ≡ true
 
-matchers_goes : (in_header : Bool) (ns : Nodes) → Goes AreValid AnyRegex (matchers_at is_pattern in_header ns) (matchers_at no_pattern in_header ns)
-matchers_goes in_header no_nodes = goes_done AreValid AnyRegex [] tt
-matchers_goes in_header (node n ns) =
+matchers_goes : (in_header : Bool) (ns : Items) → Goes AreValid AnyRegex (matchers_at is_pattern in_header ns) (matchers_at no_pattern in_header ns)
+matchers_goes in_header no_items = goes_done AreValid AnyRegex [] tt
+matchers_goes in_header (item n ns) =
     goes_bind HasValidPattern IsRegex AreValid AnyRegex (matcher_at is_pattern in_header n) (matcher_at no_pattern in_header n) _ _ (matcher_goes in_header n) (λ m valid.
     goes_bind AreValid AnyRegex (Also AreValid (IsRegex m) AnyRegex) AnyRegex (matchers_at is_pattern in_header ns) (matchers_at no_pattern in_header ns) _ _
     (matchers_goes in_header ns) (λ ms others. goes_done (Also (Also AreValid (IsRegex m) AnyRegex) (AnyRegex ms) AnyRegex) AnyRegex (m ∷ ms)
@@ -133,7 +134,7 @@ HasValidPatterns e = AreValid e.matchers
 abbrev EntryRegex : Entry → Type 0
 EntryRegex e = entry_has_regex e ≡ true
 
-entry_goes : (in_header : Bool) (n : Node) → Goes HasValidPatterns EntryRegex (entry_at is_pattern in_header n) (entry_at no_pattern in_header n)
+entry_goes : (in_header : Bool) (n : Data) → Goes HasValidPatterns EntryRegex (entry_at is_pattern in_header n) (entry_at no_pattern in_header n)
 entry_goes in_header n =
     goes_on HasValidPatterns EntryRegex (ok_or (as_object n) Form) _ _ (λ fs.
     goes_on HasValidPatterns EntryRegex (ok_or (as_list (optional_at fs (codes "matchers"))) Form) _ _ (λ ns.
@@ -153,7 +154,7 @@ BodyJoins before r = Joins rule_text (λ (r : BodyRule). r.entry) before r
 abbrev pub BodyRegex : BodyRule → Type 0
 BodyRegex r = EntryRegex r.entry
 
-pub body_rule_goes : (before : List BodyRule) (k : List ℕ) (n : Node) → Goes (BodyJoins before) BodyRegex (body_rule_at is_pattern before k n) (body_rule_at no_pattern before k n)
+pub body_rule_goes : (before : List BodyRule) (k : List ℕ) (n : Data) → Goes (BodyJoins before) BodyRegex (body_rule_at is_pattern before k n) (body_rule_at no_pattern before k n)
 body_rule_goes before k n =
     goes_on (BodyJoins before) BodyRegex (path_at k) _ _ (λ path.
     goes_unless (BodyJoins before) BodyRegex (list_any (λ r. bytes_eq (path_text path) (rule_text r)) before) SamePathTwice _ _ (λ free.
@@ -166,7 +167,7 @@ HeaderJoins before h = Joins name_key (λ (h : HeaderRule). h.entry) before h
 abbrev pub HeaderRegex : HeaderRule → Type 0
 HeaderRegex h = EntryRegex h.entry
 
-pub header_rule_goes : (before : List HeaderRule) (k : List ℕ) (n : Node) → Goes (HeaderJoins before) HeaderRegex (header_rule_at is_pattern before k n) (header_rule_at no_pattern before k n)
+pub header_rule_goes : (before : List HeaderRule) (k : List ℕ) (n : Data) → Goes (HeaderJoins before) HeaderRegex (header_rule_at is_pattern before k n) (header_rule_at no_pattern before k n)
 header_rule_goes before k n =
     goes_unless (HeaderJoins before) HeaderRegex (list_any (λ h. str_eq_ignore_ascii_case k h.name) before) SamePathTwice _ _ (λ free.
     goes_bind HasValidPatterns EntryRegex (HeaderJoins before) HeaderRegex (entry_at is_pattern true n) (entry_at no_pattern true n) _ _ (entry_goes true n)
@@ -194,11 +195,11 @@ module _ {A : Type 0} (text : A → List ℕ) (entry : A → Entry) where
         λ t. still.1 (any ∙ or_left (entry_has_regex (entry x)) regex_before t),
       )
 
-  entries_go : (read : (List ℕ → Bool) → List A → List ℕ → Node → Result A RuleFault)
-      → ((before : List A) (k : List ℕ) (n : Node) → Goes (Joins text entry before) (λ x. EntryRegex (entry x)) (read is_pattern before k n) (read no_pattern before k n))
-      → (before : List A) (fs : Fields) → Goes (Still AreHeld AnyEntry before) AnyEntry (entries_at text (read is_pattern) before fs) (entries_at text (read no_pattern) before fs)
-  entries_go read goes before no_fields = goes_done (Still AreHeld AnyEntry before) AnyEntry before (λ h. h, λ h. h)
-  entries_go read goes before (field k n fs) =
+  entries_go : (read : (List ℕ → Bool) → List A → List ℕ → Data → Result A RuleFault)
+      → ((before : List A) (k : List ℕ) (n : Data) → Goes (Joins text entry before) (λ x. EntryRegex (entry x)) (read is_pattern before k n) (read no_pattern before k n))
+      → (before : List A) (fs : Members) → Goes (Still AreHeld AnyEntry before) AnyEntry (entries_at text (read is_pattern) before fs) (entries_at text (read no_pattern) before fs)
+  entries_go read goes before no_members = goes_done (Still AreHeld AnyEntry before) AnyEntry before (λ h. h, λ h. h)
+  entries_go read goes before (member k n fs) =
       goes_bind (Joins text entry before) (λ x. EntryRegex (entry x)) (Still AreHeld AnyEntry before) AnyEntry (read is_pattern before k n) (read no_pattern before k n) _ _ (goes before k n)
       (λ x h. goes_as (Still AreHeld AnyEntry (put text x before)) (Also (Still AreHeld AnyEntry before) (EntryRegex (entry x)) AnyEntry) AnyEntry _ _ (λ after still. joined before after x h still)
       (entries_go read goes (put text x before) fs))
@@ -237,7 +238,7 @@ regex_parts : (a b : Rules) → (AnyBody a.body → AnyBody b.body) → (AnyHead
 regex_parts a b body headers h =
     ⊎_elim (λ p. or_left (any_body b.body) (any_header b.headers) (body p)) (λ q. or_right (any_body b.body) (any_header b.headers) (headers q)) (or_cases (any_body a.body) (any_header a.headers) h)
 
-body_in_goes : (before : Rules) (n : Node) → Goes (StillHeld before) HasRegex (body_in is_pattern before n) (body_in no_pattern before n)
+body_in_goes : (before : Rules) (n : Data) → Goes (StillHeld before) HasRegex (body_in is_pattern before n) (body_in no_pattern before n)
 body_in_goes before n =
     goes_on (StillHeld before) HasRegex (ok_or (as_object n) Form) _ _ (λ fs.
     goes_bind (Still BodyHeld AnyBody before.body) AnyBody (StillHeld before) HasRegex (body_at is_pattern before.body fs) (body_at no_pattern before.body fs) _ _
@@ -246,7 +247,7 @@ body_in_goes before n =
     goes_done (Also (StillHeld before) (AnyBody body) HasRegex) HasRegex rules
     ((λ all. (still.0 all.0, all.1), regex_parts before rules still.1 (λ q. q)), or_left (any_body body) (any_header before.headers))))
 
-headers_in_goes : (before : Rules) (n : Node) → Goes (StillHeld before) HasRegex (headers_in is_pattern before n) (headers_in no_pattern before n)
+headers_in_goes : (before : Rules) (n : Data) → Goes (StillHeld before) HasRegex (headers_in is_pattern before n) (headers_in no_pattern before n)
 headers_in_goes before n =
     goes_on (StillHeld before) HasRegex (ok_or (as_object n) Form) _ _ (λ fs.
     goes_bind (Still HeadersHeld AnyHeader before.headers) AnyHeader (StillHeld before) HasRegex (headers_at is_pattern before.headers fs) (headers_at no_pattern before.headers fs) _ _
@@ -255,7 +256,7 @@ headers_in_goes before n =
     goes_done (Also (StillHeld before) (AnyHeader headers) HasRegex) HasRegex rules
     ((λ all. (all.0, still.0 all.1), regex_parts before rules (λ p. p) still.1), or_right (any_body before.body) (any_header headers))))
 
-pub category_goes : (before : Rules) (k : List ℕ) (n : Node) → Goes (StillHeld before) HasRegex (category_at is_pattern before k n) (category_at no_pattern before k n)
+pub category_goes : (before : Rules) (k : List ℕ) (n : Data) → Goes (StillHeld before) HasRegex (category_at is_pattern before k n) (category_at no_pattern before k n)
 category_goes before k n =
     rules_if (bytes_eq k (codes "body")) _ _ _ _ (rules_if (is_null_node n) _ _ _ _ same (body_in_goes before n))
     (rules_if (bytes_eq k (codes "header")) _ _ _ _ (rules_if (is_null_node n) _ _ _ _ same (headers_in_goes before n))
@@ -266,9 +267,9 @@ category_goes before k n =
       same : Goes (StillHeld before) HasRegex (Ok before) (Ok before)
       same = goes_done (StillHeld before) HasRegex before (λ h. h, λ h. h)
 
-categories_goes : (before : Rules) (fs : Fields) → Goes (StillHeld before) HasRegex (categories_at is_pattern before fs) (categories_at no_pattern before fs)
-categories_goes before no_fields = goes_done (StillHeld before) HasRegex before (λ h. h, λ h. h)
-categories_goes before (field k n fs) =
+categories_goes : (before : Rules) (fs : Members) → Goes (StillHeld before) HasRegex (categories_at is_pattern before fs) (categories_at no_pattern before fs)
+categories_goes before no_members = goes_done (StillHeld before) HasRegex before (λ h. h, λ h. h)
+categories_goes before (member k n fs) =
     goes_bind (StillHeld before) HasRegex (StillHeld before) HasRegex (category_at is_pattern before k n) (category_at no_pattern before k n) _ _ (category_goes before k n)
     (λ found still. goes_as (StillHeld found) (Also (StillHeld before) (HasRegex found) HasRegex) HasRegex _ _ (λ after more. ((λ h. more.0 (still.0 h), λ t. more.1 (still.1 t)), more.1)) (categories_goes found fs))
 
@@ -277,7 +278,7 @@ regex_effect [] any h = absurd cc
 regex_effect (m ∷ ms) any h = grind (arith, nat_tests)
 
 -- what is read is a table
-pub table_goes : (tree : Node) → Goes IsTable HasRegex (table_in is_pattern tree) (table_in no_pattern tree)
+pub table_goes : (tree : Data) → Goes IsTable HasRegex (table_in is_pattern tree) (table_in no_pattern tree)
 table_goes tree =
     goes_bind RulesHeld HasRegex IsTable HasRegex (found_in is_pattern tree) (found_in no_pattern tree) _ _
     (goes_on RulesHeld HasRegex (ok_or (as_object tree) Form) _ _ (λ fs. goes_on RulesHeld HasRegex (guard (not (has_old_key fs)) OldRules) _ _ (λ u.
@@ -316,15 +317,15 @@ fails_on BadCombine read whole next h f = h is_pattern ∙ ap (λ t. t >>= next 
 pub is_taken : {A : Type 0} (text : A → List ℕ) (before : List A) (t name key : List ℕ) (r b : Bool) → t ≡ name → name ≡ key → r ≡ list_any (λ x. bytes_eq t (text x)) before → r ≡ b → list_any (λ x. bytes_eq key (text x)) before ≡ b
 is_taken text before t name key r b is same h k = sym (ap (λ y. list_any (λ x. bytes_eq y (text x)) before) (is ∙ same)) ∙ sym h ∙ k
 
-pub taken_path : (before : List BodyRule) (k : List ℕ) (n : Node) (p : List Token) → path_at k ≡ Ok p → list_any (λ r. bytes_eq (path_text p) (rule_text r)) before ≡ true
+pub taken_path : (before : List BodyRule) (k : List ℕ) (n : Data) (p : List Token) → path_at k ≡ Ok p → list_any (λ r. bytes_eq (path_text p) (rule_text r)) before ≡ true
     → body_rule_at is_pattern before k n ≡ Err SamePathTwice
 taken_path before k n p e t = rw (e, t) refl
 
-pub free_path : (before : List BodyRule) (k : List ℕ) (n : Node) (p : List Token) → path_at k ≡ Ok p → list_any (λ r. bytes_eq (path_text p) (rule_text r)) before ≡ false
+pub free_path : (before : List BodyRule) (k : List ℕ) (n : Data) (p : List Token) → path_at k ≡ Ok p → list_any (λ r. bytes_eq (path_text p) (rule_text r)) before ≡ false
     → (accepts : List ℕ → Bool) → body_rule_at accepts before k n ≡ (entry_at accepts false n >>= (λ e. Ok (record { path = p; entry = e })))
 free_path before k n p e t accepts = rw (e, t) refl
 
-pub free_name : (before : List HeaderRule) (k : List ℕ) (n : Node) → list_any (λ h. str_eq_ignore_ascii_case k h.name) before ≡ false
+pub free_name : (before : List HeaderRule) (k : List ℕ) (n : Data) → list_any (λ h. str_eq_ignore_ascii_case k h.name) before ≡ false
     → (accepts : List ℕ → Bool) → header_rule_at accepts before k n ≡ (entry_at accepts true n >>= (λ e. Ok (record { name = k; entry = e })))
 free_name before k n t accepts = rw t refl
 
@@ -338,13 +339,13 @@ regroup : (ms : List Matcher) (m : Matcher) (r : Result (List Matcher) RuleFault
 regroup ms m (Ok x) = ap (λ xs. Ok xs) (sym (append_assoc ms (m ∷ []) x))
 regroup ms m (Err e) = refl
 
-pub front_more : (in_header : Bool) (ms : List Matcher) (n : Node) (ns : Nodes) (m : Matcher) → matcher_at is_pattern in_header n ≡ Ok m
-    → with_front ms (matchers_at is_pattern in_header (node n ns)) ≡ with_front (ms ++ m ∷ []) (matchers_at is_pattern in_header ns)
+pub front_more : (in_header : Bool) (ms : List Matcher) (n : Data) (ns : Items) (m : Matcher) → matcher_at is_pattern in_header n ≡ Ok m
+    → with_front ms (matchers_at is_pattern in_header (item n ns)) ≡ with_front (ms ++ m ∷ []) (matchers_at is_pattern in_header ns)
 front_more in_header ms n ns m e =
     ap (λ r. with_front ms (r >>= (λ m. matchers_at is_pattern in_header ns >>= (λ x. Ok (m ∷ x))))) e ∙ regroup ms m (matchers_at is_pattern in_header ns)
 
-pub none_more : (in_header : Bool) (n : Node) (ns : Nodes) (m : Matcher) → matcher_at is_pattern in_header n ≡ Ok m → matchers_at no_pattern in_header ns ≡ Err Pattern
-    → matchers_at no_pattern in_header (node n ns) ≡ Err Pattern
+pub none_more : (in_header : Bool) (n : Data) (ns : Items) (m : Matcher) → matcher_at is_pattern in_header n ≡ Ok m → matchers_at no_pattern in_header ns ≡ Err Pattern
+    → matchers_at no_pattern in_header (item n ns) ≡ Err Pattern
 none_more in_header n ns m e h =
     let then = λ (m : Matcher). matchers_at no_pattern in_header ns >>= (λ x. Ok (m ∷ x)) in
     ⊎_elim (λ p. ap (λ r. r >>= then) p ∙ ap (λ r. r >>= (λ x. Ok (m ∷ x))) h) (λ p. ap (λ r. r >>= then) p.0) (matcher_goes in_header n m e).1

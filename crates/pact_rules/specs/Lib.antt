@@ -2,8 +2,6 @@ pub mod Outcome
 pub mod Reading
 pub mod Lists
 pub mod Trees
-pub mod TreeView
-pub mod TreeReading
 pub mod Kept
 pub mod Rules
 pub mod RuleViews

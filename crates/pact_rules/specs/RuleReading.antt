@@ -3,7 +3,7 @@
 -- turn; of a matcher its form, its name, its bounds and its pattern. A table is the entries with an effect: those of
 -- the body in the order of their paths' canonical text, those of headers in the order of their names without ASCII
 -- case. The names are those of the Pact Specification, version 3.
-use Rattle.std.specs.Prelude.{◌≡◌, ◌⊎◌, ℕ, pos, Bool, true, false, ◌&&◌, ◌||◌, not, List, [], ◌∷◌, codes, Option, Some, None, Result, Ok, Err, bytes_eq, is_some, nat_le, nat_eq, if◌then◌else◌}
+use Rattle.std.specs.Prelude.{◌≡◌, ◌⊎◌, ℕ, Bool, true, false, ◌&&◌, ◌||◌, not, List, [], ◌∷◌, codes, Option, Some, None, option_map, option_and_then, Result, Ok, Err, bytes_eq, is_some, nat_le, nat_eq, if◌then◌else◌}
 use Rattle.std.specs.List.{list_any}
 use Rattle.std.specs.Option.{ok_or}
 use Rattle.std.specs.Str.{str_eq_ignore_ascii_case}
@@ -12,50 +12,44 @@ use Rattle.pact_paths.specs.Spelling.{path_text}
 use Rattle.pact_paths.specs.PathReading.{path_in}
 use Rattle.pact_paths.specs.declared.path_reader.PathFault.{PathFault}
 use Rattle.pact_rules.specs.Outcome.{◌>>=◌, guard}
-use Rattle.pact_rules.specs.Trees.{Node, whole, text, list, object, Nodes, no_nodes, node, Fields, no_fields, field}
-use Rattle.pact_rules.specs.Matching.{get_field, kind, begins, is_pattern}
+use Rattle.serde_json.specs.Data.{Data, Items, no_items, item, Members, no_members, member}
+use Rattle.pact_rules.specs.Matching.{kind, begins, is_pattern}
 use Rattle.pact_rules.specs.declared.rule_fault.RuleFault.{RuleFault}
 use Rattle.pact_rules.specs.declared.rule_fault.RuleFault.TheVariants.{Form, OldRules, BadPath, SamePathTwice, Unsupported, BadBound, Pattern, BadCombine, Memory}
 use Rattle.pact_rules.specs.Rules.{Matcher, equality, same_type, regex, include, integer, is_null, Entry, BodyRule, HeaderRule, Rules, no_rules, put, rule_text, name_key}
 use Rattle.pact_rules.specs.Tables.{effective}
+use Rattle.serde_json.specs.Find.{get_member, as_str, as_array, as_object, as_number, as_u64}
 
 -- an optional member: null counts as absent
-abbrev pub unless_null : Option Node → Option Node
+abbrev pub unless_null : Option Data → Option Data
 unless_null None = None
 unless_null (Some n) = if nat_eq (kind n) 0 then None else Some n
 
-abbrev pub optional_at : Fields → List ℕ → Option Node
-optional_at fs name = unless_null (get_field name fs)
+abbrev pub optional_at : Members → List ℕ → Option Data
+optional_at fs name = unless_null (get_member name fs)
 
-abbrev pub as_text : Option Node → Option (List ℕ)
-as_text (Some (text s)) = Some s
-as_text _ = None
+abbrev pub as_text : Option Data → Option (List ℕ)
+as_text o = option_and_then as_str o
 
-abbrev pub as_object : Node → Option Fields
-as_object (object fs) = Some fs
-as_object _ = None
-
-abbrev pub as_list : Option Node → Option Nodes
-as_list (Some (list ts)) = Some ts
-as_list _ = None
+abbrev pub as_list : Option Data → Option Items
+as_list o = option_and_then as_array o
 
 -- a bound is absent, or a whole number of at least 0
-abbrev pub bound : Option Node → Result (Option ℕ) RuleFault
+abbrev pub bound : Option Data → Result (Option ℕ) RuleFault
 bound None = Ok None
-bound (Some (whole (pos n))) = Ok (Some n)
-bound (Some _) = Err BadBound
+bound (Some d) = ok_or (option_map (λ n. Some n) (option_and_then as_u64 (as_number d))) BadBound
 
 abbrev pub in_order : Option ℕ → Option ℕ → Bool
 in_order (Some min) (Some max) = nat_le min max
 in_order _ _ = true
 
-abbrev pub is_null_node : Node → Bool
+abbrev pub is_null_node : Data → Bool
 is_null_node n = nat_eq (kind n) 0
 
 -- a key that is no category but a path, as in version 2
-abbrev pub has_old_key : Fields → Bool
-has_old_key no_fields = false
-has_old_key (field k n fs) = begins (codes "$") k || has_old_key fs
+abbrev pub has_old_key : Members → Bool
+has_old_key no_members = false
+has_old_key (member k n fs) = begins (codes "$") k || has_old_key fs
 
 -- any fault of a path expression is this one; a path is read as `pact_paths` computes it, which is the one reading of
 -- the text (its law `computed_reading`)
@@ -66,25 +60,25 @@ path_or_fault (Err fault) = Err BadPath
 abbrev pub path_at : List ℕ → Result (List Token) RuleFault
 path_at k = path_or_fault (path_in k)
 
-abbrev pub include_at : Fields → Result Matcher RuleFault
+abbrev pub include_at : Members → Result Matcher RuleFault
 include_at fs = ok_or (as_text (optional_at fs (codes "value"))) Form >>= (λ part. Ok (include part))
 
 -- the entries of an object, each read in the order of the keys, beside those before it, and put in at its place in the
 -- order of the texts
-abbrev pub entries_at : {A : Type 0} → (A → List ℕ) → (List A → List ℕ → Node → Result A RuleFault)
-    → List A → Fields → Result (List A) RuleFault
-entries_at text_of read before no_fields = Ok before
-entries_at text_of read before (field k n fs) =
+abbrev pub entries_at : {A : Type 0} → (A → List ℕ) → (List A → List ℕ → Data → Result A RuleFault)
+    → List A → Members → Result (List A) RuleFault
+entries_at text_of read before no_members = Ok before
+entries_at text_of read before (member k n fs) =
     read before k n >>= (λ entry. entries_at text_of read (put text_of entry before) fs)
 
 module _ (accepts : List ℕ → Bool) where
-  abbrev pub pattern_at : Fields → Result Matcher RuleFault
+  abbrev pub pattern_at : Members → Result Matcher RuleFault
   pattern_at fs = do
     source ← ok_or (as_text (optional_at fs (codes "regex"))) Pattern
     guarded ← guard (accepts source) Pattern
     Ok (regex source)
 
-  abbrev pub same_type_at : Fields → Result Matcher RuleFault
+  abbrev pub same_type_at : Members → Result Matcher RuleFault
   same_type_at fs = do
     min ← bound (optional_at fs (codes "min"))
     max ← bound (optional_at fs (codes "max"))
@@ -92,7 +86,7 @@ module _ (accepts : List ℕ → Bool) where
     Ok (same_type min max)
 
   -- by the text under match; under a header there is no integer, number or null
-  abbrev pub named_matcher : Bool → Fields → List ℕ → Result Matcher RuleFault
+  abbrev pub named_matcher : Bool → Members → List ℕ → Result Matcher RuleFault
   named_matcher in_header fs name =
       if bytes_eq name (codes "equality") then Ok equality
       else if bytes_eq name (codes "type") then same_type_at fs
@@ -102,33 +96,33 @@ module _ (accepts : List ℕ → Bool) where
       else if not in_header && bytes_eq name (codes "null") then Ok is_null
       else Err (Unsupported name)
 
-  abbrev pub bounds_alone : Fields → Result Matcher RuleFault
+  abbrev pub bounds_alone : Members → Result Matcher RuleFault
   bounds_alone fs =
       if is_some (optional_at fs (codes "min")) || is_some (optional_at fs (codes "max")) then same_type_at fs
       else Err (Unsupported (codes "?"))
 
-  abbrev pub nameless_matcher : Fields → Result Matcher RuleFault
+  abbrev pub nameless_matcher : Members → Result Matcher RuleFault
   nameless_matcher fs = if is_some (optional_at fs (codes "regex")) then pattern_at fs else bounds_alone fs
 
-  abbrev pub matcher_by : Bool → Fields → Option Node → Result Matcher RuleFault
+  abbrev pub matcher_by : Bool → Members → Option Data → Result Matcher RuleFault
   matcher_by in_header fs None = nameless_matcher fs
   matcher_by in_header fs (Some n) = ok_or (as_text (Some n)) Form >>= (λ name. named_matcher in_header fs name)
 
-  abbrev pub matcher_at : Bool → Node → Result Matcher RuleFault
+  abbrev pub matcher_at : Bool → Data → Result Matcher RuleFault
   matcher_at in_header n = ok_or (as_object n) Form >>= (λ fs. matcher_by in_header fs (optional_at fs (codes "match")))
 
-  abbrev pub matchers_at : Bool → Nodes → Result (List Matcher) RuleFault
-  matchers_at in_header no_nodes = Ok []
-  matchers_at in_header (node n ns) = matcher_at in_header n >>= (λ m. matchers_at in_header ns >>= (λ ms. Ok (m ∷ ms)))
+  abbrev pub matchers_at : Bool → Items → Result (List Matcher) RuleFault
+  matchers_at in_header no_items = Ok []
+  matchers_at in_header (item n ns) = matcher_at in_header n >>= (λ m. matchers_at in_header ns >>= (λ ms. Ok (m ∷ ms)))
 
-  abbrev pub combine_of : Option Node → Result Bool RuleFault
+  abbrev pub combine_of : Option Data → Result Bool RuleFault
   combine_of None = Ok false
   combine_of (Some n) =
       ok_or (as_text (Some n)) BadCombine >>= (λ word.
       if bytes_eq word (codes "AND") then Ok false else if bytes_eq word (codes "OR") then Ok true else Err BadCombine)
 
   -- an entry, behind its key
-  abbrev pub entry_at : Bool → Node → Result Entry RuleFault
+  abbrev pub entry_at : Bool → Data → Result Entry RuleFault
   entry_at in_header n = do
     fs ← ok_or (as_object n) Form
     ns ← ok_or (as_list (optional_at fs (codes "matchers"))) Form
@@ -137,33 +131,33 @@ module _ (accepts : List ℕ → Bool) where
     Ok (record { any = any; matchers = ms })
 
   -- a body entry, beside those that were read before it
-  abbrev pub body_rule_at : List BodyRule → List ℕ → Node → Result BodyRule RuleFault
+  abbrev pub body_rule_at : List BodyRule → List ℕ → Data → Result BodyRule RuleFault
   body_rule_at before k n = do
     path ← path_at k
     guarded ← guard (not (list_any (λ r. bytes_eq (path_text path) (rule_text r)) before)) SamePathTwice
     entry ← entry_at false n
     Ok (record { path = path; entry = entry })
 
-  abbrev pub body_at : List BodyRule → Fields → Result (List BodyRule) RuleFault
+  abbrev pub body_at : List BodyRule → Members → Result (List BodyRule) RuleFault
   body_at before fs = entries_at rule_text body_rule_at before fs
 
   -- a header entry: two names are one where they differ in ASCII case alone
-  abbrev pub header_rule_at : List HeaderRule → List ℕ → Node → Result HeaderRule RuleFault
+  abbrev pub header_rule_at : List HeaderRule → List ℕ → Data → Result HeaderRule RuleFault
   header_rule_at before k n = do
     guarded ← guard (not (list_any (λ h. str_eq_ignore_ascii_case k h.name) before)) SamePathTwice
     entry ← entry_at true n
     Ok (record { name = k; entry = entry })
 
-  abbrev pub headers_at : List HeaderRule → Fields → Result (List HeaderRule) RuleFault
+  abbrev pub headers_at : List HeaderRule → Members → Result (List HeaderRule) RuleFault
   headers_at before fs = entries_at name_key header_rule_at before fs
 
-  abbrev pub body_in : Rules → Node → Result Rules RuleFault
+  abbrev pub body_in : Rules → Data → Result Rules RuleFault
   body_in before n = do
     fs ← ok_or (as_object n) Form
     body ← body_at before.body fs
     Ok (record { body = body; headers = before.headers })
 
-  abbrev pub headers_in : Rules → Node → Result Rules RuleFault
+  abbrev pub headers_in : Rules → Data → Result Rules RuleFault
   headers_in before n = do
     fs ← ok_or (as_object n) Form
     headers ← headers_at before.headers fs
@@ -171,37 +165,37 @@ module _ (accepts : List ℕ → Bool) where
 
   -- the rules of paths and queries are kept as data; another category is a fault before its form is one; null counts
   -- as absent
-  abbrev pub category_at : Rules → List ℕ → Node → Result Rules RuleFault
+  abbrev pub category_at : Rules → List ℕ → Data → Result Rules RuleFault
   category_at before k n =
       if bytes_eq k (codes "body") then (if is_null_node n then Ok before else body_in before n)
       else if bytes_eq k (codes "header") then (if is_null_node n then Ok before else headers_in before n)
       else if bytes_eq k (codes "path") || bytes_eq k (codes "query") then Ok before
       else Err (Unsupported k)
 
-  abbrev pub categories_at : Rules → Fields → Result Rules RuleFault
-  categories_at before no_fields = Ok before
-  categories_at before (field k n fs) = category_at before k n >>= (λ found. categories_at found fs)
+  abbrev pub categories_at : Rules → Members → Result Rules RuleFault
+  categories_at before no_members = Ok before
+  categories_at before (member k n fs) = category_at before k n >>= (λ found. categories_at found fs)
 
   -- the entries that are found, those without effect among them
-  abbrev pub found_in : Node → Result Rules RuleFault
+  abbrev pub found_in : Data → Result Rules RuleFault
   found_in tree = do
     fs ← ok_or (as_object tree) Form
     guarded ← guard (not (has_old_key fs)) OldRules
     categories_at no_rules fs
 
   -- and the table of them
-  abbrev pub table_in : Node → Result Rules RuleFault
+  abbrev pub table_in : Data → Result Rules RuleFault
   table_in tree = found_in tree >>= (λ found. Ok (effective found))
 
 -- what is looked at first, before any memory is taken: a table is an object without keys of version 2
-abbrev pub members_in : Node → Result Fields RuleFault
+abbrev pub members_in : Data → Result Members RuleFault
 members_in tree = do
   fs ← ok_or (as_object tree) Form
   guarded ← guard (not (has_old_key fs)) OldRules
   Ok fs
 
 -- the same of an entry: it is an object with a list of matchers
-abbrev pub matchers_in : Node → Result Nodes RuleFault
+abbrev pub matchers_in : Data → Result Items RuleFault
 matchers_in tree = do
   fs ← ok_or (as_object tree) Form
   ns ← ok_or (as_list (optional_at fs (codes "matchers"))) Form
@@ -213,7 +207,7 @@ no_pattern source = false
 
 -- What reading a table may give: the table, or the first fault, where each pattern that the grammar reads is accepted.
 -- Beside it, a pattern may be refused: then one is met before any other fault.
-abbrev pub IsReading : Node → Result Rules RuleFault → Type 0
+abbrev pub IsReading : Data → Result Rules RuleFault → Type 0
 IsReading tree answer =
     (table_in is_pattern tree ≡ answer) ⊎ ((answer ≡ Err Pattern) × (table_in no_pattern tree ≡ Err Pattern))
 

@@ -10,11 +10,11 @@ mod table_reader;
 mod tree;
 mod walk;
 
-pub use matching::{MatchFault, has_keys_of, holds, holds_with};
+pub use matching::{MatchFault, are_alike, has_keys_of, holds, holds_with};
 pub use pact_paths::{Path, PathFault, Step, weight};
 pub use pact_patterns::{BuiltPatterns, Searches};
 pub use patterns::Patterns;
 pub use rule_fault::{RuleFault, Word};
 pub use table::{Entry, Matcher, RuleTable};
-pub use tree::{Tree, TreeFault, check_tree, tree_of};
+pub use tree::{TreeFault, check_tree};
 pub use walk::Alive;

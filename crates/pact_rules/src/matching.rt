@@ -1,9 +1,11 @@
 //! Whether a matcher holds of an expected and an actual value.
 
-ghost use Rattle.std.specs.Prelude.{◌≡◌, IfOk, IfErr, ◌≢◌, option_map, string_bytes};
-ghost use Rattle.pact_rules.specs.TreeView.{tree_view, list_view, object_view};
+ghost use Rattle.std.specs.Prelude.{◌≡◌, IfOk, IfErr, ◌≢◌, is_some, option_map, option_and_then, string_bytes};
+ghost use Rattle.serde_json.specs.View.{view, items_view, members_view};
 ghost use Rattle.pact_rules.specs.RuleViews.{matcher_view, entry_view};
-ghost use Rattle.pact_rules.specs.Matching.{holds as holds_of, entry_holds, equal_here, same_kind};
+ghost use Rattle.pact_rules.specs.Matching.{holds as holds_of, entry_holds, same_kind, same_whole};
+ghost use Rattle.pact_rules.specs.Matching.{are_alike as are_alike_of, have_one_key_set as have_one_key_set_of};
+ghost use Rattle.serde_json.specs.Find.{as_number, as_integer};
 ghost use Rattle.pact_rules.specs.Matching.{text_form as text_form_of, within, at_least, at_most, contains};
 ghost use Rattle.pact_rules.specs.Matching.{has_keys_of as has_keys};
 ghost use Rattle.pact_rules.specs.Rules.{IsRegex};
@@ -11,10 +13,9 @@ ghost use Rattle.pact_rules.specs.Refusals.{CanFail};
 ghost use Rattle.pact_rules.specs.declared.matching.MatchFault.TheVariants.{Memory, Pattern};
 
 use crate::table::{Entry, Matcher};
-use crate::tree::Tree;
 use pact_patterns::{BuiltPatterns, Searches};
+use serde_json::{Map, Value};
 use std::alloc::{AllocError, AllocFailed, Global};
-use std::collections::BTreeMap;
 use thiserror::Error;
 
 /// Why it isn't known whether a matcher holds.
@@ -58,18 +59,18 @@ impl From<regex::Error> for MatchFault {
     }
 }
 
-/// Whether a matcher holds of the expected and the actual tree; at its own place, if the path of its entry has as many
+/// Whether a matcher holds of the expected and the actual value; at its own place, if the path of its entry has as many
 /// tokens as the location has steps, the bounds of `SameType` count. Only a `Regex` or an `Include` matcher takes
 /// memory, which may run out, and only a `Regex` matcher answers `Pattern`, if `regex` refuses the pattern.
 pub fn holds(
     alloc: Global,
     matcher: &Matcher,
-    expected: &Tree,
-    actual: &Tree,
+    expected: &Value,
+    actual: &Value,
     own_place: bool,
 ) -> Result<bool, MatchFault>
     ensures value { IfOk result (λ b. b ≡ holds_of (matcher_view matcher.now)
-        (tree_view expected.now) (tree_view actual.now) own_place) }
+        (view expected.now) (view actual.now) own_place) }
     ensures pattern { IfErr result (λ e. e ≡ Pattern → IsRegex (matcher_view matcher.now)) }
     ensures fails { IfErr result (CanFail (matcher_view matcher.now)) }
 {
@@ -83,17 +84,17 @@ pub fn holds_with(
     alloc: Global,
     searches: &mut Searches<'_>,
     matcher: &Matcher,
-    expected: &Tree,
-    actual: &Tree,
+    expected: &Value,
+    actual: &Value,
     own_place: bool,
 ) -> Result<bool, MatchFault>
     ensures value { IfOk result (λ b. b ≡ holds_of (matcher_view matcher.now)
-        (tree_view expected.now) (tree_view actual.now) own_place) }
+        (view expected.now) (view actual.now) own_place) }
     ensures pattern { IfErr result (λ e. e ≡ Pattern → IsRegex (matcher_view matcher.now)) }
     ensures fails { IfErr result (CanFail (matcher_view matcher.now)) }
 {
     match matcher {
-        Matcher::Equality => Ok(are_equal_here(expected, actual)),
+        Matcher::Equality => Ok(are_alike(expected, actual) && have_one_key_set(expected, actual)),
         Matcher::SameType { min, max } => Ok(
             are_of_one_kind(expected, actual)
                 && (!own_place || is_within(*min, *max, expected, actual)),
@@ -106,68 +107,97 @@ pub fn holds_with(
             Some(text) => Ok(text.contains(part.as_str())),
             None => Ok(false),
         },
-        Matcher::Integer => Ok(matches!(actual, Tree::Whole(_))),
-        Matcher::IsNull => Ok(matches!(actual, Tree::Null)),
+        Matcher::Integer => Ok(is_whole(actual)),
+        Matcher::IsNull => Ok(matches!(actual, Value::Null)),
     }
 }
 
 /// The text of a scalar that has one.
-fn text_form(alloc: Global, tree: &Tree) -> Result<Option<String>, AllocError>
+fn text_form(alloc: Global, value: &Value) -> Result<Option<String>, AllocError>
     ensures { IfOk result (λ o.
-        option_map (λ s. string_bytes s) o ≡ text_form_of (tree_view tree.now)) }
+        option_map (λ s. string_bytes s) o ≡ text_form_of (view value.now)) }
 {
-    match tree {
-        Tree::Text(text) => Ok(Some(text.clone()?)),
-        Tree::Whole(number) => Ok(Some(number.to_string(alloc)?)),
-        Tree::Truth(true) => Ok(Some(String::from_str(alloc, "true")?)),
-        Tree::Truth(false) => Ok(Some(String::from_str(alloc, "false")?)),
-        Tree::Null | Tree::List(_) | Tree::Object(_) => Ok(None),
+    match value {
+        Value::String(text) => Ok(Some(text.clone()?)),
+        Value::Number(number) => match number.as_i128() {
+            Some(number) => Ok(Some(number.to_string(alloc)?)),
+            None => Ok(None),
+        },
+        Value::Bool(true) => Ok(Some(String::from_str(alloc, "true")?)),
+        Value::Bool(false) => Ok(Some(String::from_str(alloc, "false")?)),
+        Value::Null | Value::Array(_) | Value::Object(_) => Ok(None),
     }
 }
 
-fn are_of_one_kind(a: &Tree, b: &Tree) -> bool
-    ensures { result ≡ same_kind (tree_view a.now) (tree_view b.now) }
+fn is_whole(value: &Value) -> bool
+    ensures { result ≡ is_some (option_and_then as_integer (as_number (view value.now))) }
 {
-    match (a, b) {
-        (Tree::Null, Tree::Null)
-        | (Tree::Truth(_), Tree::Truth(_))
-        | (Tree::Whole(_), Tree::Whole(_))
-        | (Tree::Text(_), Tree::Text(_))
-        | (Tree::List(_), Tree::List(_))
-        | (Tree::Object(_), Tree::Object(_)) => true,
+    match value {
+        Value::Number(number) => number.as_i128().is_some(),
         _ => false,
     }
 }
 
-#[tactic(auto, using(crate::proofs::MatchingLemmas::nodes_len_view))]
-fn are_equal_here(a: &Tree, b: &Tree) -> bool
-    ensures { result ≡ equal_here (tree_view a.now) (tree_view b.now) }
+fn are_of_one_kind(a: &Value, b: &Value) -> bool
+    ensures { result ≡ same_kind (view a.now) (view b.now) }
 {
     match (a, b) {
-        (Tree::Null, Tree::Null) => true,
-        (Tree::Truth(a), Tree::Truth(b)) => a == b,
-        (Tree::Whole(a), Tree::Whole(b)) => a == b,
-        (Tree::Text(a), Tree::Text(b)) => a.as_str() == b.as_str(),
-        (Tree::List(a), Tree::List(b)) => a.len() == b.len(),
-        (Tree::Object(a), Tree::Object(b)) => has_keys_of(a, b) && has_keys_of(b, a),
+        (Value::Null, Value::Null)
+        | (Value::Bool(_), Value::Bool(_))
+        | (Value::Number(_), Value::Number(_))
+        | (Value::String(_), Value::String(_))
+        | (Value::Array(_), Value::Array(_))
+        | (Value::Object(_), Value::Object(_)) => true,
         _ => false,
     }
 }
 
-#[tactic(auto, using(crate::proofs::MatchingLemmas::nodes_len_view))]
-fn is_within(min: Option<u128>, max: Option<u128>, expected: &Tree, actual: &Tree) -> bool
-    ensures { result ≡ within min max (tree_view expected.now) (tree_view actual.now) }
+/// Whether two values are of one kind, with equal scalars and lists of one length. Takes no memory.
+pub fn are_alike(a: &Value, b: &Value) -> bool
+    ensures { result ≡ are_alike_of (view a.now) (view b.now) }
+{
+    match (a, b) {
+        (Value::Null, Value::Null) => true,
+        (Value::Bool(a), Value::Bool(b)) => a == b,
+        (Value::Number(a), Value::Number(b)) => is_same_whole(a.as_i128(), b.as_i128()),
+        (Value::String(a), Value::String(b)) => a.as_str() == b.as_str(),
+        (Value::Array(a), Value::Array(b)) => a.len() == b.len(),
+        (Value::Object(_), Value::Object(_)) => true,
+        _ => false,
+    }
+}
+
+fn is_same_whole(a: Option<i128>, b: Option<i128>) -> bool
+    ensures { result ≡ same_whole a b }
+{
+    match (a, b) {
+        (Some(a), Some(b)) => a == b,
+        _ => false,
+    }
+}
+
+fn have_one_key_set(a: &Value, b: &Value) -> bool
+    ensures { result ≡ have_one_key_set_of (view a.now) (view b.now) }
+{
+    match (a, b) {
+        (Value::Object(a), Value::Object(b)) => has_keys_of(a, b) && has_keys_of(b, a),
+        _ => true,
+    }
+}
+
+fn is_within(min: Option<u64>, max: Option<u64>, expected: &Value, actual: &Value) -> bool
+    ensures { result ≡ within min max (view expected.now) (view actual.now) }
 {
     match (expected, actual) {
-        (Tree::List(_), Tree::List(items)) => {
-            let count = items.len() as u128;
+        (Value::Array(_), Value::Array(items)) => {
+            let count = items.len() as u64;
             is_at_least(count, min) && is_at_most(count, max)
         }
         _ => true,
     }
 }
 
-fn is_at_least(count: u128, min: Option<u128>) -> bool
+fn is_at_least(count: u64, min: Option<u64>) -> bool
     ensures { result ≡ at_least min count }
 {
     match min {
@@ -176,7 +206,7 @@ fn is_at_least(count: u128, min: Option<u128>) -> bool
     }
 }
 
-fn is_at_most(count: u128, max: Option<u128>) -> bool
+fn is_at_most(count: u64, max: Option<u64>) -> bool
     ensures { result ≡ at_most max count }
 {
     match max {
@@ -186,8 +216,8 @@ fn is_at_most(count: u128, max: Option<u128>) -> bool
 }
 
 /// Whether each key of the first is in the second. Takes no memory.
-pub fn has_keys_of(a: &BTreeMap<String, Tree>, b: &BTreeMap<String, Tree>) -> bool
-    ensures { result ≡ has_keys (object_view a.now.entries) (object_view b.now.entries) }
+pub fn has_keys_of(a: &Map<String, Value>, b: &Map<String, Value>) -> bool
+    ensures { result ≡ has_keys (members_view a.now.entries) (members_view b.now.entries) }
 {
     for (key, _) in a.iter() {
         if !b.contains_key(key.as_str()) {

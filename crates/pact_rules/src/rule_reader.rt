@@ -1,12 +1,13 @@
 //! Reading an entry of a table: its matchers, and how they are combined.
 
 ghost use Rattle.std.specs.Prelude.{◌≡◌, ◌≢◌, map, Err, option_map, codes, IfOk, IfErr, is_some, true, nat_eq};
-ghost use Rattle.pact_rules.specs.TreeView.{tree_view, optional_view, list_view, object_view};
-ghost use Rattle.pact_rules.specs.Matching.{kind, get_field, is_pattern};
+ghost use Rattle.serde_json.specs.View.{view, items_view, members_view};
+ghost use Rattle.pact_rules.specs.Matching.{kind, is_pattern};
+ghost use Rattle.serde_json.specs.Find.{get_member};
 ghost use Rattle.pact_rules.specs.RuleViews.{matcher_view, entry_view};
 ghost use Rattle.pact_rules.specs.RuleReading.{Reads, optional_at, as_text, bound as bound_of};
 ghost use Rattle.pact_rules.specs.RuleReading.{combine_of as combine_in, pattern_at, same_type_at, nameless_matcher};
-ghost use Rattle.pact_rules.specs.RuleReading.{named_matcher, matcher_at, matchers_at, as_object, as_list, entry_at};
+ghost use Rattle.pact_rules.specs.RuleReading.{named_matcher, matcher_at, matchers_at, as_list, entry_at};
 ghost use Rattle.pact_rules.specs.RuleReading.{include_at, matchers_in};
 ghost use Rattle.pact_rules.specs.declared.rule_fault.RuleFault.{RuleFault as RuleFaultModel};
 ghost use Rattle.pact_rules.specs.declared.rule_fault.RuleFault.TheVariants.{Memory, Unsupported};
@@ -14,79 +15,78 @@ ghost use Rattle.pact_rules.specs.declared.rule_fault.RuleFault.TheVariants.{Mem
 use crate::patterns::Patterns;
 use crate::rule_fault::{RuleFault, Word};
 use crate::table::{Entry, Matcher};
-use crate::tree::Tree;
+use serde_json::{Map, Value};
 use std::alloc::Global;
-use std::collections::BTreeMap;
 
 /// An optional member: null counts as absent.
-fn optional_member<'a>(members: &'a BTreeMap<String, Tree>, name: &str) -> Option<&'a Tree>
-    ensures { option_map (λ t. tree_view t.now) result
-        ≡ optional_at (object_view members.now.entries) name.now }
+fn optional_member<'a>(members: &'a Map<String, Value>, name: &str) -> Option<&'a Value>
+    ensures { option_map (λ t. view t.now) result
+        ≡ optional_at (members_view members.now.entries) name.now }
 {
     match look_up(members, name) {
-        Some(tree) if !is_null(tree) => Some(tree),
+        Some(value) if !is_null(value) => Some(value),
         _ => None,
     }
 }
 
-fn has_member(members: &BTreeMap<String, Tree>, name: &str) -> bool
-    ensures { result ≡ is_some (optional_at (object_view members.now.entries) name.now) }
+fn has_member(members: &Map<String, Value>, name: &str) -> bool
+    ensures { result ≡ is_some (optional_at (members_view members.now.entries) name.now) }
 {
     optional_member(members, name).is_some()
 }
 
-fn look_up<'a>(members: &'a BTreeMap<String, Tree>, name: &str) -> Option<&'a Tree>
-    ensures { option_map (λ t. tree_view t.now) result
-        ≡ get_field name.now (object_view members.now.entries) }
+fn look_up<'a>(members: &'a Map<String, Value>, name: &str) -> Option<&'a Value>
+    ensures { option_map (λ t. view t.now) result
+        ≡ get_member name.now (members_view members.now.entries) }
 {
     members.get(name)
 }
 
-pub(crate) fn is_null(tree: &Tree) -> bool
-    ensures { result ≡ nat_eq (kind (tree_view tree.now)) 0 }
+pub(crate) fn is_null(value: &Value) -> bool
+    ensures { result ≡ nat_eq (kind (view value.now)) 0 }
 {
-    match tree {
-        Tree::Null => true,
-        Tree::Truth(_) | Tree::Whole(_) | Tree::Text(_) | Tree::List(_) | Tree::Object(_) => false,
+    match value {
+        Value::Null => true,
+        Value::Bool(_) | Value::Number(_) | Value::String(_) | Value::Array(_) | Value::Object(_) =>
+            false,
     }
 }
 
-fn text_of(tree: Option<&Tree>) -> Option<&str>
-    ensures { option_map (λ s. s.now) result ≡ as_text (optional_view tree.entry) }
+fn text_of(value: Option<&Value>) -> Option<&str>
+    ensures { option_map (λ s. s.now) result ≡ as_text (option_map (λ v. view v.now) value.entry) }
 {
-    match tree {
-        Some(Tree::Text(text)) => Some(text.as_str()),
-        _ => None,
-    }
+    value?.as_str()
 }
 
 /// A bound is absent, or a whole number of at least 0.
-fn bound(tree: Option<&Tree>) -> Result<Option<u128>, RuleFault>
-    ensures reading { Reads (λ n. n) result (λ accepts. bound_of (optional_view tree.entry)) }
+fn bound(value: Option<&Value>) -> Result<Option<u64>, RuleFault>
+    ensures reading { Reads (λ n. n) result (λ accepts. bound_of (option_map (λ v. view v.now) value.entry)) }
     ensures never { IfErr result (λ e. e ≢ Memory) }
 {
-    match tree {
+    match value {
         None => Ok(None),
-        Some(Tree::Whole(number)) if *number >= 0 => Ok(Some(*number as u128)),
-        Some(_) => Err(RuleFault::BadBound),
+        Some(value) => match value.as_u64() {
+            Some(number) => Ok(Some(number)),
+            None => Err(RuleFault::BadBound),
+        },
     }
 }
 
-fn combine_of(tree: Option<&Tree>) -> Result<bool, RuleFault>
-    ensures reading { Reads (λ b. b) result (λ accepts. combine_in accepts (optional_view tree.entry)) }
+fn combine_of(value: Option<&Value>) -> Result<bool, RuleFault>
+    ensures reading { Reads (λ b. b) result (λ accepts. combine_in accepts (option_map (λ v. view v.now) value.entry)) }
     ensures never { IfErr result (λ e. e ≢ Memory) }
 {
-    match tree {
+    match value {
         None => Ok(false),
-        Some(Tree::Text(word)) if word.as_str() == "AND" => Ok(false),
-        Some(Tree::Text(word)) if word.as_str() == "OR" => Ok(true),
+        Some(Value::String(word)) if word.as_str() == "AND" => Ok(false),
+        Some(Value::String(word)) if word.as_str() == "OR" => Ok(true),
         Some(_) => Err(RuleFault::BadCombine),
     }
 }
 
-fn same_type_of(members: &BTreeMap<String, Tree>) -> Result<Matcher, RuleFault>
+fn same_type_of(members: &Map<String, Value>) -> Result<Matcher, RuleFault>
     ensures reading { Reads matcher_view result
-        (λ accepts. same_type_at accepts (object_view members.now.entries)) }
+        (λ accepts. same_type_at accepts (members_view members.now.entries)) }
     ensures never { IfErr result (λ e. e ≢ Memory) }
 {
     let min = bound(optional_member(members, "min"))?;
@@ -100,10 +100,10 @@ fn same_type_of(members: &BTreeMap<String, Tree>) -> Result<Matcher, RuleFault>
 fn pattern_of(
     alloc: Global,
     patterns: &mut Patterns,
-    members: &BTreeMap<String, Tree>,
+    members: &Map<String, Value>,
 ) -> Result<Matcher, RuleFault>
     ensures { Reads matcher_view result
-        (λ accepts. pattern_at accepts (object_view members.now.entries)) }
+        (λ accepts. pattern_at accepts (members_view members.now.entries)) }
 {
     match text_of(optional_member(members, "regex")) {
         Some(source) => {
@@ -114,22 +114,13 @@ fn pattern_of(
     }
 }
 
-pub(crate) fn object_of(tree: &Tree) -> Option<&BTreeMap<String, Tree>>
-    ensures { option_map (λ m. object_view m.now.entries) result ≡ as_object (tree_view tree.now) }
-{
-    match tree {
-        Tree::Object(members) => Some(members),
-        Tree::Null | Tree::Truth(_) | Tree::Whole(_) | Tree::Text(_) | Tree::List(_) => None,
-    }
-}
-
 fn nameless_of(
     alloc: Global,
     patterns: &mut Patterns,
-    members: &BTreeMap<String, Tree>,
+    members: &Map<String, Value>,
 ) -> Result<Matcher, RuleFault>
     ensures { Reads matcher_view result
-        (λ accepts. nameless_matcher accepts (object_view members.now.entries)) }
+        (λ accepts. nameless_matcher accepts (members_view members.now.entries)) }
 {
     if has_member(members, "regex") {
         pattern_of(alloc, patterns, members)
@@ -151,11 +142,11 @@ fn named_of(
     alloc: Global,
     patterns: &mut Patterns,
     in_header: bool,
-    members: &BTreeMap<String, Tree>,
+    members: &Map<String, Value>,
     name: &str,
 ) -> Result<Matcher, RuleFault>
     ensures { Reads matcher_view result
-        (λ accepts. named_matcher accepts in_header (object_view members.now.entries) name.now) }
+        (λ accepts. named_matcher accepts in_header (members_view members.now.entries) name.now) }
 {
     if name == "equality" {
         Ok(Matcher::Equality)
@@ -174,8 +165,8 @@ fn named_of(
     }
 }
 
-fn include_of(alloc: Global, members: &BTreeMap<String, Tree>) -> Result<Matcher, RuleFault>
-    ensures { Reads matcher_view result (λ accepts. include_at (object_view members.now.entries)) }
+fn include_of(alloc: Global, members: &Map<String, Value>) -> Result<Matcher, RuleFault>
+    ensures { Reads matcher_view result (λ accepts. include_at (members_view members.now.entries)) }
 {
     match text_of(optional_member(members, "value")) {
         Some(part) => Ok(Matcher::Include(String::from_str(alloc, part)?)),
@@ -187,12 +178,12 @@ fn matcher_of(
     alloc: Global,
     patterns: &mut Patterns,
     in_header: bool,
-    tree: &Tree,
+    value: &Value,
 ) -> Result<Matcher, RuleFault>
     ensures { Reads matcher_view result
-        (λ accepts. matcher_at accepts in_header (tree_view tree.now)) }
+        (λ accepts. matcher_at accepts in_header (view value.now)) }
 {
-    let Some(members) = object_of(tree) else {
+    let Some(members) = value.as_object() else {
         return Err(RuleFault::Form);
     };
     let Some(name) = optional_member(members, "match") else {
@@ -208,10 +199,10 @@ fn matchers_of(
     alloc: Global,
     patterns: &mut Patterns,
     in_header: bool,
-    items: &Vec<Tree>,
+    items: &Vec<Value>,
 ) -> Result<Vec<Matcher>, RuleFault>
     ensures { Reads (λ v. map matcher_view v.items) result
-        (λ accepts. matchers_at accepts in_header (list_view items.now.items)) }
+        (λ accepts. matchers_at accepts in_header (items_view items.now.items)) }
 {
     let mut matchers = Vec::new(alloc);
     for item in items {
@@ -220,13 +211,11 @@ fn matchers_of(
     Ok(matchers)
 }
 
-fn list_of(tree: Option<&Tree>) -> Option<&Vec<Tree>>
-    ensures { option_map (λ v. list_view v.now.items) result ≡ as_list (optional_view tree.entry) }
+fn list_of(value: Option<&Value>) -> Option<&Vec<Value>>
+    ensures { option_map (λ v. items_view v.now.items) result
+        ≡ as_list (option_map (λ v. view v.now) value.entry) }
 {
-    match tree {
-        Some(Tree::List(items)) => Some(items),
-        _ => None,
-    }
+    value?.as_array()
 }
 
 /// An entry after its path. That it is no object with a list of matchers is found before memory is taken.
@@ -234,12 +223,12 @@ pub(crate) fn entry_of(
     alloc: Global,
     patterns: &mut Patterns,
     in_header: bool,
-    tree: &Tree,
+    value: &Value,
 ) -> Result<Entry, RuleFault>
-    ensures reading { Reads entry_view result (λ accepts. entry_at accepts in_header (tree_view tree.now)) }
-    ensures form { (e : RuleFaultModel) → matchers_in (tree_view tree.now) ≡ Err e → result ≡ Err e }
+    ensures reading { Reads entry_view result (λ accepts. entry_at accepts in_header (view value.now)) }
+    ensures form { (e : RuleFaultModel) → matchers_in (view value.now) ≡ Err e → result ≡ Err e }
 {
-    let Some(members) = object_of(tree) else {
+    let Some(members) = value.as_object() else {
         return Err(RuleFault::Form);
     };
     let Some(items) = list_of(optional_member(members, "matchers")) else {

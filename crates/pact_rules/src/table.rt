@@ -29,10 +29,7 @@ pub enum Matcher {
     /// The same kind, and equal scalars, lists of one length, or objects of one key set.
     Equality,
     /// The same kind; at its own place a list's length is at least `min` and at most `max`.
-    SameType {
-        min: Option<u128>,
-        max: Option<u128>,
-    },
+    SameType { min: Option<u64>, max: Option<u64> },
     /// A text, whole number or truth value in whose text the pattern is found.
     Regex(String),
     /// A text, whole number or truth value whose text has this part.

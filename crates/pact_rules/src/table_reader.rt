@@ -2,7 +2,7 @@
 
 ghost use Rattle.std.specs.Prelude.{◌≡◌, MatchResult, IfOk, Ok, Err, map, string_bytes, bytes_eq};
 ghost use Rattle.std.specs.List.{filter, list_any};
-ghost use Rattle.pact_rules.specs.TreeView.{tree_view, object_view};
+ghost use Rattle.serde_json.specs.View.{view, members_view};
 ghost use Rattle.pact_rules.specs.Rules.{rule_text, name_key, has_effect, no_rules};
 ghost use Rattle.pact_rules.specs.RuleViews.{rule_view, header_view, body_rules, header_rules, IsKeyedBy};
 ghost use Rattle.pact_rules.specs.RuleReading.{IsReading, Reads, path_at, body_rule_at, header_rule_at, body_at};
@@ -13,10 +13,10 @@ ghost use Rattle.pact_rules.specs.declared.rule_fault.RuleFault.TheVariants.{Mem
 
 use crate::patterns::Patterns;
 use crate::rule_fault::{RuleFault, Word};
-use crate::rule_reader::{entry_of, is_null, object_of};
+use crate::rule_reader::{entry_of, is_null};
 use crate::table::{BodyRule, HeaderRule, RuleTable};
-use crate::tree::Tree;
 use pact_paths::{Path, PathFault};
+use serde_json::{Map, Value};
 use std::alloc::{AllocError, Global};
 use std::collections::BTreeMap;
 use std::marker::Model;
@@ -50,11 +50,11 @@ fn body_rule(
     patterns: &mut Patterns,
     before: &BTreeMap<String, BodyRule>,
     key: &str,
-    tree: &Tree,
+    value: &Value,
 ) -> Result<(String, BodyRule), RuleFault>
     requires { IsKeyedBy rule_view rule_text before.now.entries }
     ensures value { Reads (λ p. rule_view p.1) result
-        (λ accepts. body_rule_at accepts (body_rules before.now.entries) key.now (tree_view tree.now)) }
+        (λ accepts. body_rule_at accepts (body_rules before.now.entries) key.now (view value.now)) }
     ensures text { IfOk result (λ p. string_bytes p.0 ≡ rule_text (rule_view p.1)) }
     ensures path { (e : RuleFaultModel) → path_at key.now ≡ Err e → result ≡ Err e }
 {
@@ -63,7 +63,7 @@ fn body_rule(
     if is_path_taken(before, text.as_str()) {
         return Err(RuleFault::SamePathTwice);
     }
-    let entry = entry_of(alloc, patterns, false, tree)?;
+    let entry = entry_of(alloc, patterns, false, value)?;
     Ok((text, BodyRule { path, entry }))
 }
 
@@ -72,16 +72,16 @@ fn read_body(
     alloc: Global,
     patterns: &mut Patterns,
     before: BTreeMap<String, BodyRule>,
-    members: &BTreeMap<String, Tree>,
+    members: &Map<String, Value>,
 ) -> Result<BTreeMap<String, BodyRule>, RuleFault>
     requires { IsKeyedBy rule_view rule_text before.entries }
     ensures value { Reads (λ m. body_rules m.entries) result
-        (λ accepts. body_at accepts (body_rules before.entries) (object_view members.now.entries)) }
+        (λ accepts. body_at accepts (body_rules before.entries) (members_view members.now.entries)) }
     ensures keyed { IfOk result (λ m. IsKeyedBy rule_view rule_text m.entries) }
 {
     let mut rules = before;
-    for (key, tree) in members.iter() {
-        let (text, rule) = body_rule(alloc, patterns, &rules, key.as_str(), tree)?;
+    for (key, value) in members.iter() {
+        let (text, rule) = body_rule(alloc, patterns, &rules, key.as_str(), value)?;
         drop(rules.insert(text, rule)?);
     }
     Ok(rules)
@@ -102,18 +102,18 @@ fn header_rule(
     patterns: &mut Patterns,
     before: &BTreeMap<String, HeaderRule>,
     key: &str,
-    tree: &Tree,
+    value: &Value,
 ) -> Result<(String, HeaderRule), RuleFault>
     requires { IsKeyedBy header_view name_key before.now.entries }
     ensures value { Reads (λ p. header_view p.1) result
-        (λ accepts. header_rule_at accepts (header_rules before.now.entries) key.now (tree_view tree.now)) }
+        (λ accepts. header_rule_at accepts (header_rules before.now.entries) key.now (view value.now)) }
     ensures text { IfOk result (λ p. string_bytes p.0 ≡ name_key (header_view p.1)) }
 {
     let name = key.to_ascii_lowercase(alloc)?;
     if is_name_taken(before, name.as_str()) {
         return Err(RuleFault::SamePathTwice);
     }
-    let entry = entry_of(alloc, patterns, true, tree)?;
+    let entry = entry_of(alloc, patterns, true, value)?;
     let as_written = String::from_str(alloc, key)?;
     Ok((
         name,
@@ -129,16 +129,16 @@ fn read_headers(
     alloc: Global,
     patterns: &mut Patterns,
     before: BTreeMap<String, HeaderRule>,
-    members: &BTreeMap<String, Tree>,
+    members: &Map<String, Value>,
 ) -> Result<BTreeMap<String, HeaderRule>, RuleFault>
     requires { IsKeyedBy header_view name_key before.entries }
     ensures value { Reads (λ m. header_rules m.entries) result
-        (λ accepts. headers_at accepts (header_rules before.entries) (object_view members.now.entries)) }
+        (λ accepts. headers_at accepts (header_rules before.entries) (members_view members.now.entries)) }
     ensures keyed { IfOk result (λ m. IsKeyedBy header_view name_key m.entries) }
 {
     let mut rules = before;
-    for (key, tree) in members.iter() {
-        let (name, rule) = header_rule(alloc, patterns, &rules, key.as_str(), tree)?;
+    for (key, value) in members.iter() {
+        let (name, rule) = header_rule(alloc, patterns, &rules, key.as_str(), value)?;
         drop(rules.insert(name, rule)?);
     }
     Ok(rules)
@@ -172,13 +172,13 @@ impl Found {
         self,
         alloc: Global,
         patterns: &mut Patterns,
-        tree: &Tree,
+        value: &Value,
     ) -> Result<Found, RuleFault>
         ensures { Reads (λ f. f) result
-            (λ accepts. body_in accepts self (tree_view tree.now)) }
+            (λ accepts. body_in accepts self (view value.now)) }
     {
         let Found { body, headers } = self;
-        let Some(members) = object_of(tree) else {
+        let Some(members) = value.as_object() else {
             return Err(RuleFault::Form);
         };
         let body = read_body(alloc, patterns, body, members)?;
@@ -189,13 +189,13 @@ impl Found {
         self,
         alloc: Global,
         patterns: &mut Patterns,
-        tree: &Tree,
+        value: &Value,
     ) -> Result<Found, RuleFault>
         ensures { Reads (λ f. f) result
-            (λ accepts. headers_in accepts self (tree_view tree.now)) }
+            (λ accepts. headers_in accepts self (view value.now)) }
     {
         let Found { body, headers } = self;
-        let Some(members) = object_of(tree) else {
+        let Some(members) = value.as_object() else {
             return Err(RuleFault::Form);
         };
         let headers = read_headers(alloc, patterns, headers, members)?;
@@ -208,22 +208,22 @@ impl Found {
         alloc: Global,
         patterns: &mut Patterns,
         name: &str,
-        tree: &Tree,
+        value: &Value,
     ) -> Result<Found, RuleFault>
         ensures { Reads (λ f. f) result
-            (λ accepts. category_at accepts self name.now (tree_view tree.now)) }
+            (λ accepts. category_at accepts self name.now (view value.now)) }
     {
         if name == "body" {
-            if is_null(tree) {
+            if is_null(value) {
                 Ok(self)
             } else {
-                self.with_body(alloc, patterns, tree)
+                self.with_body(alloc, patterns, value)
             }
         } else if name == "header" {
-            if is_null(tree) {
+            if is_null(value) {
                 Ok(self)
             } else {
-                self.with_headers(alloc, patterns, tree)
+                self.with_headers(alloc, patterns, value)
             }
         } else if name == "path" || name == "query" {
             Ok(self)
@@ -234,8 +234,8 @@ impl Found {
 }
 
 /// Whether a key begins with `$`, as in version 2 of the Pact Specification.
-fn has_old_key(members: &BTreeMap<String, Tree>) -> bool
-    ensures { result ≡ has_old_key_of (object_view members.now.entries) }
+fn has_old_key(members: &Map<String, Value>) -> bool
+    ensures { result ≡ has_old_key_of (members_view members.now.entries) }
 {
     for (key, _) in members.iter() {
         if key.starts_with("$") {
@@ -249,26 +249,26 @@ fn has_old_key(members: &BTreeMap<String, Tree>) -> bool
 fn categories(
     alloc: Global,
     patterns: &mut Patterns,
-    members: &BTreeMap<String, Tree>,
+    members: &Map<String, Value>,
 ) -> Result<Found, RuleFault>
     ensures { Reads (λ f. f) result
-        (λ accepts. categories_at accepts no_rules (object_view members.now.entries)) }
+        (λ accepts. categories_at accepts no_rules (members_view members.now.entries)) }
 {
     let mut found = Found {
         body: BTreeMap::new(alloc),
         headers: BTreeMap::new(alloc),
     };
-    for (name, tree) in members.iter() {
-        found = found.with_category(alloc, patterns, name.as_str(), tree)?;
+    for (name, value) in members.iter() {
+        found = found.with_category(alloc, patterns, name.as_str(), value)?;
     }
     Ok(found)
 }
 
-fn found_in(alloc: Global, patterns: &mut Patterns, tree: &Tree) -> Result<Found, RuleFault>
-    ensures reading { Reads (λ f. f) result (λ accepts. found_of accepts (tree_view tree.now)) }
-    ensures first { (e : RuleFaultModel) → members_in (tree_view tree.now) ≡ Err e → result ≡ Err e }
+fn found_in(alloc: Global, patterns: &mut Patterns, value: &Value) -> Result<Found, RuleFault>
+    ensures reading { Reads (λ f. f) result (λ accepts. found_of accepts (view value.now)) }
+    ensures first { (e : RuleFaultModel) → members_in (view value.now) ≡ Err e → result ≡ Err e }
 {
-    let Some(members) = object_of(tree) else {
+    let Some(members) = value.as_object() else {
         return Err(RuleFault::Form);
     };
     if has_old_key(members) {
@@ -318,28 +318,28 @@ impl RuleTable {
     /// order of their keys, of an entry its path, the same path twice, its form, `combine`, and its matchers one after
     /// another. Memory may run out in its place, but not in that of the first two, and `Pattern` comes also if the
     /// crate `regex` refuses a pattern that its grammar reads.
-    pub fn read(alloc: Global, tree: &Tree) -> Result<RuleTable, RuleFault>
+    pub fn read(alloc: Global, value: &Value) -> Result<RuleTable, RuleFault>
         ensures reading { MatchResult result
-            (λ t. IsReading (tree_view tree.now) (Ok t))
-            (λ e. ¬ (e ≡ Memory) → IsReading (tree_view tree.now) (Err e)) }
-        ensures first { (e : RuleFaultModel) → members_in (tree_view tree.now) ≡ Err e → result ≡ Err e }
+            (λ t. IsReading (view value.now) (Ok t))
+            (λ e. ¬ (e ≡ Memory) → IsReading (view value.now) (Err e)) }
+        ensures first { (e : RuleFaultModel) → members_in (view value.now) ≡ Err e → result ≡ Err e }
     {
         let mut patterns = Patterns::new(alloc);
-        RuleTable::read_with(alloc, &mut patterns, tree)
+        RuleTable::read_with(alloc, &mut patterns, value)
     }
 
     /// The same for one of the tables of a file: a pattern that was built for an earlier one isn't built again.
     pub fn read_with(
         alloc: Global,
         patterns: &mut Patterns,
-        tree: &Tree,
+        value: &Value,
     ) -> Result<RuleTable, RuleFault>
         ensures reading { MatchResult result
-            (λ t. IsReading (tree_view tree.now) (Ok t))
-            (λ e. ¬ (e ≡ Memory) → IsReading (tree_view tree.now) (Err e)) }
-        ensures first { (e : RuleFaultModel) → members_in (tree_view tree.now) ≡ Err e → result ≡ Err e }
+            (λ t. IsReading (view value.now) (Ok t))
+            (λ e. ¬ (e ≡ Memory) → IsReading (view value.now) (Err e)) }
+        ensures first { (e : RuleFaultModel) → members_in (view value.now) ≡ Err e → result ≡ Err e }
     {
-        let Found { body, headers } = found_in(alloc, patterns, tree)?;
+        let Found { body, headers } = found_in(alloc, patterns, value)?;
         let body = effective_body(alloc, body)?;
         let headers = effective_headers(alloc, headers)?;
         Ok(RuleTable { body, headers })

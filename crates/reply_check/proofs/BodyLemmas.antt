@@ -1,46 +1,47 @@
 -- Bodies that meet the expected one.
 use Rattle.std.proofs.Common.{◌≡◌, ◌↔◌, ℕ, Bool, true, false, List, [], Option, Some, None, IsTrue, refl, sym, ap, ◌∙◌, true≢false}
 use Rattle.std.proofs.lemmas.Slice.Eq.{bytes_eq-Decides}
-use Rattle.pact_rules.specs.{Trees.{Node, null, truth, whole, text, list, object}, Rules.{Rules}}
-use Rattle.reply_check.specs.{Fitting.{Fits, are_alike}, Bodies.{is_empty, MeetsBody}}
+use Rattle.pact_rules.specs.{Rules.{Rules}, Matching.{are_alike}}
+use Rattle.serde_json.specs.Data.{Data, null, boolean, number, string, array, object}
+use Rattle.reply_check.specs.{Fitting.{Fits}, Bodies.{is_empty, MeetsBody}}
 
 never : {A : Type 0} → false ≡ true → A
 never h = absurd (true≢false (sym h))
 
-alike_null : (y : Node) → are_alike null y ≡ true → y ≡ null
+alike_null : (y : Data) → are_alike null y ≡ true → y ≡ null
 alike_null null h = refl
-alike_null (truth b) h = never h
-alike_null (whole n) h = never h
-alike_null (text s) h = never h
-alike_null (list ts) h = never h
+alike_null (boolean b) h = never h
+alike_null (number n) h = never h
+alike_null (string s) h = never h
+alike_null (array ts) h = never h
 alike_null (object fs) h = never h
 
-alike_text : (s : List ℕ) (y : Node) → are_alike (text s) y ≡ true → y ≡ text s
+alike_text : (s : List ℕ) (y : Data) → are_alike (string s) y ≡ true → y ≡ string s
 alike_text s null h = never h
-alike_text s (truth b) h = never h
-alike_text s (whole n) h = never h
-alike_text s (text t) h = ap text (sym ((bytes_eq-Decides s t).0 h))
-alike_text s (list ts) h = never h
+alike_text s (boolean b) h = never h
+alike_text s (number n) h = never h
+alike_text s (string t) h = ap string (sym ((bytes_eq-Decides s t).0 h))
+alike_text s (array ts) h = never h
 alike_text s (object fs) h = never h
 
-alike_empty : (x y : Node) → is_empty x ≡ true → (are_alike x y ≡ true) ↔ (y ≡ x)
+alike_empty : (x y : Data) → is_empty x ≡ true → (are_alike x y ≡ true) ↔ (y ≡ x)
 alike_empty null y e = (alike_null y, λ same. ap (are_alike null) same)
-alike_empty (truth b) y e = never e
-alike_empty (whole n) y e = never e
-alike_empty (text s) y e = (alike_text s y, λ same. ap (are_alike (text s)) same ∙ (bytes_eq-Decides s s).1 refl)
-alike_empty (list ts) y e = never e
+alike_empty (boolean b) y e = never e
+alike_empty (number n) y e = never e
+alike_empty (string s) y e = (alike_text s y, λ same. ap (are_alike (string s)) same ∙ (bytes_eq-Decides s s).1 refl)
+alike_empty (array ts) y e = never e
 alike_empty (object fs) y e = never e
 
 -- nothing is expected
-pub meets_any : (rules : Rules) (actual : Option Node) → IsTrue true ↔ MeetsBody rules None actual
+pub meets_any : (rules : Rules) (actual : Option Data) → IsTrue true ↔ MeetsBody rules None actual
 meets_any rules actual = (λ h. tt, λ s. refl)
 
 -- no body
-pub meets_none : (b : Bool) (rules : Rules) (x : Node) → b ≡ is_empty x → IsTrue b ↔ MeetsBody rules (Some x) None
+pub meets_none : (b : Bool) (rules : Rules) (x : Data) → b ≡ is_empty x → IsTrue b ↔ MeetsBody rules (Some x) None
 meets_none b rules x is = (λ h. sym is ∙ h, λ s. is ∙ s)
 
 -- an empty one
-pub meets_empty : (b e : Bool) (rules : Rules) (x y : Node) → e ≡ is_empty x → e ≡ true → b ≡ are_alike x y → IsTrue b ↔ MeetsBody rules (Some x) (Some y)
+pub meets_empty : (b e : Bool) (rules : Rules) (x y : Data) → e ≡ is_empty x → e ≡ true → b ≡ are_alike x y → IsTrue b ↔ MeetsBody rules (Some x) (Some y)
 meets_empty b e rules x y is so same =
     let empty : is_empty x ≡ true = sym is ∙ so in (
       λ h. (λ _. (alike_empty x y empty).0 (sym same ∙ h), λ full. never (sym full ∙ empty)),
@@ -48,7 +49,7 @@ meets_empty b e rules x y is so same =
     )
 
 -- any other
-pub meets_full : (b e : Bool) (rules : Rules) (x y : Node) → e ≡ is_empty x → e ≡ false → IsTrue b ↔ Fits rules [] x y → IsTrue b ↔ MeetsBody rules (Some x) (Some y)
+pub meets_full : (b e : Bool) (rules : Rules) (x y : Data) → e ≡ is_empty x → e ≡ false → IsTrue b ↔ Fits rules [] x y → IsTrue b ↔ MeetsBody rules (Some x) (Some y)
 meets_full b e rules x y is so h =
     let full : is_empty x ≡ false = sym is ∙ so in
     (λ fits. (λ empty. never (sym full ∙ empty), λ _. h.0 fits), λ s. h.1 (s.1 full))

@@ -3,7 +3,7 @@ use Rattle.std.specs.{List.{list_any, find}, Str.{str_eq_ignore_ascii_case}}
 use Rattle.std.proofs.Common.{◌≡◌, ◌↔◌, ℕ, Bool, true, false, List, [], ◌∷◌, IsTrue, IfOk, codes, option_map, Option, Some, None, Result, Ok, Err, refl, sym, ap, ◌∙◌, subst, ⊎_elim}
 use Rattle.std.proofs.{lemmas.Bool.{or_left, or_right}, lemmas.Option.{same_Some}}
 use Rattle.serde_json.specs.Data.{Data}
-use Rattle.pact_rules.specs.{Trees.{Node}, Rules.{Rules, Entry, BodyRule, HeaderRule, is_regex, has_regex}, Tables.{header_entry}, RuleReading.{IsReading}}
+use Rattle.pact_rules.specs.{Rules.{Rules, Entry, BodyRule, HeaderRule, is_regex, has_regex}, Tables.{header_entry}}
 use Rattle.pact_rules.{specs.{declared.rule_fault.RuleFault.TheVariants.{Pattern}, Lists.{IsIn}}, proofs.ReadingLemmas.{reading_agrees}}
 use Rattle.pact_file.specs.{Headers.{HasHeaders}, Pact.{Header, Interaction}, Parts.{optional_at, status_in, body_in}, Rules.{TableRead, IsRulesOf}}
 use Rattle.pact_file.proofs.Steps.{ok_same, ok_err}
@@ -14,9 +14,7 @@ use Rattle.reply_check.proofs.Deciding.{by_test, in_one, one_in, all_in, in_all}
 
 one_table : (o : Option Data) (a b : Rules) → TableRead o (Ok a) → TableRead o (Ok b) → a ≡ b
 one_table None a b h k = ok_same a b (h ∙ sym k)
-one_table (Some d) a b h k =
-    let same : k.0 ≡ h.0 = same_Some _ _ (sym k.1 ∙ h.1) in
-    ⊎_elim (ok_same a b) (⊎_elim (ok_err a Pattern) (ok_err b Pattern)) (reading_agrees h.0 (Ok a) (Ok b) h.2 (subst (λ n. IsReading n (Ok b)) same k.2))
+one_table (Some d) a b h k = ⊎_elim (ok_same a b) (⊎_elim (ok_err a Pattern) (ok_err b Pattern)) (reading_agrees d (Ok a) (Ok b) h k)
 
 one_rules : (response : Data) (a b : Rules) → IsRulesOf response a → IsRulesOf response b → a ≡ b
 unfolding IsRulesOf
@@ -93,7 +91,7 @@ module _ (x : Interaction) (r : Reply) (rules : Rules) (expected sent : List Hea
     λ whole. body.1 (subst (λ t. MeetsBody t (body_in x.response) (body_in r.response)) (one_rules x.response whole.rules rules whole.has_rules has_rules) whole.body),
   )
 
-  pub meets_by_body : {E : Type 0} (m n : ℕ) (answer : Result Bool E) (b c : Option Node) → status_in x.response ≡ Some m → status_sent r.response ≡ Some n → m ≡ n → WereSent rules sent expected
+  pub meets_by_body : {E : Type 0} (m n : ℕ) (answer : Result Bool E) (b c : Option Data) → status_in x.response ≡ Some m → status_sent r.response ≡ Some n → m ≡ n → WereSent rules sent expected
       → b ≡ body_in x.response → c ≡ body_in r.response → IfOk answer (λ v. IsTrue v ↔ MeetsBody rules b c) → IfOk answer (λ v. IsTrue v ↔ Meets x r)
   meets_by_body m n (Ok v) b c e s same were eb ec h =
       by_body n v (e ∙ ap (λ k. Some k) same) s were (subst (λ o. IsTrue v ↔ MeetsBody rules (body_in x.response) o) ec (subst (λ o. IsTrue v ↔ MeetsBody rules o c) eb h))

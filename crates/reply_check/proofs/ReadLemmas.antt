@@ -4,8 +4,8 @@ use Rattle.serde_json.specs.{Data.{Data}, Find.{get, as_array, as_object}}
 use Rattle.pact_rules.specs.{Outcome.{guard}, Reading.{GivesOne}}
 use Rattle.pact_file.specs.{Pact.{states_data}, Parts.{text_at, object_at, states_in}, Sound.{IsSound}, Objects.{IsSomeText, json_of, object_of}}
 use Rattle.pact_file.specs.{declared.object.FileFault.{FileFault}, declared.fault.Part.TheVariants.{Whole, Description, States, Response, Status}}
-use Rattle.pact_file.proofs.{Objects.{object_ok, object_sound, json_text}, ReadLemmas.{AllSound, listed_sound}}
-use Rattle.pact_file.proofs.{SoundParts.{of_get, of_object_at, of_array, of_states}, Steps.{bind_ok, found_ok, ok_same, err_same, then_some}}
+use Rattle.pact_file.proofs.{Objects.{object_ok, object_sound, json_text}, ReadLemmas.{AllSound, listed_sound}, SoundParts.{of_get, of_array, of_states}}
+use Rattle.pact_file.proofs.Steps.{bind_ok, found_ok, ok_same, err_same, then_some}
 use Rattle.reply_check.specs.{Recorded.{Reply as Recorded, status_sent}, ReplyParts.{as_file_fault, file_of, items_of, at, parts_at}}
 use Rattle.reply_check.specs.{Replies.{FileRead, RepliesRead}, declared.fault.RepliesFault.{RepliesFault}}
 use Rattle.reply_check.specs.{declared.fault.RepliesFault.TheVariants.{Shape, Memory}, declared.fault.Place.TheVariants.{Replies}}
@@ -43,11 +43,7 @@ items_sound file ds h e =
     let found = then_some as_array (get (codes "replies") file) items.0 (found_ok _ _ items.0 items.1) in
     subst AllSound (ok_same _ _ items.2) (listed_sound items.0 (of_array 98 found.0 items.0 (of_get 99 (codes "replies") file found.0 h found.1) found.2))
 
-pub record AreSound (r : Recorded) : Type 0 where
-  pub states : IsSound 97 (states_data r.states)
-  pub response : IsSound 97 r.response
-
-pub parts_sound : (i : ℕ) (d : Data) (r : Recorded) → IsSound 98 d → parts_at i d ≡ Ok r → AreSound r
+pub parts_sound : (i : ℕ) (d : Data) (r : Recorded) → IsSound 98 d → parts_at i d ≡ Ok r → IsSound 97 (states_data r.states)
 unfolding parts_at
 parts_sound i d r h e =
     let a = bind_ok (guard (is_some (as_object d)) (at i Whole)) _ r e in
@@ -57,4 +53,4 @@ parts_sound i d r h e =
     let n = bind_ok (ok_or (status_sent q.0) (at i Status)) _ r q.2 in
     let y : Recorded = record { description = b.0; states = s.0; response = q.0 } in
     let same : y ≡ r = ok_same _ _ n.2 in
-    subst AreSound same (record { states = of_states 95 d s.0 h (found_ok _ _ s.0 s.1); response = of_object_at 97 (codes "response") d q.0 h (found_ok _ _ q.0 q.1) })
+    subst (λ (z : Recorded). IsSound 97 (states_data z.states)) {x = y} same (of_states 95 d s.0 h (found_ok _ _ s.0 s.1))

@@ -3,15 +3,16 @@ use Rattle.std.specs.List.{list_any}
 use Rattle.std.proofs.Common.{◌≡◌, ◌∙◌, ℕ, zero, suc, ◌<◌, Bool, true, List, [], ◌∷◌, map, length, get_or, Option, Some, None, option_map, option_and_then, Result, Ok, Err, IfOk, IsTrue, ◌↔◌, subst, slice_get, refl, sym, ap}
 use Rattle.std.proofs.{lemmas.Bool.{or_right}, lemmas.Option.{same_Some, slice_get-map}}
 use Rattle.pact_paths.specs.Paths.{Location}
-use Rattle.pact_rules.specs.{Matching.{entry_holds}, Walks.{Walk, HasReached, own_place, own_place_of}, Trees.{Node}}
+use Rattle.pact_rules.specs.{Matching.{entry_holds}, Walks.{Walk, HasReached, own_place, own_place_of}}
 use Rattle.pact_rules.specs.{Rules.{Rules, IsInOrder, BodyRule, Entry, is_regex, has_regex}, RuleViews.{matcher_view}, Choice.{best, chosen}}
 use Rattle.pact_rules.proofs.{ChoiceLemmas.{got}, WalkLemmas.{IsThere, best_there}}
+use Rattle.serde_json.specs.Data.{Data}
 use Rattle.reply_check.{specs.{Computed.{meets_here, meets_rule, fits}, Fitting.{Fits}}, proofs.FittingLemmas.{fits_decides}}
 use Rattle.pact_rules.specs.declared.table.Matcher as code
 
 -- ---- the chosen entry
 
-met_by : (o : Option (ℕ × BodyRule)) (rules : List BodyRule) (at : Location) (index : ℕ) (e : Entry) (x y : Node) (own : Bool) → IsThere rules o → Some index ≡ option_map (λ (b : ℕ × BodyRule). b.0) o
+met_by : (o : Option (ℕ × BodyRule)) (rules : List BodyRule) (at : Location) (index : ℕ) (e : Entry) (x y : Data) (own : Bool) → IsThere rules o → Some index ≡ option_map (λ (b : ℕ × BodyRule). b.0) o
     → slice_get (map (λ (r : BodyRule). r.entry) rules) index ≡ Some e → own ≡ own_place_of at o
     → entry_holds e x y own ≡ meets_rule (option_and_then (slice_get rules) (option_map (λ (b : ℕ × BodyRule). b.0) o)) at x y
 met_by None rules at index e x y own is at_index there same = absurd cc
@@ -21,7 +22,7 @@ met_by (Some b) rules at index e x y own is at_index there same =
     ap (λ e. entry_holds e x y own) its ∙ ap (entry_holds b.1.entry x y) same ∙ sym (ap (λ o. meets_rule o at x y) is)
 
 -- the entry that is chosen says whether the two meet
-pub met_chosen : (rules : Rules) (at : Location) (index : ℕ) (e : Entry) (x y : Node) (own : Bool) → Some index ≡ chosen rules.body at
+pub met_chosen : (rules : Rules) (at : Location) (index : ℕ) (e : Entry) (x y : Data) (own : Bool) → Some index ≡ chosen rules.body at
     → slice_get (map (λ (r : BodyRule). r.entry) rules.body) index ≡ Some e → own ≡ own_place rules.body at → entry_holds e x y own ≡ meets_here rules at x y
 met_chosen rules at index e x y own is there same = met_by (best rules.body at) rules.body at index e x y own (best_there rules.body at) is there same
 
@@ -47,7 +48,7 @@ regex_chosen rules index e is h = rw (regex_in_body rules.body index e is h) ref
 -- ---- the relation
 
 -- what is computed at the root decides the relation there
-pub decided : {E : Type 0} (rules : Rules) (order : IsInOrder rules.body) (w : Walk) (x y : Node) (r : Result Bool E) → HasReached rules w [] → IfOk r (λ b. (at : Location) → HasReached rules w at → b ≡ fits rules at x y)
+pub decided : {E : Type 0} (rules : Rules) (order : IsInOrder rules.body) (w : Walk) (x y : Data) (r : Result Bool E) → HasReached rules w [] → IfOk r (λ b. (at : Location) → HasReached rules w at → b ≡ fits rules at x y)
     → IfOk r (λ b. IsTrue b ↔ Fits rules [] x y)
 decided rules order w x y (Ok b) started h = subst (λ b. IsTrue b ↔ Fits rules [] x y) (sym (h [] started)) (fits_decides rules order [] x y)
 decided rules order w x y (Err e) started h = tt

@@ -1,21 +1,21 @@
 -- When a reply's body meets the one that is expected (this project's own choice).
 use Rattle.std.specs.Prelude.{◌≡◌, ◌==◌, Bool, true, false, IsTrue, length, [], Option, Some, None, ⊤}
-use Rattle.pact_rules.specs.Trees.{Node, null, truth, whole, text, list, object}
+use Rattle.serde_json.specs.Data.{Data, null, boolean, number, string, array, object}
 use Rattle.pact_rules.specs.Rules.{Rules}
 use Rattle.reply_check.specs.Fitting.{Fits}
 
 -- null, or the empty text
-abbrev pub is_empty : Node → Bool
+abbrev pub is_empty : Data → Bool
 is_empty null = true
-is_empty (truth b) = false
-is_empty (whole n) = false
-is_empty (text s) = length s == 0
-is_empty (list ts) = false
+is_empty (boolean b) = false
+is_empty (number n) = false
+is_empty (string s) = length s == 0
+is_empty (array ts) = false
 is_empty (object fs) = false
 
 -- Where none is expected, any body meets it. An empty body asks for none or the same, whatever the rules say; any other
 -- must be there and fit at the root.
-abbrev pub MeetsBody : Rules → Option Node → Option Node → Type 0
+abbrev pub MeetsBody : Rules → Option Data → Option Data → Type 0
 MeetsBody rules None actual = ⊤
 MeetsBody rules (Some x) None = IsTrue (is_empty x)
 MeetsBody rules (Some x) (Some y) = (is_empty x ≡ true → y ≡ x) × (is_empty x ≡ false → Fits rules [] x y)

@@ -1,23 +1,13 @@
 -- For private clauses: what is kept beside a reply is what its definitions give.
-use Rattle.std.specs.Prelude.{◌≡◌, ℕ, List, Option, Some, unwrap_or}
-use Rattle.serde_json.specs.Data.{Data, null}
-use Rattle.serde_json.specs.Read.{read}
+use Rattle.std.specs.Prelude.{◌≡◌, ℕ, List, Some}
 use Rattle.serde_json.specs.Written.{compact_text}
-use Rattle.pact_rules.specs.Trees.{Node}
 use Rattle.pact_file.specs.Headers.{HasHeaders}
 use Rattle.pact_file.specs.Pact.{Header, states_data}
-use Rattle.pact_file.specs.Parts.{body_in}
 use Rattle.pact_file.specs.Sound.{IsSound}
 use Rattle.reply_check.specs.Recorded.{Reply, status_sent}
 
--- the value that a text is
-abbrev pub said : List ℕ → Data
-said text = unwrap_or (read text) null
-
-pub record IsFilled (r : Reply) (status : ℕ) (headers : List Header) (body : Option Node)
-    (states_text : List ℕ) : Type 0 where
+pub record IsFilled (r : Reply) (status : ℕ) (headers : List Header) (states_text : List ℕ) : Type 0 where
   pub sound : IsSound 97 (states_data r.states)
   pub has_status : status_sent r.response ≡ Some status
   pub has_headers : HasHeaders r.response headers
-  pub has_body : body ≡ body_in r.response
   pub has_states_text : states_text ≡ compact_text (states_data r.states)

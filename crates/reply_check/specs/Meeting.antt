@@ -1,8 +1,7 @@
 -- When a recorded reply meets an interaction (this project's own choice): the status is equal, each expected header
 -- was sent with a value that fits, and the body meets the expected one. Further headers are allowed.
 use Rattle.std.specs.Prelude.{◌≡◌, ℕ, true, false, List, Option, Some, None, IsTrue}
-use Rattle.serde_json.specs.Data.{Data}
-use Rattle.pact_rules.specs.Trees.{text}
+use Rattle.serde_json.specs.Data.{Data, string}
 use Rattle.pact_rules.specs.Rules.{Rules, Entry, has_regex}
 use Rattle.pact_rules.specs.Tables.{header_entry}
 use Rattle.pact_rules.specs.Matching.{entry_holds}
@@ -23,7 +22,7 @@ HasHeader response h = (found : List Header) × (headers_found response ≡ Some
 -- the entry holds on the two texts; without one the values are the same but for what doesn't count
 abbrev pub FitsBy : Option Entry → List ℕ → List ℕ → List ℕ → Type 0
 FitsBy None name expected sent = HasValue name expected sent
-FitsBy (Some entry) name expected sent = IsTrue (entry_holds entry (text expected) (text sent) false)
+FitsBy (Some entry) name expected sent = IsTrue (entry_holds entry (string expected) (string sent) false)
 
 -- what was sent under the name of an expected header fits
 abbrev pub FitsHeader : Rules → Header → List ℕ → Type 0

@@ -13,4 +13,4 @@ as_check_fault match_fault.Memory = Memory
 as_check_fault match_fault.Pattern = Pattern
 
 abbrev pub parts_view : Parts → Reply
-parts_view p = reply_with (string_bytes p.description) p.states.items (view p.response.now)
+parts_view p = reply_with (string_bytes p.description) p.states.items (view p.response)

@@ -18,7 +18,6 @@ place_text (Reply i part) = codes "replies[" ++ (decimal i ++ (codes "]" ++ part
 abbrev pub tree_text : TreeFault → List ℕ
 tree_text tree_fault.NotWhole = codes "3.1"
 tree_text tree_fault.TooDeep = codes "3.2"
-tree_text tree_fault.Memory = codes "3.3"
 
 -- the fault's number, and what follows it
 abbrev pub number_text : RepliesFault → List ℕ

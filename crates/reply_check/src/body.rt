@@ -1,13 +1,14 @@
 //! Whether a reply's body meets the one that is expected.
 
-ghost use Rattle.std.specs.Prelude.{◌≡◌, ◌↔◌, true, IfOk, IfErr, IsTrue};
+ghost use Rattle.std.specs.Prelude.{◌≡◌, ◌↔◌, true, IfOk, IfErr, IsTrue, option_map};
 ghost use Rattle.pact_rules.specs.Rules.{has_regex};
-ghost use Rattle.pact_rules.specs.TreeView.{tree_view, optional_view};
+ghost use Rattle.serde_json.specs.View.{view};
 ghost use Rattle.pact_rules.specs.declared.matching.MatchFault.TheVariants.{Pattern};
 ghost use Rattle.reply_check.specs.Bodies.{is_empty as is_empty_of, MeetsBody};
 
-use crate::fit::{are_alike, fits};
-use pact_rules::{MatchFault, RuleTable, Searches, Tree};
+use crate::fit::fits;
+use pact_rules::{MatchFault, RuleTable, Searches, are_alike};
+use serde_json::Value;
 use std::alloc::Global;
 
 /// Whether a reply's body meets the expected one: none asks for nothing, null and the empty text for no body or the
@@ -18,11 +19,11 @@ pub fn body_meets(
     alloc: Global,
     searches: &mut Searches<'_>,
     rules: &RuleTable,
-    expected: Option<&Tree>,
-    actual: Option<&Tree>,
+    expected: Option<&Value>,
+    actual: Option<&Value>,
 ) -> Result<bool, MatchFault>
     ensures value { IfOk result (λ b. IsTrue b
-        ↔ MeetsBody rules.now (optional_view expected.entry) (optional_view actual.entry)) }
+        ↔ MeetsBody rules.now (option_map (λ v. view v.now) expected.entry) (option_map (λ v. view v.now) actual.entry)) }
     ensures pattern { IfErr result (λ e. e ≡ Pattern → has_regex rules.now ≡ true) }
 {
     let Some(expected) = expected else {
@@ -38,12 +39,12 @@ pub fn body_meets(
 }
 
 /// Whether a body is null or the empty text.
-fn is_empty(body: &Tree) -> bool
-    ensures { result ≡ is_empty_of (tree_view body.now) }
+fn is_empty(body: &Value) -> bool
+    ensures { result ≡ is_empty_of (view body.now) }
 {
     match body {
-        Tree::Null => true,
-        Tree::Text(text) => text.is_empty(),
-        Tree::Truth(_) | Tree::Whole(_) | Tree::List(_) | Tree::Object(_) => false,
+        Value::Null => true,
+        Value::String(text) => text.is_empty(),
+        Value::Bool(_) | Value::Number(_) | Value::Array(_) | Value::Object(_) => false,
     }
 }

@@ -68,7 +68,6 @@ impl fmt::Display for Number {
             RepliesFault::Shape(place) => write!(f, "2 {}", place),
             RepliesFault::Tree(TreeFault::NotWhole) => f.write_str("3.1"),
             RepliesFault::Tree(TreeFault::TooDeep) => f.write_str("3.2"),
-            RepliesFault::Tree(TreeFault::Memory) => f.write_str("3.3"),
             RepliesFault::SameReplyTwice => f.write_str("4"),
             RepliesFault::Memory => f.write_str("5"),
         }

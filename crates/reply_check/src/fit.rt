@@ -1,45 +1,46 @@
-//! Whether a tree fits an expected one, in one walk down both.
+//! Whether a value fits an expected one, in one walk down both.
 
 ghost use Rattle.std.specs.Prelude.{◌≡◌, ◌++◌, ◌∷◌, ◌↔◌, true, [], MatchOption, IfOk, IfErr, IsTrue, map, option_map};
 ghost use Rattle.std.specs.List.{list_any, list_all};
-ghost use Rattle.pact_rules.specs.Trees.{no_nodes, no_fields};
+ghost use Rattle.serde_json.specs.Data.{no_items, no_members};
 ghost use Rattle.pact_paths.specs.Paths.{Location};
 ghost use Rattle.pact_paths.specs.Locations.{step_view};
 ghost use Rattle.pact_rules.specs.Rules.{is_regex, entry_has_regex, has_regex};
 ghost use Rattle.pact_rules.specs.RuleViews.{matcher_view, entry_view};
-ghost use Rattle.pact_rules.specs.TreeView.{tree_view, optional_view, list_view, object_view};
+ghost use Rattle.serde_json.specs.View.{view, items_view, members_view};
 ghost use Rattle.pact_rules.specs.Walks.{HasReached, WasStarted};
 ghost use Rattle.pact_rules.specs.Matching.{holds as holds_of, entry_holds as entry_holds_of};
 ghost use Rattle.pact_rules.specs.declared.matching.MatchFault.TheVariants.{Pattern};
-ghost use Rattle.reply_check.specs.Fitting.{Fits, are_alike as are_alike_of};
+ghost use Rattle.reply_check.specs.Fitting.{Fits};
 ghost use Rattle.reply_check.specs.Computed.{fits as fits_of, items_fit as items_fit_of};
 ghost use Rattle.reply_check.specs.Computed.{members_fit as members_fit_of, meets_here as meets_here_of, example};
-ghost use Rattle.reply_check.specs.Computed.{expected_items, expected_fields};
+ghost use Rattle.reply_check.specs.Computed.{expected_items, expected_members};
 
 use pact_rules::{
-    Alive, Entry, MatchFault, Matcher, RuleTable, Searches, Step, Tree, has_keys_of, holds_with,
+    Alive, Entry, MatchFault, Matcher, RuleTable, Searches, Step, are_alike, has_keys_of,
+    holds_with,
 };
+use serde_json::{Map, Value};
 use std::alloc::Global;
-use std::collections::BTreeMap;
 
-/// Whether the actual tree fits the expected one at the root, with the table's rules for bodies. Memory may run out,
+/// Whether the actual value fits the expected one at the root, with the table's rules for bodies. Memory may run out,
 /// and `Pattern` comes only if the table has a Regex matcher whose pattern is refused.
 pub fn fits(
     alloc: Global,
     searches: &mut Searches<'_>,
     rules: &RuleTable,
-    expected: &Tree,
-    actual: &Tree,
+    expected: &Value,
+    actual: &Value,
 ) -> Result<bool, MatchFault>
     ensures value { IfOk result (λ b. IsTrue b
-        ↔ Fits rules.now [] (tree_view expected.now) (tree_view actual.now)) }
+        ↔ Fits rules.now [] (view expected.now) (view actual.now)) }
     ensures pattern { IfErr result (λ e. e ≡ Pattern → has_regex rules.now ≡ true) }
 {
     let alive = rules.start(alloc)?;
     fits_here(alloc, searches, rules, &alive, actual, expected)
 }
 
-/// Whether the actual tree fits the expected one at the steps that the walk has taken. The actual tree, which the walk
+/// Whether the actual value fits the expected one at the steps that the walk has taken. The actual value, which the walk
 /// goes down, comes first in the calls that call one another.
 #[cycle(fitting)]
 fn fits_here(
@@ -47,28 +48,28 @@ fn fits_here(
     searches: &mut Searches<'_>,
     rules: &RuleTable,
     alive: &Alive,
-    actual: &Tree,
-    expected: &Tree,
+    actual: &Value,
+    expected: &Value,
 ) -> Result<bool, MatchFault>
     requires started { WasStarted rules.now alive.now }
     ensures value { IfOk result (λ b. (at : Location) → HasReached rules.now alive.now at
-        → b ≡ fits_of rules.now at (tree_view expected.now) (tree_view actual.now)) }
+        → b ≡ fits_of rules.now at (view expected.now) (view actual.now)) }
     ensures pattern { IfErr result (λ e. e ≡ Pattern → has_regex rules.now ≡ true) }
 {
     if !meets_here(alloc, searches, rules, alive, expected, actual)? {
         return Ok(false);
     }
     match actual {
-        Tree::List(items) => match as_list(expected) {
+        Value::Array(items) => match as_list(expected) {
             Some(examples) => items_fit(alloc, searches, rules, alive, items, examples),
             None => Ok(true),
         },
-        Tree::Object(members) => match as_object(expected) {
+        Value::Object(members) => match as_object(expected) {
             Some(examples) if !has_keys_of(examples, members) => Ok(false),
             Some(examples) => members_fit(alloc, searches, rules, alive, members, examples),
             None => Ok(true),
         },
-        Tree::Null | Tree::Truth(_) | Tree::Whole(_) | Tree::Text(_) => Ok(true),
+        Value::Null | Value::Bool(_) | Value::Number(_) | Value::String(_) => Ok(true),
     }
 }
 
@@ -80,36 +81,38 @@ fn fits_below(
     rules: &RuleTable,
     alive: &Alive,
     step: &Step,
-    actual: &Tree,
-    expected: &Tree,
+    actual: &Value,
+    expected: &Value,
 ) -> Result<bool, MatchFault>
     requires started { WasStarted rules.now alive.now }
     ensures value { IfOk result (λ b. (at : Location) → HasReached rules.now alive.now at
         → b ≡ fits_of rules.now (at ++ step_view step.now ∷ [])
-        (tree_view expected.now) (tree_view actual.now)) }
+        (view expected.now) (view actual.now)) }
     ensures pattern { IfErr result (λ e. e ≡ Pattern → has_regex rules.now ≡ true) }
 {
     let below = alive.step(alloc, rules, step)?;
     fits_here(alloc, searches, rules, &below, actual, expected)
 }
 
-fn as_list(tree: &Tree) -> Option<&Vec<Tree>>
-    ensures { MatchOption result (expected_items (tree_view tree.now) ≡ no_nodes)
-        (λ v. expected_items (tree_view tree.now) ≡ list_view v.now.items) }
+fn as_list(value: &Value) -> Option<&Vec<Value>>
+    ensures { MatchOption result (expected_items (view value.now) ≡ no_items)
+        (λ v. expected_items (view value.now) ≡ items_view v.now.items) }
 {
-    match tree {
-        Tree::List(items) => Some(items),
-        Tree::Null | Tree::Truth(_) | Tree::Whole(_) | Tree::Text(_) | Tree::Object(_) => None,
+    match value {
+        Value::Array(items) => Some(items),
+        Value::Null | Value::Bool(_) | Value::Number(_) | Value::String(_) | Value::Object(_) =>
+            None,
     }
 }
 
-fn as_object(tree: &Tree) -> Option<&BTreeMap<String, Tree>>
-    ensures { MatchOption result (expected_fields (tree_view tree.now) ≡ no_fields)
-        (λ m. expected_fields (tree_view tree.now) ≡ object_view m.now.entries) }
+fn as_object(value: &Value) -> Option<&Map<String, Value>>
+    ensures { MatchOption result (expected_members (view value.now) ≡ no_members)
+        (λ m. expected_members (view value.now) ≡ members_view m.now.entries) }
 {
-    match tree {
-        Tree::Object(members) => Some(members),
-        Tree::Null | Tree::Truth(_) | Tree::Whole(_) | Tree::Text(_) | Tree::List(_) => None,
+    match value {
+        Value::Object(members) => Some(members),
+        Value::Null | Value::Bool(_) | Value::Number(_) | Value::String(_) | Value::Array(_) =>
+            None,
     }
 }
 
@@ -120,13 +123,13 @@ fn items_fit(
     searches: &mut Searches<'_>,
     rules: &RuleTable,
     alive: &Alive,
-    actual: &Vec<Tree>,
-    expected: &Vec<Tree>,
+    actual: &Vec<Value>,
+    expected: &Vec<Value>,
 ) -> Result<bool, MatchFault>
     requires started { WasStarted rules.now alive.now }
     ensures value { IfOk result (λ b. (at : Location) → HasReached rules.now alive.now at
         → b ≡ items_fit_of rules.now at
-        (list_view expected.now.items) 0 (list_view actual.now.items)) }
+        (items_view expected.now.items) 0 (items_view actual.now.items)) }
     ensures pattern { IfErr result (λ e. e ≡ Pattern → has_regex rules.now ≡ true) }
 {
     for (index, item) in actual.iter().enumerate() {
@@ -147,13 +150,13 @@ fn members_fit(
     searches: &mut Searches<'_>,
     rules: &RuleTable,
     alive: &Alive,
-    actual: &BTreeMap<String, Tree>,
-    expected: &BTreeMap<String, Tree>,
+    actual: &Map<String, Value>,
+    expected: &Map<String, Value>,
 ) -> Result<bool, MatchFault>
     requires started { WasStarted rules.now alive.now }
     ensures value { IfOk result (λ b. (at : Location) → HasReached rules.now alive.now at
         → b ≡ members_fit_of rules.now at
-        (object_view expected.now.entries) (object_view actual.now.entries)) }
+        (members_view expected.now.entries) (members_view actual.now.entries)) }
     ensures pattern { IfErr result (λ e. e ≡ Pattern → has_regex rules.now ≡ true) }
 {
     for (key, member) in actual.iter() {
@@ -168,24 +171,24 @@ fn members_fit(
 }
 
 /// The expected item at an index, or the first if the example is shorter.
-fn example_at(expected: &Vec<Tree>, index: usize) -> Option<&Tree>
-    ensures { optional_view result ≡ example (list_view expected.now.items) index }
+fn example_at(expected: &Vec<Value>, index: usize) -> Option<&Value>
+    ensures { option_map (λ v. view v.now) result ≡ example (items_view expected.now.items) index }
 {
     expected.get(index).or(expected.first())
 }
 
-/// Whether the two meet at this node: the chosen entry holds, or they are alike if none is.
+/// Whether the two meet here: the chosen entry holds, or they are alike if none is.
 fn meets_here(
     alloc: Global,
     searches: &mut Searches<'_>,
     rules: &RuleTable,
     alive: &Alive,
-    expected: &Tree,
-    actual: &Tree,
+    expected: &Value,
+    actual: &Value,
 ) -> Result<bool, MatchFault>
     requires started { WasStarted rules.now alive.now }
     ensures value { IfOk result (λ b. (at : Location) → HasReached rules.now alive.now at
-        → b ≡ meets_here_of rules.now at (tree_view expected.now) (tree_view actual.now)) }
+        → b ≡ meets_here_of rules.now at (view expected.now) (view actual.now)) }
     ensures pattern { IfErr result (λ e. e ≡ Pattern → has_regex rules.now ≡ true) }
 {
     match alive.chosen(rules) {
@@ -209,12 +212,12 @@ pub(crate) fn entry_holds(
     alloc: Global,
     searches: &mut Searches<'_>,
     entry: &Entry,
-    expected: &Tree,
-    actual: &Tree,
+    expected: &Value,
+    actual: &Value,
     own_place: bool,
 ) -> Result<bool, MatchFault>
     ensures value { IfOk result (λ b. b ≡ entry_holds_of (entry_view entry.now)
-        (tree_view expected.now) (tree_view actual.now) own_place) }
+        (view expected.now) (view actual.now) own_place) }
     ensures pattern { IfErr result (λ e. e ≡ Pattern → entry_has_regex (entry_view entry.now) ≡ true) }
 {
     if entry.any {
@@ -242,12 +245,12 @@ fn any_holds(
     alloc: Global,
     searches: &mut Searches<'_>,
     matchers: &[Matcher],
-    expected: &Tree,
-    actual: &Tree,
+    expected: &Value,
+    actual: &Value,
     own_place: bool,
 ) -> Result<bool, MatchFault>
     ensures value { IfOk result (λ b. b ≡ list_any
-        (λ m. holds_of m (tree_view expected.now) (tree_view actual.now) own_place)
+        (λ m. holds_of m (view expected.now) (view actual.now) own_place)
         (map matcher_view matchers.now)) }
     ensures pattern { IfErr result (λ e. e ≡ Pattern
         → list_any is_regex (map matcher_view matchers.now) ≡ true) }
@@ -264,12 +267,12 @@ fn all_hold(
     alloc: Global,
     searches: &mut Searches<'_>,
     matchers: &[Matcher],
-    expected: &Tree,
-    actual: &Tree,
+    expected: &Value,
+    actual: &Value,
     own_place: bool,
 ) -> Result<bool, MatchFault>
     ensures value { IfOk result (λ b. b ≡ list_all
-        (λ m. holds_of m (tree_view expected.now) (tree_view actual.now) own_place)
+        (λ m. holds_of m (view expected.now) (view actual.now) own_place)
         (map matcher_view matchers.now)) }
     ensures pattern { IfErr result (λ e. e ≡ Pattern
         → list_any is_regex (map matcher_view matchers.now) ≡ true) }
@@ -280,19 +283,4 @@ fn all_hold(
         }
     }
     Ok(true)
-}
-
-/// Whether two trees are of one kind, with equal scalars and lists of one length.
-pub(crate) fn are_alike(a: &Tree, b: &Tree) -> bool
-    ensures { result ≡ are_alike_of (tree_view a.now) (tree_view b.now) }
-{
-    match (a, b) {
-        (Tree::Null, Tree::Null) => true,
-        (Tree::Truth(a), Tree::Truth(b)) => a == b,
-        (Tree::Whole(a), Tree::Whole(b)) => a == b,
-        (Tree::Text(a), Tree::Text(b)) => a.as_str() == b.as_str(),
-        (Tree::List(a), Tree::List(b)) => a.len() == b.len(),
-        (Tree::Object(_), Tree::Object(_)) => true,
-        _ => false,
-    }
 }

@@ -14,7 +14,8 @@ ghost use Rattle.reply_check.specs.Sent.{WasSent, WereSent};
 use crate::fit::entry_holds;
 use crate::header_value::has_value;
 use pact_file::Header;
-use pact_rules::{MatchFault, RuleTable, Searches, Tree};
+use pact_rules::{MatchFault, RuleTable, Searches};
+use serde_json::Value;
 use std::alloc::Global;
 use std::cmp::Ordering;
 
@@ -89,8 +90,8 @@ fn value_fits(
     match rules.header(expected.name()) {
         None => Ok(has_value(alloc, expected.name(), expected.value(), sent)?),
         Some(entry) => {
-            let expected = Tree::Text(String::from_str(alloc, expected.value())?);
-            let sent = Tree::Text(String::from_str(alloc, sent)?);
+            let expected = Value::String(String::from_str(alloc, expected.value())?);
+            let sent = Value::String(String::from_str(alloc, sent)?);
             entry_holds(alloc, searches, entry, &expected, &sent, false)
         }
     }

@@ -18,18 +18,18 @@ ghost use Rattle.reply_check.specs.PartsView.{parts_view};
 use crate::fault::{Place, RepliesFault};
 use crate::reply::Reply;
 use pact_file::{
-    Header, Part, State, body_of, object_member, read_headers, read_states, read_status,
-    states_text, text_member,
+    Header, Part, State, read_headers, read_states, read_status, states_text, take_object,
+    text_member,
 };
 use serde_json::Value;
 use std::alloc::{AllocError, Global};
 
 /// What is read of a reply before its headers.
 #[derive(Drop)]
-struct Parts<'a> {
+struct Parts {
     description: String,
     states: Vec<State>,
-    response: &'a Value,
+    response: Value,
     status: u16,
 }
 
@@ -40,11 +40,12 @@ fn text_in<'a>(value: &'a Value, key: &str, place: Place) -> Result<&'a str, Rep
     text_member(value, key).ok_or(RepliesFault::Shape(place))
 }
 
-fn object_in<'a>(value: &'a Value, key: &str, place: Place) -> Result<&'a Value, RepliesFault>
-    ensures { GivesAlways (λ v. view v.now) result
-        (ok_or (object_at key.now (view value.now)) (Shape place)) }
+/// A member that is an object, moved out of the value.
+fn object_in(value: Value, key: &str, place: Place) -> Result<Value, RepliesFault>
+    ensures { GivesAlways view result
+        (ok_or (object_at key.now (view value)) (Shape place)) }
 {
-    object_member(value, key).ok_or(RepliesFault::Shape(place))
+    take_object(value, key).ok_or(RepliesFault::Shape(place))
 }
 
 fn states_in(alloc: Global, value: &Value, place: Place) -> Result<Vec<State>, RepliesFault>
@@ -69,53 +70,54 @@ fn status_in(response: &Value, place: Place) -> Result<u16, RepliesFault>
 }
 
 #[tactic(auto, unfolding(crate::specs::ReplyParts::parts_at))]
-fn read_parts<'a>(alloc: Global, index: usize, value: &'a Value) -> Result<Parts<'a>, RepliesFault>
-    ensures parts { Gives Memory parts_view result (parts_at index (view value.now)) }
-    ensures status { IfOk result (λ p. status_sent (view p.response.now) ≡ Some p.status) }
+fn read_parts(alloc: Global, index: usize, value: Value) -> Result<Parts, RepliesFault>
+    ensures parts { Gives Memory parts_view result (parts_at index (view value)) }
+    ensures status { IfOk result (λ p. status_sent (view p.response) ≡ Some p.status) }
 {
     if !value.is_object() {
         return Err(RepliesFault::Shape(Place::Reply(index, Part::Whole)));
     }
-    let description = text_in(value, "description", Place::Reply(index, Part::Description))?;
-    let states = states_in(alloc, value, Place::Reply(index, Part::States))?;
+    let description = text_in(
+        &value,
+        "description",
+        Place::Reply(index, Part::Description),
+    )?;
+    let states = states_in(alloc, &value, Place::Reply(index, Part::States))?;
+    let description = String::from_str(alloc, description)?;
     let response = object_in(value, "response", Place::Reply(index, Part::Response))?;
-    let status = status_in(response, Place::Reply(index, Part::Status))?;
+    let status = status_in(&response, Place::Reply(index, Part::Status))?;
     Ok(Parts {
-        description: String::from_str(alloc, description)?,
+        description,
         states,
         response,
         status,
     })
 }
 
-fn reply_of(alloc: Global, parts: Parts<'_>, headers: Vec<Header>) -> Result<Reply, AllocError>
+fn reply_of(alloc: Global, parts: Parts, headers: Vec<Header>) -> Result<Reply, AllocError>
     requires states { IsSound 97 (states_data parts.states.items) }
-    requires response { IsSound 97 (view parts.response.now) }
-    requires status { status_sent (view parts.response.now) ≡ Some parts.status }
-    requires headers { HasHeaders (view parts.response.now) headers.items }
-    ensures { IfOk result (λ r. r ≡ parts_view parts.entry) }
+    requires status { status_sent (view parts.response) ≡ Some parts.status }
+    requires headers { HasHeaders (view parts.response) headers.items }
+    ensures { IfOk result (λ r. r ≡ parts_view parts) }
 {
     let states_text = states_text(alloc, parts.states.as_slice())?;
-    let text = parts.response.to_string(alloc)?;
-    let body = body_of(alloc, parts.response)?;
     Ok(Reply {
         description: parts.description,
         states: parts.states,
-        text,
+        response: parts.response,
         status: parts.status,
         headers,
-        body,
         states_text,
     })
 }
 
 /// The reply at this index, or its first fault.
-pub(crate) fn read_reply(alloc: Global, index: usize, value: &Value) -> Result<Reply, RepliesFault>
-    requires { IsSound 98 (view value.now) }
-    ensures { GivesOne Memory (λ r. r) result (ReplyRead index (view value.now)) }
+pub(crate) fn read_reply(alloc: Global, index: usize, value: Value) -> Result<Reply, RepliesFault>
+    requires { IsSound 98 (view value) }
+    ensures { GivesOne Memory (λ r. r) result (ReplyRead index (view value)) }
 {
     let parts = read_parts(alloc, index, value)?;
-    match read_headers(alloc, parts.response)? {
+    match read_headers(alloc, &parts.response)? {
         None => Err(RepliesFault::Shape(Place::Reply(index, Part::Headers))),
         Some(headers) => Ok(reply_of(alloc, parts, headers)?),
     }

@@ -14,7 +14,7 @@ ghost use Rattle.reply_check.specs.Replies.{ReplyRead, HasRivals, FileRead, Repl
 use crate::fault::{Place, RepliesFault};
 use crate::parts::read_reply;
 use crate::reply::{Replies, Reply};
-use pact_file::{FileFault, list_member, read_object};
+use pact_file::{FileFault, read_object, take_list};
 use serde_json::Value;
 use std::alloc::{AllocError, Global};
 use std::collections::BTreeSet;
@@ -42,20 +42,21 @@ fn read_file(alloc: Global, bytes: &[u8]) -> Result<Value, RepliesFault>
     }
 }
 
-/// The values that are written as replies.
+/// The values that are written as replies, moved out of the file.
 #[tactic(auto, using(pact_file::proofs::Lists::listed_view), unfolding(crate::specs::ReplyParts::items_of))]
-fn items_in(file: &Value) -> Result<&Vec<Value>, RepliesFault>
-    ensures { GivesAlways (λ v. map view v.now.items) result (items_of (view file.now)) }
+fn items_in(file: Value) -> Result<Vec<Value>, RepliesFault>
+    ensures { GivesAlways (λ v. map view v.items) result (items_of (view file)) }
 {
-    list_member(file, "replies").ok_or(RepliesFault::Shape(Place::Replies))
+    take_list(file, "replies").ok_or(RepliesFault::Shape(Place::Replies))
 }
 
-fn read_list(alloc: Global, items: &[Value]) -> Result<Vec<Reply>, RepliesFault>
-    requires { AreSound 98 (items_view items.now) }
-    ensures { GivesOne Memory (λ v. v.items) result (EachRead ReplyRead 0 (map view items.now)) }
+fn read_list(alloc: Global, items: Vec<Value>) -> Result<Vec<Reply>, RepliesFault>
+    requires { AreSound 98 (items_view items.items) }
+    ensures { GivesOne Memory (λ v. v.items) result (EachRead ReplyRead 0 (map view items.items)) }
 {
     let mut found = Vec::new(alloc);
-    for (index, item) in items.iter().enumerate() {
+    for item in items {
+        let index = found.len();
         found.push(read_reply(alloc, index, item)?)?;
     }
     Ok(found)
@@ -84,17 +85,17 @@ pub fn read_replies(alloc: Global, bytes: &[u8]) -> Result<Replies, RepliesFault
     ensures memory { result ≡ Err Memory → IsSomeText bytes.now }
 {
     let file = read_file(alloc, bytes)?;
-    replies_of(alloc, &file)
+    replies_of(alloc, file)
 }
 
 /// The replies of a file that was read as JSON. That it has no list of them is found before memory is taken.
-fn replies_of(alloc: Global, file: &Value) -> Result<Replies, RepliesFault>
-    requires { IsSound 100 (view file.now) }
-    ensures reading { GivesOne Memory (λ r. r) result (FileRead (view file.now)) }
-    ensures items { (e : RepliesFaultModel) → items_of (view file.now) ≡ Err e → result ≡ Err e }
+fn replies_of(alloc: Global, file: Value) -> Result<Replies, RepliesFault>
+    requires { IsSound 100 (view file) }
+    ensures reading { GivesOne Memory (λ r. r) result (FileRead (view file)) }
+    ensures items { (e : RepliesFaultModel) → items_of (view file) ≡ Err e → result ≡ Err e }
 {
     let items = items_in(file)?;
-    let found = read_list(alloc, items.as_slice())?;
+    let found = read_list(alloc, items)?;
     if have_rivals(alloc, found.as_slice())? {
         return Err(RepliesFault::SameReplyTwice);
     }

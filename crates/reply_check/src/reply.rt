@@ -2,7 +2,7 @@
 
 ghost use Rattle.std.specs.Prelude.{◌≡◌, ◌&&◌, Some, bytes_eq, option_map};
 ghost use Rattle.serde_json.specs.Written.{compact_text};
-ghost use Rattle.pact_rules.specs.TreeView.{optional_view};
+ghost use Rattle.serde_json.specs.View.{view};
 ghost use Rattle.pact_file.specs.Headers.{HasHeaders};
 ghost use Rattle.pact_file.specs.Pact.{states_data};
 ghost use Rattle.pact_file.specs.Parts.{body_in};
@@ -10,37 +10,36 @@ ghost use Rattle.pact_file.specs.Sound.{IsSound};
 ghost use Rattle.reply_check.specs.Recorded.{status_sent};
 
 use pact_file::{Header, State};
-use pact_rules::Tree;
+use serde_json::Value;
 use std::marker::Model;
 
-/// What a provider answered for the interaction of a description and provider states. The response is only in its text.
+/// What a provider answered for the interaction of a description and provider states.
 #[derive(Drop)]
 pub struct Reply {
     pub(crate) description: String,
     pub(crate) states: Vec<State>,
-    pub(crate) text: String,
+    pub(crate) response: Value,
     pub(crate) status: u16,
     pub(crate) headers: Vec<Header>,
-    pub(crate) body: Option<Tree>,
     pub(crate) states_text: String,
 }
 
 impl Model for Reply {
-    ghost use Rattle.std.specs.Prelude.{string_bytes, option_map};
-    ghost use Rattle.pact_rules.specs.TreeView.{tree_view};
+    ghost use Rattle.std.specs.Prelude.{string_bytes};
+    ghost use Rattle.serde_json.specs.View.{view as seen};
     ghost use Rattle.reply_check.specs.Recorded.{Reply as ReplyModel, reply_code, reply_with};
-    ghost use Rattle.reply_check.specs.Filled.{IsFilled, said};
+    ghost use Rattle.reply_check.specs.Filled.{IsFilled};
 
     ghost Value = { ReplyModel };
 
     ghost coded = { reply_code };
 
     ghost view = { λ a. reply_with
-        (string_bytes a.description) a.states.items (said (string_bytes a.text)) };
+        (string_bytes a.description) a.states.items (seen a.response) };
 
     ghost invariant = { λ a. IsFilled
-        (reply_with (string_bytes a.description) a.states.items (said (string_bytes a.text)))
-        a.status a.headers.items (option_map tree_view a.body) (string_bytes a.states_text) };
+        (reply_with (string_bytes a.description) a.states.items (seen a.response))
+        a.status a.headers.items (string_bytes a.states_text) };
 }
 
 impl Reply {
@@ -83,10 +82,10 @@ impl Reply {
     }
 
     /// The body, if there is one.
-    pub fn body(&self) -> Option<&Tree>
-        ensures { optional_view result ≡ body_in self.now.response }
+    pub fn body(&self) -> Option<&Value>
+        ensures { option_map (λ v. view v.now) result ≡ body_in self.now.response }
     {
-        self.body.as_ref()
+        self.response.get("body")
     }
 }
 

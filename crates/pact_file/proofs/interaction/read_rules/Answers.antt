@@ -1,7 +1,6 @@
 use Rattle.std.proofs.Common.{Ok, Err, codes, sym, ◌∙◌, subst}
 use Rattle.serde_json.specs.View.{view}
-use Rattle.pact_rules.specs.TreeView.{tree_view}
-use Rattle.pact_file.{specs.Rules.{RulesRead}, proofs.{ReadLemmas.{rules_none, no_rules_of, rules_some, rules_of, pact_fault_apart}, SoundParts.{of_optional}}}
+use Rattle.pact_file.{specs.Rules.{RulesRead}, proofs.ReadLemmas.{rules_none, no_rules_of, rules_some, rules_of, pact_fault_apart}}
 use Rattle.pact_file.proofs.interaction.read_rules.Goals as goal
 
 pub returns-in-None-clause-read : goal.returns-in-None-clause-read
@@ -10,20 +9,17 @@ returns-in-None-clause-read c = rules_none c.args.index (view c.args.response.no
 pub returns-in-None-clause-table : goal.returns-in-None-clause-table
 returns-in-None-clause-table c = no_rules_of (view c.args.response.now) c.none.result c.in-None.ensures c.none.ensures
 
-pub part_of-requires : goal.part_of-requires
-part_of-requires c = of_optional 96 (codes "matchingRules") (view c.args.response.now) (view c.in-Some.rules.now) c.requires (sym c.in-Some.ensures)
-
 pub returns-in-Ok-clause-read : goal.returns-in-Ok-clause-read
 returns-in-Ok-clause-read c =
-    rules_some c.args.index (view c.args.response.now) (view c.in-Some.rules.now) (tree_view c.in_ok-tree-in-Some.tree) (Ok c.in-Ok.table) c.in-Some.ensures c.in_ok-tree-in-Some.ensures c.in-Ok.ensures.reading
+    rules_some c.args.index (view c.args.response.now) (view c.in-Some.rules.now) (Ok c.in-Ok.table) c.in-Some.ensures c.in-Ok.ensures.reading
 
 pub returns-in-Ok-clause-table : goal.returns-in-Ok-clause-table
 returns-in-Ok-clause-table c =
-    rules_of (view c.args.response.now) (view c.in-Some.rules.now) (tree_view c.in_ok-tree-in-Some.tree) c.in-Ok.table c.in-Some.ensures c.in_ok-tree-in-Some.ensures c.in-Ok.ensures.reading
+    rules_of (view c.args.response.now) (view c.in-Some.rules.now) c.in-Ok.table c.in-Some.ensures c.in-Ok.ensures.reading
 
 pub returns-in-Err-clause-read : goal.returns-in-Err-clause-read
 returns-in-Err-clause-read c = λ memory.
     let is = c.rule_fault.ensures in
     let a = pact_fault_apart c.args.index c.in-Err.fault (λ e. memory (is ∙ e)) in
     subst (λ e. RulesRead c.args.index (view c.args.response.now) (Err e)) (sym (is ∙ a.1))
-    (rules_some c.args.index (view c.args.response.now) (view c.in-Some.rules.now) (tree_view c.in_ok-tree-in-Some.tree) (Err c.in-Err.fault) c.in-Some.ensures c.in_ok-tree-in-Some.ensures (c.in-Err.ensures.reading a.0))
+    (rules_some c.args.index (view c.args.response.now) (view c.in-Some.rules.now) (Err c.in-Err.fault) c.in-Some.ensures (c.in-Err.ensures.reading a.0))

@@ -6,41 +6,29 @@ use Rattle.pact_file.proofs.ReadLemmas.{items_sound, values_sound, each_sound, f
 use Rattle.pact_rules.specs.Reading.{EachRead}
 use Rattle.pact_file.proofs.read.read_interactions.Goals as goal
 
-pub returns-in_err-items-clause-reading : goal.returns-in_err-items-clause-reading
+pub returns-in_err-items : goal.returns-in_err-items
 unfolding InteractionsRead
-returns-in_err-items-clause-reading c =
+returns-in_err-items c =
     let p = err_from_is_err_and c.from_residual.result c.from_residual.ensures.1 in
     rw (p.1, p.2) (λ memory. (Err c.in_err-items.field-0.0, c.in_err-items.ensures, refl))
 
 pub read_list-requires : goal.read_list-requires
 read_list-requires c =
-    subst (λ xs. AreSound 98 (items_view xs)) (sym c.as_slice.ensures.value) (values_sound c.in_ok-items.items.now.items (items_sound (view c.args.file.now) (map view c.in_ok-items.items.now.items) c.requires c.in_ok-items.ensures))
+    values_sound c.in_ok-items.items.items (items_sound (view c.args.file) (map view c.in_ok-items.items.items) c.requires c.in_ok-items.ensures)
 
-pub returns-in_err-found-clause-reading : goal.returns-in_err-found-clause-reading
+pub returns-in_err-found : goal.returns-in_err-found
 unfolding InteractionsRead
-returns-in_err-found-clause-reading c =
+returns-in_err-found c =
     let p = err_from_is_err_and c.from_residual-in_err-found.result c.from_residual-in_err-found.ensures.1 in
     rw (p.1, p.2) (λ memory.
     let e = c.in_err-found.field-0.0 in
-    let read : EachRead InteractionRead 0 (map view c.in_ok-items.items.now.items) (Err e) = subst (λ xs. EachRead InteractionRead 0 (map view xs) (Err e)) c.as_slice.ensures.value (c.in_err-found.ensures memory) in
-    (Ok (map view c.in_ok-items.items.now.items), c.in_ok-items.ensures, (Err e, read, refl)))
+    (Ok (map view c.in_ok-items.items.items), c.in_ok-items.ensures, (Err e, c.in_err-found.ensures memory, refl)))
 
-pub returns-clause-reading : goal.returns-clause-reading
+pub returns : goal.returns
 unfolding InteractionsRead
-returns-clause-reading c =
-    let vs = c.in_ok-items.items.now.items in
+returns c =
+    let vs = c.in_ok-items.items.items in
     let xs = c.in_ok-found.found.items in
-    let read : EachRead InteractionRead 0 (map view vs) (Ok xs) = subst (λ ys. EachRead InteractionRead 0 (map view ys) (Ok xs)) c.as_slice.ensures.value c.in_ok-found.ensures in
-    let good = each_sound 0 (map view vs) xs (items_sound (view c.args.file.now) (map view vs) c.requires c.in_ok-items.ensures) read in
+    let read = c.in_ok-found.ensures in
+    let good = each_sound 0 (map view vs) xs (items_sound (view c.args.file) (map view vs) c.requires c.in_ok-items.ensures) read in
     from_gives (λ v. v.items) c.in_key_order.result (ok_or (insert_all_sorted key_cmp same_text [] xs) SameInteraction) _ (λ a is. (Ok (map view vs), c.in_ok-items.ensures, (Ok xs, read, ordered xs a good is))) c.in_key_order.ensures
-
-pub returns-in_err-items-clause-items : goal.returns-in_err-items-clause-items
-returns-in_err-items-clause-items c =
-    let p = err_from_is_err_and c.from_residual.result c.from_residual.ensures.1 in
-    λ e h. p.1 ∙ ap Err (p.2 ∙ err_same _ _ (sym c.in_err-items.ensures ∙ h))
-
-pub returns-in_err-found-clause-items : goal.returns-in_err-found-clause-items
-returns-in_err-found-clause-items c = λ e h. ok_err _ e (sym c.in_ok-items.ensures ∙ h)
-
-pub returns-clause-items : goal.returns-clause-items
-returns-clause-items c = λ e h. ok_err _ e (sym c.in_ok-items.ensures ∙ h)

@@ -1,27 +1,39 @@
-use Rattle.serde_json.specs.View.{view}
-use Rattle.pact_file.{specs.Normal.{InteractionRead}, proofs.ReadLemmas.{value_sound}}
-use Rattle.pact_rules.proofs.Each.{goes_on, ends, is_done, begins}
-use Rattle.std.proofs.{Common.{arith}, lemmas.Result.{err_from_is_err_and}}
+use Rattle.serde_json.specs.View.{view, items_view}
+use Rattle.pact_file.specs.{Normal.{InteractionRead}, Sound.{AreSound}}
+use Rattle.pact_rules.proofs.Each.{Completes, goes_on, ends, is_done, begins}
+use Rattle.std.proofs.{Common.{Ok, Err, sym, ap, ◌∙◌, subst}, lemmas.List.{nil_from_length}, lemmas.Result.{err_from_is_err_and}}
 use Rattle.pact_file.proofs.read.read_list.Goals as goal
 
-pub loop-index-init : goal.loop-index-init
-loop-index-init c = begins InteractionRead view c.args.items.now c.new-found.result.items c.new-found.ensures.items
+pub loop-item-init : goal.loop-item-init
+loop-item-init c =
+    let all = sym c.into_iter-item-iterator.ensures.into_iter_gives.0 in
+    (subst (Completes InteractionRead view c.args.items.items c.new-found.result.items) all (begins InteractionRead view c.args.items.items c.new-found.result.items c.new-found.ensures.items), subst (λ vs. AreSound 98 (items_view vs)) all c.requires)
 
 pub read_interaction-requires : goal.read_interaction-requires
-read_interaction-requires c = value_sound 98 c.args.items.now c.loop-index.index c.index-items-index.result (omega arith) c.index-items-index.is c.requires
+read_interaction-requires c = (subst (λ vs. AreSound 98 (items_view vs)) c.in-Some.ensures.steps.0 c.loop-item.invariant.1).0
 
 pub returns-in_err-read_interaction : goal.returns-in_err-read_interaction
 returns-in_err-read_interaction c =
-    let l = c.loop-index in
+    let l = c.loop-item in
+    let e = c.in_err-read_interaction.field-0.0 in
+    let index = c.len-index.ensures ∙ l.found.ok.0 in
     let p = err_from_is_err_and c.from_residual.result c.from_residual.ensures.1 in
     rw (p.1, p.2) (λ memory.
-    ends InteractionRead view c.args.items.now l.found.items l.index c.index-items-index.result c.in_err-read_interaction.field-0.0 (omega arith) c.index-items-index.is (c.in_err-read_interaction.ensures memory) l.invariant)
+    ends InteractionRead view c.args.items.items l.found.items c.in-Some.item c.next.new.self.rest.items e (subst (λ i. InteractionRead i (view c.in-Some.item) (Err e)) index (c.in_err-read_interaction.ensures memory))
+    (subst (Completes InteractionRead view c.args.items.items l.found.items) c.in-Some.ensures.steps.0 l.invariant.0))
 
-pub loop-index-preserved : goal.loop-index-preserved
-loop-index-preserved c =
-    let l = c.loop-index in
-    goes_on InteractionRead view c.args.items.now l.found.items c.push.new.self.items l.index c.index-items-index.result c.in_ok-read_interaction.field-0 (omega arith) c.index-items-index.is c.in_ok-read_interaction.ensures
-    c.in_ok-push.ensures.items l.invariant
+pub loop-item-preserved : goal.loop-item-preserved
+loop-item-preserved c =
+    let l = c.loop-item in
+    let x = c.in_ok-read_interaction.field-0 in
+    let index = c.len-index.ensures ∙ l.found.ok.0 in (
+      goes_on InteractionRead view c.args.items.items l.found.items c.push.new.self.items c.in-Some.item c.next.new.self.rest.items x (subst (λ i. InteractionRead i (view c.in-Some.item) (Ok x)) index c.in_ok-read_interaction.ensures)
+          c.in_ok-push.ensures.items (subst (Completes InteractionRead view c.args.items.items l.found.items) c.in-Some.ensures.steps.0 l.invariant.0),
+      (subst (λ vs. AreSound 98 (items_view vs)) c.in-Some.ensures.steps.0 l.invariant.1).1,
+    )
 
 pub returns : goal.returns
-returns c = is_done InteractionRead view c.args.items.now c.loop-index.found.items c.loop-index.index (omega arith) c.loop-index.invariant
+returns c =
+    let l = c.loop-item in
+    let none = nil_from_length l.item-iterator.rest.items (sym l.item-iterator.rest.ok.0 ∙ c.in-None.ensures.steps.0) in
+    is_done InteractionRead view c.args.items.items l.found.items (subst (Completes InteractionRead view c.args.items.items l.found.items) none l.invariant.0)

@@ -1,7 +1,10 @@
-use Rattle.serde_json.specs.View.{view}
-use Rattle.pact_file.specs.Normal.{InteractionRead}
+use Rattle.std.proofs.Common.{◌≡◌}
+use Rattle.serde_json.specs.View.{view, items_view}
+use Rattle.pact_file.specs.{Normal.{InteractionRead}, Sound.{AreSound}}
 use Rattle.pact_rules.proofs.Each.{Completes}
 use Rattle.pact_file.proofs.read.read_list.Given as goal
 
-abbrev pub invariant-loop-index : goal.invariant-loop-index
-invariant-loop-index l = Completes InteractionRead view l.items l.found.items l.index
+-- what was read, with what is left, is the whole; and what is left is sound
+abbrev pub invariant-loop-item : goal.invariant-loop-item
+invariant-loop-item l =
+    Completes InteractionRead view l.fn.items.items l.found.items l.item-iterator.rest.items × AreSound 98 (items_view l.item-iterator.rest.items)

@@ -1,20 +1,21 @@
 use Rattle.std.proofs.Common.{◌≡◌, ◌∙◌, string_bytes, sym, ap, subst}
-use Rattle.pact_rules.specs.{Matching.{is_pattern}, TreeView.{tree_view, object_view}, Rules.{put, rule_text}, RuleViews.{rule_view, body_rules, IsKeyedBy}}
-use Rattle.pact_rules.{specs.{Outcome.{◌>>=◌}, RuleReading.{no_pattern, body_rule_at, body_at}}, proofs.OrderLemmas.{put_in_map, still_keyed}}
+use Rattle.pact_rules.specs.{Matching.{is_pattern}, Rules.{put, rule_text}, RuleViews.{rule_view, body_rules, IsKeyedBy}, Outcome.{◌>>=◌}}
+use Rattle.pact_rules.{specs.RuleReading.{no_pattern, body_rule_at, body_at}, proofs.OrderLemmas.{put_in_map, still_keyed}}
 use Rattle.pact_rules.proofs.PatternLemmas.{BodyJoins, BodyRegex, stops_on, body_rule_goes}
+use Rattle.serde_json.specs.View.{view, members_view}
 use Rattle.pact_rules.proofs.table_reader.read_body.Goals as goal
 
 pub loop-key-preserved : goal.loop-key-preserved
 loop-key-preserved c =
     let es = c.loop-key.rules.entries in
     let k = string_bytes c.in-Some.key.now in
-    let n = tree_view c.in-Some.tree.now in
-    let left = object_view c.next.new.self in
+    let n = view c.in-Some.value.now in
+    let left = members_view c.next.new.self in
     let found = c.in_ok-text in
     let r = rule_view found.rule in
     let h = c.loop-key.invariant in
     let read = ap (λ k. body_rule_at is_pattern (body_rules es) k n) (sym c.as_str.ensures.value) ∙ found.ensures.value in
-    let step = ap object_view c.in-Some.ensures.steps in
+    let step = ap members_view c.in-Some.ensures.steps in
     let entries = c.in_ok-insert.ensures.entries in
     let next : body_rules c.insert.new.self.entries ≡ put rule_text r (body_rules es) = ap body_rules entries ∙ put_in_map rule_view rule_text es found.text found.rule h.keyed found.ensures.text in record {
       keyed = subst (IsKeyedBy rule_view rule_text) (sym entries) (still_keyed rule_view rule_text es found.text found.rule h.keyed found.ensures.text);

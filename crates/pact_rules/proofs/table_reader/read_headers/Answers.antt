@@ -1,20 +1,21 @@
 use Rattle.std.proofs.Common.{◌≡◌, ◌∙◌, string_bytes, sym, ap, subst}
-use Rattle.pact_rules.specs.{Matching.{is_pattern}, TreeView.{tree_view, object_view}, Rules.{put, name_key}, RuleViews.{header_view, header_rules, IsKeyedBy}}
-use Rattle.pact_rules.{specs.{Outcome.{◌>>=◌}, RuleReading.{no_pattern, header_rule_at, headers_at}}, proofs.OrderLemmas.{put_in_map, still_keyed}}
+use Rattle.pact_rules.specs.{Matching.{is_pattern}, Rules.{put, name_key}, RuleViews.{header_view, header_rules, IsKeyedBy}, Outcome.{◌>>=◌}}
+use Rattle.pact_rules.{specs.RuleReading.{no_pattern, header_rule_at, headers_at}, proofs.OrderLemmas.{put_in_map, still_keyed}}
 use Rattle.pact_rules.proofs.PatternLemmas.{HeaderJoins, HeaderRegex, stops_on, header_rule_goes}
+use Rattle.serde_json.specs.View.{view, members_view}
 use Rattle.pact_rules.proofs.table_reader.read_headers.Goals as goal
 
 pub loop-key-preserved : goal.loop-key-preserved
 loop-key-preserved c =
     let es = c.loop-key.rules.entries in
     let k = string_bytes c.in-Some.key.now in
-    let n = tree_view c.in-Some.tree.now in
-    let left = object_view c.next.new.self in
+    let n = view c.in-Some.value.now in
+    let left = members_view c.next.new.self in
     let found = c.in_ok-name in
     let r = header_view found.rule in
     let h = c.loop-key.invariant in
     let read = ap (λ k. header_rule_at is_pattern (header_rules es) k n) (sym c.as_str.ensures.value) ∙ found.ensures.value in
-    let step = ap object_view c.in-Some.ensures.steps in
+    let step = ap members_view c.in-Some.ensures.steps in
     let entries = c.in_ok-insert.ensures.entries in
     let next : header_rules c.insert.new.self.entries ≡ put name_key r (header_rules es) = ap header_rules entries ∙ put_in_map header_view name_key es found.name found.rule h.keyed found.ensures.text in record {
       keyed = subst (IsKeyedBy header_view name_key) (sym entries) (still_keyed header_view name_key es found.name found.rule h.keyed found.ensures.text);

@@ -1,16 +1,17 @@
 use Rattle.std.proofs.Common.{◌≡◌, drop}
 use Rattle.pact_paths.specs.Paths.{Location}
 use Rattle.reply_check.specs.Computed.{items_fit, members_fit}
-use Rattle.pact_rules.specs.{TreeView.{list_view, object_view}, Walks.{HasReached}}
+use Rattle.pact_rules.specs.Walks.{HasReached}
+use Rattle.serde_json.specs.View.{items_view, members_view}
 use Rattle.reply_check.proofs.fit.+fitting.Given as goal
 
 -- all fit just where those that are left do
 abbrev pub invariant-items_fit-loop-index : goal.invariant-items_fit-loop-index
 invariant-items_fit-loop-index l =
-    let xs = list_view l.expected.items in
-    (at : Location) → HasReached l.rules l.alive at → items_fit l.rules at xs 0 (list_view l.actual.items) ≡ items_fit l.rules at xs l.index (list_view (drop l.index l.item-items))
+    let xs = items_view l.expected.items in
+    (at : Location) → HasReached l.rules l.alive at → items_fit l.rules at xs 0 (items_view l.actual.items) ≡ items_fit l.rules at xs l.index (items_view (drop l.index l.item-items))
 
 abbrev pub invariant-members_fit-loop-key : goal.invariant-members_fit-loop-key
 invariant-members_fit-loop-key l =
-    let fs = object_view l.expected.entries in
-    (at : Location) → HasReached l.rules l.alive at → members_fit l.rules at fs (object_view l.actual.entries) ≡ members_fit l.rules at fs (object_view l.key-iterator)
+    let fs = members_view l.expected.entries in
+    (at : Location) → HasReached l.rules l.alive at → members_fit l.rules at fs (members_view l.actual.entries) ≡ members_fit l.rules at fs (members_view l.key-iterator)

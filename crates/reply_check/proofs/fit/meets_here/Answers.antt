@@ -1,7 +1,7 @@
 use Rattle.std.{specs.List.{list_any}, proofs.Common.{rules, ◌≡◌, ◌∙◌, true, sym}}
 use Rattle.pact_paths.specs.Paths.{Location}
-use Rattle.pact_rules.specs.{Matching.{entry_holds}, Rules.{Rules, Entry, is_regex, has_regex}, RuleViews.{entry_view}, TreeView.{tree_view}}
-use Rattle.pact_rules.specs.Walks.{HasReached}
+use Rattle.pact_rules.specs.{Matching.{entry_holds}, Rules.{Rules, Entry, is_regex, has_regex}, RuleViews.{entry_view}, Walks.{HasReached}}
+use Rattle.serde_json.specs.View.{view}
 use Rattle.reply_check.{specs.Computed.{meets_here}, proofs.WalkLemmas.{met_chosen, regex_chosen}}
 use Rattle.reply_check.proofs.fit.meets_here.Goals as goal
 
@@ -9,8 +9,8 @@ pub returns-in-Some-clause-value : goal.returns-in-Some-clause-value
 returns-in-Some-clause-value c =
     let r : Rules = c.args.rules.now in
     let e : Entry = entry_view c.entry.result.now in
-    let x = tree_view c.args.expected.now in
-    let y = tree_view c.args.actual.now in
+    let x = view c.args.expected.now in
+    let y = view c.args.actual.now in
     let met : (at : Location) → HasReached r c.args.alive.now at → entry_holds e x y c.own_place-own_place.result ≡ meets_here r at x y
     = λ at h. met_chosen r at c.in-Some.index e x y c.own_place-own_place.result (sym c.in-Some.is ∙ c.chosen.ensures.computed at h) c.entry.ensures (c.own_place-own_place.ensures.computed at h) in
     search (rules, met)

@@ -11,14 +11,7 @@ returns-in_err-parts c =
     rw (p.1, p.2) (λ memory. (Err c.in_err-parts.field-0.0, c.in_err-parts.ensures.parts memory, refl))
 
 pub reply_of-requires-clause-states : goal.reply_of-requires-clause-states
-reply_of-requires-clause-states c =
-    let h = parts_sound c.args.index (view c.args.value.now) (parts_view c.in_ok-parts.parts) c.requires c.in_ok-parts.ensures.parts in
-    h.states
-
-pub reply_of-requires-clause-response : goal.reply_of-requires-clause-response
-reply_of-requires-clause-response c =
-    let h = parts_sound c.args.index (view c.args.value.now) (parts_view c.in_ok-parts.parts) c.requires c.in_ok-parts.ensures.parts in
-    h.response
+reply_of-requires-clause-states c = parts_sound c.args.index (view c.args.value) (parts_view c.in_ok-parts.parts) c.requires c.in_ok-parts.ensures.parts
 
 pub returns-in-None : goal.returns-in-None
 unfolding ReplyRead

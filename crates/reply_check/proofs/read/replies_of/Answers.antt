@@ -17,17 +17,17 @@ returns-in_err-items-clause-items c =
 
 pub read_list-requires : goal.read_list-requires
 read_list-requires c =
-    let file = view c.args.file.now in
-    let vs = c.in_ok-items.items.now.items in
-    subst (λ xs. AreSound 98 (items_view xs)) (sym c.as_slice.ensures.value) (values_sound vs (items_sound file (map view vs) c.requires c.in_ok-items.ensures))
+    let file = view c.args.file in
+    let vs = c.in_ok-items.items.items in
+    values_sound vs (items_sound file (map view vs) c.requires c.in_ok-items.ensures)
 
 pub returns-in_err-found-clause-reading : goal.returns-in_err-found-clause-reading
 returns-in_err-found-clause-reading c =
     let p = err_from_is_err_and c.from_residual-in_err-found.result c.from_residual-in_err-found.ensures.1 in
     rw (p.1, p.2) (λ memory.
-    let vs = c.in_ok-items.items.now.items in
+    let vs = c.in_ok-items.items.items in
     let e = c.in_err-found.field-0.0 in
-    let read : EachRead ReplyRead 0 (map view vs) (Err e) = subst (λ xs. EachRead ReplyRead 0 (map view xs) (Err e)) c.as_slice.ensures.value (c.in_err-found.ensures memory) in
+    let read : EachRead ReplyRead 0 (map view vs) (Err e) = c.in_err-found.ensures memory in
     (Ok (map view vs), c.in_ok-items.ensures, (Err e, read, refl)))
 
 pub returns-in_err-found-clause-items : goal.returns-in_err-found-clause-items
@@ -35,24 +35,24 @@ returns-in_err-found-clause-items c = λ e h. ok_err _ e (sym c.in_ok-items.ensu
 
 pub returns-then-branch-clause-reading : goal.returns-then-branch-clause-reading
 returns-then-branch-clause-reading c = λ memory.
-    let vs = c.in_ok-items.items.now.items in
+    let vs = c.in_ok-items.items.items in
     let rs = c.in_ok-found.found.items in
-    let read : EachRead ReplyRead 0 (map view vs) (Ok rs) = subst (λ xs. EachRead ReplyRead 0 (map view xs) (Ok rs)) c.as_slice.ensures.value c.in_ok-found.ensures in
-    let rivals : HasRivals rs = subst HasRivals c.as_slice-2.ensures.value (c.in_ok-have_rivals.ensures.0 c.if-branch.true) in
+    let read : EachRead ReplyRead 0 (map view vs) (Ok rs) = c.in_ok-found.ensures in
+    let rivals : HasRivals rs = subst HasRivals c.as_slice.ensures.value (c.in_ok-have_rivals.ensures.0 c.if-branch.true) in
     (Ok (map view vs), c.in_ok-items.ensures, (Ok rs, read, (rivals, refl)))
 
 pub returns-then-branch-clause-items : goal.returns-then-branch-clause-items
 returns-then-branch-clause-items c = λ e h. ok_err _ e (sym c.in_ok-items.ensures ∙ h)
 
 pub invariant_of-result : goal.invariant_of-result
-invariant_of-result c = λ rivals. decides_not c.in_ok-have_rivals.field-0 c.if-branch.false c.in_ok-have_rivals.ensures (subst HasRivals (sym c.as_slice-2.ensures.value) rivals)
+invariant_of-result c = λ rivals. decides_not c.in_ok-have_rivals.field-0 c.if-branch.false c.in_ok-have_rivals.ensures (subst HasRivals (sym c.as_slice.ensures.value) rivals)
 
 pub returns-clause-reading : goal.returns-clause-reading
 returns-clause-reading c =
-    let vs = c.in_ok-items.items.now.items in
+    let vs = c.in_ok-items.items.items in
     let rs = c.in_ok-found.found.items in
-    let read : EachRead ReplyRead 0 (map view vs) (Ok rs) = subst (λ xs. EachRead ReplyRead 0 (map view xs) (Ok rs)) c.as_slice.ensures.value c.in_ok-found.ensures in
-    let apart : ¬ HasRivals rs = λ rivals. decides_not c.in_ok-have_rivals.field-0 c.if-branch.false c.in_ok-have_rivals.ensures (subst HasRivals (sym c.as_slice-2.ensures.value) rivals) in
+    let read : EachRead ReplyRead 0 (map view vs) (Ok rs) = c.in_ok-found.ensures in
+    let apart : ¬ HasRivals rs = λ rivals. decides_not c.in_ok-have_rivals.field-0 c.if-branch.false c.in_ok-have_rivals.ensures (subst HasRivals (sym c.as_slice.ensures.value) rivals) in
     (Ok (map view vs), c.in_ok-items.ensures, (Ok rs, read, (apart, refl)))
 
 pub returns-clause-items : goal.returns-clause-items
