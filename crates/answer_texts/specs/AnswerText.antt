@@ -1,15 +1,17 @@
 -- the bodies and the statuses of answers (this project's own choice): compact JSON without a newline
-use Rattle.std.specs.Prelude.{◌≡◌, ℕ, [], codes, Option, MatchOption, String, string_bytes, false}
-use Rattle.std.specs.declared.alloc.Global.{Global}
+use Rattle.std.specs.Prelude.{◌≡◌, ℕ, [], Bool, true, false, codes, is_none, string_bytes}
 use Rattle.serde_json.specs.Written.{compact_text}
 use Rattle.broker_core.specs.declared.answer.Answer.{Answer}
 use Rattle.broker_core.specs.declared.answer.Answer.TheVariants as answer
+use Rattle.broker_core.specs.declared.answer.Detail.{Detail}
+use Rattle.broker_core.specs.declared.answer.Detail.TheVariants as detail
 use Rattle.broker_core.specs.declared.answer.Shown.{Shown}
 use Rattle.broker_core.specs.declared.answer.Shown.TheVariants as shown
 use Rattle.broker_core.specs.declared.policy.Rule.TheVariants.{A1}
 use Rattle.broker_core.specs.Text.{Text}
-use Rattle.broker_core.specs.Words.{rule_text, missing_text, clash_text, fault_text}
-use Rattle.broker_core.specs.Machine.{is_step}
+use Rattle.broker_core.specs.Words.{rule_text, missing_text, clash_text, fault_text, named_in}
+use Rattle.answer_texts.specs.declared.constants.BodyText.{BodyText}
+use Rattle.answer_texts.specs.declared.constants.BodyText.TheVariants as body
 use Rattle.answer_texts.specs.Data.{says, word_data, form_data, faults_data, matrix_data, detail_data, environment_data, gate_data}
 
 -- a pact is shown as its normal text
@@ -51,6 +53,33 @@ status_of answer.Memory = 503
 status_of answer.Store = 500
 status_of answer.Stopped = 503
 
--- the text that was made is the answer's; none is made for an answer that is no step, whose text is constant
-abbrev pub IsMade : Option (String Global) → Answer → Type 0
-IsMade made outcome = MatchOption made (is_step outcome ≡ false) (λ text. string_bytes text ≡ answer_text outcome)
+-- nothing is told beside the word
+abbrev pub is_plain : Detail → Bool
+is_plain detail.Plain = true
+is_plain (detail.Content n) = false
+is_plain (detail.Result n) = false
+is_plain (detail.Replies failing n success) = false
+
+-- the text is one of a fixed list: it tells nothing of the database, nor anything that the caller sent
+abbrev pub is_constant : Answer → Bool
+is_constant (answer.Done d) = is_plain d
+is_constant (answer.Already d) = is_plain d
+is_constant (answer.Shown x) = false
+is_constant (answer.Denied rule) = true
+is_constant (answer.Unknown what) = true
+is_constant (answer.BadForm f) = is_none (named_in f)
+is_constant (answer.Taken what) = true
+is_constant answer.Full = true
+is_constant (answer.NotPermitted faults) = false
+is_constant answer.Pattern = true
+is_constant answer.Memory = true
+is_constant answer.Store = true
+is_constant answer.Stopped = true
+
+-- for private clauses: the bytes of a body, and that they are those of this answer
+abbrev pub body_bytes : BodyText → Text
+body_bytes (body.Constant text) = text.now
+body_bytes (body.Made text) = string_bytes text
+
+abbrev pub IsMade : BodyText → Answer → Type 0
+IsMade text outcome = body_bytes text ≡ answer_text outcome

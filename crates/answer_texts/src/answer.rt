@@ -1,22 +1,22 @@
 //! An answer with its body and its status.
-ghost use Rattle.std.specs.Prelude.{◌≡◌, IfOk, false, string_bytes};
+ghost use Rattle.std.specs.Prelude.{◌≡◌, IfErr, IfOk, false};
 ghost use Rattle.broker_core.specs.Machine.{is_step};
 ghost use Rattle.answer_texts.specs.AnswerText as spec;
+ghost use Rattle.answer_texts.specs.AnswerText.{body_bytes};
 
-use crate::texts::{
-    detail_text, faults_text, form_text, plain_text, rule_text, shown_text, what_text,
-};
+use crate::constants::{BodyText, denied_text, fixed_text, taken_text, unknown_text};
+use crate::texts::{detail_text, faults_text, form_text, shown_text};
 use broker_core::answer::Answer as Outcome;
 use broker_core::policy::Rule;
 use http::StatusCode;
 use std::alloc::{AllocError, Global};
 use std::marker::Model;
 
-/// What came of a command, with the text of its body. A contract sees what came of it.
+/// What came of a command, with its body. A contract sees what came of it.
 #[derive(Drop)]
 pub struct Answer {
     outcome: Outcome,
-    made: Option<String>,
+    body: BodyText,
 }
 
 impl Model for Answer {
@@ -27,53 +27,44 @@ impl Model for Answer {
 
     ghost view = { λ a. a.outcome };
 
-    ghost invariant = { λ a. IsMade a.made a.outcome };
+    ghost invariant = { λ a. IsMade a.body a.outcome };
 }
 
-/// The body of an answer, made.
-fn made_text(alloc: Global, outcome: &Outcome) -> Result<String, AllocError>
-    ensures { IfOk result (λ text. string_bytes text ≡ spec.answer_text outcome.now) }
+/// The body of an answer. Only one that isn't constant takes memory.
+#[tactic(auto, unfolding(json::specs::Print::escape_byte))]
+fn body_of(alloc: Global, outcome: &Outcome) -> Result<BodyText, AllocError>
+    ensures text { IfOk result (λ body. body_bytes body ≡ spec.answer_text outcome.now) }
+    ensures memory { IfErr result (λ _. spec.is_constant outcome.now ≡ false) }
 {
     match outcome {
-        Outcome::Done(detail) => detail_text(alloc, "done", detail),
-        Outcome::Already(detail) => detail_text(alloc, "already", detail),
-        Outcome::Shown(shown) => shown_text(alloc, shown),
-        Outcome::Denied(rule) => rule_text(alloc, rule.as_str()),
-        Outcome::Unknown(what) => what_text(alloc, "unknown", what.as_str()),
+        Outcome::Done(detail) => detail_text(alloc, "done", "{\"answer\":\"done\"}", detail),
+        Outcome::Already(detail) => {
+            detail_text(alloc, "already", "{\"answer\":\"already\"}", detail)
+        }
+        Outcome::Shown(shown) => Ok(BodyText::Made(shown_text(alloc, shown)?)),
+        Outcome::Denied(rule) => Ok(BodyText::Constant(denied_text(*rule))),
+        Outcome::Unknown(what) => Ok(BodyText::Constant(unknown_text(*what))),
         Outcome::BadForm(fault) => form_text(alloc, fault),
-        Outcome::Taken(what) => what_text(alloc, "taken", what.as_str()),
-        Outcome::Full => plain_text(alloc, "full"),
-        Outcome::NotPermitted(faults) => faults_text(alloc, faults.as_slice()),
-        Outcome::Pattern => plain_text(alloc, "pattern"),
-        Outcome::Memory => plain_text(alloc, "memory"),
-        Outcome::Store => plain_text(alloc, "store"),
-        Outcome::Stopped => plain_text(alloc, "stopped"),
-    }
-}
-
-/// The body of an answer that is no step.
-fn fixed_text(outcome: &Outcome) -> &'static str
-    requires { is_step outcome.now ≡ false }
-    ensures { result.now ≡ spec.answer_text outcome.now }
-{
-    match outcome {
-        Outcome::Pattern => "{\"answer\":\"pattern\"}",
-        Outcome::Memory => "{\"answer\":\"memory\"}",
-        Outcome::Store => "{\"answer\":\"store\"}",
-        _ => "{\"answer\":\"stopped\"}",
+        Outcome::Taken(what) => Ok(BodyText::Constant(taken_text(*what))),
+        Outcome::Full => Ok(BodyText::Constant("{\"answer\":\"full\"}")),
+        Outcome::NotPermitted(faults) => {
+            Ok(BodyText::Made(faults_text(alloc, faults.as_slice())?))
+        }
+        Outcome::Pattern => Ok(BodyText::Constant(fixed_text(outcome))),
+        Outcome::Memory => Ok(BodyText::Constant(fixed_text(outcome))),
+        Outcome::Store => Ok(BodyText::Constant(fixed_text(outcome))),
+        Outcome::Stopped => Ok(BodyText::Constant(fixed_text(outcome))),
     }
 }
 
 impl Answer {
-    /// The answer of this outcome, with its body. Without memory for the body there is none.
+    /// The answer of this outcome, with its body. Without memory for a body that isn't constant there is none.
     pub fn new(alloc: Global, outcome: Outcome) -> Result<Answer, AllocError>
-        ensures { IfOk result (λ answer. answer ≡ outcome) }
+        ensures answer { IfOk result (λ answer. answer ≡ outcome) }
+        ensures memory { IfErr result (λ _. spec.is_constant outcome ≡ false) }
     {
-        let text = made_text(alloc, &outcome)?;
-        Ok(Answer {
-            outcome,
-            made: Some(text),
-        })
+        let body = body_of(alloc, &outcome)?;
+        Ok(Answer { outcome, body })
     }
 
     /// The answer that says why there was no step. Its body is constant, so that it takes no
@@ -82,8 +73,8 @@ impl Answer {
         requires { is_step outcome ≡ false }
         ensures { result ≡ outcome }
     {
-        let made = None;
-        Answer { outcome, made }
+        let body = BodyText::Constant(fixed_text(&outcome));
+        Answer { outcome, body }
     }
 
     /// What came of the command.
@@ -97,10 +88,7 @@ impl Answer {
     pub fn body(&self) -> &str
         ensures { result.now ≡ spec.answer_text self.now }
     {
-        match &self.made {
-            Some(text) => text.as_str(),
-            None => fixed_text(&self.outcome),
-        }
+        self.body.as_str()
     }
 
     /// The status of HTTP.

@@ -2,6 +2,7 @@
 #![tactic(auto)]
 
 mod answer;
+mod constants;
 mod items;
 mod parts;
 mod texts;

@@ -1,24 +1,20 @@
 //! The bodies of answers as texts.
-ghost use Rattle.std.specs.Prelude.{◌≡◌, IfOk, [], ◌∷◌, codes, string_bytes};
+ghost use Rattle.std.specs.Prelude.{◌≡◌, IfErr, IfOk, [], ◌∷◌, false, codes, is_none, string_bytes};
 ghost use Rattle.serde_json.specs.Data.{string};
 ghost use Rattle.serde_json.specs.Written.{compact_text};
-ghost use Rattle.broker_core.specs.Words.{fault_text};
+ghost use Rattle.broker_core.specs.Words.{fault_text, named_in};
 ghost use Rattle.answer_texts.specs.Data as spec;
 ghost use Rattle.answer_texts.specs.AnswerText as bodies;
+ghost use Rattle.answer_texts.specs.AnswerText.{body_bytes};
 ghost use Rattle.answer_texts.specs.Data.{IsJsonText};
 
+use crate::constants::BodyText;
 use crate::parts::Part;
 use crate::writing::object_text;
 use broker_core::answer::{DeployedItem, Detail, MatrixRow, Shown};
 use broker_core::command::{FormFault, Marks, Version};
 use broker_core::need::PairFault;
 use std::alloc::{AllocError, Global};
-
-pub(crate) fn plain_text(alloc: Global, word: &str) -> Result<String, AllocError>
-    ensures { IfOk result (IsJsonText (spec.says word.now [])) }
-{
-    object_text(alloc, &[("answer", Part::Text(word))])
-}
 
 fn content_text(alloc: Global, word: &str, content: u64) -> Result<String, AllocError>
     ensures { IfOk result (IsJsonText (spec.detail_data word.now (Detail.Content content))) }
@@ -59,36 +55,33 @@ fn replies_text<'a>(
     object_text(alloc, &members)
 }
 
-pub(crate) fn detail_text(alloc: Global, word: &str, detail: &Detail) -> Result<String, AllocError>
-    ensures { IfOk result (IsJsonText (spec.detail_data word.now detail.now)) }
+/// What was changed, or already stood so: a constant text if nothing but the word is told.
+pub(crate) fn detail_text(
+    alloc: Global,
+    word: &str,
+    alone: &'static str,
+    detail: &Detail,
+) -> Result<BodyText, AllocError>
+    requires { alone.now ≡ compact_text (spec.says word.now []) }
+    ensures text { IfOk result (λ body. body_bytes body ≡ compact_text (spec.detail_data word.now detail.now)) }
+    ensures memory { IfErr result (λ _. bodies.is_plain detail.now ≡ false) }
 {
     match detail {
-        Detail::Plain => plain_text(alloc, word),
-        Detail::Content(content) => content_text(alloc, word, *content),
-        Detail::Result(number) => result_text(alloc, word, *number),
+        Detail::Plain => Ok(BodyText::Constant(alone)),
+        Detail::Content(content) => Ok(BodyText::Made(content_text(alloc, word, *content)?)),
+        Detail::Result(number) => Ok(BodyText::Made(result_text(alloc, word, *number)?)),
         Detail::Replies {
             failing,
             result,
             success,
-        } => replies_text(alloc, word, failing.as_slice(), *result, *success),
+        } => {
+            let text = replies_text(alloc, word, failing.as_slice(), *result, *success)?;
+            Ok(BodyText::Made(text))
+        }
     }
 }
 
-pub(crate) fn rule_text(alloc: Global, rule: &str) -> Result<String, AllocError>
-    ensures { IfOk result (IsJsonText (spec.word_data (codes "denied") (codes "rule") rule.now)) }
-{
-    let members = [("answer", Part::Text("denied")), ("rule", Part::Text(rule))];
-    object_text(alloc, &members)
-}
-
-pub(crate) fn what_text(alloc: Global, word: &str, what: &str) -> Result<String, AllocError>
-    ensures { IfOk result (IsJsonText (spec.word_data word.now (codes "what") what.now)) }
-{
-    let members = [("answer", Part::Text(word)), ("what", Part::Text(what))];
-    object_text(alloc, &members)
-}
-
-pub(crate) fn form_text(alloc: Global, fault: &FormFault) -> Result<String, AllocError>
+fn named_fault_text(alloc: Global, fault: &FormFault) -> Result<String, AllocError>
     ensures { IfOk result (λ text. string_bytes text ≡ compact_text
         (spec.says (codes "bad form") ((codes "fault", string (fault_text fault.now)) ∷ []))) }
 {
@@ -98,6 +91,27 @@ pub(crate) fn form_text(alloc: Global, fault: &FormFault) -> Result<String, Allo
         ("fault", Part::Text(fault.as_str())),
     ];
     object_text(alloc, &members)
+}
+
+/// A fault of form: a constant text if it names nothing.
+#[tactic(auto, unfolding(json::specs::Print::escape_byte))]
+pub(crate) fn form_text(alloc: Global, fault: &FormFault) -> Result<BodyText, AllocError>
+    ensures text { IfOk result (λ body. body_bytes body ≡ compact_text (spec.form_data (fault_text fault.now))) }
+    ensures memory { IfErr result (λ _. is_none (named_in fault.now) ≡ false) }
+{
+    match fault {
+        FormFault::Name => Ok(BodyText::Constant("{\"answer\":\"bad form\",\"fault\":\"name\"}")),
+        FormFault::Json => Ok(BodyText::Constant("{\"answer\":\"bad form\",\"fault\":\"json\"}")),
+        FormFault::Token => Ok(BodyText::Constant("{\"answer\":\"bad form\",\"fault\":\"token\"}")),
+        FormFault::Names => Ok(BodyText::Constant("{\"answer\":\"bad form\",\"fault\":\"names\"}")),
+        FormFault::UnknownReply => {
+            Ok(BodyText::Constant("{\"answer\":\"bad form\",\"fault\":\"check 1\"}"))
+        }
+        FormFault::Field(_) => Ok(BodyText::Made(named_fault_text(alloc, fault)?)),
+        FormFault::Query(_) => Ok(BodyText::Made(named_fault_text(alloc, fault)?)),
+        FormFault::Pact(_) => Ok(BodyText::Made(named_fault_text(alloc, fault)?)),
+        FormFault::Replies(_) => Ok(BodyText::Made(named_fault_text(alloc, fault)?)),
+    }
 }
 
 pub(crate) fn faults_text(alloc: Global, faults: &[PairFault]) -> Result<String, AllocError>

@@ -1,13 +1,15 @@
 -- Responses go on.
 use Rattle.std.specs.Io.KnownBytes.{Appends, Consumes}
-use Rattle.std.proofs.Common.{◌≡◌, ℕ, ◌+◌, ◌<◌, false, List, [], ◌∷◌, ◌++◌, Option, Result, length, take, drop, refl, sym, ap, ◌∙◌, subst, append_assoc, append-nil, arith}
+use Rattle.std.proofs.Common.{◌≡◌, ℕ, ◌+◌, ◌<◌, false, List, [], ◌∷◌, ◌++◌, Option, Result, length, take, drop, refl, sym, ap, ◌∙◌, subst, append_assoc, append-nil, inl, inr, arith}
 use Rattle.std.proofs.KnownBytes.{Appends-trans, Consumes-trans}
 use Rattle.http_messages.specs.{Message.{Message}, Reading.{LeavesAtFault, IsOutcome, TellsFailure}, declared.reading.ReadFault.{ReadFault}}
 use Rattle.http_messages.specs.{declared.head.Head.{Head}, declared.head.Refused.{Refused}, declared.reading.ReadOutcome.{ReadOutcome}}
-use Rattle.http_messages.{specs.Messages.{BeginsWithMessage, HasNoMessage, message_of}, proofs.MessagesLemmas.{BeginsWithMessage-more}}
-use Rattle.broker_http.specs.{Faults.{fault_of_read, TellsReader}, Serving.{ServesUntil}}
+use Rattle.http_messages.specs.Messages.{AnnouncesBody, BeginsWithMessage, HasNoMessage, message_of}
+use Rattle.http_messages.proofs.MessagesLemmas.{BeginsWithMessage-more, IsHeadOf-more}
+use Rattle.broker_http.specs.{Faults.{fault_of_read, TellsDevice}, Serving.{IsOutOfMemory, ServesUntil}}
 use Rattle.broker_http.specs.{Stream.{texts, AllOpen, Responses, ExchangeCut, StreamCut, StreamEnds}, declared.served.ServeFault.{ServeFault}}
 use Rattle.broker_http.specs.{declared.served.Ended.{Ended}, declared.served.Ended.TheVariants.{AtEnd, Rest, Closed}}
+use Rattle.http_requests.specs.Requests.{AsksOperation}
 use Rattle.http_responses.specs.Responses.{Response}
 use Rattle.http_messages.specs.declared.reading.ReadFault.TheVariants as reads
 use Rattle.http_messages.specs.declared.reading.ReadOutcome.TheVariants as outcomes
@@ -72,6 +74,16 @@ came : (a b : Option (List ℕ)) (old new : List ℕ) (fault : ReadFault) → Le
 came a b old new (reads.Reader failed) p = (p.0, p.1)
 came a b old new reads.Memory p = (p.0 ++ p.1, p.2)
 
+-- memory that runs out behind a head, for its body
+lacks : (a b : Option (List ℕ)) (old new stream : List ℕ) (fault : ReadFault) (left : LeavesAtFault a b old new fault) → (fault ≡ reads.Memory → AnnouncesBody new)
+    → IsOutOfMemory (fault_of_read fault) stream (old ++ (came a b old new fault left).0)
+unfolding came
+lacks a b old new stream (reads.Reader failed) left body = tt
+lacks a b old new stream reads.Memory left body =
+    let there = body refl in
+    let grown : old ++ (left.0 ++ left.1) ≡ new ++ left.1 = sym (append_assoc old left.0 left.1) ∙ ap (λ l. l ++ left.1) (sym left.4) in
+    inr (inl (subst AnnouncesBody (sym grown) (there.0, there.1, IsHeadOf-more new left.1 there.0 there.2, there.3, there.4)))
+
 -- nothing is left
 pub StreamEnds-at_end : (ended : Ended) (responses : List Response) (rest : List ℕ) → ended ≡ AtEnd → AllOpen responses → length rest ≡ 0 → StreamEnds ended responses rest
 StreamEnds-at_end AtEnd responses [] e opened none = (opened, refl)
@@ -90,20 +102,22 @@ module _ {S : Type 0} (Exchange : S → Message → Response → S → Type 0) w
   pub Responses-broken : (s : S) (stream : List ℕ) (responses : List Response) (t : S) (bytes : List ℕ) (m : Message) (after : List ℕ) (u : S)
       (first old new : Option (List ℕ)) (fault : ServeFault)
       → Responses Exchange s stream responses t bytes → AllOpen responses → Appends first old (texts responses) → BeginsWithMessage bytes m after
-      → ExchangeCut Exchange t m u old new fault
+      → ExchangeCut Exchange t m u old new fault → (fault ≡ faults.Memory → AsksOperation m)
       → (more : List Response) × (rest : List ℕ) × (out : List ℕ) × Responses Exchange s stream more u rest × StreamCut fault more out × Appends first new out
-  Responses-broken s stream responses t bytes m after u first old new (faults.Read failed) so_far opened out begins broken = absurd broken
-  Responses-broken s stream responses t bytes m after u first old new (faults.Turn over) so_far opened out begins broken = absurd broken
-  Responses-broken s stream responses t bytes m after u first old new faults.Count so_far opened out begins broken = absurd broken
-  Responses-broken s stream responses t bytes m after u first old new faults.Memory so_far opened out begins broken = (
+      × IsOutOfMemory fault stream rest
+  Responses-broken s stream responses t bytes m after u first old new (faults.Read failed) so_far opened out begins broken asks = absurd broken
+  Responses-broken s stream responses t bytes m after u first old new (faults.Turn over) so_far opened out begins broken asks = absurd broken
+  Responses-broken s stream responses t bytes m after u first old new faults.Count so_far opened out begins broken asks = absurd broken
+  Responses-broken s stream responses t bytes m after u first old new faults.Memory so_far opened out begins broken asks = (
     responses,
     bytes,
     texts responses ++ [],
     Responses-stay Exchange s stream responses t u bytes so_far broken.0,
     (opened, append-nil (texts responses)),
     Appends-trans first old new (texts responses) [] out broken.1,
+    inr (inr (m, after, begins, asks refl)),
   )
-  Responses-broken s stream responses t bytes m after u first old new (faults.Write fault) so_far opened out begins broken =
+  Responses-broken s stream responses t bytes m after u first old new (faults.Write fault) so_far opened out begins broken asks =
       let response = broken.0 in
       let part = broken.2 in (
         responses ++ response ∷ [],
@@ -112,15 +126,16 @@ module _ {S : Type 0} (Exchange : S → Message → Response → S → Type 0) w
         Responses-then Exchange s stream responses t bytes m response u after so_far begins broken.1,
         (responses, response, part.0, refl, opened, part.1, refl),
         Appends-trans first old new (texts responses) (take part.0 response.text) out part.2,
+        tt,
       )
 
   -- the reader fails behind the messages that are answered
   pub Responses-unread : (s : S) (stream : List ℕ) (responses : List Response) (t : S) (bytes new : List ℕ)
       (a b c first old : Option (List ℕ)) (fault : ReadFault)
       → Consumes a b stream → Responses Exchange s stream responses t bytes → AllOpen responses → Appends first old (texts responses)
-      → LeavesAtFault b c bytes new fault
+      → LeavesAtFault b c bytes new fault → (fault ≡ reads.Memory → AnnouncesBody new)
       → ServesUntil Exchange s t a c first old (fault_of_read fault)
-  Responses-unread s stream responses t bytes new a b c first old fault read so_far opened out left =
+  Responses-unread s stream responses t bytes new a b c first old fault read so_far opened out left body =
       let more = came b c bytes new fault left in (
         stream ++ more.0,
         responses,
@@ -130,17 +145,18 @@ module _ {S : Type 0} (Exchange : S → Message → Response → S → Type 0) w
         Responses-more Exchange s stream responses t bytes more.0 so_far,
         StreamCut-read fault responses opened,
         out,
+        lacks b c bytes new (stream ++ more.0) fault left body,
       )
 
-  -- a fault at one message isn't the reader's
-  pub tells_none : (s : S) (m : Message) (t : S) (old new : Option (List ℕ)) (fault : ServeFault) (P : Type 0) → ExchangeCut Exchange s m t old new fault → TellsReader fault P
-  tells_none s m t old new (faults.Read failed) P broken = absurd broken
-  tells_none s m t old new (faults.Turn over) P broken = tt
-  tells_none s m t old new faults.Count P broken = tt
-  tells_none s m t old new (faults.Write fault) P broken = tt
-  tells_none s m t old new faults.Memory P broken = tt
+-- a fault at one message isn't the reader's
+pub tells_writer : (fault : ServeFault) (P Q : Type 0) → TellsDevice fault ⊥ Q → TellsDevice fault P Q
+tells_writer (faults.Read failed) P Q p = absurd p
+tells_writer (faults.Turn over) P Q p = tt
+tells_writer faults.Count P Q p = tt
+tells_writer (faults.Write fault) P Q p = p
+tells_writer faults.Memory P Q p = tt
 
 -- the fault of reading a message, as one of serving, says no more of the reader
-pub tells_reader : (fault : ReadFault) (P : Type 0) → TellsFailure fault P → TellsReader (fault_of_read fault) P
-tells_reader (reads.Reader failed) P p = p
-tells_reader reads.Memory P p = tt
+pub tells_reader : (fault : ReadFault) (P Q : Type 0) → TellsFailure fault P → TellsDevice (fault_of_read fault) P Q
+tells_reader (reads.Reader failed) P Q p = p
+tells_reader reads.Memory P Q p = tt

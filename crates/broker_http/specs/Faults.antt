@@ -8,10 +8,10 @@ abbrev pub fault_of_read : ReadFault → ServeFault
 fault_of_read (reads.Reader failed) = Read failed
 fault_of_read reads.Memory = Memory
 
--- the reader has failed, if this fault says so
-abbrev pub TellsReader : ServeFault → Type 0 → Type 0
-TellsReader (Read failed) HasFailed = HasFailed
-TellsReader (Turn over) HasFailed = Unit {0}
-TellsReader Count HasFailed = Unit {0}
-TellsReader (Write fault) HasFailed = Unit {0}
-TellsReader Memory HasFailed = Unit {0}
+-- the reader or the writer has failed, if this fault says so
+abbrev pub TellsDevice : ServeFault → (ReaderHasFailed WriterHasFailed : Type 0) → Type 0
+TellsDevice (Read failed) ReaderHasFailed WriterHasFailed = ReaderHasFailed
+TellsDevice (Turn over) ReaderHasFailed WriterHasFailed = Unit {0}
+TellsDevice Count ReaderHasFailed WriterHasFailed = Unit {0}
+TellsDevice (Write fault) ReaderHasFailed WriterHasFailed = WriterHasFailed
+TellsDevice Memory ReaderHasFailed WriterHasFailed = Unit {0}

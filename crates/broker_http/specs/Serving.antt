@@ -1,5 +1,5 @@
 -- A broker that serves, as the machine or stopped.
-use Rattle.std.specs.Prelude.{◌≡◌, ◌≢◌, ◌⊎◌, ◌+◌, ◌*◌, ℕ, true, false, List, length, Option, None, Result, IfOk, IfErr}
+use Rattle.std.specs.Prelude.{◌≡◌, ◌≢◌, ◌⊎◌, ◌+◌, ◌*◌, ℕ, true, false, List, [], length, Option, None, Result, IfOk, IfErr}
 use Rattle.std.specs.Io.KnownBytes.{Appends, Consumes, IsAtEnd}
 use Rattle.sqlite.specs.Held.{Held}
 use Rattle.sqlite.specs.State.{State, HasCause}
@@ -21,10 +21,13 @@ use Rattle.command_facts.specs.Patterns.{AsksPattern}
 use Rattle.command_facts.specs.Primitives.{broker_primitives}
 use Rattle.broker_database.specs.Stored.{Stores, HoldsState}
 use Rattle.http_messages.specs.Message.{Message}
+use Rattle.http_messages.specs.Messages.{AnnouncesBody, BeginsWithMessage}
+use Rattle.http_requests.specs.Requests.{AsksOperation}
 use Rattle.http_responses.specs.Responses.{Response}
 use Rattle.broker_http.specs.Stream.{texts, Responses, StreamEnds, StreamCut}
 use Rattle.broker_http.specs.declared.served.Ended.TheVariants.{Closed}
 use Rattle.broker_http.specs.declared.served.ServeFault.{ServeFault}
+use Rattle.broker_http.specs.declared.served.ServeFault.TheVariants as faults
 use Rattle.broker_http.specs.declared.served.Served.{Served}
 
 -- the broker is the machine in a state; or a command of a token, in a state, failed, and the broker is stopped
@@ -78,6 +81,17 @@ module _ {X : Type 0} (shown : Held X → State) (first : Mode) (old new : Held 
       × (HasRoomFor (enough * (steps + 1)) (shown old).now
       → (before : Held X) × CommitLacksMemory shown s token command before new))
 
+-- Why memory ran out, by what was read, and what of that is behind the messages that are answered: nothing was read; or
+-- there is a head that announces a body, or a message that asks an operation.
+abbrev pub IsOutOfMemory : ServeFault → (stream rest : List ℕ) → Type 0
+IsOutOfMemory (faults.Read failed) stream rest = Unit {0}
+IsOutOfMemory (faults.Turn over) stream rest = Unit {0}
+IsOutOfMemory faults.Count stream rest = Unit {0}
+IsOutOfMemory (faults.Write fault) stream rest = Unit {0}
+IsOutOfMemory faults.Memory stream rest =
+    (stream ≡ []) ⊎ AnnouncesBody rest
+    ⊎ ((m : Message) × (after : List ℕ) × BeginsWithMessage rest m after × AsksOperation m)
+
 module _ {S : Type 0} (Exchange : S → Message → Response → S → Type 0) (s t : S)
     (before after old new : Option (List ℕ)) where
   -- what was read is answered message by message, and nothing else is written
@@ -98,6 +112,7 @@ module _ {S : Type 0} (Exchange : S → Message → Response → S → Type 0) (
       × Responses Exchange s stream responses t rest
       × StreamCut fault responses out
       × Appends old new out
+      × IsOutOfMemory fault stream rest
 
   -- what serving a stream comes to
   pub record ServesStream (result : Result Served ServeFault) : Type 0 where

@@ -1,9 +1,11 @@
 //! One message and its response.
-ghost use Rattle.std.specs.Prelude.{◌≡◌, ◌≤◌, [], vec_capacity, IfOk, IfErr};
+ghost use Rattle.std.specs.Prelude.{◌≡◌, ◌≤◌, vec_capacity, IfOk, IfErr};
 ghost use Rattle.broker_database.specs.Calls.{Applied};
 ghost use Rattle.http_messages.specs.Message.{message};
 ghost use Rattle.http_messages.specs.Views.{IsHeadRead};
+ghost use Rattle.http_requests.specs.Requests.{AsksOperation};
 ghost use Rattle.broker_http.specs.Calls.{ByBroker, IsResponded};
+ghost use Rattle.broker_http.specs.Faults.{TellsDevice};
 ghost use Rattle.broker_http.specs.Stream.{ExchangeCut, ExchangeDone};
 
 use crate::served::ServeFault;
@@ -14,12 +16,11 @@ use broker_names::name::Token;
 use http_messages::head::{Head, Refused};
 use http_requests::{Request, read_request};
 use http_responses::{
-    HEAD_CAPACITY, RESPONSE_CAPACITY, WriteFault, write_answer, write_no_method, write_no_route,
+    FallibleWrite, HEAD_CAPACITY, WriteFault, write_answer, write_no_method, write_no_route,
     write_refusal,
 };
 use http_routes::RouteTable;
 use std::alloc::Global;
-use std::io::Write;
 
 /// Runs a command of the caller with this token.
 fn apply<B: Service>(
@@ -38,18 +39,19 @@ fn apply<B: Service>(
 
 /// Answers what a message asks, and says whether the response closes the stream.
 ///
-/// The response goes through the empty buffer, its head whole, so that nothing is allocated after the command.
-fn respond<B: Service, W: Write>(
+/// The response goes through the buffer, its head whole, so that nothing is allocated after the command.
+fn respond<B: Service, W: FallibleWrite>(
     alloc: Global,
     broker: &mut B,
     request: Request,
-    head_buffer: Vec<u8>,
+    head_buffer: &mut Vec<u8>,
     writer: &mut W,
 ) -> Result<bool, WriteFault>
-    requires empty { head_buffer.items ≡ [] }
-    requires capacity { HEAD_CAPACITY ≤ vec_capacity head_buffer }
-    ensures { IsResponded B.shown (B.seen broker.old) (B.seen broker.new)
+    requires capacity { HEAD_CAPACITY ≤ vec_capacity head_buffer.old }
+    ensures responded { IsResponded B.shown (B.seen broker.old) (B.seen broker.new)
         (W.contents writer.old) (W.contents writer.new) request result }
+    ensures failed { IfErr result (λ _. W.HasFailed writer.new) }
+    ensures capacity { HEAD_CAPACITY ≤ vec_capacity head_buffer.new }
 {
     match request {
         Request::Refused {
@@ -79,25 +81,28 @@ fn respond<B: Service, W: Write>(
 
 /// Answers a message by its head, what was read of it, and its body, and says whether the response closes the stream.
 ///
-/// `Memory` comes before anything is done; `Write` leaves a part of the response out.
-pub(crate) fn answer<B: Service, W: Write>(
+/// `Memory` comes before anything is done, and only of a message that asks an operation; `Write` leaves a part of the
+/// response out.
+pub(crate) fn answer<B: Service, W: FallibleWrite>(
     alloc: Global,
     routes: &RouteTable,
     broker: &mut B,
     text: &[u8],
     head: Result<Head, Refused>,
     body: &[u8],
+    head_buffer: &mut Vec<u8>,
     writer: &mut W,
 ) -> Result<bool, ServeFault>
-    requires { IsHeadRead text.now head }
+    requires read { IsHeadRead text.now head }
+    requires capacity { HEAD_CAPACITY ≤ vec_capacity head_buffer.old }
     ensures ok { IfOk result (ExchangeDone (ByBroker B.shown) (B.seen broker.old) (message text.now body.now)
         (B.seen broker.new) (W.contents writer.old) (W.contents writer.new)) }
     ensures fault { IfErr result (ExchangeCut (ByBroker B.shown) (B.seen broker.old) (message text.now body.now)
         (B.seen broker.new) (W.contents writer.old) (W.contents writer.new)) }
+    ensures memory { IfErr result (λ fault. fault ≡ ServeFault.Memory → AsksOperation (message text.now body.now)) }
+    ensures failed { IfErr result (λ fault. TellsDevice fault ⊥ (W.HasFailed writer.new)) }
+    ensures kept { HEAD_CAPACITY ≤ vec_capacity head_buffer.new }
 {
-    let Ok(head_buffer) = Vec::with_capacity(alloc, RESPONSE_CAPACITY) else {
-        return Err(ServeFault::Memory);
-    };
     let Ok(request) = read_request(alloc, routes, text, head, body) else {
         return Err(ServeFault::Memory);
     };

@@ -2,7 +2,7 @@
 ghost use Rattle.std.specs.Prelude.{◌≡◌, ◌+◌, ◌≤◌, length, take, drop, IfErr};
 ghost use Rattle.std.specs.Io.KnownBytes.{Keeps};
 ghost use Rattle.broker_http.specs.Calls.{IsAnsweredByBroker, IsServed};
-ghost use Rattle.broker_http.specs.Faults.{TellsReader};
+ghost use Rattle.broker_http.specs.Faults.{TellsDevice};
 
 use crate::exchange::answer;
 use crate::served::{Ended, ServeFault, Served};
@@ -11,9 +11,10 @@ use http_messages::buffer::{Buffer, drop_front};
 use http_messages::device::FallibleRead;
 use http_messages::reading::{ReadOutcome, read_message};
 use http_messages::turn::TurnOver;
+use http_responses::{FallibleWrite, RESPONSE_CAPACITY};
 use http_routes::RouteTable;
 use std::alloc::Global;
-use std::io::{Read, Write};
+use std::io::Read;
 
 /// When a stream ends between two of its messages, though its reader goes on.
 pub(crate) trait Turn<R: Read> {
@@ -44,7 +45,7 @@ fn message_parts(bytes: &[u8], head_len: usize, body_len: usize) -> (&[u8], &[u8
 /// Answers the messages of a stream one after another, by what the broker promises of each command on any disk.
 ///
 /// It is apart from `serve_for`, whose clause on the machine follows from this one at once.
-fn serve_all<T: Turn<R>, R: FallibleRead, W: Write, B: Service>(
+fn serve_all<T: Turn<R>, R: FallibleRead, W: FallibleWrite, B: Service>(
     alloc: Global,
     routes: &RouteTable,
     broker: &mut B,
@@ -54,9 +55,14 @@ fn serve_all<T: Turn<R>, R: FallibleRead, W: Write, B: Service>(
     ensures answers { IsAnsweredByBroker B.shown (B.seen broker.old) (B.seen broker.new)
         (R.remaining reader.old) (R.remaining reader.new)
         (W.contents writer.old) (W.contents writer.new) result }
-    ensures failed { IfErr result (λ fault. TellsReader fault (R.HasFailed reader.new)) }
+    ensures failed { IfErr result (λ fault. TellsDevice fault (R.HasFailed reader.new) (W.HasFailed writer.new)) }
 {
-    let mut buffer = Buffer::new(alloc);
+    let Ok(mut buffer) = Buffer::new(alloc) else {
+        return Err(ServeFault::Memory);
+    };
+    let Ok(mut head_buffer) = Vec::with_capacity(alloc, RESPONSE_CAPACITY) else {
+        return Err(ServeFault::Memory);
+    };
     for answered in 0..u64::MAX {
         if let Some(over) = T::is_over(reader) {
             return Err(ServeFault::Turn(over));
@@ -77,7 +83,16 @@ fn serve_all<T: Turn<R>, R: FallibleRead, W: Write, B: Service>(
             }
         };
         let (text, body) = message_parts(buffer.as_slice(), head_len, body_len);
-        if answer(alloc, routes, broker, text, head, body, writer)? {
+        if answer(
+            alloc,
+            routes,
+            broker,
+            text,
+            head,
+            body,
+            &mut head_buffer,
+            writer,
+        )? {
             return Ok(Served {
                 answered: answered + 1,
                 ended: Ended::Closed,
@@ -89,7 +104,7 @@ fn serve_all<T: Turn<R>, R: FallibleRead, W: Write, B: Service>(
 }
 
 /// Answers the requests of a stream as `serve` does, until its turn is over.
-pub(crate) fn serve_for<T: Turn<R>, R: FallibleRead, W: Write, B: Service>(
+pub(crate) fn serve_for<T: Turn<R>, R: FallibleRead, W: FallibleWrite, B: Service>(
     alloc: Global,
     routes: &RouteTable,
     broker: &mut B,
@@ -99,7 +114,7 @@ pub(crate) fn serve_for<T: Turn<R>, R: FallibleRead, W: Write, B: Service>(
     ensures served { IsServed B.shown (B.seen broker.old) (B.seen broker.new)
         (R.remaining reader.old) (R.remaining reader.new)
         (W.contents writer.old) (W.contents writer.new) result }
-    ensures failed { IfErr result (λ fault. TellsReader fault (R.HasFailed reader.new)) }
+    ensures failed { IfErr result (λ fault. TellsDevice fault (R.HasFailed reader.new) (W.HasFailed writer.new)) }
 {
     serve_all::<T, R, W, B>(alloc, routes, broker, reader, writer)
 }
@@ -115,10 +130,11 @@ pub(crate) fn serve_for<T: Turn<R>, R: FallibleRead, W: Write, B: Service>(
 /// of them. `ServeFault::Turn` never comes, as there is no turn here.
 /// `ServeFault::Write`: the writer failed, or took none of the bytes that were left; the last answer is
 /// out in part.
-/// `ServeFault::Memory`: there was no memory for a message or its answer; nothing was done for it, and
-/// all answers before are out.
+/// `ServeFault::Memory`: there was no memory before anything was read, or for a body that a head announces, or for a
+/// message that asks an operation; nothing was done for it, and all answers before are out. So a message without a body
+/// that is refused, has no route or no method gets its answer.
 /// The writer is not flushed. The table of routes can be made once for all streams.
-pub fn serve<R: FallibleRead, W: Write, B: Service>(
+pub fn serve<R: FallibleRead, W: FallibleWrite, B: Service>(
     alloc: Global,
     routes: &RouteTable,
     broker: &mut B,
@@ -128,7 +144,7 @@ pub fn serve<R: FallibleRead, W: Write, B: Service>(
     ensures served { IsServed B.shown (B.seen broker.old) (B.seen broker.new)
         (R.remaining reader.old) (R.remaining reader.new)
         (W.contents writer.old) (W.contents writer.new) result }
-    ensures failed { IfErr result (λ fault. TellsReader fault (R.HasFailed reader.new)) }
+    ensures failed { IfErr result (λ fault. TellsDevice fault (R.HasFailed reader.new) (W.HasFailed writer.new)) }
 {
     serve_for::<Endless, R, W, B>(alloc, routes, broker, reader, writer)
 }

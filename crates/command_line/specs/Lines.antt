@@ -4,7 +4,7 @@ use Rattle.std.specs.Prelude.{◌≡◌, ◌≢◌, ◌⊎◌, ◌≤◌, ⊤, �
 use Rattle.std.specs.Prelude.{codes, bytes_eq, find, fold, map, pos}
 use Rattle.std.specs.Borrow.{Bor}
 use Rattle.std.specs.Option.{option_map_or}
-use Rattle.std.specs.Str.Parse.{digits_value, without_leading_plus}
+use Rattle.std.specs.Str.Parse.{IsNumeral, digits_value, without_leading_plus}
 use Rattle.clap.specs.Kinds.{or_else}
 use Rattle.clap.specs.Words.{App, Kinds, Row, Rule, Text, fault_of, first_of, matches_of, new_app}
 use Rattle.clap.specs.Words.{IsAmong, new_rule, one_of, with_rule, with_subcommand}
@@ -93,11 +93,11 @@ path_of path = path.text.now
 abbrev pub HasText : List Row → Text → Text → Type 0
 HasText rows name text = first_of name rows ≡ Some text
 
--- the option has this number, which its text writes in decimal digits
+-- the option has this number, from 1 to 1,000,000: its text is decimal digits, behind a plus or not, which write it
 abbrev pub HasNumberOption : List Row → Text → ℕ → Type 0
 HasNumberOption rows name n =
-    (text : Text) × (one_of name rows ≡ Some text) × (n ≡ digits_value 10 (without_leading_plus text))
-    × (1 ≤ n) × (n ≤ 1000000)
+    (text : Text) × (one_of name rows ≡ Some text) × IsNumeral 10 (without_leading_plus text)
+    × (n ≡ digits_value 10 (without_leading_plus text)) × (1 ≤ n) × (n ≤ 1000000)
 
 -- the options have the values of the line
 abbrev pub HasValues : List Row → Line → Type 0
@@ -113,6 +113,13 @@ HasValues rows (CanIDeploy file token pacticipant version environment) =
     HasText rows (codes "file") (path_of file) × HasText rows (codes "token") token.now
     × HasText rows (codes "pacticipant") pacticipant.now × HasText rows (codes "version") version.now
     × HasText rows (codes "to-environment") environment.now
+
+-- the option has no text, or none that writes such a number
+abbrev pub HasNoText : List Row → Text → Type 0
+HasNoText rows name = first_of name rows ≡ None
+
+abbrev pub HasNoNumber : List Row → Text → Type 0
+HasNoNumber rows name = (n : ℕ) → ¬ (HasNumberOption rows name n)
 
 abbrev pub has_none : Kinds → Bool
 has_none [] = true
@@ -200,6 +207,19 @@ command_named names.Serve = serve
 command_named names.Normalise = normalise
 command_named names.Check = check
 command_named names.CanIDeploy = can_i_deploy
+
+-- an option of the command has no value
+abbrev pub LacksValue : List Row → CommandName → Type 0
+LacksValue rows names.Replay = HasNoText rows (codes "office-token")
+LacksValue rows names.Init = HasNoText rows (codes "file") ⊎ HasNoText rows (codes "office-token")
+LacksValue rows names.Migrate = HasNoText rows (codes "file")
+LacksValue rows names.Serve =
+    HasNoText rows (codes "file") ⊎ HasNoText rows (codes "listen") ⊎ HasNoNumber rows (codes "connections")
+LacksValue rows names.Normalise = ⊥
+LacksValue rows names.Check = HasNoText rows (codes "pact") ⊎ HasNoText rows (codes "replies")
+LacksValue rows names.CanIDeploy =
+    HasNoText rows (codes "file") ⊎ HasNoText rows (codes "token") ⊎ HasNoText rows (codes "pacticipant")
+    ⊎ HasNoText rows (codes "version") ⊎ HasNoText rows (codes "to-environment")
 
 -- the words begin with the name
 abbrev pub BeginsWithName : List Text → CommandName → Type 0

@@ -97,7 +97,10 @@ fn read_command<'a>(
     ensures kind { IfErr result (HasKind (fault_of (command_named name) (texts_of words.entry.now))) }
 {
     match command_named(alloc, name)?.try_get_matches_from(words) {
-        Ok(matches) => line_in(name, &matches),
+        Ok(matches) => match line_in(name, &matches) {
+            Some(line) => Ok(line),
+            None => Err(Error::from(AllocError)),
+        },
         Err(error) => Err(error),
     }
 }

@@ -2,10 +2,11 @@
 use Rattle.std.specs.{Io.KnownBytes.{Consumes}, Result.{result_unwrap_or}}
 use Rattle.std.proofs.Common.{◌≡◌, ℕ, ◌+◌, ◌<◌, ◌≤◌, List, ◌++◌, Option, Result, Ok, Err, OnErr, length, take, refl, sym, ap, ◌∙◌, subst, append_assoc, append-nil, length-append, arith, inr}
 use Rattle.std.proofs.{KnownBytes.{Consumes-trans}, lemmas.List.{take-append-le, nil_from_length}}
-use Rattle.http_messages.specs.{Heads.{IsBodyLength, judge_head}, Messages.{IsHeadOf, HasNoHead, HasNoMessage}, Reading.{Gains, LeavesAtFault, IsOutcome}}
-use Rattle.http_messages.specs.{Views.{judgement_of, IsHeadRead, announced}, declared.head.Head.{Head}, declared.head.Refused.{Refused}}
-use Rattle.http_messages.specs.{declared.reading.ReadFault.{ReadFault}, declared.reading.ReadFault.TheVariants.{Reader, Memory}}
-use Rattle.http_messages.{specs.declared.reading.ReadOutcome.TheVariants.{Message}, proofs.MessagesLemmas.{IsHeadOf-more, BeginsWithMessage-of, none_short}}
+use Rattle.http_messages.specs.{Heads.{IsBodyLength, judge_head}, Messages.{AnnouncesBody, IsHeadOf, HasNoHead, HasNoMessage}}
+use Rattle.http_messages.specs.{Reading.{Gains, LeavesAtFault, IsOutcome}, Views.{judgement_of, IsHeadRead, announced}, declared.head.Head.{Head}}
+use Rattle.http_messages.specs.{declared.head.Refused.{Refused}, declared.reading.ReadFault.{ReadFault}}
+use Rattle.http_messages.specs.{declared.reading.ReadFault.TheVariants.{Reader, Memory}, declared.reading.ReadOutcome.TheVariants.{Message}}
+use Rattle.http_messages.proofs.MessagesLemmas.{IsHeadOf-more, BeginsWithMessage-of, none_short}
 
 -- one read, and then others
 pub Gains-trans : (a b c : Option (List ℕ)) (old mid new : List ℕ) → Gains a b old mid → Gains b c mid new → Gains a c old new
@@ -79,6 +80,11 @@ module _ (old more new : List ℕ) (head_len : ℕ) (read : Result Head Refused)
   pub is_short : length new < head_len + announced read → HasNoMessage new
   is_short fewer =
       none_short new head_len (announced read) (omega (arith, within, longer)) fewer head_now (announced-length (take head_len new) read read_now)
+
+  -- a body is announced
+  pub announces : length new < head_len + announced read → AnnouncesBody new
+  announces fewer =
+      (take head_len new, announced read, head_now, announced-length (take head_len new) read read_now, omega (arith, within, longer, fewer))
 
 -- with no head there is no message
 pub no_message : (bytes : List ℕ) → HasNoHead bytes → HasNoMessage bytes

@@ -1,5 +1,5 @@
 -- The messages of a stream.
-use Rattle.std.specs.Prelude.{◌≡◌, ℕ, ◌≤◌, List, ◌++◌, length, take, drop, MatchOption, Option, None, Some}
+use Rattle.std.specs.Prelude.{◌≡◌, ℕ, ◌<◌, ◌≤◌, List, ◌++◌, length, take, drop, MatchOption, Option, None, Some}
 use Rattle.http_messages.specs.Message.{Message, message}
 use Rattle.http_messages.specs.Lines.{head_text}
 use Rattle.http_messages.specs.Heads.{IsBodyLength}
@@ -34,6 +34,10 @@ HasMessage stream = (m : Message) × (after : List ℕ) × BeginsWithMessage str
 -- no message is whole yet
 abbrev pub HasNoMessage : List ℕ → Type 0
 HasNoMessage stream = (m : Message) (after : List ℕ) → ¬ (BeginsWithMessage stream m after)
+
+-- the stream begins with a head that announces a body
+abbrev pub AnnouncesBody : List ℕ → Type 0
+AnnouncesBody stream = (head : List ℕ) × (n : ℕ) × IsHeadOf stream head × IsBodyLength head n × (0 < n)
 
 -- the message of so many bytes of head and body
 abbrev pub message_of : List ℕ → ℕ → ℕ → Message

@@ -1,7 +1,7 @@
 -- What reading a message leaves of the bytes, and what it finds.
 use Rattle.std.specs.Prelude.{◌≡◌, ℕ, ◌+◌, ◌<◌, ◌≤◌, max, List, ◌++◌, length, take, drop, Option}
 use Rattle.std.specs.Io.KnownBytes.{Consumes, IsAtEnd}
-use Rattle.http_messages.specs.Messages.{BeginsWithMessage, HasNoMessage, message_of}
+use Rattle.http_messages.specs.Messages.{AnnouncesBody, BeginsWithMessage, HasNoMessage, message_of}
 use Rattle.http_messages.specs.Views.{IsHeadRead}
 use Rattle.http_messages.specs.Limits.{head_limit, body_limit}
 use Rattle.http_messages.specs.declared.reading.ReadFault.{ReadFault}
@@ -58,3 +58,5 @@ module _ (before after : Option (List ℕ)) (old new : List ℕ) where
     pub leaves : LeavesAtFault before after old new fault
     -- it fails only while no message is whole
     pub none : HasNoMessage new
+    -- memory runs out only behind a head, for a body that it announces
+    pub body : fault ≡ Memory → AnnouncesBody new

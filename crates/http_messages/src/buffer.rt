@@ -1,12 +1,15 @@
 //! The bytes of a stream that were read and aren't taken yet.
-ghost use Rattle.std.specs.Prelude.{◌≡◌, ◌≤◌, ◌==◌, ◌++◌, [], length, drop, vec_len, OnOk, OnErr};
+ghost use Rattle.std.specs.Prelude.{◌≡◌, ◌+◌, ◌<◌, ◌≤◌, ◌==◌, ◌++◌, [], length, drop, vec_len, IfOk, OnOk, OnErr};
+ghost use Rattle.http_messages.specs.Limits.{head_limit};
 
+use crate::messages::HEAD_LIMIT;
 use std::alloc::{AllocError, Global};
 use std::marker::Model;
 
 /// The bytes of a stream that were read and aren't taken yet. A contract sees them as a list, its `items`.
 ///
 /// What is taken stays in front of them until more is read, so that a message moves nothing if it came with others.
+/// There is room for a head from the first on, so that to read one takes no more memory.
 #[derive(Drop)]
 pub struct Buffer {
     bytes: Vec<u8>,
@@ -15,25 +18,24 @@ pub struct Buffer {
 }
 
 impl Model for Buffer {
-    ghost use Rattle.std.specs.Prelude.{◌≤◌, drop, vec_len};
+    ghost use Rattle.std.specs.Prelude.{◌≤◌, drop, vec_capacity, vec_len};
     ghost use Rattle.http_messages.specs.Buffer.{Unread};
+    ghost use Rattle.http_messages.specs.Limits.{head_limit};
 
     ghost Value = { Unread };
 
     ghost view = { λ b. record { items = drop b.taken b.bytes.items } };
 
-    ghost invariant = { λ b. b.taken ≤ vec_len b.bytes };
+    ghost invariant = { λ b. (b.taken ≤ vec_len b.bytes) × (head_limit ≤ vec_capacity b.bytes) };
 }
 
 impl Buffer {
-    /// A buffer without bytes. It takes no memory.
-    pub fn new(alloc: Global) -> Buffer
-        ensures { result.items ≡ [] }
+    /// A buffer without bytes. An `Err` means out of memory.
+    pub fn new(alloc: Global) -> Result<Buffer, AllocError>
+        ensures { IfOk result (λ buffer. buffer.items ≡ []) }
     {
-        Buffer {
-            bytes: Vec::new(alloc),
-            taken: 0,
-        }
+        let bytes = Vec::with_capacity(alloc, HEAD_LIMIT)?;
+        Ok(Buffer { bytes, taken: 0 })
     }
 
     /// The bytes that aren't taken.
@@ -57,10 +59,11 @@ impl Buffer {
         self.bytes.len() == self.taken
     }
 
-    /// Puts bytes after them. An `Err` means out of memory.
+    /// Puts bytes after them. An `Err` means out of memory, which comes only if they are more than a head's limit then.
     pub(crate) fn extend(&mut self, bytes: &[u8]) -> Result<(), AllocError>
         ensures ok { OnOk result (self.new.items ≡ self.old.items ++ bytes.now) }
         ensures err { OnErr result (self.new.items ≡ self.old.items) }
+        ensures full { OnErr result (head_limit < length self.old.items + length bytes.now) }
     {
         self.bytes.drain(..self.taken);
         self.taken = 0;

@@ -1,5 +1,5 @@
 //! Reading one message after another from a device.
-ghost use Rattle.std.specs.Prelude.{◌≡◌, ℕ, ◌+◌, ◌<◌, ◌≤◌, Bool, true, false, max, length, drop, take, vec_len, IfOk, IfErr, OnOk, OnErr, MatchOption};
+ghost use Rattle.std.specs.Prelude.{◌≡◌, ◌≢◌, ℕ, ◌+◌, ◌<◌, ◌≤◌, Bool, true, false, max, length, drop, take, vec_len, IfOk, IfErr, OnOk, OnErr, MatchOption};
 ghost use Rattle.std.specs.Io.KnownBytes.{IsAtEnd};
 ghost use Rattle.http_messages.specs.Limits.{head_limit, body_limit};
 ghost use Rattle.http_messages.specs.Messages.{HasMessage, HasNoHead, HasNoMessage, IsHeadFound};
@@ -24,7 +24,7 @@ pub enum ReadFault {
     /// The reader failed. All that it gave is in the buffer.
     #[error("the reader failed")]
     Reader(ReaderFailed),
-    /// There was no memory for the last bytes that the reader gave, and they are lost.
+    /// There was no memory for the last bytes that the reader gave, and they are lost: they are of a body.
     #[error("out of memory")]
     Memory,
 }
@@ -84,6 +84,7 @@ fn read_piece<R: FallibleRead, const SIZE: usize>(
         buffer.old.items buffer.new.items) }
     ensures failed { IfErr result (λ fault. TellsFailure fault (R.HasFailed reader.new)) }
     ensures kept { OnErr result (buffer.new.items ≡ buffer.old.items) }
+    ensures full { IfErr result (λ fault. fault ≡ ReadFault.Memory → head_limit < length buffer.old.items + most) }
 {
     let mut piece = [0u8; SIZE];
     let most = most.min(SIZE);
@@ -117,6 +118,7 @@ fn read_body_piece<R: FallibleRead>(
         buffer.old.items buffer.new.items) }
     ensures failed { IfErr result (λ fault. TellsFailure fault (R.HasFailed reader.new)) }
     ensures kept { OnErr result (buffer.new.items ≡ buffer.old.items) }
+    ensures full { IfErr result (λ fault. fault ≡ ReadFault.Memory → head_limit < length buffer.old.items + most) }
 {
     if most > PIECE {
         read_piece::<R, LARGE_PIECE>(reader, buffer, most)
@@ -140,6 +142,7 @@ fn read_head_bytes<R: FallibleRead>(
         buffer.old.items buffer.new.items) }
     ensures failed { IfErr result (λ fault. TellsFailure fault (R.HasFailed reader.new)) }
     ensures none { OnErr result (HasNoHead buffer.new.items) }
+    ensures memory { IfErr result (λ fault. fault ≢ ReadFault.Memory) }
     ensures bound { length buffer.new.items ≤ max (length buffer.old.items) head_limit }
 {
     loop {

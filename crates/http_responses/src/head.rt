@@ -179,7 +179,8 @@ pub fn write_head(
     requires empty { text.old.items ≡ [] }
     requires capacity { HEAD_CAPACITY ≤ vec_capacity text.old }
     requires known { has_phrase status ≡ true }
-    ensures { text.new.items ≡ head status (allow_of resource) closes size }
+    ensures items { text.new.items ≡ head status (allow_of resource) closes size }
+    ensures capacity { vec_capacity text.old ≤ vec_capacity text.new }
 {
     append_status(text, status);
     append_content(text, size);

@@ -11,4 +11,4 @@ pub use responses::{
     RESPONSE_CAPACITY, write_answer, write_no_method, write_no_route, write_refusal,
 };
 pub use whole::write_whole;
-pub use writing::WriteFault;
+pub use writing::{FallibleWrite, WriteFault};

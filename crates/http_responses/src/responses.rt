@@ -6,12 +6,11 @@ ghost use Rattle.http_responses.specs.Responses.{refusal_status, refusal_text, r
 
 use crate::head::{HEAD_CAPACITY, write_head};
 use crate::whole::write_whole;
-use crate::writing::WriteFault;
+use crate::writing::{FallibleWrite, WriteFault};
 use answer_texts::Answer;
 use http::StatusCode;
 use http_messages::head::Refusal;
 use http_routes::Resource;
-use std::io::Write;
 
 /// How many bytes of buffer a response is best given: most responses fit, and so go out by one call of the writer.
 pub const RESPONSE_CAPACITY: usize = 8192;
@@ -40,6 +39,7 @@ fn sent_part(is_bodiless: bool, body: &str) -> &str
 fn append_front<'a>(text: &mut Vec<u8>, body: &'a [u8]) -> &'a [u8]
     ensures whole { text.new.items ++ result.now ≡ text.old.items ++ body.now }
     ensures full { 0 < length result.now → vec_len text.new ≡ vec_capacity text.old }
+    ensures capacity { vec_capacity text.old ≤ vec_capacity text.new }
 {
     let room = text.capacity() - text.len();
     let (front, rest) = body.split_at(room.min(body.len()));
@@ -48,41 +48,47 @@ fn append_front<'a>(text: &mut Vec<u8>, body: &'a [u8]) -> &'a [u8]
 }
 
 /// Writes the two parts of a response, the second by no call if it is empty.
-fn write_parts<W: Write>(writer: &mut W, front: &[u8], rest: &[u8]) -> Result<(), WriteFault>
+fn write_parts<W: FallibleWrite>(
+    writer: &mut W,
+    front: &[u8],
+    rest: &[u8],
+) -> Result<(), WriteFault>
     ensures ok { OnOk result (Appends (W.contents writer.old) (W.contents writer.new) (front.now ++ rest.now)) }
     ensures err { OnErr result ((n : ℕ) × (n < length (front.now ++ rest.now))
         × Appends (W.contents writer.old) (W.contents writer.new) (take n (front.now ++ rest.now))) }
+    ensures failed { IfErr result (λ _. W.HasFailed writer.new) }
 {
     write_whole(writer, front)?;
     write_whole(writer, rest)
 }
 
-/// Writes a response and says whether the connection closes after it. Its head goes through the empty buffer, which has
-/// the capacity for it, and with it what the buffer has room for of the body: so a response that fits goes out by one
-/// call of the writer, and the rest of one that doesn't by another.
-fn write_response<W: Write>(
+/// Writes a response and says whether the connection closes after it. Its head goes through the buffer, which has the
+/// capacity for it, and with it what the buffer has room for of the body: so a response that fits goes out by one call
+/// of the writer, and the rest of one that doesn't by another. What the buffer had before is lost.
+fn write_response<W: FallibleWrite>(
     writer: &mut W,
-    head_buffer: Vec<u8>,
+    head_buffer: &mut Vec<u8>,
     form: Form,
     body: &str,
 ) -> Result<bool, WriteFault>
-    requires empty { head_buffer.items ≡ [] }
-    requires capacity { HEAD_CAPACITY ≤ vec_capacity head_buffer }
+    requires capacity { HEAD_CAPACITY ≤ vec_capacity head_buffer.old }
     requires known { has_phrase form.status ≡ true }
-    ensures { Writes (W.contents writer.old) (W.contents writer.new)
+    ensures writes { Writes (W.contents writer.old) (W.contents writer.new)
         (response_of form.status (allow_of form.resource) form.closes form.is_bodiless body.now) result }
+    ensures failed { IfErr result (λ _. W.HasFailed writer.new) }
+    ensures capacity { HEAD_CAPACITY ≤ vec_capacity head_buffer.new }
 {
-    let mut front = head_buffer;
+    head_buffer.clear();
     write_head(
-        &mut front,
+        head_buffer,
         form.status,
         form.resource,
         form.closes,
         body.len(),
     );
     let sent = sent_part(form.is_bodiless, body);
-    let rest = append_front(&mut front, sent.as_bytes());
-    match write_parts(writer, front.as_slice(), rest) {
+    let rest = append_front(head_buffer, sent.as_bytes());
+    match write_parts(writer, head_buffer.as_slice(), rest) {
         Ok(()) => Ok(form.closes),
         Err(fault) => Err(fault),
     }
@@ -112,17 +118,19 @@ fn refusal_text(refusal: Refusal) -> &'static str
 
 /// Says that a head is refused. The connection closes, which is the result `true`.
 ///
-/// `head_buffer` is an empty buffer with the capacity of the head of a response, here and below.
-pub fn write_refusal<W: Write>(
+/// `head_buffer` has the capacity of the head of a response, here and below, and keeps it, so that one buffer serves for
+/// many of them. What it has is lost.
+pub fn write_refusal<W: FallibleWrite>(
     writer: &mut W,
-    head_buffer: Vec<u8>,
+    head_buffer: &mut Vec<u8>,
     refusal: Refusal,
     is_bodiless: bool,
 ) -> Result<bool, WriteFault>
-    requires empty { head_buffer.items ≡ [] }
-    requires capacity { HEAD_CAPACITY ≤ vec_capacity head_buffer }
-    ensures { Writes (W.contents writer.old) (W.contents writer.new)
+    requires capacity { HEAD_CAPACITY ≤ vec_capacity head_buffer.old }
+    ensures writes { Writes (W.contents writer.old) (W.contents writer.new)
         (refusal_response refusal is_bodiless) result }
+    ensures failed { IfErr result (λ _. W.HasFailed writer.new) }
+    ensures capacity { HEAD_CAPACITY ≤ vec_capacity head_buffer.new }
 {
     let form = Form {
         status: refusal_status(refusal),
@@ -134,14 +142,15 @@ pub fn write_refusal<W: Write>(
 }
 
 /// Says that a path has no route.
-pub fn write_no_route<W: Write>(
+pub fn write_no_route<W: FallibleWrite>(
     writer: &mut W,
-    head_buffer: Vec<u8>,
+    head_buffer: &mut Vec<u8>,
     closes: bool,
 ) -> Result<bool, WriteFault>
-    requires empty { head_buffer.items ≡ [] }
-    requires capacity { HEAD_CAPACITY ≤ vec_capacity head_buffer }
-    ensures { Writes (W.contents writer.old) (W.contents writer.new) (no_route_response closes) result }
+    requires capacity { HEAD_CAPACITY ≤ vec_capacity head_buffer.old }
+    ensures writes { Writes (W.contents writer.old) (W.contents writer.new) (no_route_response closes) result }
+    ensures failed { IfErr result (λ _. W.HasFailed writer.new) }
+    ensures capacity { HEAD_CAPACITY ≤ vec_capacity head_buffer.new }
 {
     let form = Form {
         status: StatusCode::NOT_FOUND,
@@ -153,16 +162,17 @@ pub fn write_no_route<W: Write>(
 }
 
 /// Says that a resource doesn't have the method, and which it has.
-pub fn write_no_method<W: Write>(
+pub fn write_no_method<W: FallibleWrite>(
     writer: &mut W,
-    head_buffer: Vec<u8>,
+    head_buffer: &mut Vec<u8>,
     resource: Resource,
     closes: bool,
 ) -> Result<bool, WriteFault>
-    requires empty { head_buffer.items ≡ [] }
-    requires capacity { HEAD_CAPACITY ≤ vec_capacity head_buffer }
-    ensures { Writes (W.contents writer.old) (W.contents writer.new)
+    requires capacity { HEAD_CAPACITY ≤ vec_capacity head_buffer.old }
+    ensures writes { Writes (W.contents writer.old) (W.contents writer.new)
         (no_method_response resource closes) result }
+    ensures failed { IfErr result (λ _. W.HasFailed writer.new) }
+    ensures capacity { HEAD_CAPACITY ≤ vec_capacity head_buffer.new }
 {
     let form = Form {
         status: StatusCode::METHOD_NOT_ALLOWED,
@@ -174,16 +184,17 @@ pub fn write_no_method<W: Write>(
 }
 
 /// Writes the answer to a command.
-pub fn write_answer<W: Write>(
+pub fn write_answer<W: FallibleWrite>(
     writer: &mut W,
-    head_buffer: Vec<u8>,
+    head_buffer: &mut Vec<u8>,
     answer: &Answer,
     closes: bool,
 ) -> Result<bool, WriteFault>
-    requires empty { head_buffer.items ≡ [] }
-    requires capacity { HEAD_CAPACITY ≤ vec_capacity head_buffer }
-    ensures { Writes (W.contents writer.old) (W.contents writer.new)
+    requires capacity { HEAD_CAPACITY ≤ vec_capacity head_buffer.old }
+    ensures writes { Writes (W.contents writer.old) (W.contents writer.new)
         (answer_response answer.now closes) result }
+    ensures failed { IfErr result (λ _. W.HasFailed writer.new) }
+    ensures capacity { HEAD_CAPACITY ≤ vec_capacity head_buffer.new }
 {
     let form = Form {
         status: answer.status(),

@@ -1,5 +1,5 @@
 //! One write to a device.
-ghost use Rattle.std.specs.Prelude.{◌≡◌, ◌<◌, ◌≤◌, length, take, IfOk, IfErr, IsOkAnd, OnOk, OnErr};
+ghost use Rattle.std.specs.Prelude.{◌≡◌, ◌<◌, ◌≤◌, ⊤, length, take, IfOk, IfErr, IsOkAnd, OnErr};
 ghost use Rattle.std.specs.Io.KnownBytes.{Appends, Keeps};
 
 use std::io::{self, Write};
@@ -22,12 +22,22 @@ fn taken(written: io::Result<usize>) -> Result<usize, WriteFault>
     }
 }
 
-/// Writes once, of at least one byte, and gives how many are out.
-pub(crate) fn write_once<W: Write>(writer: &mut W, bytes: &[u8]) -> Result<usize, WriteFault>
-    requires { 0 < length bytes.now }
-    ensures count { IfOk result (λ n. (0 < n) × (n ≤ length bytes.now)) }
-    ensures ok { IfOk result (λ n. Appends (W.contents writer.old) (W.contents writer.new) (take n bytes.now)) }
-    ensures err { OnErr result (Keeps (W.contents writer.old) (W.contents writer.new)) }
-{
-    taken(writer.write(bytes))
+/// A writer that may fail. Each writer is one.
+pub trait FallibleWrite: Write {
+    /// A write to it has failed, or it took none of the bytes. Of a writer at hand nothing is known.
+    ghost HasFailed: { Self → Type 0 } = { λ _. ⊤ };
+
+    /// Writes once, of at least one byte, and gives how many are out.
+    fn write_once(&mut self, bytes: &[u8]) -> Result<usize, WriteFault>
+        requires { 0 < length bytes.now }
+        ensures count { IfOk result (λ n. (0 < n) × (n ≤ length bytes.now)) }
+        ensures ok { IfOk result (λ n. Appends (Self.contents self.old) (Self.contents self.new) (take n bytes.now)) }
+        ensures err { OnErr result (Keeps (Self.contents self.old) (Self.contents self.new)) }
+        ensures failed { IfErr result (λ _. HasFailed self.new) };
+}
+
+impl<W: Write> FallibleWrite for W {
+    fn write_once(&mut self, bytes: &[u8]) -> Result<usize, WriteFault> {
+        taken(self.write(bytes))
+    }
 }

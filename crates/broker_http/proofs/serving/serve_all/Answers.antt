@@ -1,16 +1,33 @@
 use Rattle.std.specs.Io.KnownBytes.{Appends}
-use Rattle.std.proofs.Common.{◌≡◌, ◌≢◌, ◌+◌, ◌-◌, ◌^◌, ◌++◌, length, drop, [], ◌∷◌, refl, sym, ◌∙◌, subst, arith, eqb-true, length-append}
+use Rattle.std.proofs.Common.{◌≡◌, ◌≢◌, ◌+◌, ◌-◌, ◌^◌, ◌++◌, length, drop, [], ◌∷◌, refl, sym, inl, ◌∙◌, subst, arith, eqb-true, length-append}
 use Rattle.std.proofs.{KnownBytes.{Consumes-kept, Consumes-nil, Consumes-trans, Appends-nil, Appends-trans}, lemmas.Result.{err_from_is_err_and}}
 use Rattle.std.proofs.lemmas.Bool.{eqb-false}
 use Rattle.http_messages.specs.Reading.{IsOutcome}
 use Rattle.broker_http.specs.{Calls.{ByBroker}, Stream.{texts}}
-use Rattle.broker_http.proofs.ResponsesLemmas.{Responses-came, Responses-answered, Responses-broken, Responses-unread, AllOpen-then, texts-then, StreamEnds-at_end, StreamEnds-rest, tells_none, tells_reader}
+use Rattle.broker_http.proofs.ResponsesLemmas.{Responses-came, Responses-answered, Responses-broken, Responses-unread, AllOpen-then, texts-then, StreamEnds-at_end, StreamEnds-rest, tells_reader, tells_writer}
 use Rattle.broker_http.proofs.serving.serve_all.Goals.{then-is_empty, else-is_empty}
 use Rattle.broker_http.proofs.serving.serve_all.Goals as goal
 
 pub loop-answered-init : goal.loop-answered-init
 loop-answered-init g c =
-    ([], [], Consumes-nil _, (refl, c.new-buffer.ensures), tt, refl, Appends-nil _)
+    ([], [], Consumes-nil _, (refl, c.in-Ok.ensures), tt, refl, Appends-nil _, omega (arith, c.in-Ok-with_capacity.ensures.capacity))
+
+pub returns-in_default-clause-answers : goal.returns-in_default-clause-answers
+returns-in_default-clause-answers g c = record {
+  ok = tt;
+  end = tt;
+  fault = ([], [], [], [], Consumes-nil _, (refl, refl), (tt, refl), Appends-nil _, inl refl);
+}
+
+pub returns-in_default-with_capacity-clause-answers : goal.returns-in_default-with_capacity-clause-answers
+returns-in_default-with_capacity-clause-answers g c = record {
+  ok = tt;
+  end = tt;
+  fault = ([], [], [], [], Consumes-nil _, (refl, refl), (tt, refl), Appends-nil _, inl refl);
+}
+
+pub answer-requires-clause-capacity : goal.answer-requires-clause-capacity
+answer-requires-clause-capacity g c = c.loop-answered.invariant.7
 
 pub returns-in_err-head_len-clause-answers : goal.returns-in_err-head_len-clause-answers
 returns-in_err-head_len-clause-answers g c =
@@ -21,7 +38,7 @@ returns-in_err-head_len-clause-answers g c =
       ok = tt;
       end = tt;
       fault = Responses-unread (ByBroker g.B.Service.shown) _ so_far.0 so_far.1 _ c.loop-answered.buffer.items _ _ _ _ _ _ _
-          read so_far.3 so_far.4 so_far.6 c.in_err-head_len.ensures.err.leaves;
+          read so_far.3 so_far.4 so_far.6 c.in_err-head_len.ensures.err.leaves c.in_err-head_len.ensures.err.body;
     })
 
 pub returns-in-End-clause-answers : goal.returns-in-End-clause-answers
@@ -61,7 +78,8 @@ returns-in_err-answer-clause-answers g c =
     let broken = Responses-broken exchange _ (so_far.0 ++ came.0) so_far.1 _ bytes _ _ _ _ _ _ _
     (Responses-came exchange _ so_far.0 so_far.1 _ c.loop-answered.buffer.items came.0 bytes so_far.3 came.2)
     so_far.4 so_far.6 begins.2
-    (rw (c.message_parts.ensures.head, c.message_parts.ensures.body, c.as_slice.ensures) at c.in_err-answer.ensures.fault) in
+    (rw (c.message_parts.ensures.head, c.message_parts.ensures.body, c.as_slice.ensures) at c.in_err-answer.ensures.fault)
+    (rw (c.message_parts.ensures.head, c.message_parts.ensures.body, c.as_slice.ensures) at c.in_err-answer.ensures.memory) in
     let p = err_from_is_err_and c.from_residual-in_err-answer.result c.from_residual-in_err-answer.ensures.1 in
     rw (p.1, p.2) (record {
       ok = tt;
@@ -75,6 +93,7 @@ returns-in_err-answer-clause-answers g c =
         broken.3,
         broken.4,
         broken.5,
+        broken.6,
       );
     })
 
@@ -124,6 +143,7 @@ loop-answered-preserved g c =
       omega (arith, so_far.5, length-append so_far.1 (response ∷ [])),
       subst (Appends _ _) (sym (texts-then so_far.1 response))
           (Appends-trans _ _ _ (texts so_far.1) response.text so_far.6 answered.3),
+      c.in_ok-answer.ensures.kept,
     )
 
 pub returns-in-Some-clause-answers : goal.returns-in-Some-clause-answers
@@ -133,7 +153,7 @@ returns-in-Some-clause-answers g c =
     record {
       ok = tt;
       end = tt;
-      fault = (so_far.0, so_far.1, _, texts so_far.1, read, so_far.3, (so_far.4, refl), so_far.6);
+      fault = (so_far.0, so_far.1, _, texts so_far.1, read, so_far.3, (so_far.4, refl), so_far.6, tt);
     }
 
 pub returns-clause-answers : goal.returns-clause-answers
@@ -143,15 +163,15 @@ returns-clause-answers g c =
     record {
       ok = tt;
       end = tt;
-      fault = (so_far.0, so_far.1, _, texts so_far.1, so_far.2, so_far.3, (so_far.4, refl, all), so_far.6);
+      fault = (so_far.0, so_far.1, _, texts so_far.1, so_far.2, so_far.3, (so_far.4, refl, all), so_far.6, tt);
     }
 
 pub returns-in_err-head_len-clause-failed : goal.returns-in_err-head_len-clause-failed
 returns-in_err-head_len-clause-failed g c =
     let p = err_from_is_err_and c.from_residual.result c.from_residual.ensures.1 in
-    rw (p.1, p.2) (tells_reader c.in_err-head_len.field-0.0 _ c.in_err-head_len.ensures.failed)
+    rw (p.1, p.2) (tells_reader c.in_err-head_len.field-0.0 _ _ c.in_err-head_len.ensures.failed)
 
 pub returns-in_err-answer-clause-failed : goal.returns-in_err-answer-clause-failed
 returns-in_err-answer-clause-failed g c =
     let p = err_from_is_err_and c.from_residual-in_err-answer.result c.from_residual-in_err-answer.ensures.1 in
-    rw (p.1, p.2) (tells_none (ByBroker g.B.Service.shown) _ _ _ _ _ _ _ c.in_err-answer.ensures.fault)
+    rw (p.1, p.2) (tells_writer c.in_err-answer.field-0.0 _ _ c.in_err-answer.ensures.failed)

@@ -1,9 +1,9 @@
-use Rattle.std.{specs.Io.KnownBytes.{Appends, Consumes}, proofs.Common.{◌≡◌, ℕ, List, length}}
-use Rattle.http_responses.specs.Responses.{Response}
+use Rattle.std.{specs.{Io.KnownBytes.{Appends, Consumes}, Prelude.{vec_capacity}}, proofs.Common.{◌≡◌, ◌≤◌, ℕ, List, length}}
+use Rattle.http_responses.specs.{Responses.{Response}, declared.head.TheConstants.{HEAD_CAPACITY}}
 use Rattle.broker_http.specs.{Calls.{ByBroker}, Stream.{texts, AllOpen, Responses}}
 use Rattle.broker_http.proofs.serving.serve_all.Given as goal
 
--- What was read is answered, and out, as far as the buffer.
+-- What was read is answered, and out, as far as the buffer; and there is room for the head of a response.
 abbrev pub invariant-loop-answered : goal.invariant-loop-answered
 invariant-loop-answered g l =
     (stream : List ℕ) × (responses : List Response)
@@ -12,3 +12,4 @@ invariant-loop-answered g l =
     × AllOpen responses
     × (l.answered ≡ length responses)
     × Appends (g.W.Write.contents l.fn.writer) (g.W.Write.contents l.writer) (texts responses)
+    × (HEAD_CAPACITY ≤ vec_capacity l.head_buffer)

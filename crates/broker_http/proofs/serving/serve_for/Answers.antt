@@ -46,7 +46,7 @@ module _ {X : Type 0} (shown : Held X → State) (s t : BrokerView X) (before af
         last = m.0;
         run = runs mode m.0 p.0 p.1 p.2 m.1;
         holds = m.2.held;
-        serves = record { ok = tt; end = tt; fault = (p.0, p.1, p.2, p.3, p.4, m.1, p.6, p.7) };
+        serves = record { ok = tt; end = tt; fault = (p.0, p.1, p.2, p.3, p.4, m.1, p.6, p.7, p.8) };
         calm = stops_so shown mode s.connection t.connection (length m.0.steps) m.0.mode m.2.stops;
       }
 

@@ -1,6 +1,6 @@
 use Rattle.std.proofs.{Common.{◌≤◌, rules, length, take}, lemmas.Result.{err_from_is_err_and}}
 use Rattle.http_messages.specs.{Messages.{IsHeadOf, HasNoHead}, Views.{IsHeadRead}, Limits.{head_limit}}
-use Rattle.http_messages.proofs.ReadingLemmas.{Gains-trans, LeavesAtFault-after, no_message, grown_at_fault, is_whole, is_short}
+use Rattle.http_messages.proofs.ReadingLemmas.{Gains-trans, LeavesAtFault-after, no_message, announces, grown_at_fault, is_whole, is_short}
 use Rattle.http_messages.proofs.reading.read_message.Goals as goal
 
 pub returns-in_err-head_len-clause-err : goal.returns-in_err-head_len-clause-err
@@ -9,6 +9,7 @@ returns-in_err-head_len-clause-err g c =
     rw (p.1, p.2) (record {
       leaves = c.in_err-head_len.ensures.err;
       none = no_message _ c.in_err-head_len.ensures.none;
+      body = λ memory. absurd (c.in_err-head_len.ensures.memory memory);
     })
 
 pub returns-in_default-clause-ok : goal.returns-in_default-clause-ok
@@ -33,6 +34,7 @@ returns-in_err-read_up_to-clause-err g c =
     rw (p.1, p.2) (record {
       leaves = LeavesAtFault-after _ _ _ _ _ _ _ c.in_ok-head_len.ensures.ok c.in_err-read_up_to.ensures.err;
       none = is_short bytes grown.0 _ head_len c.read_head-head.result grown.1 found.0 found.2 read (rw c.announced-body_len.ensures at short);
+      body = λ _. announces bytes grown.0 _ head_len c.read_head-head.result grown.1 found.0 found.2 read (rw c.announced-body_len.ensures at short);
     })
 
 pub returns-then-branch-clause-ok : goal.returns-then-branch-clause-ok

@@ -1,7 +1,7 @@
 use Rattle.std.proofs.Common.{ap, sym}
 use Rattle.json.specs.Print.{escape_byte}
 use Rattle.answer_texts.{specs.AnswerText.{answer_text}, proofs.Steps.{only_stopped}}
-use Rattle.answer_texts.proofs.answer.fixed_text.Goals as goal
+use Rattle.answer_texts.proofs.constants.fixed_text.Goals as goal
 
 pub returns-in-Pattern : goal.returns-in-Pattern
 unfolding escape_byte
