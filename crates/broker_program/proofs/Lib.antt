@@ -9,3 +9,4 @@ pub mod ServingLemmas
 mod CallLemmas
 pub mod PeriodLemmas
 pub mod ServiceCalm
+pub mod TestedLemmas
