@@ -1,6 +1,7 @@
 -- The commands of peers that are served one after another are those of one session.
-use Rattle.std.proofs.Common.{inl, ℕ, List, [], ◌∷◌, ◌++◌, append_assoc, Option, Ok, Err, Result, refl, subst, sym}
-use Rattle.sqlite.specs.{Held.{Held}, State.{State}, Files.{file_state}, declared.FileStore.{FileStore}}
+use Rattle.std.proofs.Common.{◌≡◌, ◌≤◌, inl, inr, ℕ, List, [], ◌∷◌, ◌++◌, append_assoc, Option, Ok, Err, Result, refl, subst, sym, arith}
+use Rattle.sqlite.specs.{Held.{Held}, State.{State, HasCleanDisk}, Files.{file_state}, declared.FileStore.{FileStore}}
+use Rattle.sqlite_trees.specs.View.{doubt}
 use Rattle.sqlite_disk.specs.declared.Disk.{Ghosts}
 use Rattle.broker_core.specs.{Laws.{Exit}, Machine.{Request as Asked}}
 use Rattle.http_requests.specs.{declared.requests.Request.{Request}, declared.requests.Request.TheVariants.{Refused, NoRoute, NoMethod, Asks}}
@@ -46,3 +47,33 @@ module _ {D : Type 0} {g : Ghosts D} where
   -- and so are those of one opening
   pub work_runs : (work : Work) (conn : Held (FileStore D g)) (end : BrokerView (FileStore D g)) (it : Works work conn end) → RunsCalls file_state it.broker work.calls end
   work_runs work conn end it = subst (λ calls. RunsCalls file_state it.broker calls end) (sym it.calls) (peers_run work.visits it.broker end it.peers)
+
+  -- what stays over calls: doubts of the disk stay, its failures are counted, and reads that are tested stay so
+  pub record IsBefore (old new : Held (FileStore D g)) : Type 0 where
+    pub clean : doubt (file_state old).is_clean ≤ doubt (file_state new).is_clean
+    pub counts : (file_state old).faults ≤ (file_state new).faults
+    pub shield : (file_state old).IsShielded → (file_state new).IsShielded
+
+  pub before_itself : (b end : BrokerView (FileStore D g)) → end ≡ b → IsBefore b.connection end.connection
+  before_itself b end same =
+      subst (λ (e : BrokerView (FileStore D g)). IsBefore b.connection e.connection) (sym same) (record { clean = omega arith; counts = omega arith; shield = λ tested. tested })
+
+  pub calls_since : (calls : List (Asked × Exit)) (b end : BrokerView (FileStore D g)) → RunsCalls file_state b calls end → IsBefore b.connection end.connection
+  calls_since [] b end same = before_itself b end same
+  calls_since ((r, exit) ∷ calls) b end it =
+      let one = it.2.survives.1 in
+      let more : IsBefore it.1.connection end.connection = elim it.3 [ inl on ↦ calls_since calls it.1 end on.1 | inr cut ↦ before_itself it.1 end cut.3 ] in
+      record { clean = omega (arith, one.clean, more.clean); counts = omega (arith, one.counts, more.counts); shield = λ tested. more.shield (one.shield tested) }
+
+  -- over the commands of an opening, and over the opening too
+  pub peers_since : (work : Work) (conn : Held (FileStore D g)) (end : BrokerView (FileStore D g)) (it : Works work conn end) → IsBefore it.broker.connection end.connection
+  peers_since work conn end it = calls_since work.calls it.broker end (work_runs work conn end it)
+
+  pub works_since : (work : Work) (conn : Held (FileStore D g)) (end : BrokerView (FileStore D g)) → Works work conn end → IsBefore conn end.connection
+  works_since work conn end it =
+      let opens = it.opened.survives in
+      let more = peers_since work conn end it in
+      record { clean = omega (arith, opens.clean, more.clean); counts = omega (arith, opens.counts, more.counts); shield = λ tested. more.shield (opens.shield tested) }
+
+  pub works_clean : (work : Work) (conn : Held (FileStore D g)) (end : BrokerView (FileStore D g)) → Works work conn end → HasCleanDisk (file_state end.connection) → HasCleanDisk (file_state conn)
+  works_clean work conn end it clean = let since = works_since work conn end it in omega (arith, clean, since.clean)

@@ -9,4 +9,5 @@ pub mod ServingLemmas
 mod CallLemmas
 pub mod PeriodLemmas
 pub mod ServiceCalm
+pub mod TestedLemmas
 mod WitnessExamples

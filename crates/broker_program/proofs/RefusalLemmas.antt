@@ -22,7 +22,7 @@ module _ {D : Type 0} {g : Ghosts D} where
   fails_there held Fails old new fault told rest opens later fails is gives =
       let there : LeavesStore (λ (store : FileStore D g). IsClean (view store) → FailsThere held Fails fault store) rest =
       store_weaker (GivesUpAs new) (λ store. IsClean (view store) → FailsThere held Fails fault store) rest (λ store given clean.
-      let kept = given clean in
+      let kept = given.ends clean in
       let early : HasCleanDisk (file_state old) = omega (arith, kept.0, later) in
       record { connection = old; end = new; starts = opens early; fails = fails; clean = kept.0; left = kept.1 }) gives in
       subst (λ (f : RunFault). IsOfDatabase held Fails f rest) (sym is) there

@@ -4,10 +4,10 @@ use Rattle.sqlite_disk.specs.{declared.Disk.{Ghosts}, declared.Files.{Files}}
 use Rattle.sqlite_pool.proofs.StateLemmas.{clean_is, may_leave_is}
 use Rattle.sqlite_trees.{specs.View.{View}, proofs.Doubt.{no_doubt}}
 use Rattle.sqlite.specs.{FileStore.{files as store_files, state as store_state, view}, Files.{Finds, IsOpened, file_state, image_of}, Held.{Held, IsNew}}
-use Rattle.sqlite.specs.{Recovery.{Image}, State.{HasCleanDisk}, View.{IsClean}, WalFiles.{outcomes}, WalReads.{AreClean}, declared.FileStore.{FileStore}}
+use Rattle.sqlite.specs.{Recovery.{Image}, View.{IsClean}, WalFiles.{outcomes}, WalReads.{AreClean}, declared.FileStore.{FileStore}}
 use Rattle.sqlite_store.specs.Calls.{IsQuietCall}
 use Rattle.broker_database.specs.{BrokerView.{BrokerView}, Life.{IsOpenedAfter}, declared.opening.OpenFault.{OpenFault}}
-use Rattle.broker_program.specs.{Cuts.{StaysShut}, Files.{GivesUpAs}, Refusals.{GivesUpUnopened}, Serving.{OpensAfter}}
+use Rattle.broker_program.specs.{Files.{GivesUpAs}, Refusals.{GivesUpUnopened}, Serving.{OpensAfter, ReopensOn}}
 use Rattle.broker_program.specs.Reopening.{EmptiesLog, FindsNoneAgain, IsStillGiven, OpensFilesAgain}
 use Rattle.program_io.specs.declared.fault.RunFault.TheVariants as run_fault
 use Rattle.sqlite.specs.declared.file.Leftover.TheVariants as left
@@ -17,9 +17,9 @@ pub quiet_itself : {D : Type 0} {g : Ghosts D} (store : FileStore D g) → IsQui
 quiet_itself store = record { shield = λ s. s; clean = omega arith; counts = omega arith; closes = λ _ still. inl still; outcomes = λ _ r. r }
 
 pub opened_after : {D : Type 0} (g : Ghosts D) (stays : (file : D) → g.may_leave file (g.seen file)) (old store : FileStore D g) (files : Files D) (conn : Held (FileStore D g))
-    → EmptiesLog old (store, false) → (files.log, files.db) ≡ store_files store → IsOpened conn → Finds files conn → IsNew conn
-    → (now : FileStore D g) × IsStillGiven old now × IsOpenedAfter g (left.Store now) conn × IsNew conn
-opened_after {D} g stays old store files conn empties same opened finds fresh =
+    → EmptiesLog old (store, false) → (files.log, files.db) ≡ store_files store → IsOpened conn → Finds files conn → IsNew conn → (file_state conn).IsShielded
+    → (now : FileStore D g) × IsStillGiven old now × IsOpenedAfter g (left.Store now) conn × IsNew conn × (file_state conn).IsShielded
+opened_after {D} g stays old store files conn empties same opened finds fresh shielded =
     let honest = subst (λ (p : D × D). AreClean g p.0 p.1) same finds.honest in
     let may : (image : Image) → outcomes g files.log files.db image → (store_state store).may_leave image = λ image it.
     may_leave_is store.pool image honest (subst (λ (p : D × D). outcomes g p.0 p.1 image) same it) in
@@ -28,14 +28,15 @@ opened_after {D} g stays old store files conn empties same opened finds fresh =
       record { clean = clean; quiet = empties.quiet; same = empties.same refl clean },
       (files, record { seen = may (image_of g files) (stays files.log, stays files.db); left = may }, opened, finds),
       fresh,
+      shielded,
     )
 
 -- So a stopped broker's files are opened again.
 pub opens_after : {D : Type 0} {g : Ghosts D} (stopped : BrokerView (FileStore D g)) (store now : FileStore D g) (conn : Held (FileStore D g)) → IsTrue stopped.is_stopped
-    → GivesUpAs stopped.connection store → IsStillGiven store now → IsOpenedAfter g (left.Store now) conn → IsNew conn → OpensAfter stopped conn
-opens_after stopped store now conn stops gives still after fresh =
+    → GivesUpAs stopped.connection store → IsStillGiven store now → IsOpenedAfter g (left.Store now) conn → IsNew conn → (file_state conn).IsShielded → OpensAfter stopped conn
+opens_after stopped store now conn stops gives still after fresh shielded =
     let early : IsClean (view store) = omega (arith, still.clean, still.quiet.clean) in
-    let given = gives early in
+    let given = gives.ends early in
     record {
       store = now;
       stops = stops;
@@ -47,17 +48,15 @@ opens_after stopped store now conn stops gives still after fresh =
       };
       after = after;
       fresh = fresh;
+      shielded = shielded;
     }
+
+pub reopens_on : {D : Type 0} {g : Ghosts D} (stopped : BrokerView (FileStore D g)) (store : FileStore D g) (conn : Held (FileStore D g)) → IsTrue stopped.is_stopped → GivesUpAs stopped.connection store
+    → OpensFilesAgain store (Some conn) → ReopensOn stopped conn
+reopens_on stopped store conn stops gives again early = let it = again early in opens_after stopped store it.0 conn stops gives it.1 it.2 it.3 it.4
 
 -- the connection that was opened again, where no broker is found
 pub none_again : {D : Type 0} {g : Ghosts D} (stopped : BrokerView (FileStore D g)) (store : FileStore D g) (conn : Held (FileStore D g)) (fault : OpenFault) (rest : FileStore D g) → IsTrue stopped.is_stopped
     → GivesUpAs stopped.connection store → OpensFilesAgain store (Some conn) → GivesUpUnopened conn fault rest → FindsNoneAgain stopped (run_fault.Open fault) (left.Store rest)
-none_again stopped store conn fault rest stops gives again none clean =
-    let given = none.2 clean in
-    let early : HasCleanDisk (file_state conn) = omega (arith, given.0, none.1.survives.clean) in
-    let it = again early in
-    (conn, none.0, opens_after stopped store it.0 conn stops gives it.1 it.2 it.3, none.1, given.0, given.1)
-
--- a store that was given up, and left so
-pub untouched : {D : Type 0} {g : Ghosts D} (store : FileStore D g) → StaysShut store run_fault.File (left.Store store)
-untouched store = (store, quiet_itself store, inl (refl, refl))
+none_again stopped store conn fault rest stops gives again none =
+    (conn, none.0, reopens_on stopped store conn stops gives again, none.1, none.2)

@@ -1,5 +1,5 @@
 -- facts of a result
-use Rattle.std.proofs.Common.{◌≡◌, ◌∙◌, Bool, true, false, Option, None, Some, is_none, IfErr, IfOk, IfSome, MatchResult, OnErr, Result, Ok, Err, refl, subst, sym}
+use Rattle.std.proofs.Common.{◌≡◌, ◌∙◌, Bool, true, false, Option, None, Some, is_none, IfErr, IfOk, IfSome, MatchResult, OnErr, Result, Ok, Err, refl, ap, subst, sym}
 
 pub if_ok : {T E P : Type 0} (r : Result T E) → P → IfOk r (λ _. P)
 if_ok (Ok x) p = p
@@ -19,9 +19,19 @@ module _ {T E F : Type 0} (f : E → F) where
   handed_err (Ok x) s Q is q = subst (λ (t : Result T F). IfErr t Q) (sym is) tt
   handed_err (Err e) s Q is q = subst (λ (t : Result T F). IfErr t Q) (sym is) q
 
+-- of a result that is told in other words, the error
+pub told_err : {T B E F : Type 0} (h : T → B) (f : E → F) (r : Result T E) (s : Result B F) (Q : F → Type 0) → MatchResult r (λ x. s ≡ Ok (h x)) (λ e. s ≡ Err (f e)) → IfErr r (λ e. Q (f e)) → IfErr s Q
+told_err {T} {B} {E} {F} h f (Ok x) s Q is q = subst (λ (t : Result B F). IfErr t Q) (sym is) tt
+told_err {T} {B} {E} {F} h f (Err e) s Q is q = subst (λ (t : Result B F). IfErr t Q) (sym is) q
+
 -- a result has one end
 pub err_no_ok : {T E : Type 0} (r : Result T E) (e : E) (x : T) → r ≡ Err e → r ≡ Ok x → ⊥
 err_no_ok {T} {E} r e x is_err is_ok = subst (λ (s : Result T E). MatchResult s (λ _. ⊥) (λ _. Unit {0})) (sym is_err ∙ is_ok) tt
+
+pub none_no_some : {T E : Type 0} (r : Result (Option T) E) (found : Option T) (x : T) → r ≡ Ok found → found ≡ None → r ≡ Ok (Some x) → ⊥
+none_no_some {T} {E} r found x is none same =
+    let path : Ok None ≡ Ok (Some x) = sym (is ∙ ap (λ (o : Option T). let s : Result (Option T) E = Ok o in s) none) ∙ same in
+    subst (λ (s : Result (Option T) E). IfOk s (λ o. IfSome o (λ _. ⊥))) path tt
 
 -- what follows of either end
 pub of_either : {T E : Type 0} {A P : T → Type 0} {B Q : E → Type 0} (r : Result T E) → ((x : T) → A x → P x) → ((e : E) → B e → Q e) → IfOk r A → IfErr r B → MatchResult r P Q

@@ -1,8 +1,8 @@
 -- a broker in a file is stopped, on a disk that works, only at a command that was to be done
-use Rattle.std.proofs.Common.{◌≡◌, ◌⊎◌, inl, inr, ◌≤◌, true, false, IsTrue, List, [], ◌∷◌, ◌++◌, None, refl, sym, ap, ◌∙◌, subst, arith}
+use Rattle.std.proofs.Common.{◌≡◌, ◌⊎◌, inl, inr, true, false, IsTrue, List, [], ◌∷◌, ◌++◌, None, refl, sym, ap, ◌∙◌, subst, arith}
 use Rattle.std.proofs.{Math.Logic.{∥∥₁_elim, ∥∥₁_map}, lemmas.Bool.{cases_Bool}}
 use Rattle.sqlite_disk.specs.{declared.Disk.{Ghosts}, Disk.{MoreFaults}}
-use Rattle.sqlite_trees.specs.{View.{doubt}, declared.error.StoreError.{StoreError}}
+use Rattle.sqlite_trees.specs.declared.error.StoreError.{StoreError}
 use Rattle.sqlite_trees.specs.{declared.error.StoreError.TheVariants.{OutOfMemory, Io, Corrupt, Full, Broken, Unstorable}, Objects.{catalog_tree}}
 use Rattle.sqlite.specs.{Files.{IsOpened, file_state, HoldsDatabase}, Held.{Held, IsNew}, Recovery.{Image}, State.{State, HasCause, HasCleanDisk, store_error}}
 use Rattle.sqlite.specs.{declared.FileStore.{FileStore}, Effect.{IsDatabase}, Schema.{Schema}, Start.{FindsIn}, Tree.{Trees}}
@@ -16,7 +16,8 @@ use Rattle.broker_database.specs.{Causes.{IsToBeDone, StaysReadable}, Life.{AreF
 use Rattle.broker_database.{specs.{Life.Kept.{Blank, OfToday}, Life.Period.{Serving}}, proofs.SchemaLemmas.{one_schema}}
 use Rattle.sqlite_store.specs.Laws.{settled_at}
 use Rattle.broker_program.specs.{Calm.{AllStopCalmly, DiskWorked, DiskWorks, ServesCalmly, StopsAtChange, StopsCalmly, StopsFrom}, Life.{periods_of}}
-use Rattle.broker_program.{specs.Serving.{StartsAfter, Work, Works}, proofs.{CallLemmas.{work_runs}, PeriodLemmas.{Begins, starts_after}}}
+use Rattle.broker_program.specs.Serving.{StartsAfter, Work, Works}
+use Rattle.broker_program.proofs.{CallLemmas.{IsBefore, before_itself, calls_since, peers_since, work_runs, works_clean}, PeriodLemmas.{Begins, starts_after}}
 use Rattle.broker_core.specs.declared.answer.Answer.TheVariants as answers
 
 -- a failure of the store that isn't want of memory is one of the disk, or the connection was shut
@@ -40,21 +41,6 @@ stepped answers.Stopped is = cc
 stepped _ is = refl
 
 module _ {D : Type 0} {g : Ghosts D} where
-  -- what stays over calls: doubts of the disk stay, and its failures are counted
-  abbrev IsBefore : BrokerView (FileStore D g) → BrokerView (FileStore D g) → Type 0
-  IsBefore b end =
-      (doubt (file_state b.connection).is_clean ≤ doubt (file_state end.connection).is_clean) × ((file_state b.connection).faults ≤ (file_state end.connection).faults)
-
-  before_itself : (b end : BrokerView (FileStore D g)) → end ≡ b → IsBefore b end
-  before_itself b end same = subst (λ (e : BrokerView (FileStore D g)). IsBefore b e) (sym same) (omega arith, omega arith)
-
-  calls_since : (calls : List (Request × Exit)) (b end : BrokerView (FileStore D g)) → RunsCalls file_state b calls end → IsBefore b end
-  calls_since [] b end same = before_itself b end same
-  calls_since ((r, exit) ∷ calls) b end it =
-      let one = it.2.survives.1 in
-      let more : IsBefore it.1 end = elim it.3 [ inl on ↦ calls_since calls it.1 end on.1 | inr cut ↦ before_itself it.1 end cut.3 ] in
-      (omega (arith, one.clean, more.0), omega (arith, one.counts, more.1))
-
   -- a broker that runs, on an open connection, in a state that can be read back
   pub record RunsIn (s : Broker) (b : BrokerView (FileStore D g)) : Type 0 where
     pub runs : b.is_stopped ≡ false
@@ -89,9 +75,9 @@ module _ {D : Type 0} {g : Ghosts D} where
   calls_calm [] s b end same it clean works stopped =
       let bad : true ≡ false = sym stopped ∙ ap (λ (t : BrokerView (FileStore D g)). t.is_stopped) same ∙ it.runs in cc
   calls_calm ((r, exit) ∷ calls) s b end (given, next, applied, rest) it clean works stopped =
-      let since : IsBefore next end = elim rest [ inl on ↦ calls_since calls next end on.1 | inr cut ↦ before_itself next end cut.3 ] in
-      let now : HasCleanDisk (file_state next.connection) = omega (arith, clean, since.0) in
-      let first : ¬ MoreFaults (file_state b.connection).faults (file_state next.connection).faults = λ more. works (omega (arith, more, since.1)) in
+      let since : IsBefore next.connection end.connection = elim rest [ inl on ↦ calls_since calls next end on.1 | inr cut ↦ before_itself next end cut.3 ] in
+      let now : HasCleanDisk (file_state next.connection) = omega (arith, clean, since.clean) in
+      let first : ¬ MoreFaults (file_state b.connection).faults (file_state next.connection).faults = λ more. works (omega (arith, more, since.counts)) in
       elim (cases_Bool next.is_stopped) [
         | inl stops ↦
             let store = (applied.stops it.runs).0 stops in
@@ -122,10 +108,10 @@ module _ {D : Type 0} {g : Ghosts D} where
   pub opened_runs : (work : Work) (conn : Held (FileStore D g)) (end : BrokerView (FileStore D g)) (it : Works work conn end) (s : Broker) → IsOpened conn → IsNew conn
       → HasCleanDisk (file_state end.connection) → DiskWorks g conn end.connection → HoldsState s (file_state conn) → IsReadable s → IsTrue end.is_stopped → StopsAtChange s work.calls
   opened_runs work conn end it s opened fresh clean works held readable stopped =
-      let since = calls_since work.calls it.broker end (work_runs work conn end it) in
-      let early : HasCleanDisk (file_state it.broker.connection) = omega (arith, clean, since.0) in
+      let since = peers_since work conn end it in
+      let early : HasCleanDisk (file_state it.broker.connection) = omega (arith, clean, since.clean) in
       let opens = it.opened.survives in
-      let first : ¬ MoreFaults (file_state conn).faults (file_state it.broker.connection).faults = λ more. works (omega (arith, more, since.1)) in
+      let first : ¬ MoreFaults (file_state conn).faults (file_state it.broker.connection).faults = λ more. works (omega (arith, more, since.counts)) in
       calls_calm work.calls s it.broker end (work_runs work conn end it) (record {
         runs = it.opened.runs;
         is_open = elim (opens.closes early opened.0.is_open) [ inl now ↦ now | inr more ↦ absurd (first more) ];
@@ -190,9 +176,9 @@ module _ {D : Type 0} (g : Ghosts D) (stays : (file : D) → g.may_leave file (g
   abbrev HoldsToday : Broker → List Work → Held (FileStore D g) → Type 0
   HoldsToday first works conn = (s : Broker) × LifeLeads (OfToday first) (periods_of works) (OfToday s) × IsReadable s × HoldsState s (file_state conn)
 
-  starts_today : (first : Broker) (held : Image) (works : List Work) (conn : Held (FileStore D g)) → IsReadable first → AreFilesOf g (OfToday first) held → StartsAfter held works conn → ∥ HoldsToday first works conn ∥₁
-  starts_today first held works conn readable are it =
-      ∥∥₁_elim (starts_after g stays (OfToday first) held works conn are it) squash₁ (λ (one : Begins g stays (OfToday first) (periods_of works) conn).
+  starts_today : (first : Broker) (held : Image) (works : List Work) (conn : Held (FileStore D g)) → IsReadable first → AreFilesOf g (OfToday first) held → StartsAfter held works conn → HasCleanDisk (file_state conn) → ∥ HoldsToday first works conn ∥₁
+  starts_today first held works conn readable are it clean =
+      ∥∥₁_elim (starts_after g stays (OfToday first) held works conn are it clean) squash₁ (λ (one : Begins g stays (OfToday first) (periods_of works) conn).
       let today = works_readable held works conn it first readable one.1.0 one.1.1 in
       let leads = subst (λ (k : Kept). LifeLeads (OfToday first) (periods_of works) k) today.1 one.1.1 in
       ∥∥₁_map (subst (λ (k : Kept). AreFilesOf g k one.0) today.1 one.1.2) (λ keeps. elim keeps [
@@ -201,27 +187,30 @@ module _ {D : Type 0} (g : Ghosts D) (stays : (file : D) → g.may_leave file (g
       ]))
 
   -- a connection is as it is opened, whichever opening it is
-  starts_fresh : (held : Image) (works : List Work) (conn : Held (FileStore D g)) → StartsAfter held works conn → IsOpened conn × IsNew conn
-  starts_fresh held [] conn it = (it.opened, it.fresh)
-  starts_fresh held (work ∷ works) conn it = (it.4.after.2, it.4.fresh)
+  starts_fresh : (held : Image) (works : List Work) (conn : Held (FileStore D g)) → StartsAfter held works conn → HasCleanDisk (file_state conn) → IsOpened conn × IsNew conn
+  starts_fresh held [] conn it clean = let starts = it clean in (starts.opened, starts.fresh)
+  starts_fresh held (work ∷ works) conn it clean = let opens = it.4 clean in (opens.after.2, opens.fresh)
 
   works_calm : (first : Broker) (held : Image) (work : Work) (works : List Work) (conn : Held (FileStore D g)) (end : BrokerView (FileStore D g)) → IsReadable first → AreFilesOf g (OfToday first) held
       → StartsAfter held works conn → Works work conn end → HasCleanDisk (file_state end.connection) → DiskWorks g conn end.connection → IsTrue end.is_stopped → StopsCalmly first work works
   works_calm first held work works conn end readable are starts does clean disk stopped =
-      let fresh = starts_fresh held works conn starts in
-      ∥∥₁_map (starts_today first held works conn readable are starts) (λ (it : HoldsToday first works conn).
+      let early = works_clean work conn end does clean in
+      let fresh = starts_fresh held works conn starts early in
+      ∥∥₁_map (starts_today first held works conn readable are starts early) (λ (it : HoldsToday first works conn).
       let r : StopsFrom first work works = (it.0, it.1, opened_runs work conn end does it.0 fresh.0 fresh.1 clean disk it.3 it.2 stopped) in r)
 
   all_calm : (first : Broker) (held : Image) (works : List Work) (conn : Held (FileStore D g)) → IsReadable first → AreFilesOf g (OfToday first) held → (starts : StartsAfter held works conn)
-      → DiskWorked g held works conn starts → AllStopCalmly first works
-  all_calm first held [] conn readable are starts worked = tt
-  all_calm first held (work ∷ works) conn readable are starts worked = (
-    works_calm first held work works starts.0 starts.1 readable are starts.2 starts.3 starts.4.clean worked.0 starts.4.stops,
-    all_calm first held works starts.0 readable are starts.2 worked.1,
-  )
+      → HasCleanDisk (file_state conn) → DiskWorked g held works conn starts → AllStopCalmly first works
+  all_calm first held [] conn readable are starts clean worked = tt
+  all_calm first held (work ∷ works) conn readable are starts clean worked =
+      let opens = starts.4 clean in (
+        works_calm first held work works starts.0 starts.1 readable are starts.2 starts.3 opens.clean worked.0 opens.stops,
+        all_calm first held works starts.0 readable are starts.2 (works_clean work starts.0 starts.1 starts.3 opens.clean) worked.1,
+      )
 
   pub serves_calmly : ServesCalmly g
-  serves_calmly first held visits rest it readable are worked works = (
-    all_calm first held it.before it.connection readable are it.starts worked,
-    λ stopped. works_calm first held it.last it.before it.connection it.end readable are it.starts it.works it.clean works stopped,
-  )
+  serves_calmly first held visits rest it readable are to_the_end worked works =
+      let clean = (it.ends.ends to_the_end).0 in (
+        all_calm first held it.before it.connection readable are it.starts (works_clean it.last it.connection it.end it.works clean) worked,
+        λ stopped. works_calm first held it.last it.before it.connection it.end readable are it.starts it.works clean works stopped,
+      )

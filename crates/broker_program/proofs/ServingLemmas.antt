@@ -2,16 +2,16 @@
 use Rattle.std.proofs.Common.{◌≡◌, ◌≢◌, ◌<◌, ◌⊎◌, ◌+◌, inl, inr, false, ℕ, List, Contains, [], ◌∷◌, ◌++◌, length, append_assoc, append-nil, Option, None, Some, IfErr, IfOk, IfSome, IsTrue, MatchOption, Result, Err, Ok, refl, sym, ap, subst, ◌∙◌, arith}
 use Rattle.std.proofs.lemmas.List.Elements.{Contains-append_cases, Contains-push_cases}
 use Rattle.sqlite_disk.specs.{declared.Disk.{Ghosts}, declared.Files.{Files}}
-use Rattle.sqlite.specs.{Files.{file_state}, FileStore.{view}, Recovery.{Image}, State.{HasCleanDisk}, View.{IsClean}, WalReads.{AreClean}}
-use Rattle.sqlite.specs.{declared.FileStore.{FileStore}, declared.file.Leftover.{Leftover}}
-use Rattle.broker_database.specs.{BrokerView.{BrokerView}, Life.{EndsAs, IsGivenBack}}
+use Rattle.sqlite.specs.{Files.{file_state}, Held.{Held}, Recovery.{Image}, State.{HasCleanDisk}, declared.FileStore.{FileStore}}
+use Rattle.sqlite.specs.declared.file.Leftover.{Leftover}
+use Rattle.broker_database.specs.{BrokerView.{BrokerView}, Life.{IsGivenBack}}
 use Rattle.broker_http.specs.{Calls.{IsServed}, declared.served.ServeFault.{ServeFault}, declared.served.Served.{Served}}
 use Rattle.program_io.specs.{Entrance.{IsLetGo, IsLetIn, NoneIsIn, Peer, Queue, Visit}, declared.fault.RunFault.{RunFault}}
-use Rattle.broker_program.specs.{Cuts.{CutsFile, CutsQueue, CountsCut, IsBrokerless, StaysUnclosed}, Files.{ClosesAs, OpensBroker}}
+use Rattle.broker_program.specs.{Cuts.{CutsFile, CutsQueue, CountsCut, IsBrokerless, StaysUnclosed}, Files.{ClosesAs, Leaves, OpensBroker}}
 use Rattle.broker_program.specs.Refusals.{IsLeftUnserved, IsNotClosed, IsReopeningFault}
-use Rattle.broker_program.specs.Reopening.{CutsAll, FailsToReopen, FindsNoneAgain, HasServed, OpensBrokerAgain, ServesAll, ServesBetween, ServesMore, ServesNoMore, ServesOn, ServesSoFar}
-use Rattle.broker_program.specs.Serving.{IsPeerOf, LosesFiles, ServesFile, ServesNext, ServesOver, ServesPeer, ServesPeers, ServesQueue, ServesVisits, Work, Works, calls_of_peers, visits_of}
-use Rattle.broker_program.specs.{declared.left.CutService.{CutService}, declared.left.Service.{Service}}
+use Rattle.broker_program.specs.Reopening.{CutsAll, FailsToReopen, FindsNoneAgain, OpensBrokerAgain, ServesAll, ServesBetween, ServesMore, ServesNoMore, ServesOn, ServesSoFar}
+use Rattle.broker_program.specs.Serving.{IsPeerOf, LosesFiles, ServesFile, ServesNext, ServesOver, ServesPeer, ServesPeers, ServesQueue, ServesTo, ServesVisits, Work, Works, calls_of_peers, visits_of}
+use Rattle.broker_program.specs.{declared.left.CutService.{CutService}, declared.left.Service.{Service}, declared.seed.NoSeed.{NoSeed}}
 use Rattle.broker_program.proofs.VisitLemmas.{idle_then, lost_fewer, lost_visited, more_went, none_visited, one_visited, visited_fewer, visited_then}
 use Rattle.program_io.specs.declared.fault.RunFault.TheVariants as run_fault
 use Rattle.sqlite.specs.declared.file.Leftover.TheVariants as left
@@ -30,7 +30,7 @@ module _ {D : Type 0} (g : Ghosts D) where
 
 module _ {D : Type 0} {g : Ghosts D} where
   -- however serving ended
-  pub any_between : (held : Image) (old new : Queue) (r : Result (Option (Files D)) (RunFault × Leftover D g)) → IfOk r (ServesAll g held old new) → IfErr r (λ failed. CutsAll g held old new failed.0 failed.1)
+  pub any_between : (held : Image) (old new : Queue) (r : Result (Option (Files D)) (RunFault × Leftover D g × Option NoSeed)) → IfOk r (ServesAll g held old new) → IfErr r (λ failed. CutsAll g held old new failed.0 failed.1 failed.2)
       → ServesBetween g old new
   any_between held old new (Ok found) all cut = all.0
   any_between held old new (Err failed) all cut = cut.0
@@ -49,15 +49,13 @@ module _ {D : Type 0} {g : Ghosts D} where
   pub none_served : (held : Image) (queue : Queue) (broker : BrokerView (FileStore D g)) → OpensBroker held broker → ServesMore held queue queue broker
   none_served held queue broker opens = (
     none_between g queue,
-    λ clean.
-        let from = opens clean in
-        record { before = []; served = []; connection = from.0; broker = broker; starts = from.1; opened = from.2; peers = refl; all = refl },
+    record { before = []; served = []; connection = opens.0; broker = broker; starts = opens.1; opened = opens.2; peers = refl; all = refl },
   )
 
-  pub next_served : (held : Image) (old mid new : Queue) (s t : BrokerView (FileStore D g)) (it : ServesBetween g old mid) → HasServed held it.visits s → ServesNext s t mid new → ServesMore held old new t
+  pub next_served : (held : Image) (old mid new : Queue) (s t : BrokerView (FileStore D g)) (it : ServesBetween g old mid) → ServesSoFar held it.visits s → ServesNext s t mid new → ServesMore held old new t
   next_served held old mid new s t more so_far (inl lost) = (
     record { visits = more.visits; visited = lost_visited old mid new more.visits more.visited lost.0; served = more.served },
-    subst (λ (b : BrokerView (FileStore D g)). HasServed held more.visits b) (sym lost.1) so_far,
+    subst (λ (b : BrokerView (FileStore D g)). ServesSoFar held more.visits b) (sym lost.1) so_far,
   )
   next_served held old mid new s t more so_far (inr next) = (
     record {
@@ -68,19 +66,16 @@ module _ {D : Type 0} {g : Ghosts D} where
         | inr same ↦ subst (λ v. IsPeerOf g v) same (s, t, next.2)
       ];
     },
-    λ clean.
-        let early : HasCleanDisk (file_state s.connection) = omega (arith, clean, next.2.2.survives.1.clean) in
-        let it = so_far early in
-        record {
-          before = it.before;
-          served = it.served ++ next.0 ∷ [];
-          connection = it.connection;
-          broker = it.broker;
-          starts = it.starts;
-          opened = it.opened;
-          peers = then_peer it.served next.0 it.broker s t it.peers next.2;
-          all = ap (λ visits. visits ++ next.0 ∷ []) it.all ∙ append_assoc (visits_of it.before) it.served (next.0 ∷ []);
-        },
+    record {
+      before = so_far.before;
+      served = so_far.served ++ next.0 ∷ [];
+      connection = so_far.connection;
+      broker = so_far.broker;
+      starts = so_far.starts;
+      opened = so_far.opened;
+      peers = then_peer so_far.served next.0 so_far.broker s t so_far.peers next.2;
+      all = ap (λ visits. visits ++ next.0 ∷ []) so_far.all ∙ append_assoc (visits_of so_far.before) so_far.served (next.0 ∷ []);
+    },
   )
 
   -- one fewer is to come, and one more was let go, or the broker is the one that it was
@@ -106,8 +101,8 @@ module _ {D : Type 0} {g : Ghosts D} where
     works : Works last it.connection now
     works = record { broker = it.broker; opened = it.opened; peers = it.peers; calls = refl }
 
-    pub over : (rest : Leftover D g) → HasCleanDisk (file_state now.connection) → EndsAs g now.connection rest → ServesOver g held visits rest
-    over rest clean ends = record {
+    to : (Ends : Held (FileStore D g) → Type 0) → Ends now.connection → ServesTo g held visits Ends
+    to Ends ends = record {
       last = last;
       before = it.before;
       connection = it.connection;
@@ -115,11 +110,13 @@ module _ {D : Type 0} {g : Ghosts D} where
       starts = it.starts;
       works = works;
       all = it.all;
-      clean = clean;
       ends = ends;
     }
 
-  pub goes_on : (held : Image) (visits : List Visit) (stopped : BrokerView (FileStore D g)) (found : Option (BrokerView (FileStore D g))) → OpensBrokerAgain stopped found → HasServed held visits stopped
+    pub over : (rest : Leftover D g) → Leaves now.connection rest → ServesOver g held visits rest
+    over rest = to (λ conn. Leaves conn rest)
+
+  pub goes_on : (held : Image) (visits : List Visit) (stopped : BrokerView (FileStore D g)) (found : Option (BrokerView (FileStore D g))) → OpensBrokerAgain stopped found → ServesSoFar held visits stopped
       → ServesOn held visits found
   goes_on held visits stopped None lost so_far = (
     visits,
@@ -127,83 +124,60 @@ module _ {D : Type 0} {g : Ghosts D} where
     sym (append-nil visits),
     lost.0,
     lost.1,
-    λ clean.
-        let given = lost.2 clean in
-        over held visits stopped (so_far given.0) (left.Store lost.0) given.0 given.1,
+    over held visits stopped so_far (left.Store lost.0) lost.2,
   )
-  goes_on held visits stopped (Some broker) again so_far = λ clean.
-      let from = again clean in
-      let it = so_far from.1.clean in
-      record {
-        before = last held visits stopped it ∷ it.before;
-        served = [];
-        connection = from.0;
-        broker = broker;
-        starts = (it.connection, stopped, it.starts, works held visits stopped it, from.1);
-        opened = from.2;
-        peers = refl;
-        all = it.all ∙ sym (append-nil (visits_of it.before ++ it.served));
-      }
+  goes_on held visits stopped (Some broker) again so_far = record {
+    before = last held visits stopped so_far ∷ so_far.before;
+    served = [];
+    connection = again.0;
+    broker = broker;
+    starts = (so_far.connection, stopped, so_far.starts, works held visits stopped so_far, again.1);
+    opened = again.2;
+    peers = refl;
+    all = so_far.all ∙ sym (append-nil (visits_of so_far.before ++ so_far.served));
+  }
 
   -- the file that was opened again, with no broker in it
-  brokerless : (held : Image) (visits : List Visit) (stopped : BrokerView (FileStore D g)) → HasServed held visits stopped → (fault : RunFault) (rest : Leftover D g) → FindsNoneAgain stopped fault rest
+  brokerless : (held : Image) (visits : List Visit) (stopped : BrokerView (FileStore D g)) → ServesSoFar held visits stopped → (fault : RunFault) (rest : Leftover D g) → FindsNoneAgain stopped fault rest
       → IsBrokerless held visits fault rest
-  brokerless held visits stopped so_far (run_fault.Open fault) (left.Store store) none = λ clean.
-      let from = none clean in
-      let it = so_far from.2.clean in
-      record {
-        works = last held visits stopped it ∷ it.before;
-        connection = from.0;
-        end = from.1;
-        starts = (it.connection, stopped, it.starts, works held visits stopped it, from.2);
-        all = it.all;
-        fails = from.3;
-        clean = from.4;
-        left = from.5;
-      }
+  brokerless held visits stopped so_far (run_fault.Open fault) (left.Store store) none = record {
+    works = last held visits stopped so_far ∷ so_far.before;
+    connection = none.0;
+    end = none.1;
+    starts = (so_far.connection, stopped, so_far.starts, works held visits stopped so_far, none.2);
+    all = so_far.all;
+    fails = none.3;
+    left = none.4;
+  }
   brokerless held visits stopped so_far (run_fault.Open fault) (left.Files files) none = none
   brokerless held visits stopped so_far (run_fault.Open fault) (left.Unopened it) none = none
   brokerless held visits stopped so_far _ rest none = absurd none
 
-  pub goes_no_more : (held : Image) (visits : List Visit) (stopped : BrokerView (FileStore D g)) (fault : RunFault) (rest : Leftover D g) → IsTrue stopped.is_stopped → FailsToReopen stopped fault rest
-      → HasServed held visits stopped → ServesNoMore held visits fault rest
-  unfolding over
-  goes_no_more held visits stopped fault rest is (inl shut) so_far = inl (record {
+  pub goes_no_more : (held : Image) (visits : List Visit) (stopped : BrokerView (FileStore D g)) (fault : RunFault) (rest : Leftover D g) (seed : Option NoSeed) → IsTrue stopped.is_stopped → FailsToReopen stopped fault rest seed
+      → ServesSoFar held visits stopped → ServesNoMore held visits fault rest seed
+  unfolding over to
+  goes_no_more held visits stopped fault rest seed is (inl shut) so_far = inl (record {
     store = shut.0;
-    served = λ clean. let given = shut.1 clean in (over held visits stopped (so_far given.0) (left.Store shut.0) given.0 given.1, is);
+    served = (over held visits stopped so_far (left.Store shut.0) shut.1, is);
     shut = shut.2;
   })
-  goes_no_more held visits stopped fault rest is (inr none) so_far = inr (brokerless held visits stopped so_far fault rest none)
+  goes_no_more held visits stopped fault rest seed is (inr none) so_far = inr (brokerless held visits stopped so_far fault rest none)
 
   -- the file of the broker that served last couldn't be closed
-  pub stays_unclosed : (held : Image) (visits : List Visit) (end : BrokerView (FileStore D g)) (fault : RunFault) (store : FileStore D g) → HasServed held visits end → IsNotClosed end.connection fault store
-      → IsClean (view store) → StaysUnclosed held visits fault store
-  stays_unclosed held visits end fault store so_far closes clean =
-      let early : HasCleanDisk (file_state end.connection) = omega (arith, clean, closes.closed.quiet.clean) in
-      let it = so_far early in
-      record {
-        last = last held visits end it;
-        before = it.before;
-        connection = it.connection;
-        end = end;
-        starts = it.starts;
-        works = works held visits end it;
-        all = it.all;
-        clean = early;
-        closes = closes;
-      }
+  pub stays_unclosed : (held : Image) (visits : List Visit) (end : BrokerView (FileStore D g)) (fault : RunFault) (store : FileStore D g) → ServesSoFar held visits end → IsNotClosed end.connection fault store
+      → StaysUnclosed held visits fault store
+  stays_unclosed held visits end fault store so_far closes = to held visits end so_far (λ conn. IsNotClosed conn fault store) closes
 
-  pub all_served : (held : Image) (visits : List Visit) (end : BrokerView (FileStore D g)) (files : Files D) → HasServed held visits end → ClosesAs end.connection files → AreClean g files.log files.db
+  pub all_served : (held : Image) (visits : List Visit) (end : BrokerView (FileStore D g)) (files : Files D) → ServesSoFar held visits end → ClosesAs end.connection files
       → ServesOver g held visits (left.Files files)
-  all_served held visits end files so_far closes clean =
-      let copied = closes clean in over held visits end (so_far copied.was_clean) (left.Files files) copied.was_clean copied
+  all_served held visits end files so_far closes = over held visits end so_far (left.Files files) closes
 
   -- the broker there was opened, and given up without a peer
   pub unserved : (held : Image) (broker : BrokerView (FileStore D g)) (store : FileStore D g) → OpensBroker held broker
       → HasCleanDisk (file_state broker.connection) × IsGivenBack g broker.connection store → IsLeftUnserved held store
   unserved held broker store opens given =
-      let from = opens given.0 in
-      record { connection = from.0; broker = broker; starts = from.1; opened = from.2; clean = given.0; left = given.1 }
+      let early : HasCleanDisk (file_state opens.0) = omega (arith, given.0, opens.2.survives.clean) in
+      record { connection = opens.0; broker = broker; starts = opens.1 early; opened = opens.2; clean = given.0; left = given.1 }
 
 none≢some : {T : Type 0} (x : T) → None ≢ Some x
 none≢some {T} x is = subst (λ (o : Option T). MatchOption o (Unit {0}) (λ _. ⊥)) is tt
@@ -239,7 +213,7 @@ module _ {D L : Type 0} (g : Ghosts D) (later : Ghosts L) where
 
   -- and then the file of the path that was opened failed
   pub cut_later : (held : Image) (old mid new : Queue) (found : Option (Files D)) (fault : RunFault) → found ≡ None → IsReopeningFault fault → ServesAll g held old mid found → ServesBetween later mid new
-      → CutsQueue g later held old new fault None
+      → CutsQueue g later held old new fault None None
   cut_later held old mid new found fault none is it more = record {
     visits = it.0.visits ++ more.visits;
     visited = visited_then old mid new it.0.visits more.visits it.0.visited more.visited;
@@ -248,8 +222,8 @@ module _ {D L : Type 0} (g : Ghosts D) (later : Ghosts L) where
   }
 
   -- or the file that was opened first
-  pub cut_before : (held : Image) (old new : Queue) (fault : RunFault) (rest : Leftover D g) → CutsAll g held old new fault rest → CutsQueue g later held old new fault (Some rest)
-  cut_before held old new fault rest it =
+  pub cut_before : (held : Image) (old new : Queue) (fault : RunFault) (rest : Leftover D g) (seed : Option NoSeed) → CutsAll g held old new fault rest seed → CutsQueue g later held old new fault (Some rest) seed
+  cut_before held old new fault rest seed it =
       record { visits = it.0.visits; visited = it.0.visited; served = λ visit is. inl (it.0.served visit is); file = it.1 }
 
   -- so many connections

@@ -6,7 +6,7 @@ use Rattle.clap.specs.{Words.{HasKind, IsAmong, Text, kind_of}, declared.error.E
 use Rattle.clap.specs.declared.error.kind.ErrorKind.TheVariants.{DisplayHelp, DisplayVersion, OutOfMemory}
 use Rattle.command_line.specs.Lines.{AsksForText, IsFoundIn, is_line, mistakes}
 use Rattle.http_responses.specs.declared.writing.WriteFault.{WriteFault}
-use Rattle.broker_program.specs.{Running.{Ran, RanOver}, Words.{LacksMemory, TellsMistake, TellsOfWords, TellsText}, declared.left.Ended.{Ended}}
+use Rattle.broker_program.specs.{Running.{Ran}, Words.{LacksMemory, TellsMistake, TellsOfWords, TellsText}, declared.left.Ended.{Ended}}
 
 -- an error has one of the kinds that clap finds in the words
 pub found : (words : List Text) (e : Error) → HasKind (mistakes words) e → (kind : ErrorKind) → (kind_of e ≢ OutOfMemory) × (kind_of e ≡ kind) → IsFoundIn words kind
@@ -82,8 +82,8 @@ module _ {D I O E : Type 0} {g : Ghosts D} (held : Image) (remaining : I → Opt
     reason = λ three line. inl (lacks line).2;
   }
 
--- words were run over some streams if their texts were
-pub ran_over : {D I O E : Type 0} {g : Ghosts D} (held : Image) (remaining : I → Option (List ℕ)) (contents : O → Option (List ℕ)) (shows : E → Option (List ℕ)) (words texts : List Text) (before after : I) (old new : O) (untold told : E) (end : Ended D g)
-    → words ≡ texts → Ran held remaining contents shows words before after old new untold told end → RanOver held remaining contents shows texts end
-ran_over held remaining contents shows words texts before after old new untold told end same ran =
-    (before, after, old, new, untold, told, subst (λ (these : List Text). Ran held remaining contents shows these before after old new untold told end) same ran)
+-- the words that are run are these texts
+pub of_texts : {D I O E : Type 0} {g : Ghosts D} (held : Image) (remaining : I → Option (List ℕ)) (contents : O → Option (List ℕ)) (shows : E → Option (List ℕ)) (words texts : List Text) (before after : I) (old new : O) (untold told : E) (end : Ended D g)
+    → words ≡ texts → Ran held remaining contents shows words before after old new untold told end → Ran held remaining contents shows texts before after old new untold told end
+of_texts held remaining contents shows words texts before after old new untold told end same ran =
+    subst (λ (these : List Text). Ran held remaining contents shows these before after old new untold told end) same ran

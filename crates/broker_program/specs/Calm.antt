@@ -17,6 +17,7 @@ use Rattle.broker_database.specs.Causes.{IsToBeDone}
 use Rattle.broker_database.specs.Life.{AreFilesOf, LifeLeads}
 use Rattle.broker_database.specs.Life.Kept.{OfToday}
 use Rattle.program_io.specs.Entrance.{Visit}
+use Rattle.broker_program.specs.Files.{EndsClean}
 use Rattle.broker_program.specs.Life.{periods_of}
 use Rattle.broker_program.specs.Serving.{ServesOver, StartsAfter, Work}
 
@@ -61,5 +62,5 @@ module _ {D : Type 0} (g : Ghosts D) where
   ServesCalmly =
       (first : Broker) (held : Image) (visits : List Visit) (rest : Leftover D g) (it : ServesOver g held visits rest)
       → IsReadable first → AreFilesOf g (OfToday first) held
-      → DiskWorked held it.before it.connection it.starts → DiskWorks it.connection it.end.connection
+      → EndsClean rest → DiskWorked held it.before it.connection it.starts → DiskWorks it.connection it.end.connection
       → AllStopCalmly first it.before × (IsTrue it.end.is_stopped → StopsCalmly first it.last it.before)

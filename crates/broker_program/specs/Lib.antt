@@ -9,6 +9,7 @@ pub mod Words
 pub mod Running
 pub mod Life
 pub mod Calm
+pub mod Tested
 pub mod Reasons
 pub mod Refusals
 pub mod Cuts

@@ -1,9 +1,10 @@
 -- what a command line has read and written when the program ends (this project's own choice)
-use Rattle.std.specs.Prelude.{◌≡◌, ◌≢◌, ◌⊎◌, ℕ, List, Bool, true, false, Option}
+use Rattle.std.specs.Prelude.{◌≡◌, ◌≢◌, ◌⊎◌, ℕ, List, Bool, true, false, Option, Result, codes}
 use Rattle.sqlite_disk.specs.declared.Disk.{Ghosts}
 use Rattle.sqlite.specs.Recovery.{Image}
 use Rattle.broker_names.specs.Name.{IsToken}
 use Rattle.clap.specs.Words.{Text}
+use Rattle.http_responses.specs.declared.writing.WriteFault.{WriteFault}
 use Rattle.std.specs.declared.io.ErrorKind.{ErrorKind}
 use Rattle.std.specs.declared.io.ErrorKind.TheVariants.{InvalidData}
 use Rattle.command_line.specs.Lines.{IsFoundIn, Says, is_line}
@@ -12,10 +13,11 @@ use Rattle.broker_program.specs.Files.{LeavesClosed, LeavesRead, LeavesServed}
 use Rattle.program_io.specs.Listening.{ListensOn}
 use Rattle.broker_program.specs.Making.{BrokerIsMade, FileIsMigrated}
 use Rattle.broker_program.specs.Reasons.{IsFaultOf}
+use Rattle.program_io.specs.Faults.{fault_text}
 use Rattle.program_io.specs.Reported.{IsReported}
 use Rattle.broker_program.specs.Serving.{ServesFile}
 use Rattle.broker_program.specs.Told.{Asks, AsksUntil, question}
-use Rattle.program_io.specs.Written.{Checks, ChecksUntil, Normalises, NormalisesUntil}
+use Rattle.program_io.specs.Written.{Checks, ChecksUntil, IsLineOut, Normalises, NormalisesUntil}
 use Rattle.program_io.specs.declared.fault.RunFault.{RunFault}
 use Rattle.program_io.specs.declared.fault.RunFault.TheVariants as run_fault
 use Rattle.broker_program.specs.Words.{TellsOfWords}
@@ -128,3 +130,15 @@ module _ {D I O E : Type 0} {g : Ghosts D} (held : Image) (remaining : I → Opt
 -- the status of a process whose words can't be read, for an error of this kind: 2 for a word that isn't UTF-8
 abbrev pub IsUnread : ErrorKind → ℕ → Type 0
 IsUnread kind status = ((kind ≡ InvalidData) × (status ≡ 2)) ⊎ ((kind ≢ InvalidData) × (status ≡ 3))
+
+-- and what standard error shows of them
+abbrev pub unread_text : ErrorKind → List ℕ
+unread_text InvalidData = codes "error: a word of the command line isn't UTF-8"
+unread_text _ = fault_text run_fault.Memory
+
+-- nothing else is written, and nothing is read
+abbrev pub TellsUnread : {I O E : Type 0} → (E → Option (List ℕ)) → (before after : I) (old new : O) (untold told : E)
+    → ErrorKind → Result (Unit {0}) WriteFault → ℕ → Type 0
+TellsUnread shows before after old new untold told kind line status =
+    (after ≡ before) × (new ≡ old) × IsUnread kind status
+    × IsLineOut (unread_text kind) line (shows untold) (shows told)

@@ -4,14 +4,12 @@ use Rattle.std.specs.Prelude.{◌≡◌, ◌⊎◌, ℕ, ◌+◌, false, List, [
 use Rattle.std.specs.Prelude.{◌&&◌, MatchOption}
 use Rattle.sqlite_disk.specs.declared.Disk.{Ghosts}
 use Rattle.sqlite_disk.specs.declared.Files.{Files}
-use Rattle.sqlite.specs.FileStore.{files as store_files, view}
+use Rattle.sqlite.specs.FileStore.{files as store_files}
 use Rattle.sqlite_store.specs.Calls.{IsQuietCall}
 use Rattle.sqlite.specs.Files.{file_state}
 use Rattle.sqlite.specs.Held.{Held, IsNew}
 use Rattle.sqlite.specs.Recovery.{Image}
 use Rattle.sqlite.specs.State.{HasCleanDisk}
-use Rattle.sqlite.specs.View.{IsClean}
-use Rattle.sqlite.specs.WalReads.{AreClean}
 use Rattle.sqlite.specs.declared.FileStore.{FileStore}
 use Rattle.sqlite.specs.declared.file.Leftover.{Leftover}
 use Rattle.sqlite.specs.declared.file.Leftover.TheVariants as left
@@ -19,13 +17,13 @@ use Rattle.broker_core.specs.Laws.{Exit}
 use Rattle.broker_core.specs.Machine.{Request}
 use Rattle.broker_database.specs.BrokerView.{BrokerView}
 use Rattle.broker_database.specs.Calls.{Opened}
-use Rattle.broker_database.specs.Life.{EndsAs, IsGivenBack, IsOpenedAfter}
+use Rattle.broker_database.specs.Life.{IsGivenBack, IsOpenedAfter}
 use Rattle.broker_http.specs.Calls.{IsServed}
 use Rattle.broker_http.specs.declared.served.ServeFault.{ServeFault}
 use Rattle.broker_http.specs.declared.served.Served.{Served}
 use Rattle.program_io.specs.Entrance.{AreVisited, IsLost, IsVisited, Queue, Visit}
 use Rattle.broker_program.specs.Asked.{calls_of_served}
-use Rattle.broker_program.specs.Files.{StartsFrom}
+use Rattle.broker_program.specs.Files.{Leaves, OpensOn}
 use Rattle.broker_program.specs.declared.left.Service.{Service}
 
 -- what a broker does over one opening of its file: it serves these peers, and runs these commands for them
@@ -72,16 +70,21 @@ module _ {D : Type 0} {g : Ghosts D} where
     pub clean : HasCleanDisk (file_state stopped.connection)
     pub given : IsGivenBack g stopped.connection store
     pub after : IsOpenedAfter g (left.Store store) conn
-    -- no query on it has a limit of steps
+    -- no query on it has a limit of steps, and each later read is tested
     pub fresh : IsNew conn
+    pub shielded : (file_state conn).IsShielded
+
+  -- the same, if the disk is clean as the connection was opened
+  abbrev pub ReopensOn : BrokerView (FileStore D g) → Held (FileStore D g) → Type 0
+  ReopensOn stopped conn = HasCleanDisk (file_state conn) → OpensAfter stopped conn
 
   -- The connection was opened on files that held this; or on those files again, once brokers over them had done these
   -- works, the last one first, and each was stopped.
   abbrev pub StartsAfter : Image → List Work → Held (FileStore D g) → Type 0
-  StartsAfter held [] conn = StartsFrom held conn
+  StartsAfter held [] conn = OpensOn held conn
   StartsAfter held (work ∷ works) conn =
       (old : Held (FileStore D g)) × (stopped : BrokerView (FileStore D g))
-      × StartsAfter held works old × Works work old stopped × OpensAfter stopped conn
+      × StartsAfter held works old × Works work old stopped × ReopensOn stopped conn
 
   -- a sync of one of the two files failed, so that nothing more may be asked of them
   abbrev pub HasFailedSync : FileStore D g → Type 0
@@ -100,8 +103,8 @@ module _ {D : Type 0} (g : Ghosts D) where
   abbrev pub IsPeerOf : Visit → Type 0
   IsPeerOf visit = (s : BrokerView (FileStore D g)) × (t : BrokerView (FileStore D g)) × ServesPeer visit s t
 
-  -- Brokers in files that held this served these peers, over one opening after another, and this is left of the files.
-  pub record ServesOver (held : Image) (visits : List Visit) (rest : Leftover D g) : Type 0 where
+  -- Brokers in files that held this served these peers, over one opening after another. The last connection ends so.
+  pub record ServesTo (held : Image) (visits : List Visit) (Ends : Held (FileStore D g) → Type 0) : Type 0 where
     -- what was done over the last opening, and over those before it
     pub last : Work
     pub before : List Work
@@ -110,21 +113,22 @@ module _ {D : Type 0} (g : Ghosts D) where
     pub starts : StartsAfter held before connection
     pub works : Works last connection end
     pub all : visits ≡ visits_of (last ∷ before)
-    -- the files were closed, or given up as they were
-    pub clean : HasCleanDisk (file_state end.connection)
-    pub ends : EndsAs g end.connection rest
+    pub ends : Ends end.connection
+
+  -- The files were closed, or given up as they were, and this is left of them.
+  abbrev pub ServesOver : Image → List Visit → Leftover D g → Type 0
+  ServesOver held visits rest = ServesTo held visits (λ conn. Leaves conn rest)
 
   -- The first of these peers were served over files that held this, and then a sync of them failed.
   abbrev pub LosesFiles : Image → List Visit → Type 0
   LosesFiles held visits =
       (front : List Visit) × (back : List Visit) × (visits ≡ front ++ back) × (store : FileStore D g) × LosesSync store
-      × (IsClean (view store) → ServesOver held front (left.Store store))
+      × ServesOver held front (left.Store store)
 
   -- The brokers in the file served these peers, and it was closed; or a sync of it failed.
   abbrev pub ServesVisits : Image → List Visit → Option (Files D) → Type 0
   ServesVisits held visits found =
-      MatchOption found (LosesFiles held visits) (λ files.
-      AreClean g files.log files.db → ServesOver held visits (left.Files files))
+      MatchOption found (LosesFiles held visits) (λ files. ServesOver held visits (left.Files files))
 
 -- Later is what was opened once a sync failed.
 module _ {D L : Type 0} (g : Ghosts D) (later : Ghosts L) where

@@ -1,8 +1,12 @@
 //! What a broker's file keeps over a command. The program calls none of these.
+ghost use Rattle.sqlite_disk.specs.Modelled.{calls_of, start_of};
 ghost use Rattle.broker_program.specs.Calm.{ServesCalmly};
-ghost use Rattle.broker_program.specs.Life.{AskingLeads, MakingLeads, MigratingLeads, ServingLeads};
+ghost use Rattle.broker_program.specs.Life.{AskingLeads, FindingNoneLeads, MakingLeads, MigratingLeads, ServingLeads};
+ghost use Rattle.broker_program.specs.Life.{ShutLeads, UnclosedLeads};
+ghost use Rattle.broker_program.specs.Tested.{ServesHonestly};
 
-use sqlite_disk::Disk;
+use sqlite::Start;
+use sqlite_disk::{Calls, Disk, Modelled};
 
 /// Each of the commands over a file that are done is a period of the life of that file (`sessions` of
 /// `broker_service`), and `serve` is one for each time that it opened it: if the files held no tables, a broker's state
@@ -17,10 +21,29 @@ pub fn life_over_commands<D: Disk>()
     ensures serving { ServingLeads D.Disk }
 {}
 
+/// What is left of a file by a `serve` that fails once it served keeps what its periods lead to, too: where no broker is
+/// found in the file that was opened again (`unfound`), where it isn't opened again (`shut`), and where it can't be
+/// closed (`unclosed`). So the next program that opens it goes on from there. Of the last two the kit's clauses leave
+/// out a little, which is a premise: of files whose opening is refused, that they are unharmed (`unopened` of
+/// `sessions`); of a store that broke as its log was copied or that couldn't be closed, that its trees are numbered.
+pub fn life_over_cuts<D: Disk>()
+    ensures unfound { FindingNoneLeads D.Disk }
+    ensures shut { ShutLeads D.Disk }
+    ensures unclosed { UnclosedLeads D.Disk }
+{}
+
 /// Over a file that holds a state which can be read back, on a disk that works, `serve` answers `store` to no command
 /// that changes nothing: each broker over the file that is stopped is so at a command that was to be done, whichever
 /// opening it is. That a broker stops only at such an answer, and that the states that a run reaches can be read back,
 /// are promises of `Broker::apply`. Of `replay` it is part of what that command promises.
 pub fn service_is_calm<D: Disk>()
     ensures { ServesCalmly D.Disk }
+{}
+
+/// If the disk was clean as `serve` opened its file, the last time, it is to the end, or two texts share a digest: each
+/// later read is tested against a digest of what was written there, under a key that the system drew. So of one opening
+/// the premise of the clauses on `serve`, that the disk is clean to the end, is one on its opening and on digests.
+/// `Modelled` is a file whose calls are recorded, as that of each path is.
+pub fn service_is_honest<C: Calls + Drop, S: Start>()
+    ensures { ServesHonestly ⟦<Modelled<C, S> as Disk>⟧ (start_of S.Start) (λ f. C.Calls.history (calls_of f)) }
 {}

@@ -1,8 +1,10 @@
 //! How a run of the program ended, and what a command leaves of the file that it worked on.
+use crate::seed::NoSeed;
 use http_responses::WriteFault;
 use program_io::check::FilesRead;
 use sqlite::{FileStore, Files, Leftover};
 use sqlite_disk::Disk;
+use std::io;
 
 /// Connections that were served over the broker in a file.
 #[derive(Drop)]
@@ -24,6 +26,8 @@ pub struct CutService<D: Disk> {
     pub lost: u32,
     /// What is left of the file. None if a sync of it failed: then the fault is of the file that its path had afterwards.
     pub rest: Option<Leftover<D>>,
+    /// That the system gave no seed to open it again, if that is the fault.
+    pub seed: Option<NoSeed>,
 }
 
 /// What a command left of the file that it worked on.
@@ -63,4 +67,13 @@ pub struct Processed<D: Disk> {
     pub words: Vec<String>,
     /// How it ended.
     pub ended: Ended<D>,
+}
+
+/// The words of a process that can't be read.
+#[derive(Drop)]
+pub struct Unread {
+    /// Why: one isn't UTF-8, or there is no memory for them.
+    pub error: io::Error,
+    /// Whether standard error took the line that says so.
+    pub line: Result<(), WriteFault>,
 }

@@ -12,9 +12,11 @@ mod reopening;
 mod replay;
 mod routes;
 mod running;
+mod seed;
 mod serve;
 
-pub use left::{CutService, Ended, Left, Processed, Service};
+pub use left::{CutService, Ended, Left, Processed, Service, Unread};
 pub use process::run_process;
 pub use running::run;
+pub use seed::NoSeed;
 pub use serve::serve_each;

@@ -1,5 +1,5 @@
 //! Opening a broker's files again once it stopped.
-ghost use Rattle.std.specs.Prelude.{◌≡◌, false, Some, Ok, IfErr, IfOk, IfSome, IsTrue};
+ghost use Rattle.std.specs.Prelude.{◌≡◌, false, None, Some, Ok, IfErr, IfOk, IfSome, IsTrue};
 ghost use Rattle.sqlite.specs.WalFiles.{image_at};
 ghost use Rattle.program_io.specs.Reported.{IsFromOutside};
 ghost use Rattle.broker_program.specs.Cuts.{StaysShut};
@@ -8,25 +8,15 @@ ghost use Rattle.broker_program.specs.Reopening.{EmptiesLog, FailsToReopen, Keep
 ghost use Rattle.broker_program.specs.Reopening.{OpensFilesAgain};
 
 use crate::files::{FileBroker, broker_of, release, told_of};
+use crate::seed::{NoSeed, store_options};
 use program_io::fault::RunFault;
 use sqlite::{Connection, FileFrom, FileStore, Leftover, Options, Start};
 use sqlite_disk::Disk;
 use sqlite_trees::store::Store;
 use std::alloc::Global;
-use std::hash::{BuildHasher, RandomState};
 
-/// Why a broker's files aren't opened again, and what is left of them.
-pub(crate) type Refused<S> = (RunFault, Leftover<FileFrom<S>>);
-
-/// The options of a store, with a seed of its own. `File`: the system gives none.
-fn store_options(rt: &HostRuntime) -> Result<Options, RunFault>
-    ensures { IfErr result (λ fault. fault ≡ RunFault.File) }
-{
-    match RandomState::new(rt) {
-        Ok(state) => Ok(Options::new(state.hash_one(&0u8))),
-        Err(_) => Err(RunFault::File),
-    }
-}
+/// Why a broker's files aren't opened again, what is left of them, and the want of a seed, if that is why.
+pub(crate) type Refused<S> = (RunFault, Leftover<FileFrom<S>>, Option<NoSeed>);
 
 /// Copies the log of a store that was given up into the database file, so that the log has room again, and says whether
 /// the store broke in that. One that is broken already is left as it is, and so is one of which this fails at once.
@@ -54,7 +44,7 @@ fn connect_again<D: Disk + Drop>(
     options: Options,
 ) -> Result<Option<Connection<FileStore<D>>>, (RunFault, Leftover<D>)>
     ensures ok { IfOk result (OpensFilesAgain store) }
-    ensures shut { IfErr result (λ failed. StaysShut store failed.0 failed.1) }
+    ensures shut { IfErr result (λ failed. StaysShut store failed.0 failed.1 None) }
     ensures cause { IfErr result (λ failed. IsFromOutside failed.0) }
 {
     let (store, broke) = empty_log(store);
@@ -79,22 +69,22 @@ fn reopen<S: Start>(
     requires { IsTrue broker.is_stopped }
     ensures runs { IfOk result (λ found. IfSome found (λ b. b.is_stopped ≡ false)) }
     ensures again { IfOk result (OpensBrokerAgain broker) }
-    ensures shut { IfErr result (λ failed. FailsToReopen broker failed.0 failed.1) }
+    ensures shut { IfErr result (λ failed. FailsToReopen broker failed.0 failed.1 failed.2) }
     ensures cause { IfErr result (λ failed. IsReopeningFault failed.0) }
 {
     // First, so that no broker is dropped where what follows fails.
     let store = release(broker);
     let options = match store_options(rt) {
         Ok(options) => options,
-        Err(fault) => return Err((fault, Leftover::Store(store))),
+        Err(seed) => return Err((RunFault::File, Leftover::Store(store), Some(seed))),
     };
     match connect_again(rt.alloc(), store, options) {
         Ok(Some(connection)) => match broker_of(connection) {
             Ok(broker) => Ok(Some(broker)),
-            Err((fault, store)) => Err((RunFault::Open(fault), Leftover::Store(store))),
+            Err((fault, store)) => Err((RunFault::Open(fault), Leftover::Store(store), None)),
         },
         Ok(None) => Ok(None),
-        Err(failed) => Err(failed),
+        Err((fault, rest)) => Err((fault, rest, None)),
     }
 }
 

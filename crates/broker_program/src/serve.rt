@@ -14,6 +14,7 @@ use crate::files::{Failed, FileBroker, close, fault_of, open_broker, release};
 use crate::left::{CutService, Left, Service};
 use crate::reopening::{Refused, running};
 use crate::routes::route_table;
+use crate::seed::NoSeed;
 use broker_http::RouteTable;
 use broker_http::patience::serve_peer;
 use command_line::FilePath;
@@ -70,7 +71,7 @@ fn serve_over<S: Start, P: Peers>(
     ensures ok { IfOk result (ServesAll ⟦<FileFrom<S> as Disk>⟧ (image_at S.Start)
         (P.queue peers.old) (P.queue peers.new)) }
     ensures cut { IfErr result (λ failed. CutsAll ⟦<FileFrom<S> as Disk>⟧ (image_at S.Start)
-        (P.queue peers.old) (P.queue peers.new) failed.0 failed.1) }
+        (P.queue peers.old) (P.queue peers.new) failed.0 failed.1 failed.2) }
     ensures cause { IfErr result (λ failed. IsReopeningFault failed.0) }
 {
     let mut broker = broker;
@@ -84,7 +85,7 @@ fn serve_over<S: Start, P: Peers>(
     }
     match close(broker) {
         Ok(files) => Ok(Some(files)),
-        Err((fault, store)) => Err((fault, Leftover::Store(store))),
+        Err((fault, store)) => Err((fault, Leftover::Store(store), None)),
     }
 }
 
@@ -102,13 +103,13 @@ fn open_again(rt: &HostRuntime, file: FilePath<'_>) -> Result<FileBroker<Unknown
 
 /// Whether a sync of the files failed. What is left of them isn't looked at.
 fn is_lost<D: Disk + Drop>(
-    served: Result<Option<Files<D>>, (RunFault, Leftover<D>)>,
+    served: Result<Option<Files<D>>, (RunFault, Leftover<D>, Option<NoSeed>)>,
 ) -> Result<bool, RunFault>
     ensures { MatchResult served (λ found. result ≡ Ok (is_none found)) (λ failed. result ≡ Err failed.0) }
 {
     match served {
         Ok(found) => Ok(found.is_none()),
-        Err((fault, _)) => Err(fault),
+        Err((fault, _, _)) => Err(fault),
     }
 }
 
@@ -131,6 +132,9 @@ fn serve_again<P: Peers>(
     Ok(())
 }
 
+/// Why serving ended, what is left of the files, if no sync of them failed, and the want of a seed, if that is why.
+type CutShort<S> = (RunFault, Option<Leftover<FileFrom<S>>>, Option<NoSeed>);
+
 /// Serves the peers that are to come. If a sync of the broker's files fails, those of its path are opened.
 fn serve_all<S: Start, P: Peers>(
     rt: &HostRuntime,
@@ -138,7 +142,7 @@ fn serve_all<S: Start, P: Peers>(
     broker: FileBroker<S>,
     file: FilePath<'_>,
     peers: &mut P,
-) -> Result<Option<Files<FileFrom<S>>>, (RunFault, Option<Leftover<FileFrom<S>>>)>
+) -> Result<Option<Files<FileFrom<S>>>, CutShort<S>>
     requires runs { broker.is_stopped ≡ false }
     requires opened { OpensBroker (image_at S.Start) broker }
     requires idle { NoneIsIn (P.queue peers.old) }
@@ -151,9 +155,9 @@ fn serve_all<S: Start, P: Peers>(
         Ok(Some(files)) => Ok(Some(files)),
         Ok(None) => match serve_again(rt, routes, file, peers) {
             Ok(()) => Ok(None),
-            Err(fault) => Err((fault, None)),
+            Err(fault) => Err((fault, None, None)),
         },
-        Err((fault, rest)) => Err((fault, Some(rest))),
+        Err((fault, rest, seed)) => Err((fault, Some(rest), seed)),
     }
 }
 
@@ -170,14 +174,19 @@ fn service_of<P: Peers, D: Disk>(peers: &P, files: Option<Files<D>>) -> Service<
 }
 
 /// What was served up to a fault, and what is left of the files.
-fn cut_of<P: Peers, D: Disk>(peers: &P, rest: Option<Leftover<D>>) -> CutService<D>
+fn cut_of<P: Peers, D: Disk>(
+    peers: &P,
+    rest: Option<Leftover<D>>,
+    seed: Option<NoSeed>,
+) -> CutService<D>
     ensures { (result.served ≡ length (P.queue peers.now).went) × (result.lost ≡ (P.queue peers.now).lost)
-        × (result.rest ≡ rest) }
+        × (result.rest ≡ rest) × (result.seed ≡ seed) }
 {
     CutService {
         served: peers.gone(),
         lost: peers.lost(),
         rest,
+        seed,
     }
 }
 
@@ -207,7 +216,7 @@ pub fn serve_each<S: Start, P: Peers>(
 {
     match serve_all(rt, routes, broker, file, peers) {
         Ok(files) => Ok(service_of(peers, files)),
-        Err((fault, rest)) => Err((fault, Left::Cut(cut_of(peers, rest)))),
+        Err((fault, rest, seed)) => Err((fault, Left::Cut(cut_of(peers, rest, seed)))),
     }
 }
 

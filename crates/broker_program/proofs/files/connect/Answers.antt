@@ -7,16 +7,16 @@ use Rattle.program_io.specs.Reported.{IsFromOutside}
 use Rattle.broker_program.{specs.{Files.{OpensOn}, Refusals.{FailsToConnect, left_of, told_of}}, proofs.ResultLemmas.{handed_err, handed_ok}}
 use Rattle.broker_program.proofs.files.connect.Goals as goal
 
--- four facts of what was opened
-all_four : {T E : Type 0} {A B C D R : T → Type 0} (r : Result T E) → ((x : T) → A x → B x → C x → D x → R x) → IfOk r A → IfOk r B → IfOk r C → IfOk r D → IfOk r R
-all_four (Ok x) f a b c d = f x a b c d
-all_four (Err e) f a b c d = tt
+-- five facts of what was opened
+all_five : {T E : Type 0} {A B C D F R : T → Type 0} (r : Result T E) → ((x : T) → A x → B x → C x → D x → F x → R x) → IfOk r A → IfOk r B → IfOk r C → IfOk r D → IfOk r F → IfOk r R
+all_five (Ok x) f a b c d e = f x a b c d e
+all_five (Err e) f a b c d g = tt
 
 pub returns-clause-ok : goal.returns-clause-ok
 returns-clause-ok g c =
     handed_ok (λ e. (told_of e.0, left_of e.1)) c.open_from-opened.result c.opened_of.result (OpensOn (image_at g.S.Start)) c.opened_of.ensures
-    (all_four c.open_from-opened.result (λ conn opened found sums fresh clean. record { opened = opened clean; found = found clean; sums = sums clean; fresh = fresh })
-    c.open_from-opened.ensures.opened c.open_from-opened.ensures.found c.open_from-opened.ensures.sums c.open_from-opened.ensures.fresh)
+    (all_five c.open_from-opened.result (λ conn opened found sums fresh guarded clean. record { opened = opened clean; found = found clean; sums = sums clean; fresh = fresh; shielded = guarded clean })
+    c.open_from-opened.ensures.opened c.open_from-opened.ensures.found c.open_from-opened.ensures.sums c.open_from-opened.ensures.fresh c.open_from-opened.ensures.guarded)
 
 abbrev image : List ℕ → List ℕ → Image
 image log db = record { log = log; db = db }

@@ -4,7 +4,7 @@ use Rattle.broker_program.proofs.init.make.Goals as goal
 
 pub returns-in-Ok-clause-made : goal.returns-in-Ok-clause-made
 returns-in-Ok-clause-made g c clean =
-    let copied = c.in-Ok.ensures.ok clean in
+    let copied = (c.in-Ok.ensures.ok.ends clean).1 in
     let from = c.in_ok-broker.ensures.made copied.was_clean in
     record { connection = from.0; broker = c.in_ok-broker.broker; starts = from.1; made = from.2; closed = copied }
 

@@ -4,7 +4,7 @@ use Rattle.broker_program.proofs.migrate.migrate.Goals as goal
 
 pub returns-in-Ok-clause-ok : goal.returns-in-Ok-clause-ok
 returns-in-Ok-clause-ok g c clean =
-    let copied = c.in-Ok.ensures.ok clean in
+    let copied = (c.in-Ok.ensures.ok.ends clean).1 in
     let from = c.in_ok-connection-2.ensures.ok copied.was_clean in
     record { old = from.0; new = _; starts = from.1; migrated = from.2; closed = copied }
 

@@ -16,15 +16,16 @@ returns-then-not-may_be_used-clause-ok g c =
 
 pub returns-then-broke-clause-shut : goal.returns-then-broke-clause-shut
 returns-then-broke-clause-shut g c =
-    (c.empty_log-store.result.0, c.empty_log-store.ensures.quiet, inl (refl, c.close-files.ensures))
+    (c.empty_log-store.result.0, c.empty_log-store.ensures.quiet, c.close-files.result, c.close-files.ensures, inl (refl, refl, c.empty_log-store.ensures.broke c.if-broke.true))
 
 pub returns-in-Err-clause-shut : goal.returns-in-Err-clause-shut
 returns-in-Err-clause-shut g c = (
   c.empty_log-store.result.0,
   c.empty_log-store.ensures.quiet,
+  c.close-files.result,
+  c.close-files.ensures,
   inr (
-    c.close-files.result,
-    c.close-files.ensures,
+    c.empty_log-store.ensures.same c.if-broke.false,
     record { error = _; told = c.told_of.ensures.same; cause = c.in-Err.ensures.cause; left = c.in-Err.ensures.unharmed },
   ),
 )
@@ -33,4 +34,4 @@ pub returns-in-Ok-clause-ok : goal.returns-in-Ok-clause-ok
 returns-in-Ok-clause-ok g c clean =
     opened_after g.D.Disk g.met.D.Disk.seen_may_stay c.args.store c.empty_log-store.result.0 c.close-files.result c.in-Ok.connection
     (subst (λ broke. EmptiesLog c.args.store (c.empty_log-store.result.0, broke)) c.if-broke.false c.empty_log-store.ensures)
-    c.close-files.ensures (c.in-Ok.ensures.opened clean) (c.in-Ok.ensures.found clean) c.in-Ok.ensures.fresh
+    c.close-files.ensures (c.in-Ok.ensures.opened clean) (c.in-Ok.ensures.found clean) c.in-Ok.ensures.fresh (c.in-Ok.ensures.guarded clean)

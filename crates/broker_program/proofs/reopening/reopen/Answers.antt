@@ -1,14 +1,12 @@
-use Rattle.std.proofs.Common.{inl, inr, subst, arith}
-use Rattle.sqlite.specs.{State.{HasCleanDisk}, Files.{file_state}}
-use Rattle.broker_program.{specs.Reopening.{OpensFilesAgain}, proofs.ReopeningLemmas.{none_again, opens_after, untouched}}
+use Rattle.std.proofs.Common.{inl, inr, refl, subst}
+use Rattle.broker_program.{specs.Reopening.{OpensFilesAgain}, proofs.ReopeningLemmas.{none_again, reopens_on}}
 use Rattle.broker_program.proofs.reopening.reopen.Goals as goal
 
 pub returns-in-Ok-broker_of-clause-again : goal.returns-in-Ok-broker_of-clause-again
-returns-in-Ok-broker_of-clause-again g c clean =
+returns-in-Ok-broker_of-clause-again g c =
     let conn = c.in-Ok-Some.connection in
-    let early : HasCleanDisk (file_state conn) = omega (arith, clean, c.in-Ok-broker_of.ensures.opened.survives.clean) in
-    let again = subst (λ found. OpensFilesAgain c.release-store.result found) c.in-Ok-Some.field-0-is c.in-Ok-Some.ensures.ok early in
-    (conn, opens_after c.args.broker c.release-store.result again.0 conn c.requires c.release-store.ensures again.1 again.2 again.3, c.in-Ok-broker_of.ensures.opened)
+    let again = subst (λ found. OpensFilesAgain c.release-store.result found) c.in-Ok-Some.field-0-is c.in-Ok-Some.ensures.ok in
+    (conn, reopens_on c.args.broker c.release-store.result conn c.requires c.release-store.ensures again, c.in-Ok-broker_of.ensures.opened)
 
 pub returns-in-Err-broker_of-clause-shut : goal.returns-in-Err-broker_of-clause-shut
 returns-in-Err-broker_of-clause-shut g c =
@@ -16,7 +14,7 @@ returns-in-Err-broker_of-clause-shut g c =
     (subst (λ found. OpensFilesAgain c.release-store.result found) c.in-Ok-Some.field-0-is c.in-Ok-Some.ensures.ok) c.in-Err-broker_of.ensures.refused)
 
 pub returns-in-Err-clause-shut : goal.returns-in-Err-clause-shut
-returns-in-Err-clause-shut g c = inl (c.release-store.result, c.release-store.ensures, rw c.in-Err.ensures (untouched c.release-store.result))
+returns-in-Err-clause-shut g c = inl (c.release-store.result, c.release-store.ensures, (refl, refl))
 
 pub returns-in-Err-connect_again-clause-shut : goal.returns-in-Err-connect_again-clause-shut
 returns-in-Err-connect_again-clause-shut g c = inl (c.release-store.result, c.release-store.ensures, c.in-Err-connect_again.ensures.shut)

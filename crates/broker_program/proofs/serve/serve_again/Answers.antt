@@ -1,5 +1,6 @@
-use Rattle.std.proofs.Common.{Ok, ap}
-use Rattle.broker_program.proofs.{ResultLemmas.{left_none, left_some}, ServingLemmas.{any_between, between_then, none_between}}
+use Rattle.std.proofs.{Common.{Err, Ok, ap, is_none}, lemmas.Result.{err_from_is_err_and}}
+use Rattle.broker_program.{specs.Refusals.{IsReopeningFault}, proofs.ResultLemmas.{left_none, left_some, told_err}}
+use Rattle.broker_program.proofs.ServingLemmas.{any_between, between_then, none_between}
 use Rattle.broker_program.proofs.serve.serve_again.Goals as goal
 
 pub loop-file-init : goal.loop-file-init
@@ -23,6 +24,11 @@ returns-in_err-broker-clause-served g c = none_between _ _
 pub returns-in_err-is_lost-clause-served : goal.returns-in_err-is_lost-clause-served
 returns-in_err-is_lost-clause-served g c =
     between_then _ _ _ _ c.loop-file.invariant.3 (any_between _ _ _ _ c.serve_over.ensures.ok c.serve_over.ensures.cut)
+
+pub returns-in_err-is_lost-clause-cause : goal.returns-in_err-is_lost-clause-cause
+returns-in_err-is_lost-clause-cause g c =
+    let p = err_from_is_err_and c.from_residual-in_err-is_lost.result c.from_residual-in_err-is_lost.ensures.1 in
+    rw (p.1, p.2) (told_err is_none (λ failed. failed.0) c.serve_over.result (Err c.in_err-is_lost.field-0.0) IsReopeningFault c.in_err-is_lost.ensures c.serve_over.ensures.cause)
 
 pub returns-in_err-broker-2-clause-served : goal.returns-in_err-broker-2-clause-served
 returns-in_err-broker-2-clause-served g c =

@@ -11,4 +11,4 @@ pub returns-in-Err-serve_again-clause-cut : goal.returns-in-Err-serve_again-clau
 returns-in-Err-serve_again-clause-cut g c = cut_later _ _ _ _ _ _ _ _ c.in-Ok-None.field-0-is c.in-Err-serve_again.ensures.cause c.in-Ok-None.ensures.ok c.serve_again.ensures.served
 
 pub returns-in-Err-clause-cut : goal.returns-in-Err-clause-cut
-returns-in-Err-clause-cut g c = cut_before _ _ _ _ _ _ _ c.in-Err.ensures.cut
+returns-in-Err-clause-cut g c = cut_before _ _ _ _ _ _ _ _ c.in-Err.ensures.cut

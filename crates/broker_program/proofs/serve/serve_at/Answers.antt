@@ -21,4 +21,4 @@ returns-in-Ok-clause-cause g c =
 
 pub returns-in-Err-clause-cause : goal.returns-in-Err-clause-cause
 returns-in-Err-clause-cause g c =
-    rw c.in-Err.ensures.cause (inr (inl (λ clean. unserved _ c.in_ok-broker.broker _ c.in_ok-broker.ensures.opened (c.release.ensures clean))))
+    rw c.in-Err.ensures.cause (inr (inl (λ clean. unserved _ c.in_ok-broker.broker _ c.in_ok-broker.ensures.opened (c.release.ensures.ends clean))))

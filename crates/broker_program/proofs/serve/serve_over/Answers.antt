@@ -1,7 +1,7 @@
 use Rattle.std.proofs.Common.{◌≡◌, ◌<◌, false, length, sym, subst, inl, inr, arith, rules, IfSome}
 use Rattle.sqlite.specs.WalFiles.{image_at}
 use Rattle.broker_program.{specs.Reopening.{ServesOn}, proofs.ServingLemmas.{all_served, next_goes, next_less, next_served, none_served, stays_unclosed}}
-use Rattle.broker_program.proofs.{ResultLemmas.{err_no_ok}, VisitLemmas.{more_went}}
+use Rattle.broker_program.proofs.{ResultLemmas.{err_no_ok, none_no_some}, VisitLemmas.{more_went}}
 use Rattle.broker_program.proofs.serve.serve_over.Goals as goal
 
 pub loop-broker-init : goal.loop-broker-init
@@ -32,6 +32,10 @@ pub returns-in-Ok-None-clause-ok : goal.returns-in-Ok-None-clause-ok
 returns-in-Ok-None-clause-ok g c =
     let so_far = c.loop-broker.invariant.3 in
     (so_far.0, subst (λ found. ServesOn (image_at g.S.Start) so_far.0.visits found) c.in-Ok-None.field-0-is (c.in-Ok-None.ensures.goes so_far.0.visits so_far.1))
+
+pub returns-in-Ok-None-clause-fewer : goal.returns-in-Ok-None-clause-fewer
+returns-in-Ok-None-clause-fewer g c none =
+    elim c.loop-broker.invariant.1 [ inl runs ↦ absurd (none_no_some _ _ _ c.in-Ok-None.is c.in-Ok-None.field-0-is (c.running.ensures.same runs)) | inr more ↦ more.1 ]
 
 pub returns-in-Err-clause-cut : goal.returns-in-Err-clause-cut
 returns-in-Err-clause-cut g c =
