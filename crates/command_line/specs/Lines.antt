@@ -1,7 +1,7 @@
 -- the program's command lines: a word that names a command, and the command's options, each with a value and
 -- each required (this project's own choice)
 use Rattle.std.specs.Prelude.{◌≡◌, ◌≢◌, ◌⊎◌, ◌≤◌, ⊤, ℕ, List, [], ◌∷◌, Bool, true, false, Option, Some, None}
-use Rattle.std.specs.Prelude.{codes, bytes_eq, find, fold, map, pos}
+use Rattle.std.specs.Prelude.{MatchOption, codes, bytes_eq, find, fold, map, pos}
 use Rattle.std.specs.Borrow.{Bor}
 use Rattle.std.specs.Option.{option_map_or}
 use Rattle.std.specs.Str.Parse.{IsNumeral, digits_value, without_leading_plus}
@@ -225,6 +225,11 @@ LacksValue rows names.CanIDeploy =
 abbrev pub BeginsWithName : List Text → CommandName → Type 0
 BeginsWithName words name =
     (rest : List Text) × (words ≡ (command_named name).top.name ∷ rest) × (named_in words ≡ Some (command_named name))
+
+-- for private clauses: the line of the command of this name with its options' values, or none, as one has no value
+abbrev pub IsLineOf : CommandName → List Row → Option Line → Type 0
+IsLineOf name rows result =
+    MatchOption result (LacksValue rows name) (λ line. (command_of line ≡ command_named name) × HasValues rows line)
 
 -- for private clauses: an option and a command, as the program describes them
 abbrev pub option_rule : CommandOption → Rule

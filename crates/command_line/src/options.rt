@@ -1,8 +1,7 @@
 //! The values of a command's options, as `clap` found them.
 ghost use Rattle.std.specs.Prelude.{◌≡◌, MatchOption, codes, option_map};
 ghost use Rattle.clap.specs.Words.{first_of, found_of, rows_of};
-ghost use Rattle.command_line.specs.Lines.{HasNoNumber, HasNumberOption, HasValues, LacksValue, command_named, command_of};
-ghost use Rattle.command_line.specs.Lines.{can_i_deploy, check, init, migrate, normalise, replay, serve};
+ghost use Rattle.command_line.specs.Lines.{HasNoNumber, HasNumberOption, IsLineOf};
 
 use crate::line::Line;
 use crate::names::CommandName;
@@ -28,16 +27,14 @@ fn number_of(matches: &ArgMatches<'_>, name: &str) -> Option<u32>
 }
 
 fn replay_in<'a>(matches: &ArgMatches<'a>) -> Option<Line<'a>>
-    ensures { MatchOption result (LacksValue (rows_of (found_of matches.now)) CommandName.Replay)
-        (λ line. (command_of line ≡ replay) × HasValues (rows_of (found_of matches.now)) line) }
+    ensures { IsLineOf CommandName.Replay (rows_of (found_of matches.now)) result }
 {
     let office_token = text_of(matches, "office-token")?;
     Some(Line::Replay { office_token })
 }
 
 fn init_in<'a>(matches: &ArgMatches<'a>) -> Option<Line<'a>>
-    ensures { MatchOption result (LacksValue (rows_of (found_of matches.now)) CommandName.Init)
-        (λ line. (command_of line ≡ init) × HasValues (rows_of (found_of matches.now)) line) }
+    ensures { IsLineOf CommandName.Init (rows_of (found_of matches.now)) result }
 {
     let file = file_of(matches)?;
     let office_token = text_of(matches, "office-token")?;
@@ -45,16 +42,14 @@ fn init_in<'a>(matches: &ArgMatches<'a>) -> Option<Line<'a>>
 }
 
 fn migrate_in<'a>(matches: &ArgMatches<'a>) -> Option<Line<'a>>
-    ensures { MatchOption result (LacksValue (rows_of (found_of matches.now)) CommandName.Migrate)
-        (λ line. (command_of line ≡ migrate) × HasValues (rows_of (found_of matches.now)) line) }
+    ensures { IsLineOf CommandName.Migrate (rows_of (found_of matches.now)) result }
 {
     let file = file_of(matches)?;
     Some(Line::Migrate { file })
 }
 
 fn serve_in<'a>(matches: &ArgMatches<'a>) -> Option<Line<'a>>
-    ensures { MatchOption result (LacksValue (rows_of (found_of matches.now)) CommandName.Serve)
-        (λ line. (command_of line ≡ serve) × HasValues (rows_of (found_of matches.now)) line) }
+    ensures { IsLineOf CommandName.Serve (rows_of (found_of matches.now)) result }
 {
     let file = file_of(matches)?;
     let listen = text_of(matches, "listen")?;
@@ -67,8 +62,7 @@ fn serve_in<'a>(matches: &ArgMatches<'a>) -> Option<Line<'a>>
 }
 
 fn check_in<'a>(matches: &ArgMatches<'a>) -> Option<Line<'a>>
-    ensures { MatchOption result (LacksValue (rows_of (found_of matches.now)) CommandName.Check)
-        (λ line. (command_of line ≡ check) × HasValues (rows_of (found_of matches.now)) line) }
+    ensures { IsLineOf CommandName.Check (rows_of (found_of matches.now)) result }
 {
     let pact = text_of(matches, "pact")?;
     let replies = text_of(matches, "replies")?;
@@ -76,8 +70,7 @@ fn check_in<'a>(matches: &ArgMatches<'a>) -> Option<Line<'a>>
 }
 
 fn can_i_deploy_in<'a>(matches: &ArgMatches<'a>) -> Option<Line<'a>>
-    ensures { MatchOption result (LacksValue (rows_of (found_of matches.now)) CommandName.CanIDeploy)
-        (λ line. (command_of line ≡ can_i_deploy) × HasValues (rows_of (found_of matches.now)) line) }
+    ensures { IsLineOf CommandName.CanIDeploy (rows_of (found_of matches.now)) result }
 {
     let file = file_of(matches)?;
     let token = text_of(matches, "token")?;
@@ -95,8 +88,7 @@ fn can_i_deploy_in<'a>(matches: &ArgMatches<'a>) -> Option<Line<'a>>
 
 /// The line of the command of this name, with the values of its options. None if one of them has no value.
 pub(crate) fn line_in<'a>(name: CommandName, matches: &ArgMatches<'a>) -> Option<Line<'a>>
-    ensures { MatchOption result (LacksValue (rows_of (found_of matches.now)) name)
-        (λ line. (command_of line ≡ command_named name) × HasValues (rows_of (found_of matches.now)) line) }
+    ensures { IsLineOf name (rows_of (found_of matches.now)) result }
 {
     match name {
         CommandName::Replay => replay_in(matches),
