@@ -1,7 +1,7 @@
 -- What a reading that succeeds went through, and that what is read of sound data is sound.
 use Rattle.std.specs.{Prelude.{⊤}, Option.{ok_or}}
-use Rattle.std.proofs.Common.{◌≡◌, inl, inr, ℕ, zero, suc, ◌+◌, ◌≤◌, ◌<◌, nat_le, List, [], ◌∷◌, length, map, codes, get_or, Bool, true, cond, is_some, Some, None, option_and_then, Result, Ok, Err, refl, sym, ap, ◌∙◌, subst, ⊎_elim, le-leb, arith}
-use Rattle.serde_json.specs.{declared.value.Value.{Value}, Data.{Data, Items, no_items, item, depth}, Events.{items_len}, Find.{get, as_array, as_object}}
+use Rattle.std.proofs.Common.{◌≡◌, inl, inr, ℕ, ◌+◌, nat_le, List, [], ◌∷◌, length, map, codes, Bool, cond, is_some, Some, None, option_and_then, Result, Ok, Err, refl, sym, ap, ◌∙◌, subst, ⊎_elim, arith}
+use Rattle.serde_json.specs.{declared.value.Value.{Value}, Data.{Data, Items, no_items, item}, Events.{items_len}, Find.{get, as_array, as_object}}
 use Rattle.serde_json.specs.View.{view, items_view, items_of}
 use Rattle.pact_rules.specs.{Reading.{◌>>=◌, just, EachRead, GivesOne}, Lists.{IsIn}, Rules.{no_rules, Rules as Table}, RuleReading.{IsReading}}
 use Rattle.pact_rules.specs.{Outcome.{guard, Gives}, declared.rule_fault.RuleFault.{RuleFault}}
@@ -14,7 +14,7 @@ use Rattle.pact_file.specs.{Sound.{IsSound, AreSound}, PartsView.{as_pact_fault}
 use Rattle.pact_file.specs.{declared.fault.PactFault.TheVariants.{Memory, Rules, Shape, TooLong, TooMany}, declared.fault.Place.TheVariants.{Interactions}}
 use Rattle.pact_file.specs.Objects.{IsSomeText, json_of, object_of}
 use Rattle.pact_file.proofs.SoundParts.{of_get, object_there, of_object_at, of_text_at, of_array, of_states, of_parts}
-use Rattle.pact_file.proofs.{Steps.{bind_ok, bind_second, first_of, found_ok, ok_same, ok_err, then_some}, Objects.{object_ok, object_sound, json_text}}
+use Rattle.pact_file.proofs.{Steps.{bind_ok, bind_second, first_of, found_ok, ok_same, then_some}, Objects.{object_ok, object_sound, json_text}}
 use Rattle.pact_rules.specs.declared.rule_fault.RuleFault.TheVariants as rule_fault
 
 -- ---- rules

@@ -1,10 +1,10 @@
 -- Worked examples, computed from the definitions.
-use Rattle.std.proofs.Common.{◌≡◌, ℕ, pos, negsuc, Bool, true, false, List, Option, Result, [], ◌∷◌, Some, None, Ok, Err, codes, refl}
+use Rattle.std.proofs.Common.{◌≡◌, ℕ, negsuc, Bool, true, false, List, Option, Result, [], ◌∷◌, Some, None, Ok, Err, codes, refl}
 use Rattle.pact_rules.specs.{Outcome.{◌>>=◌}, declared.rule_fault.RuleFault.{RuleFault}}
 use Rattle.pact_rules.specs.declared.rule_fault.RuleFault.TheVariants.{OldRules, BadPath, SamePathTwice, Unsupported, BadBound, Pattern, BadCombine}
 use Rattle.pact_rules.specs.{Rules.{equality, same_type, regex, include, integer, is_null, Entry, BodyRule, HeaderRule, has_regex}, Choice.{chosen}}
 use Rattle.pact_rules.specs.{Matching.{holds, entry_holds, has_keys_of}, Tables.{header_entry}, RuleReading.{found_in, table_in, no_pattern}, Walks.{own_place}}
-use Rattle.serde_json.specs.Data.{Data, unsigned, negative, float, null, boolean, number, string, array, object, Items, no_items, item, Members, no_members, member}
+use Rattle.serde_json.specs.Data.{Data, unsigned, negative, null, boolean, number, string, array, object, Items, no_items, item, Members, no_members, member}
 use Rattle.pact_paths.specs.{Paths.{Token, named, indexed, any, key, Location}, PathReading.{tokens_in}}
 use Rattle.pact_paths.specs.Paths as paths
 

@@ -1,4 +1,4 @@
-use Rattle.std.proofs.Common.{Ok, Err, codes, sym, ◌∙◌, subst}
+use Rattle.std.proofs.Common.{Ok, Err, sym, ◌∙◌, subst}
 use Rattle.serde_json.specs.View.{view}
 use Rattle.pact_file.{specs.Rules.{RulesRead}, proofs.ReadLemmas.{rules_none, no_rules_of, rules_some, rules_of, pact_fault_apart}}
 use Rattle.pact_file.proofs.interaction.read_rules.Goals as goal

@@ -1,7 +1,7 @@
 use Rattle.serde_json.specs.View.{view}
 use Rattle.pact_file.{specs.{File.{sides_of}, Normal.{InteractionsRead, if_short}, Pact.{pact_with}}, proofs.ReadLemmas.{from_gives, seen_items}}
 use Rattle.pact_file.proofs.Steps.{bind_first, err_same, ok_err}
-use Rattle.std.proofs.{Common.{◌≡◌, ℕ, List, Ok, Err, string_bytes, refl, sym, ap, ◌∙◌}, lemmas.Result.{err_from_is_err_and}}
+use Rattle.std.proofs.{Common.{◌≡◌, ℕ, Ok, Err, string_bytes, refl, sym, ap, ◌∙◌}, lemmas.Result.{err_from_is_err_and}}
 use Rattle.pact_file.proofs.read.pact_of.Goals as goal
 
 pub returns-in_err-consumer-clause-reading : goal.returns-in_err-consumer-clause-reading

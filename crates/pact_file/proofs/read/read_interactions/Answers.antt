@@ -1,9 +1,8 @@
-use Rattle.std.{specs.Option.{ok_or}, proofs.{Common.{Ok, Err, map, refl, sym, ap, ◌∙◌, subst, []}, lemmas.Result.{err_from_is_err_and}}}
-use Rattle.serde_json.specs.View.{view, items_view}
-use Rattle.pact_file.specs.{declared.fault.PactFault.TheVariants.{SameInteraction}, Normal.{InteractionRead, InteractionsRead}, Pact.{key_cmp}}
-use Rattle.pact_file.{specs.{Sorting.{insert_all_sorted, same_text}, Sound.{AreSound}}, proofs.{OrderedSets.{ordered}, Steps.{err_same, ok_err}}}
+use Rattle.std.{specs.Option.{ok_or}, proofs.{Common.{Ok, Err, map, refl, []}, lemmas.Result.{err_from_is_err_and}}}
+use Rattle.serde_json.specs.View.{view}
+use Rattle.pact_file.specs.{declared.fault.PactFault.TheVariants.{SameInteraction}, Normal.{InteractionsRead}, Pact.{key_cmp}}
+use Rattle.pact_file.{specs.Sorting.{insert_all_sorted, same_text}, proofs.OrderedSets.{ordered}}
 use Rattle.pact_file.proofs.ReadLemmas.{items_sound, values_sound, each_sound, from_gives}
-use Rattle.pact_rules.specs.Reading.{EachRead}
 use Rattle.pact_file.proofs.read.read_interactions.Goals as goal
 
 pub returns-in_err-items : goal.returns-in_err-items

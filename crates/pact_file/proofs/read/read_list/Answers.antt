@@ -1,7 +1,7 @@
 use Rattle.serde_json.specs.View.{view, items_view}
 use Rattle.pact_file.specs.{Normal.{InteractionRead}, Sound.{AreSound}}
 use Rattle.pact_rules.proofs.Each.{Completes, goes_on, ends, is_done, begins}
-use Rattle.std.proofs.{Common.{Ok, Err, sym, ap, ◌∙◌, subst}, lemmas.List.{nil_from_length}, lemmas.Result.{err_from_is_err_and}}
+use Rattle.std.proofs.{Common.{Ok, Err, sym, ◌∙◌, subst}, lemmas.List.{nil_from_length}, lemmas.Result.{err_from_is_err_and}}
 use Rattle.pact_file.proofs.read.read_list.Goals as goal
 
 pub loop-item-init : goal.loop-item-init
