@@ -30,16 +30,15 @@ use std::io::{Read, Write};
 type Told = (u8, Result<(), WriteFault>);
 
 /// The status of a command that failed, with the fault on standard error.
-fn fail<E: Write>(alloc: Global, fault: &RunFault, errors: &mut E) -> Told
+fn fail<E: Write>(fault: &RunFault, errors: &mut E) -> Told
     ensures status { result.0 ≡ 3 }
     ensures reported { IsReported fault.now result.1 (E.contents errors.old) (E.contents errors.new) }
 {
-    (3, report(alloc, fault, errors))
+    (3, report(fault, errors))
 }
 
 /// Writes what `clap` says: a mistake on standard error, and else what was asked for on standard output.
 fn tell_text<W: Write, E: Write>(
-    alloc: Global,
     is_mistake: bool,
     text: &str,
     output: &mut W,
@@ -55,7 +54,7 @@ fn tell_text<W: Write, E: Write>(
     }
     match put_line(output, text) {
         Ok(()) => (0, Ok(())),
-        Err(_) => fail(alloc, &RunFault::File, errors),
+        Err(_) => fail(&RunFault::File, errors),
     }
 }
 
@@ -69,14 +68,14 @@ fn tell<W: Write, E: Write>(alloc: Global, error: &Error, output: &mut W, errors
         output.old output.new errors.old errors.new result.1 result.0 }
 {
     if error.kind() == ErrorKind::OutOfMemory {
-        return fail(alloc, &RunFault::Memory, errors);
+        return fail(&RunFault::Memory, errors);
     }
     match format!(in alloc; "{error}") {
         Ok(text) => {
             let line = text.as_str().strip_suffix('\n').unwrap_or(text.as_str());
-            tell_text(alloc, error.use_stderr(), line, output, errors)
+            tell_text(error.use_stderr(), line, output, errors)
         }
-        Err(_) => fail(alloc, &RunFault::Memory, errors),
+        Err(_) => fail(&RunFault::Memory, errors),
     }
 }
 
@@ -171,7 +170,7 @@ fn run_line<S: Start, R: Read, W: Write, E: Write>(
             left,
         },
         Err(fault) => {
-            let (status, line) = fail(rt.alloc(), &fault, errors);
+            let (status, line) = fail(&fault, errors);
             drop(fault);
             Ended { status, line, left }
         }

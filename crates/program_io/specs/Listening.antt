@@ -1,5 +1,5 @@
 -- where a broker listens (this project's own choice: an address of loopback, since it has no TLS), and who comes next
-use Rattle.std.specs.Prelude.{◌≡◌, ◌⊎◌, ◌≤◌, ℕ, Bool, List, [], ◌∷◌, length, position, Option, Some, None, unwrap_or}
+use Rattle.std.specs.Prelude.{◌≡◌, ◌⊎◌, ◌+◌, ◌≤◌, ◌++◌, ℕ, Bool, List, [], ◌∷◌, length, position, Option, Some, None, unwrap_or}
 use Rattle.std.specs.Net.Addr.{MatchIp, IsLoopbackV4, IsLoopbackV6}
 use Rattle.std.specs.Net.Socket.{socket_ip, socket_port}
 use Rattle.std.specs.Net.Grammar.{IsSocketText}
@@ -37,3 +37,7 @@ IsReady sent = (sent ≡ []) ⊎ HasMessage sent ⊎ (head_limit ≤ length sent
 abbrev pub next_of : {A : Type 0} → (A → Bool) → List A → Option ℕ
 next_of is_ready [] = None
 next_of is_ready (first ∷ others) = Some (unwrap_or (position is_ready (first ∷ others)) 0)
+
+-- For private clauses: some more wait, behind the others, and there is room for as many fewer.
+abbrev pub AreTakenIn : {A : Type 0} (old new : List A) (room left : ℕ) → Type 0
+AreTakenIn {A} old new room left = (more : List A) × (new ≡ old ++ more) × (room ≡ left + length more)

@@ -5,7 +5,6 @@ use Rattle.std.specs.declared.io.ErrorKind.{ErrorKind}
 use Rattle.std.specs.declared.io.ErrorKind.TheVariants.{OutOfMemory}
 use Rattle.broker_names.specs.Name.{IsName, IsToken}
 use Rattle.broker_core.specs.Text.{Text}
-use Rattle.broker_database.specs.declared.opening.OpenFault.TheVariants as opening
 use Rattle.http_responses.specs.declared.writing.WriteFault.{WriteFault}
 use Rattle.pact_file.specs.Normal.{Normal}
 use Rattle.pact_file.specs.Pact.{Interaction, Pact}
@@ -25,18 +24,9 @@ use Rattle.program_io.specs.declared.fault.RunFault.TheVariants as run_fault
 
 -- ---- what is shown
 
--- the text of the fault has parts that aren't fixed, so that it takes memory
-abbrev pub HasParts : RunFault → Type 0
-HasParts (run_fault.Open (opening.Format format)) = ⊤
-HasParts (run_fault.Pact f) = ⊤
-HasParts (run_fault.Replies f) = ⊤
-HasParts (run_fault.Check f) = ⊤
-HasParts _ = ⊥
-
--- the fault is reported; or there was no memory for its text, and that is
+-- the line of the fault is out, or a beginning of it, as the writer failed
 abbrev pub IsReported : RunFault → Result (Unit {0}) WriteFault → Option (List ℕ) → Option (List ℕ) → Type 0
-IsReported f line old new =
-    IsLineOut (fault_text f) line old new ⊎ (HasParts f × IsLineOut (fault_text run_fault.Memory) line old new)
+IsReported f line old new = IsLineOut (fault_text f) line old new
 
 -- ---- why it is reported
 

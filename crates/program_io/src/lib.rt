@@ -10,4 +10,5 @@ pub mod listening;
 mod loopback;
 pub mod normalise;
 pub mod output;
+mod parts;
 pub mod report;

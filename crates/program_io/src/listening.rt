@@ -1,6 +1,7 @@
 //! Where connections come in, an address of loopback, and which of them comes next.
-ghost use Rattle.std.specs.Prelude.{◌≡◌, ◌≢◌, ◌+◌, ◌<◌, ◌≤◌, true, false, length, position, IfErr, IfOk, IfSome, MatchOption};
-ghost use Rattle.program_io.specs.Listening.{IsReady, ListensOn, next_of};
+ghost use Rattle.std.specs.Prelude.{◌≡◌, ◌≢◌, ◌+◌, ◌<◌, ◌≤◌, ◌↔◌, ◌⊎◌, true, false, length, max, position};
+ghost use Rattle.std.specs.Prelude.{IfErr, IfOk, IfSome, IsTrue, MatchOption};
+ghost use Rattle.program_io.specs.Listening.{AreTakenIn, IsReady, ListensOn, next_of};
 
 use crate::fault::RunFault;
 use crate::loopback::{LoopbackListener, listener_on};
@@ -90,13 +91,21 @@ pub struct Entrance {
 }
 
 impl Entrance {
-    /// Takes in those that have come, as many as may wait, and only what will be served.
+    /// Whether nobody more is taken in now: as many wait as may, or all that will be served.
+    fn is_full(&self) -> bool
+        ensures { IsTrue result ↔ ((self.now.room ≡ 0) ⊎ (MOST_WAITING ≤ length self.now.waiting.items)) }
+    {
+        self.room == 0 || self.waiting.len() >= MOST_WAITING
+    }
+
+    /// Takes in those that have come, as many as may wait, and only what will be served. They wait behind the others.
     fn gather(&mut self)
-        ensures { length self.old.waiting.items ≤ length self.new.waiting.items }
+        ensures came { AreTakenIn self.old.waiting.items self.new.waiting.items self.old.room self.new.room }
+        ensures most { length self.new.waiting.items ≤ max (length self.old.waiting.items) MOST_WAITING }
+        ensures stay { length self.old.waiting.items ≤ length self.new.waiting.items }
     {
         for _ in 0..MOST_WAITING {
-            let is_full = self.room == 0 || self.waiting.len() >= MOST_WAITING;
-            if is_full || self.waiting.reserve(1).is_err() {
+            if self.is_full() || self.waiting.reserve(1).is_err() {
                 return;
             }
             let Ok((stream, _)) = self.listener.accept() else {

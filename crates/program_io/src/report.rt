@@ -1,73 +1,41 @@
 //! What standard error shows of a command that failed.
-ghost use Rattle.std.specs.Prelude.{◌≡◌, MatchResult, string_bytes};
-ghost use Rattle.program_io.specs.Faults.{fault_text, serving_text as spec_text};
+ghost use Rattle.std.specs.Prelude.{OnErr, OnOk};
+ghost use Rattle.std.specs.Io.KnownBytes.{Appends};
+ghost use Rattle.program_io.specs.Faults.{number_text, parts_text};
 ghost use Rattle.program_io.specs.Reported.{IsReported};
-ghost use Rattle.program_io.specs.Written.{IsLineOut};
+ghost use Rattle.program_io.specs.Written.{IsBegun, IsLineOut};
 
 use crate::fault::RunFault;
 use crate::output::put_line;
-use broker_database::OpenFault;
-use broker_http::ServeFault;
-use http_responses::WriteFault;
-use std::alloc::{AllocError, Global};
+use crate::parts::{Parts, fault_parts};
+use http_responses::{WriteFault, write_whole};
+use itoa::Buffer;
 use std::io::Write;
 
-/// Writes a text that was made, and a newline; or that there was no memory for it.
-fn write_made<E: Write>(text: Result<String, AllocError>, errors: &mut E) -> Result<(), WriteFault>
-    ensures { MatchResult text
-        (λ t. IsLineOut (string_bytes t) result (E.contents errors.old) (E.contents errors.new))
-        (λ _. IsLineOut (fault_text RunFault.Memory) result (E.contents errors.old) (E.contents errors.new)) }
+/// Writes a number in decimal digits, if there is one.
+fn put_number<W: Write>(writer: &mut W, number: Option<usize>) -> Result<(), WriteFault>
+    ensures ok { OnOk result (Appends (W.contents writer.old) (W.contents writer.new) (number_text number)) }
+    ensures err { OnErr result (IsBegun (number_text number) (W.contents writer.old) (W.contents writer.new)) }
 {
-    match text {
-        Ok(text) => put_line(errors, text.as_str()),
-        Err(_) => put_line(errors, "memory"),
+    match number {
+        Some(number) => write_whole(writer, Buffer::new().format(number).as_bytes()),
+        None => Ok(()),
     }
 }
 
-/// The text of a fault of serving.
-fn serving_text(fault: ServeFault) -> &'static str
-    ensures { result.now ≡ spec_text fault }
+/// Writes a text and a newline, part by part.
+fn put_parts<W: Write>(writer: &mut W, parts: Parts<'_>) -> Result<(), WriteFault>
+    ensures { IsLineOut (parts_text parts.entry) result (W.contents writer.old) (W.contents writer.new) }
 {
-    match fault {
-        ServeFault::Read(_) | ServeFault::Turn(_) | ServeFault::Count => "serve 1",
-        ServeFault::Write(_) => "serve 2",
-        ServeFault::Memory => "serve 3",
-    }
+    write_whole(writer, parts.front.as_bytes())?;
+    put_number(writer, parts.number)?;
+    write_whole(writer, parts.behind.as_bytes())?;
+    put_line(writer, parts.end)
 }
 
-/// Reports a fault of opening.
-fn report_opening<E: Write>(
-    alloc: Global,
-    fault: OpenFault,
-    errors: &mut E,
-) -> Result<(), WriteFault>
-    ensures { IsReported (RunFault.Open fault) result (E.contents errors.old) (E.contents errors.new) }
-{
-    match fault {
-        OpenFault::NotEmpty => put_line(errors, "open 1"),
-        OpenFault::NotABroker => put_line(errors, "open 2"),
-        OpenFault::Format(format) => write_made(format!(in alloc; "open 3.{format}"), errors),
-        OpenFault::Memory => put_line(errors, "open 4"),
-        OpenFault::Store => put_line(errors, "open 5"),
-    }
-}
-
-/// Reports the fault as one line. If the writer fails, the rest of the line is lost. Only a text with parts that aren't
-/// fixed takes memory; without it that is reported.
-pub fn report<E: Write>(alloc: Global, fault: &RunFault, errors: &mut E) -> Result<(), WriteFault>
+/// Reports the fault as one line, which takes no memory. If the writer fails, the rest of the line is lost.
+pub fn report<E: Write>(fault: &RunFault, errors: &mut E) -> Result<(), WriteFault>
     ensures { IsReported fault.now result (E.contents errors.old) (E.contents errors.new) }
 {
-    match fault {
-        RunFault::Token => put_line(errors, "token"),
-        RunFault::Name => put_line(errors, "name"),
-        RunFault::File => put_line(errors, "file"),
-        RunFault::Open(fault) => report_opening(alloc, *fault, errors),
-        RunFault::Listen => put_line(errors, "listen"),
-        RunFault::Serve(fault) => put_line(errors, serving_text(*fault)),
-        RunFault::Pact(fault) => write_made(format!(in alloc; "{}", fault), errors),
-        RunFault::Replies(fault) => write_made(format!(in alloc; "{}", *fault), errors),
-        RunFault::Check(fault) => write_made(format!(in alloc; "{}", *fault), errors),
-        RunFault::Answer(answer) => put_line(errors, answer.body()),
-        RunFault::Memory => put_line(errors, "memory"),
-    }
+    put_parts(errors, fault_parts(fault))
 }
