@@ -1,17 +1,15 @@
 -- What a new version leaves of the state that the database holds.
 use Rattle.std.specs.{Prelude.{option_map, option_and_then}, Option.{option_map_or}, List.{enumerate_from}, Ordering.{is_eq, int_cmp, eq_by_cmp, ordering_then}}
-use Rattle.std.proofs.Common.{slice_get, true, ◌≡◌, ℕ, ℤ, pos, ◌+◌, List, [], ◌∷◌, ◌++◌, map, length, false, cond, ◌||◌, refl, sym, ap, ◌∙◌, Some, None, Option, codes, inl, inr, Ordering, Equal}
+use Rattle.std.proofs.Common.{◌≡◌, ℕ, ℤ, pos, ◌+◌, List, [], ◌∷◌, ◌++◌, map, length, false, cond, ◌||◌, refl, sym, ap, ◌∙◌, Some, None, Option, codes, inl, inr, Ordering, Equal}
 use Rattle.sqlite.specs.{Order.{Row}, Effect.{Database}, Table.{Table}}
 use Rattle.sqlite_rules.specs.Lists.{Has}
-use Rattle.sqlite_schema.specs.{declared.schema.Column.{Column}, Names.{is_key}}
-use Rattle.table_access.{specs.Columns.{text, text_cmp, whole_at, by_both}, proofs.SoundLemmas.{whole_in, has_place}}
+use Rattle.table_access.specs.Columns.{text, text_cmp, whole_at, by_both}
 use Rattle.broker_core.specs.{declared.command.Version.{Version}, Text.{Text, version}, State.{State as Broker, Verification}, Request.{is_known}}
-use Rattle.broker_tables.specs.{Schema.{to, in_branches, in_contracts, in_results, in_latest, in_deployed, in_released}, Rows.{rows_of, value_at, stands_at}}
-use Rattle.broker_tables.specs.Numbers.{numbered, number_of}
+use Rattle.broker_tables.specs.Schema.{numbers, to, in_branches, in_contracts, in_results, in_latest, in_deployed, in_released}
+use Rattle.broker_tables.specs.{Rows.{rows_of, value_at, stands_at}, Numbers.{numbered, number_of}}
 use Rattle.broker_tables.specs.Holds.{Holds, AreVersions, AreBranches, AreContracts, AreResults, AreLatest, AreDeployed, AreReleased, ResultRow, result_in, result_of}
 use Rattle.broker_tables.proofs.{Frames.{Frame, held_next, same}, NumberLemmas.{grown, still_numbered as stays_numbered}, References.{not_next}}
-use Rattle.broker_tables.proofs.Placed.{branches, branches_there, contracts, contracts_there, latest, latest_there, released, released_there}
-use Rattle.sqlite.specs.Kind.TheVariants as kind
+use Rattle.broker_tables.proofs.Placed.{Placed, at_branches, at_contracts, at_latest, at_released, column_at, listed, wholes_in}
 
 -- ---- no row has the key
 
@@ -59,10 +57,10 @@ module _ (db : Database) (s : Broker) (held : Holds db s) (v : Version) (free : 
   next = length s.versions + 1
 
   -- no row of a table names the next version
-  apart : (t : Table) → Has db.schema.tables t → (at : ℕ) (c : Column) → slice_get t.columns at ≡ Some c → is_key t.key at ≡ false → c.is_strict ≡ true → c.not_null ≡ true → c.kind ≡ kind.Integer
-      → Has t.references (to (at + 1) (codes "versions") (codes "number")) → (r : Row) → Has (db.trees t.tree) r → is_eq (int_cmp (pos next) (whole_at (at + 1) r)) ≡ false
-  apart t listed at c there free strict needed whole among r has =
-      not_next db held.broker s.versions held.versions t listed (at + 1) among r has (whole_in db held.broker.kept.sound t listed r has at c there free strict needed whole)
+  apart : {t : Table} (at : Placed t) (place : ℕ) {name : List ℕ} → column_at t place ≡ Some (numbers name) → Has t.references (to place (codes "versions") (codes "number"))
+      → (r : Row) → Has (db.trees t.tree) r → is_eq (int_cmp (pos next) (whole_at place r)) ≡ false
+  apart {t} at place is among r has =
+      not_next db held.broker s.versions held.versions t (listed at db held.broker) place among r has (wholes_in at db held.broker place is r has)
 
   abbrev more : List Version
   more = s.versions ++ v ∷ []
@@ -72,7 +70,7 @@ module _ (db : Database) (s : Broker) (held : Holds db s) (v : Version) (free : 
       grown (λ o. option_map_or (λ n. stands_at (by_both int_cmp text_cmp) (λ r. (whole_at in_branches.version_number r, text in_branches.branch r)) (db.trees in_branches.tree) (pos n, b)) o false) s.versions v w free
       (none_stands (by_both int_cmp text_cmp) (λ r. (whole_at in_branches.version_number r, text in_branches.branch r)) (text in_branches.branch) (pos next, b)
       (db.trees in_branches.tree)
-      (λ r has. first_apart _ _ (apart branches (has_place _ 4 branches (branches_there db held.broker)) 0 _ refl refl refl refl refl (inl refl) r has)))
+      (λ r has. first_apart _ _ (apart at_branches in_branches.version_number refl (inl refl) r has)))
       ∙ held.branches w b
 
   contracts_grow : AreContracts more s.contracts (rows_of db (codes "contracts"))
@@ -80,7 +78,7 @@ module _ (db : Database) (s : Broker) (held : Holds db s) (v : Version) (free : 
       grown (λ o. option_and_then (λ n. value_at (by_both int_cmp text_cmp) (λ r. (whole_at in_contracts.version_number r, text in_contracts.provider r)) (whole_at in_contracts.content) (db.trees in_contracts.tree) (pos n, p)) o) s.versions v w free
       (none_found (by_both int_cmp text_cmp) (λ r. (whole_at in_contracts.version_number r, text in_contracts.provider r)) (whole_at in_contracts.content)
       (pos next, p) (db.trees in_contracts.tree)
-      (λ r has. first_apart _ _ (apart contracts (has_place _ 8 contracts (contracts_there db held.broker)) 0 _ refl refl refl refl refl (inl refl) r has)))
+      (λ r has. first_apart _ _ (apart at_contracts in_contracts.version_number refl (inl refl) r has)))
       ∙ held.contracts w p
 
   results_grow : AreResults more s.results (rows_of db (codes "results")) (rows_of db (codes "checked_results"))
@@ -90,7 +88,7 @@ module _ (db : Database) (s : Broker) (held : Holds db s) (v : Version) (free : 
   latest_grow content w =
       grown (λ o. option_and_then (λ n. value_at (by_both int_cmp int_cmp) (λ r. (whole_at in_latest.content r, whole_at in_latest.provider_version r)) (whole_at in_latest.result) (db.trees in_latest.tree) (pos content, pos n)) o) s.versions v w free
       (none_found (by_both int_cmp int_cmp) (λ r. (whole_at in_latest.content r, whole_at in_latest.provider_version r)) (whole_at in_latest.result) (pos content, pos next) (db.trees in_latest.tree)
-      (λ r has. second_apart _ _ (apart latest (has_place _ 10 latest (latest_there db held.broker)) 1 _ refl refl refl refl refl (inr (inl refl)) r has)))
+      (λ r has. second_apart _ _ (apart at_latest in_latest.provider_version refl (inr (inl refl)) r has)))
       ∙ held.latest content w
 
   deployed_grow : AreDeployed more s.deployed (rows_of db (codes "deployed"))
@@ -113,7 +111,7 @@ module _ (db : Database) (s : Broker) (held : Holds db s) (v : Version) (free : 
       grown (λ o. option_map_or (λ n. stands_at (by_both text_cmp int_cmp) (λ r. (text in_released.environment r, whole_at in_released.version_number r)) (db.trees in_released.tree) (e, pos n)) o false) s.versions v w free
       (none_stands (by_both text_cmp int_cmp) (λ r. (text in_released.environment r, whole_at in_released.version_number r)) (text in_released.environment)
       (e, pos next) (db.trees in_released.tree)
-      (λ r has. second_apart _ _ (apart released (has_place _ 12 released (released_there db held.broker)) 1 _ refl refl refl refl refl (inr (inl refl)) r has)))
+      (λ r has. second_apart _ _ (apart at_released in_released.version_number refl (inr (inl refl)) r has)))
       ∙ held.released e w
 
 -- a version that wasn't there gets the next number, and nothing else changes

@@ -1,32 +1,34 @@
 -- Why an INSERT of one row into a table of the broker fails: if the row suits its table, only as the store fails.
 use Rattle.broker_core.specs.{State.{State as Broker}, declared.command.Version.{Version}}
-use Rattle.broker_tables.specs.{Holds.{Holds, IsBroker, marks_in}, Numbers.{number_of, numbered}, Refusals.{AreShort}, Rows.{rows_of, stands_at, value_at}}
-use Rattle.broker_tables.{specs.Schema.{broker_schema, in_environments, in_pacticipants, in_teams, in_versions, to}, proofs.Frames.{meant}}
-use Rattle.broker_tables.proofs.{Orders.{exact_texts}, Placed.{calm}, References.{LeadsTo, environment_names, leads, pacticipant_names, row_number, team_names}}
+use Rattle.broker_tables.specs.{Holds.{Holds, HoldsAfter, IsBroker, marks_in}, Numbers.{number_of, numbered}, Refusals.{AreShort, HaveNumbers, HoldsOpen}}
+use Rattle.broker_tables.specs.{Room.{LeaveNumbers}, Rows.{rows_of, value_at}}
+use Rattle.broker_tables.{specs.Schema.{broker_schema, in_environments, in_pacticipants, in_teams, in_versions, to}, proofs.Frames.{Frame, frame_of, meant}}
+use Rattle.broker_tables.proofs.{Keyed.{IsFree}, Placed.{Need, Placed, calm, is_plain, listed, numbered_in, plain_there, plainly, ready_at, there}}
+use Rattle.broker_tables.proofs.{RoomLemmas.{Grows, after_one, grows_added, number_for}, Orders.{exact_texts}}
+use Rattle.broker_tables.proofs.References.{LeadsTo, environment_names, leads, pacticipant_names, row_number, team_names}
 use Rattle.broker_tables.proofs.VersionRows.{find_version, version_number}
-use Rattle.sqlite.specs.{Cast.{cast_row}, Collation.TheVariants.{Binary}, Command.TheVariants.{Insert}, Does.{due}, Edit.{next_rowid, with_rowid}}
+use Rattle.sqlite.specs.{Cast.{cast_all, cast_row}, Collation.TheVariants.{Binary}, Command.TheVariants.{Insert}, Does.{due}, Edit.{next_rowid, with_rowid}}
 use Rattle.sqlite.specs.{Effect.{Database, value_rows}, Listing.{understood}, Order.{Row, column, value_cmp}, Rows.{Edited, Inserts, Written}, Schema.{Schema}}
 use Rattle.sqlite.specs.{Source.TheVariants.{Values}, State.{Executes, Fails, State, mode_of}, Table.{Table}, Term.{Term}, Tree.{IsAscending, rowid}}
-use Rattle.sqlite.specs.{View.{is_int}, declared.error.Error.{Error}, declared.types.Value.{Value}, declared.types.Value.TheVariants.{Int, Text}}
+use Rattle.sqlite.specs.{View.{is_int}, declared.error.Error.{Error}, declared.types.Value.TheVariants.{Int, Null, Text}}
 use Rattle.sqlite_rules.specs.{Edit.{Edit, IsOversized, edit_of, id_in, is_referred, is_taken, with_rowid}, Lists.{Has}, Steps.{PassAlone}}
 use Rattle.sqlite_rules.{specs.declared.error.Rowids.TheVariants.{Chosen}, proofs.ListLemmas.{has_kept, some_from, some_has, test_has}}
 use Rattle.sqlite_rules.proofs.{PlaceLemmas.{next_is_free}, TableLemmas.{int_is}}
-use Rattle.sqlite_schema.specs.{Rules.{Refers, agree, equal, guards, has_parent, is_held, is_key_of, table_reals}, declared.schema.Among.TheVariants.{All}}
+use Rattle.sqlite_schema.specs.{Rules.{Refers, agree, equal, guards, has_parent, is_held, table_reals}, declared.schema.Among.TheVariants.{All}}
 use Rattle.sqlite_schema.specs.{declared.schema.Index.{Index}, declared.schema.Keys.{Keys}, declared.schema.Keys.TheVariants.{Off}}
 use Rattle.sqlite_sql.specs.Ops.{binary, fits_i64}
 use Rattle.sqlite_tied.specs.Compute.{everything}
 use Rattle.sqlite_typing.specs.Types.{accepts_terms}
 use Rattle.sqlite_value.{specs.{Keys.{first_key, plain}, declared.keys.Order.{Order}}, proofs.OrderLemmas.{value_cmp-Int}}
-use Rattle.std.specs.{Cmp.{Equal-is, IsTotalOrder, eq_by_cmp_equiv, int_cmp_total}, Cmp.Lexicographic.{nat_list_cmp_total}, FinMap.{int_cmp-IsAntisymmetric}}
-use Rattle.std.specs.{List.{AllByRecursion, list_all}, Ordering.{eq_by_cmp, int_cmp, is_eq}, Prelude.{is_some}}
-use Rattle.std.proofs.Common.{Bool, Err, IsTrue, List, None, Ok, Option, Ordering, Some, [], ap, append-nil, arith, codes, false, filter, inl, inr, length, map, nat_lt, not, pos, refl, slice_get, subst, sym, true, ℕ, ℤ, ◌&&◌, ◌+◌, ◌/◌, ◌<◌, ◌∙◌, ◌∷◌, ◌≡◌, ◌≤◌, ◌⊎◌}
+use Rattle.std.specs.{Cmp.{Equal-is, eq_by_cmp_equiv, int_cmp_total}, Cmp.Lexicographic.{nat_list_cmp_total}, FinMap.{int_cmp-IsAntisymmetric}}
+use Rattle.std.specs.{List.{AllByRecursion, list_all}, Ordering.{int_cmp, is_eq}, Option.{option_map_or}, Prelude.{is_some}}
+use Rattle.std.proofs.Common.{Bool, Err, IsTrue, List, None, Ok, Option, Some, [], ap, append-nil, arith, codes, false, inl, inr, length, map, nat_lt, not, pos, refl, slice_get, subst, sym, true, ℕ, ℤ, ◌&&◌, ◌+◌, ◌/◌, ◌<◌, ◌∙◌, ◌∷◌, ◌≡◌, ◌≤◌, ◌⊎◌}
 use Rattle.std.proofs.lemmas.Bool.{and_from, and_parts, false_from_ne_true, ltb-true, or_right}
-use Rattle.table_access.specs.{Calls.{EndsBy, FailsToRun, fault_of}, Columns.{by_both, text, text_cmp, whole_at}, Sound.{IsNumbered, IsShortValue}}
-use Rattle.table_access.{specs.{Statements.{ChangesOnly, IsAdded, plain_table}, declared.StoreFault.{StoreFault}}, proofs.Answered.{is_whole}}
+use Rattle.table_access.specs.{Calls.{EndsBy, FailsToRun, fault_of}, Columns.{text, text_cmp, whole_at}, Sound.{IsNumbered, IsShortValue}}
+use Rattle.table_access.{specs.{Statements.{ChangesOnly, IsAdded}, declared.StoreFault.{StoreFault}}, proofs.Answered.{is_whole}}
 use Rattle.table_access.proofs.{Edits.{Suits as EditSuits, goes, one_unique, refers}, Maps.{find_has}, Members.{has_map, map_has}}
-use Rattle.table_access.proofs.{Parts.{Part, agree_and, agree_last, text_part, whole_part}, Refused.{caused_by, insert_fails}}
-use Rattle.table_access.proofs.{SoundLemmas.{all_of, at_has, has_place}, Steps.{Means, inserts, same_value, went}, Storable.{IsShortRow, short_fits}}
-use Rattle.table_access.proofs.{UpsertRefused.{key_of}, Values.{same_ints, same_texts}}
+use Rattle.table_access.proofs.{Refused.{caused_by, insert_fails}, SoundLemmas.{all_of, at_has}, Steps.{Means, inserts, same_value, went}}
+use Rattle.table_access.proofs.{Storable.{IsShortRow, short_fits}, UpsertRefused.{key_of}, Values.{cast_null, same_ints, same_texts}}
 
 -- ---- the tables of a broker
 
@@ -49,25 +51,6 @@ rise = refl
 pub apart : IsAscending (λ a b. a.tree ≡ b.tree → ⊥) broker_schema.tables
 apart = apart_of broker_schema.tables rise
 
--- a table without AUTOINCREMENT and computed defaults
-abbrev pub plainly : Table → Table
-plainly t = plain_table t.name t.tree t.columns t.key t.primary t.uniques t.orders t.checks t.references
-
--- what an INSERT needs of a table: it is such a table, the unique indexes on it are its keys, and each of its
--- references points to a key
-abbrev Need : Type 0
-Need = Table × List (Order × List ℕ) × Bool
-
-abbrev needed : Schema → Table → Need
-needed schema t = (plainly t, map (λ i. (i.order, i.columns)) (filter (λ i. guards i t) schema.indexes), list_all (is_key_of schema) t.references)
-
-abbrev IsReady : Schema → Table → Type 0
-IsReady schema t = needed schema t ≡ (t, map (λ places. (plain, places)) t.uniques, true)
-
-ready : AllByRecursion (IsReady broker_schema) broker_schema.tables
-unfolding everything
-ready = (refl, (refl, (refl, (refl, (refl, (refl, (refl, (refl, (refl, (refl, (refl, (refl, (refl, (refl, (refl, tt)))))))))))))))
-
 -- no table has a REAL column, and no index many columns
 short_entries : (list_all (λ t. nat_lt (table_reals t) 1) broker_schema.tables ≡ true) × (list_all (λ i. nat_lt (length i.columns) 12) broker_schema.indexes ≡ true)
 unfolding everything
@@ -80,14 +63,7 @@ storable db broker t listed = short_fits db.schema t (record {
   narrow = subst (λ (s : Schema). list_all (λ i. nat_lt (length i.columns) 12) s.indexes ≡ true) (sym broker.schema) short_entries.1;
 })
 
-ready_at : (db : Database) → IsBroker db → (t : Table) → Has db.schema.tables t → IsReady db.schema t
-ready_at db broker t listed = at_has _ db.schema.tables t (subst (λ (s : Schema). AllByRecursion (IsReady s) s.tables) (sym broker.schema) ready) listed
-
 -- ---- a row that nothing is against
-
--- no row has the values of this one at these places
-abbrev pub IsFree : List Row → Row → List ℕ → Type 0
-IsFree rows made places = (r : Row) → Has rows r → agree plain places r places made ≡ false
 
 -- the row fits the columns and CHECKs of its table, nothing has its number or one of its keys, and what it refers to is there
 pub record Suits (db : Database) (t : Table) (made : Row) : Type 0 where
@@ -141,6 +117,11 @@ module _ (db : Database) (broker : IsBroker db) (t : Table) (listed : Has db.sch
 abbrev pub EndsOnly : List (List ℕ) → List ℕ → Row → State → State → Type 0
 EndsOnly texts sql params old new = old.step_limit ≡ None → (fault : StoreFault) → FailsToRun sql params old new fault → EndsBy (¬ AreShort texts) old new fault
 
+-- so it is from each open state that allows it, if these tables have numbers for its rows
+abbrev pub EndsFrom : List (List ℕ) → List (List ℕ) → List ℕ → Row → State → State → (Broker → Type 0) → Type 0
+EndsFrom tables texts sql params old new Allows =
+    (s : Broker) → HoldsOpen old s → Allows s → HaveNumbers tables old.now → (fault : StoreFault) → FailsToRun sql params old new fault → EndsBy (¬ AreShort texts) old new fault
+
 -- the text, with these parameters, puts one row into the table at this place of the schema
 pub record PutsInto (schema : Schema) (at : ℕ) (sql : List ℕ) (params row : Row) : Type 0 where
   pub terms : List Term
@@ -150,8 +131,9 @@ pub record PutsInto (schema : Schema) (at : ℕ) (sql : List ℕ) (params row : 
   pub kinds : accepts_terms terms params ≡ true
   pub one : value_rows params width (length terms / width) terms ≡ row ∷ []
 
-abbrev pub Puts : ℕ → List ℕ → Row → Row → Type 0
-Puts = PutsInto broker_schema
+-- into this table of the broker
+abbrev pub Puts : {t : Table} → Placed t → List ℕ → Row → Row → Type 0
+Puts at = PutsInto broker_schema at.place
 
 -- without a limit of steps it fails only as the store fails, if the edit that puts the row in suits the table
 module _ (sql : List ℕ) (params : Row) (old new : State) (t : Table) (at : ℕ) (there : slice_get old.now.schema.tables at ≡ Some t) (same : plainly t ≡ t)
@@ -185,53 +167,18 @@ module _ (sql : List ℕ) (params : Row) (old new : State) (t : Table) (at : ℕ
       stops stop (inl edited) = goes TooBig old.now.schema (mode_of old).keys old.now.trees (putting t made) suits stop (subst (λ (e : Edit). Edited old.now.schema (mode_of old).keys old.now.trees e (Err stop)) (edit_is _ puts.one) edited)
       stops stop (inr (w, writes, stray)) = absurd (stray (left w writes))
 
-module _ (sql : List ℕ) (params : Row) (old new : State) (broker : IsBroker old.now) (t : Table) (at : ℕ) (there : slice_get old.now.schema.tables at ≡ Some t) (row made : Row) (puts : Puts at sql params row)
+module _ {t : Table} (at : Placed t) {sql : List ℕ} {params row made : Row} (puts : Puts at sql params row) (old new : State) (broker : IsBroker old.now)
     (stored : with_rowid Chosen (old.now.trees t.tree) (cast_row t row) ≡ made) where
-  listed : Has old.now.schema.tables t
-  listed = has_place _ at t there
-
-  same : plainly t ≡ t
-  same = ap (λ (x : Need). x.0) (ready_at old.now broker t listed)
-
   -- where it is done, the row is added, and no other table changes
   pub inserted : (count : ℕ) → Executes sql params old new (Ok count) → ChangesOnly t.tree old new × IsAdded (old.now.trees t.tree) (new.now.trees t.tree) made
   inserted count h =
-      inserts t.name t.tree t.columns t.key t.primary t.uniques t.orders t.checks t.references sql params old new at (there ∙ ap Some (sym same)) puts.terms puts.width row made puts.one stored (meant old.now broker sql puts.means) count h
+      inserts t.name t.tree t.columns t.key t.primary t.uniques t.orders t.checks t.references sql params old new at.place (plain_there at old.now broker) puts.terms puts.width row made puts.one stored (meant old.now broker sql puts.means) count h
 
   pub insert_ends : Suits old.now t made → (texts : List (List ℕ)) → (AreShort texts → IsShortRow made) → EndsOnly texts sql params old new
   insert_ends suits texts short unlimited fault (error, is, h) =
-      let it = row_fails sql params old new t at there same row made (subst (λ s. PutsInto s at sql params row) (sym broker.schema) puts) stored
-      (¬ AreShort texts) (edit_suits old.now broker t listed made suits texts short (mode_of old).keys) unlimited error h in
+      let it = row_fails sql params old new t at.place (there at old.now broker) (is_plain at old.now broker) row made (subst (λ s. PutsInto s at.place sql params row) (sym broker.schema) puts) stored
+      (¬ AreShort texts) (edit_suits old.now broker t (listed at old.now broker) made suits texts short (mode_of old).keys) unlimited error h in
       record { cause = it.0; fault_is = is ∙ ap fault_of it.1; has = it.2; over = it.3.autocommit; blamed = it.4 }
-
--- ---- keys
-
-module _ (rows : List Row) (made : Row) where
-  with_new : (P : Row → Type 0) → P made → ((r : Row) → Has rows r → P r) → (r : Row) → Has (made ∷ rows) r → P r
-  with_new P new old r (inl same) = subst P (sym same) new
-  with_new P new old r (inr was) = old r was
-
-  -- a column of texts, and one of whole numbers, of the rows and of the new one
-  pub new_text : (p : ℕ) → ((r : Row) → Has rows r → column r p ≡ Text (text p r)) → column made p ≡ Text (text p made) → Part text_cmp Text (made ∷ rows) p (text p)
-  new_text p typed new = text_part (made ∷ rows) p (with_new (λ r. column r p ≡ Text (text p r)) new typed)
-
-  pub new_whole : (p : ℕ) → ((r : Row) → Has rows r → column r p ≡ Int (whole_at p r)) → column made p ≡ Int (whole_at p made) → Part int_cmp Int (made ∷ rows) p (whole_at p)
-  new_whole p typed new = whole_part (made ∷ rows) p (with_new (λ r. column r p ≡ Int (whole_at p r)) new typed)
-
-  free_if : {K : Type 0} {R : K → K → Ordering} (o : IsTotalOrder R) (key : Row → K) (places : List ℕ) → ((r : Row) → Has rows r → agree plain places r places made ≡ eq_by_cmp R (key r) (key made)) → stands_at R key rows (key made) ≡ false → IsFree rows made places
-  free_if {K} {R} o key places same none r has =
-      same r has ∙ (eq_by_cmp_equiv o).symm (key r) (key made) ∙ false_from_ne_true _ (λ hit. let clash : true ≡ false = sym (some_from (λ x. eq_by_cmp R (key made) (key x)) rows r has hit) ∙ none in cc)
-
-  module _ {K : Type 0} {R : K → K → Ordering} {code : K → Value} (o : IsTotalOrder R) (p : ℕ) (key : Row → K) (part : Part R code (made ∷ rows) p key) where
-    -- a key of one column is free if no row stands by its value
-    pub free_one : stands_at R key rows (key made) ≡ false → IsFree rows made (p ∷ [])
-    free_one = free_if o key (p ∷ []) (λ r has. agree_last o (made ∷ rows) p key part r made (inr has) (inl refl))
-
-    -- and one of two if none stands by both
-    pub free_two : {L : Type 0} {S : L → L → Ordering} {mark : L → Value} (both : IsTotalOrder (by_both R S)) (other_order : IsTotalOrder S) (q : ℕ) (other : Row → L) → Part S mark (made ∷ rows) q other
-        → stands_at (by_both R S) (λ r. (key r, other r)) rows (key made, other made) ≡ false → IsFree rows made (p ∷ q ∷ [])
-    free_two {L} {S} both other_order q other second = free_if both (λ r. (key r, other r)) (p ∷ q ∷ []) (λ r has.
-        agree_and o (made ∷ rows) p key part S other (q ∷ []) r made (inr has) (inl refl) (agree_last other_order (made ∷ rows) q other second r made (inr has) (inl refl)))
 
 -- ---- what it refers to
 
@@ -283,22 +230,46 @@ next_counted f rows xs rest are rising = false_from_ne_true _ (λ taken.
     let nats : low.0 ≡ length xs + 1 = cc in
     omega (arith, low.2, nats))
 
--- ---- the statement
+-- ---- a row that gets the number after the last one's
 
--- If the table gives the row the number after the last one's, that is free: it fails only as the store fails, if there
--- is such a number, its columns and keys are as they have to be, and what it refers to is there.
-pub next_ends : (sql : List ℕ) (params : Row) (old new : State) (broker : IsBroker old.now) (t : Table) (at : ℕ) (there : slice_get old.now.schema.tables at ≡ Some t) (row rest : Row) → Puts at sql params row
-    → with_rowid Chosen (old.now.trees t.tree) (cast_row t row) ≡ Int (next_rowid (old.now.trees t.tree)) ∷ rest → fits_i64 (next_rowid (old.now.trees t.tree)) ≡ true
-    → PassAlone t ((Int (next_rowid (old.now.trees t.tree)) ∷ rest) ∷ []) → AllByRecursion (IsFree (old.now.trees t.tree) (Int (next_rowid (old.now.trees t.tree)) ∷ rest)) t.uniques
-    → AllByRecursion (λ ref. has_parent broker_schema.tables old.now.trees (Int (next_rowid (old.now.trees t.tree)) ∷ rest) ref ≡ true) t.references
-    → (texts : List (List ℕ)) → (AreShort texts → AllByRecursion IsShortValue rest) → 0 < length rest → length rest ≤ 11 → EndsOnly texts sql params old new
-next_ends sql params old new broker t at there row rest puts stored room pass free parents texts short some few =
-    let numbered = at_has _ old.now.schema.tables t broker.kept.numbered (has_place _ at t there) in
-    insert_ends sql params old new broker t at there row _ puts stored (record {
-      pass = pass;
-      fits = room;
-      keyed = refl;
-      fresh = next_is_free Chosen (old.now.trees t.tree) rest numbered.0 numbered.1;
-      free = free;
-      parents = parents;
-    }) texts (λ are. record { wide = omega (arith, some); narrow = omega (arith, few); short = (tt, short are) })
+-- the text, with these parameters, adds a row with these columns to the table, and SQLite numbers it
+pub record Adds {t : Table} (at : Placed t) (sql : List ℕ) (params rest : Row) : Type 0 where
+  pub puts : Puts at sql params (Null ∷ rest)
+  pub stored : cast_all t.columns rest ≡ rest
+
+module _ {t : Table} {at : Placed t} {sql : List ℕ} {params rest : Row} (adds : Adds at sql params rest) (old new : State) (broker : IsBroker old.now) where
+  -- the row as it is there
+  abbrev pub added : Row
+  added = Int (next_rowid (old.now.trees t.tree)) ∷ rest
+
+  stored : with_rowid Chosen (old.now.trees t.tree) (cast_row t (Null ∷ rest)) ≡ added
+  stored = λ i. with_rowid Chosen (old.now.trees t.tree) (cast_null i ∷ adds.stored i)
+
+  -- where it is done, the row is added, and no other table changes
+  pub adds_row : (count : ℕ) → Executes sql params old new (Ok count) → ChangesOnly t.tree old new × IsAdded (old.now.trees t.tree) (new.now.trees t.tree) added
+  adds_row = inserted at adds.puts old new broker stored
+
+  -- so the state is held that the rows tell then
+  pub held_added : {taken : ℕ} → 1 ≤ taken → {next : Broker} (count : ℕ) → Executes sql params old new (Ok count)
+      → (Frame (t.name ∷ []) old.now new.now → IsAdded (old.now.trees t.tree) (new.now.trees t.tree) added → Holds new.now next) → HoldsAfter taken old new next
+  held_added {taken} some {next} count h holds =
+      let it = adds_row count h in
+      let frame = frame_of (t.name ∷ []) t.tree at.alone old new broker it.0 in
+      after_one taken some t.name old new next frame
+      (λ counted. subst (λ o. Grows (option_map_or old.now.trees o []) (option_map_or new.now.trees o [])) (sym at.named) (grows_added _ _ added it.1 refl)) (holds frame it.1)
+
+  -- It fails only as the store fails, or since one of these texts is too long, if the table has a number for it, its
+  -- columns and keys are as they have to be, and what it refers to is there.
+  pub adds_ends : LeaveNumbers 1 (old.now.trees t.tree) → PassAlone t (added ∷ []) → AllByRecursion (IsFree (old.now.trees t.tree) added) t.uniques
+      → AllByRecursion (λ ref. has_parent broker_schema.tables old.now.trees added ref ≡ true) t.references
+      → (texts : List (List ℕ)) → (AreShort texts → AllByRecursion IsShortValue rest) → 0 < length rest → length rest ≤ 11 → EndsOnly texts sql params old new
+  adds_ends room pass free parents texts short some few =
+      let numbered = numbered_in at old.now broker in
+      insert_ends at adds.puts old new broker stored (record {
+        pass = pass;
+        fits = number_for _ room;
+        keyed = refl;
+        fresh = next_is_free Chosen (old.now.trees t.tree) rest numbered.0 numbered.1;
+        free = free;
+        parents = parents;
+      }) texts (λ are. record { wide = omega (arith, some); narrow = omega (arith, few); short = (tt, short are) })

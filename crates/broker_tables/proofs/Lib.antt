@@ -7,6 +7,7 @@ pub mod TruthLemmas
 pub mod ReadableRows
 pub mod ReadableSteps
 pub mod Placed
+pub mod Keyed
 pub mod Orders
 pub mod Standing
 pub mod Ties
@@ -24,6 +25,7 @@ pub mod ByNumber
 pub mod Former
 pub mod RoomLemmas
 pub mod FailLemmas
+pub mod Alters
 pub mod Inserted
 pub mod Upserted
 pub mod Removed

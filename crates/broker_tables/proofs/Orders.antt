@@ -1,12 +1,9 @@
 -- The orders of keys: each is total, and equal keys are the same.
 use Rattle.std.specs.{Ordering.{int_cmp}, Cmp.{IsTotalOrder, int_cmp_total}, Cmp.Lexicographic.{nat_list_cmp_total}}
-use Rattle.std.specs.FinMap.{nat_cmp-IsAntisymmetric, slice_cmp-IsAntisymmetric, int_cmp-IsAntisymmetric, IsAntisymmetric}
-use Rattle.std.proofs.lemmas.Map.Lookups.{exact_pairs}
-use Rattle.table_access.{specs.Columns.{text_cmp, pair_cmp, by_both}, proofs.Parts.{both_total}}
-
+use Rattle.std.{specs.FinMap.{int_cmp-IsAntisymmetric, IsAntisymmetric}, proofs.lemmas.Map.Lookups.{exact_pairs}}
+use Rattle.table_access.{specs.Columns.{text_cmp, pair_cmp, by_both}, proofs.Keys.{both_total}}
 -- texts that tie in their order are the same
-pub exact_texts : IsAntisymmetric text_cmp
-exact_texts = slice_cmp-IsAntisymmetric nat_cmp-IsAntisymmetric
+pub use Rattle.table_access.proofs.Keys.{exact_texts}
 
 -- the order of pairs of texts is total
 pub pairs_total : IsTotalOrder pair_cmp

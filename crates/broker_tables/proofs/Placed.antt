@@ -1,10 +1,18 @@
 -- Each table as it stands in the schema, and what its columns hold.
-use Rattle.std.{specs.List.{enumerate_from}, proofs.Common.{◌≡◌, ℕ, ◌+◌, List, [], ◌∷◌, map, ap, refl, sym, subst, slice_get, Some, codes, cond}}
-use Rattle.table_access.specs.Statements.{IsCalm}
-use Rattle.sqlite.specs.{Schema.{Schema}, Table.{Table}, Effect.{Database}}
-use Rattle.sqlite_schema.specs.Names.{is_key}
-use Rattle.broker_tables.specs.Holds.{IsBroker}
+use Rattle.std.specs.List.{AllByRecursion, enumerate_from, list_all}
+use Rattle.std.proofs.Common.{◌≡◌, ℕ, zero, suc, ◌+◌, List, [], ◌∷◌, map, filter, Bool, true, false, ap, refl, sym, subst, ◌∙◌, slice_get, Option, Some, None, codes, cond, add-one}
+use Rattle.sqlite.specs.{declared.types.Value.TheVariants.{Int, Text}, Order.{Row, column}, Schema.{Schema}, Table.{Table}, Tree.{IsAscending}}
+use Rattle.sqlite.specs.Effect.{Database}
+use Rattle.sqlite_schema.specs.{declared.schema.Column.{Column}, Names.{is_key}, Rules.{agree, guards, is_key_of}}
+use Rattle.sqlite_value.specs.{declared.keys.Order.{Order}, Keys.{plain}}
+use Rattle.sqlite_rules.specs.Lists.{Has}
+use Rattle.sqlite_tied.specs.Compute.{everything}
+use Rattle.table_access.specs.{Columns.{text, whole_at}, Sound.{IsNumbered}, Statements.{IsCalm, plain_table}}
+use Rattle.table_access.proofs.{SoundLemmas.{at_has, has_place, text_at, whole_in}, Keys.{apart_by}, Members.{has_map, map_has, filter_has}}
+use Rattle.table_access.proofs.UpsertRefused.{key_of}
+use Rattle.broker_tables.specs.{Holds.{IsBroker}, Rows.{tree_of}}
 use Rattle.broker_tables.specs.Schema.{in_meta, in_teams, in_pacticipants, in_versions, in_branches, in_environments, in_grants, in_contents, in_contracts, in_results, in_latest, in_deployed, in_released, in_checked_results, in_strict_environments}
+use Rattle.broker_tables.proofs.Frames.{is_among}
 use Rattle.broker_tables.specs.Schema as schema
 
 -- each table with its tree
@@ -106,50 +114,131 @@ pub all_calm : IsCalm schema.broker_schema.tables
 all_calm =
     (tt, (tt, (((refl, refl), tt), (((refl, refl), tt), (((refl, refl), tt), (tt, (((refl, refl), ((refl, refl), tt)), (tt, (((refl, refl), ((refl, refl), ((refl, refl), tt))), (((refl, refl), ((refl, refl), ((refl, refl), tt))), (((refl, refl), ((refl, refl), ((refl, refl), tt))), (((refl, refl), ((refl, refl), ((refl, refl), tt))), (((refl, refl), ((refl, refl), tt)), (((refl, refl), tt), (((refl, refl), tt), tt)))))))))))))))
 
-module _ (db : Database) (broker : IsBroker db) where
-  -- in a broker's schema each table is the one at its place, counted from 0
-  pub teams_there : slice_get db.schema.tables 1 ≡ Some teams
-  teams_there = ap (λ (s : Schema). slice_get s.tables 1) broker.schema
+-- ---- where each table is
 
-  pub pacticipants_there : slice_get db.schema.tables 2 ≡ Some pacticipants
-  pacticipants_there = ap (λ (s : Schema). slice_get s.tables 2) broker.schema
+-- The place of a table in the broker's schema, counted from 0. The table is found by its name, and no other has its tree.
+pub record Placed (t : Table) : Type 0 where
+  pub place : ℕ
+  pub placed : slice_get schema.broker_schema.tables place ≡ Some t
+  pub named : tree_of t.name ≡ Some t.tree
+  pub alone : is_among (t.name ∷ []) t.tree ≡ true
 
-  pub versions_there : slice_get db.schema.tables 3 ≡ Some versions
-  versions_there = ap (λ (s : Schema). slice_get s.tables 3) broker.schema
+abbrev pub at_meta : Placed meta
+at_meta = record { place = 0; placed = refl; named = refl; alone = refl }
 
-  pub branches_there : slice_get db.schema.tables 4 ≡ Some branches
-  branches_there = ap (λ (s : Schema). slice_get s.tables 4) broker.schema
+abbrev pub at_teams : Placed teams
+at_teams = record { place = 1; placed = refl; named = refl; alone = refl }
 
-  pub environments_there : slice_get db.schema.tables 5 ≡ Some environments
-  environments_there = ap (λ (s : Schema). slice_get s.tables 5) broker.schema
+abbrev pub at_pacticipants : Placed pacticipants
+at_pacticipants = record { place = 2; placed = refl; named = refl; alone = refl }
 
-  pub grants_there : slice_get db.schema.tables 6 ≡ Some grants
-  grants_there = ap (λ (s : Schema). slice_get s.tables 6) broker.schema
+abbrev pub at_versions : Placed versions
+at_versions = record { place = 3; placed = refl; named = refl; alone = refl }
 
-  pub contents_there : slice_get db.schema.tables 7 ≡ Some contents
-  contents_there = ap (λ (s : Schema). slice_get s.tables 7) broker.schema
+abbrev pub at_branches : Placed branches
+at_branches = record { place = 4; placed = refl; named = refl; alone = refl }
 
-  pub contracts_there : slice_get db.schema.tables 8 ≡ Some contracts
-  contracts_there = ap (λ (s : Schema). slice_get s.tables 8) broker.schema
+abbrev pub at_environments : Placed environments
+at_environments = record { place = 5; placed = refl; named = refl; alone = refl }
 
-  pub results_there : slice_get db.schema.tables 9 ≡ Some results
-  results_there = ap (λ (s : Schema). slice_get s.tables 9) broker.schema
+abbrev pub at_grants : Placed grants
+at_grants = record { place = 6; placed = refl; named = refl; alone = refl }
 
-  pub latest_there : slice_get db.schema.tables 10 ≡ Some latest
-  latest_there = ap (λ (s : Schema). slice_get s.tables 10) broker.schema
+abbrev pub at_contents : Placed contents
+at_contents = record { place = 7; placed = refl; named = refl; alone = refl }
 
-  pub deployed_there : slice_get db.schema.tables 11 ≡ Some deployed
-  deployed_there = ap (λ (s : Schema). slice_get s.tables 11) broker.schema
+abbrev pub at_contracts : Placed contracts
+at_contracts = record { place = 8; placed = refl; named = refl; alone = refl }
 
-  pub released_there : slice_get db.schema.tables 12 ≡ Some released
-  released_there = ap (λ (s : Schema). slice_get s.tables 12) broker.schema
+abbrev pub at_results : Placed results
+at_results = record { place = 9; placed = refl; named = refl; alone = refl }
 
-  pub checked_results_there : slice_get db.schema.tables 13 ≡ Some checked_results
-  checked_results_there = ap (λ (s : Schema). slice_get s.tables 13) broker.schema
+abbrev pub at_latest : Placed latest
+at_latest = record { place = 10; placed = refl; named = refl; alone = refl }
 
-  pub strict_environments_there : slice_get db.schema.tables 14 ≡ Some strict_environments
-  strict_environments_there = ap (λ (s : Schema). slice_get s.tables 14) broker.schema
+abbrev pub at_deployed : Placed deployed
+at_deployed = record { place = 11; placed = refl; named = refl; alone = refl }
 
-  -- no foreign key acts on a change of its parent
-  pub calm : IsCalm db.schema.tables
-  calm = subst (λ (s : Schema). IsCalm s.tables) (sym broker.schema) all_calm
+abbrev pub at_released : Placed released
+at_released = record { place = 12; placed = refl; named = refl; alone = refl }
+
+abbrev pub at_checked_results : Placed checked_results
+at_checked_results = record { place = 13; placed = refl; named = refl; alone = refl }
+
+abbrev pub at_strict_environments : Placed strict_environments
+at_strict_environments = record { place = 14; placed = refl; named = refl; alone = refl }
+
+-- a table without AUTOINCREMENT and computed defaults
+abbrev pub plainly : Table → Table
+plainly t = plain_table t.name t.tree t.columns t.key t.primary t.uniques t.orders t.checks t.references
+
+-- what an INSERT needs of a table: it is such a table, the unique indexes on it are its keys, and each of its
+-- references points to a key
+abbrev pub Need : Type 0
+Need = Table × List (Order × List ℕ) × Bool
+
+abbrev needed : Schema → Table → Need
+needed schema t = (plainly t, map key_of (filter (λ i. guards i t) schema.indexes), list_all (is_key_of schema) t.references)
+
+abbrev pub IsReady : Schema → Table → Type 0
+IsReady schema t = needed schema t ≡ (t, map (λ places. (plain, places)) t.uniques, true)
+
+ready : AllByRecursion (IsReady schema.broker_schema) schema.broker_schema.tables
+unfolding everything
+ready = (refl, (refl, (refl, (refl, (refl, (refl, (refl, (refl, (refl, (refl, (refl, (refl, (refl, (refl, (refl, tt)))))))))))))))
+
+pub ready_at : (db : Database) → IsBroker db → (t : Table) → Has db.schema.tables t → IsReady db.schema t
+ready_at db broker t listed = at_has _ db.schema.tables t (subst (λ (s : Schema). AllByRecursion (IsReady s) s.tables) (sym broker.schema) ready) listed
+
+-- no foreign key acts on a change of its parent
+pub calm : (db : Database) → IsBroker db → IsCalm db.schema.tables
+calm db broker = subst (λ (s : Schema). IsCalm s.tables) (sym broker.schema) all_calm
+
+-- the column at this place, if it isn't the row's number
+abbrev pub column_at : Table → ℕ → Option Column
+column_at t zero = None
+column_at t (suc at) = cond (is_key t.key at) None (slice_get t.columns at)
+
+other_than : {A : Type 0} (key : Bool) (found : Option A) (a : A) → cond key None found ≡ Some a → (key ≡ false) × (found ≡ Some a)
+other_than true found a is = absurd cc
+other_than false found a is = (refl, is)
+
+module _ {t : Table} (at : Placed t) (db : Database) (broker : IsBroker db) where
+  -- each broker's database has the table there
+  pub there : slice_get db.schema.tables at.place ≡ Some t
+  there = ap (λ (s : Schema). slice_get s.tables at.place) broker.schema ∙ at.placed
+
+  pub listed : Has db.schema.tables t
+  listed = has_place _ at.place t there
+
+  -- which is such a plain table
+  pub is_plain : plainly t ≡ t
+  is_plain = ap (λ (x : Need). x.0) (ready_at db broker t listed)
+
+  pub plain_there : slice_get db.schema.tables at.place ≡ Some (plainly t)
+  plain_there = there ∙ ap Some (sym is_plain)
+
+  -- its rows rise by their numbers
+  pub numbered_in : IsNumbered (db.trees t.tree)
+  numbered_in = at_has _ db.schema.tables t broker.kept.numbered listed
+
+  -- a column of texts has a text in each row, and one of whole numbers a whole number
+  pub texts_in : (place : ℕ) {name : List ℕ} → column_at t place ≡ Some (schema.texts name) → (r : Row) → Has (db.trees t.tree) r → column r place ≡ Text (text place r)
+  texts_in zero is r has = absurd cc
+  texts_in (suc p) {name} is r has =
+      let it = other_than (is_key t.key p) (slice_get t.columns p) (schema.texts name) is in
+      subst (λ n. column r n ≡ Text (text n r)) (add-one p) (text_at db broker.kept.sound t listed r has p (schema.texts name) it.1 it.0 refl refl refl)
+
+  pub wholes_in : (place : ℕ) {name : List ℕ} → column_at t place ≡ Some (schema.numbers name) → (r : Row) → Has (db.trees t.tree) r → column r place ≡ Int (whole_at place r)
+  wholes_in zero is r has = absurd cc
+  wholes_in (suc p) {name} is r has =
+      let it = other_than (is_key t.key p) (slice_get t.columns p) (schema.numbers name) is in
+      subst (λ n. column r n ≡ Int (whole_at n r)) (add-one p) (whole_in db broker.kept.sound t listed r has p (schema.numbers name) it.1 it.0 refl refl refl)
+
+  -- no two rows have one key of the table
+  pub keys_apart : (places : List ℕ) → Has t.uniques places → IsAscending (λ a b. agree plain places a places b ≡ false) (db.trees t.tree)
+  keys_apart places among =
+      let keys = ap (λ (x : Need). x.1) (ready_at db broker t listed) in
+      let i = map_has key_of _ (plain, places) (subst (λ ks. Has ks (plain, places)) (sym keys) (has_map (λ ps. (plain, ps)) t.uniques places among)) in
+      let known = filter_has (λ j. guards j t) db.schema.indexes i.0 i.1 in
+      subst (λ (k : Order × List ℕ). IsAscending (λ a b. agree k.0 k.1 a k.1 b ≡ false) (db.trees t.tree)) (sym i.2) (apart_by db broker.kept t listed i.0 known.0 known.1)

@@ -6,13 +6,12 @@ use Rattle.sqlite.specs.{declared.types.Value.TheVariants.{Int, Text as SqlText}
 use Rattle.sqlite_rules.specs.Lists.{Has}
 use Rattle.sqlite_keyed.proofs.RuleLemmas.{first_of_both}
 use Rattle.table_access.{specs.{Columns.{text, whole_at}, Reading.{IsNumberAt}}, proofs.{Maps.{has_find}, Members.{map_has, has_contains}}}
-use Rattle.table_access.proofs.SoundLemmas.{whole_in, checks_hold, has_place}
+use Rattle.table_access.proofs.SoundLemmas.{checks_hold}
 use Rattle.broker_core.specs.{declared.command.Version.{Version}, Limit.{limit}, Text.{Text, version}, State.{State as Broker}}
 use Rattle.broker_tables.specs.{Schema.{to, in_pacticipants, in_versions, in_contents, in_results, in_checked_results}, Rows.{IsTruthAt}, Names.{IsNameAt}}
 use Rattle.broker_tables.specs.{Numbers.{numbered}, Holds.{Holds, with_digest, result_in, result_of}, Readable.{IsReadable, IsNamed, AreFew}}
-use Rattle.broker_tables.proofs.{Orders.{exact_texts}, Placed.{results, results_there}}
-use Rattle.broker_tables.proofs.References.{row_number, row_entry, refers_version, refers_content, refers_result, refers_pacticipant, pacticipant_keys}
-use Rattle.broker_tables.proofs.TruthLemmas.{is_low}
+use Rattle.broker_tables.proofs.{Orders.{exact_texts}, Keyed.{pacticipants_by_name, keys_of}, Placed.{results, at_results, listed, wholes_in}}
+use Rattle.broker_tables.proofs.{References.{row_number, row_entry, refers_version, refers_content, refers_result, refers_pacticipant}, TruthLemmas.{is_low}}
 
 -- it is a number below 2^32
 abbrev pub IsLow : ℤ → Type 0
@@ -75,7 +74,7 @@ module _ (db : Database) (s : Broker) (held : Holds db s) (readable : IsReadable
   -- the name of a pacticipant
   pub pacticipant_named : (r : Row) → Has (db.trees in_pacticipants.tree) r → IsNamed (text in_pacticipants.name r)
   pacticipant_named r has =
-      let found = has_find nat_list_cmp_total exact_texts (text in_pacticipants.name) (text in_pacticipants.team) (db.trees in_pacticipants.tree) r (pacticipant_keys db held.broker) has in
+      let found = has_find nat_list_cmp_total exact_texts (text in_pacticipants.name) (text in_pacticipants.team) (db.trees in_pacticipants.tree) r (keys_of pacticipants_by_name db held.broker) has in
       (readable.pacticipants (text in_pacticipants.name r) (text in_pacticipants.team r) (sym (held.pacticipants (text in_pacticipants.name r)) ∙ found)).0
 
   -- a name that refers to one
@@ -86,6 +85,5 @@ module _ (db : Database) (s : Broker) (held : Holds db s) (readable : IsReadable
   -- whether a result is a pass
   pub pass_low : (r : Row) → Has (db.trees in_results.tree) r → (n : ℕ) × (whole_at in_results.pass r ≡ pos n) × (n ≤ 1)
   pass_low r has =
-      let listed = has_place _ 9 results (results_there db held.broker) in
-      let typed : column r in_results.pass ≡ Int (whole_at in_results.pass r) = whole_in db held.broker.kept.sound results listed r has 4 _ refl refl refl refl refl in
-      is_low r in_results.pass (whole_at in_results.pass r) typed (first_of_both _ true (checks_hold db held.broker.kept.sound results listed r has))
+      is_low r in_results.pass (whole_at in_results.pass r) (wholes_in at_results db held.broker in_results.pass refl r has)
+      (first_of_both _ true (checks_hold db held.broker.kept.sound results (listed at_results db held.broker) r has))

@@ -1,9 +1,9 @@
 -- That a number or a name in a column is the one of a row that is there, by the table's REFERENCES.
-use Rattle.std.specs.{List.{enumerate_from}, Ordering.{is_eq, int_cmp, eq_by_cmp}, Cmp.{Equal-is}, FinMap.{int_cmp-IsAntisymmetric}}
-use Rattle.std.proofs.Common.{◌≡◌, ℕ, ℤ, pos, ◌+◌, ◌<◌, List, [], ◌∷◌, map, length, Bool, true, false, ◌||◌, refl, sym, ap, subst, ◌∙◌, Some, codes, slice_get, arith, inl, inr}
+use Rattle.std.specs.{List.{enumerate_from}, Ordering.{is_eq, int_cmp}, Cmp.{Equal-is}, FinMap.{int_cmp-IsAntisymmetric}}
+use Rattle.std.proofs.Common.{◌≡◌, ℕ, ℤ, pos, ◌+◌, ◌<◌, List, [], ◌∷◌, map, length, Bool, true, false, ◌||◌, refl, sym, ap, subst, ◌∙◌, Some, codes, arith, inl, inr}
 use Rattle.std.proofs.lemmas.Bool.{cases_Bool}
-use Rattle.sqlite.specs.{Tree.{IsAscending, rowid}, declared.types.Value.TheVariants.{Int, Text}, Order.{Row, column}, Schema.{Schema}, Table.{Table}}
-use Rattle.sqlite.specs.{Effect.{Database}, Collation.TheVariants.{Binary}}
+use Rattle.sqlite.specs.{Tree.{rowid}, declared.types.Value.TheVariants.{Int, Text}, Order.{Row, column}, Schema.{Schema}, Table.{Table}, Effect.{Database}}
+use Rattle.sqlite.specs.Collation.TheVariants.{Binary}
 use Rattle.sqlite_sql.specs.Ops.{is_null}
 use Rattle.sqlite_schema.specs.{declared.schema.Reference.{Reference}, declared.schema.Constraint.TheVariants.{ForeignKey}}
 use Rattle.sqlite_schema.specs.Rules.{has_parent, is_held, parent_key, agree, equal}
@@ -12,11 +12,11 @@ use Rattle.sqlite_rules.{specs.Lists.{Has}, proofs.{RuleLemmas.{keeps_at}, Table
 use Rattle.sqlite_keyed.proofs.{ListLemmas.{all_from_test}, RuleLemmas.{first_of_both}}
 use Rattle.sqlite_tied.specs.Compute.{everything}
 use Rattle.table_access.{specs.Columns.{text, text_cmp, whole_at}, proofs.{Values.{same_ints, same_texts}, Members.{has_map, map_has, any_has}}}
-use Rattle.table_access.proofs.{SoundLemmas.{at_has, has_place, text_at}, Keys.{apart_by, text_keys}}
+use Rattle.table_access.proofs.SoundLemmas.{at_has}
 use Rattle.broker_core.specs.declared.command.Version.{Version}
 use Rattle.broker_tables.specs.Schema.{broker_schema, to, in_teams, in_pacticipants, in_versions, in_environments, in_contents, in_results}
 use Rattle.broker_tables.{specs.Holds.{IsBroker, AreVersions}, proofs.Orders.{exact_texts}}
-use Rattle.broker_tables.proofs.Placed.{teams, teams_there, pacticipants, pacticipants_there, versions, versions_there, environments, environments_there, contents, contents_there, results, results_there}
+use Rattle.broker_tables.proofs.Placed.{Placed, at_contents, at_environments, at_pacticipants, at_results, at_teams, at_versions, numbered_in, texts_in}
 
 -- what REFERENCES names is the column at this place of the table at this tree, which is compared byte by byte
 abbrev pub LeadsTo : ℕ → List ℕ → List ℕ → ℕ → ℕ → Type 0
@@ -68,38 +68,34 @@ module _ (db : Database) (broker : IsBroker db) (t : Table) (listed : Has db.sch
 
 module _ (db : Database) (broker : IsBroker db) where
   -- the numbers of a table that has them as its rowids
-  ids_of : (t : Table) → Has db.schema.tables t → (x : Row) → Has (db.trees t.tree) x → column x 0 ≡ Int (whole_at 0 x)
-  ids_of t listed x has = int_is (rowid x) (at_has _ (db.trees t.tree) x (at_has _ db.schema.tables t broker.kept.numbered listed).1 has)
+  ids_of : {t : Table} (at : Placed t) (x : Row) → Has (db.trees t.tree) x → column x 0 ≡ Int (whole_at 0 x)
+  ids_of at x has = int_is (rowid x) (at_has _ _ x (numbered_in at db broker).1 has)
 
   pub refers_version : (t : Table) → Has db.schema.tables t → (p : ℕ) → Has t.references (to p (codes "versions") (codes "number")) → (r : Row) → Has (db.trees t.tree) r → column r p ≡ Int (whole_at p r)
       → (x : Row) × Has (db.trees in_versions.tree) x × (whole_at in_versions.number x ≡ whole_at p r)
-  refers_version t listed p among r has typed = refers_number db broker t listed p r has (codes "versions") (codes "number") in_versions.tree (leads p).0 (ids_of versions (has_place _ 3 versions (versions_there db broker))) among typed
+  refers_version t listed p among r has typed = refers_number db broker t listed p r has (codes "versions") (codes "number") in_versions.tree (leads p).0 (ids_of at_versions) among typed
 
   pub refers_content : (t : Table) → Has db.schema.tables t → (p : ℕ) → Has t.references (to p (codes "contents") (codes "number")) → (r : Row) → Has (db.trees t.tree) r → column r p ≡ Int (whole_at p r)
       → (x : Row) × Has (db.trees in_contents.tree) x × (whole_at in_contents.number x ≡ whole_at p r)
-  refers_content t listed p among r has typed = refers_number db broker t listed p r has (codes "contents") (codes "number") in_contents.tree (leads p).1 (ids_of contents (has_place _ 7 contents (contents_there db broker))) among typed
+  refers_content t listed p among r has typed = refers_number db broker t listed p r has (codes "contents") (codes "number") in_contents.tree (leads p).1 (ids_of at_contents) among typed
 
   pub refers_result : (t : Table) → Has db.schema.tables t → (p : ℕ) → Has t.references (to p (codes "results") (codes "number")) → (r : Row) → Has (db.trees t.tree) r → column r p ≡ Int (whole_at p r)
       → (x : Row) × Has (db.trees in_results.tree) x × (whole_at in_results.number x ≡ whole_at p r)
-  refers_result t listed p among r has typed = refers_number db broker t listed p r has (codes "results") (codes "number") in_results.tree (leads p).2 (ids_of results (has_place _ 9 results (results_there db broker))) among typed
+  refers_result t listed p among r has typed = refers_number db broker t listed p r has (codes "results") (codes "number") in_results.tree (leads p).2 (ids_of at_results) among typed
 
   -- the names in the rows of three tables are texts
   pub team_names : (x : Row) → Has (db.trees in_teams.tree) x → column x in_teams.name ≡ Text (text in_teams.name x)
-  team_names x has = text_at db broker.kept.sound teams (has_place _ 1 teams (teams_there db broker)) x has 0 _ refl refl refl refl refl
+  team_names x has = texts_in at_teams db broker in_teams.name refl x has
 
   pub environment_names : (x : Row) → Has (db.trees in_environments.tree) x → column x in_environments.name ≡ Text (text in_environments.name x)
-  environment_names x has = text_at db broker.kept.sound environments (has_place _ 5 environments (environments_there db broker)) x has 0 _ refl refl refl refl refl
+  environment_names x has = texts_in at_environments db broker in_environments.name refl x has
 
   pub refers_environment : (t : Table) → Has db.schema.tables t → (p : ℕ) → Has t.references (to p (codes "environments") (codes "name")) → (r : Row) → Has (db.trees t.tree) r → column r p ≡ Text (text p r)
       → (x : Row) × Has (db.trees in_environments.tree) x × (text in_environments.name x ≡ text p r)
   refers_environment t listed p among r has typed = refers_name db broker t listed p r has (codes "environments") (codes "name") in_environments.tree in_environments.name (leads p).3 environment_names among typed
 
   pub pacticipant_names : (x : Row) → Has (db.trees in_pacticipants.tree) x → column x in_pacticipants.name ≡ Text (text in_pacticipants.name x)
-  pacticipant_names x has = text_at db broker.kept.sound pacticipants (has_place _ 2 pacticipants (pacticipants_there db broker)) x has 0 _ refl refl refl refl refl
-
-  -- a pacticipant has one row
-  pub pacticipant_keys : IsAscending (λ a b. eq_by_cmp text_cmp (text in_pacticipants.name a) (text in_pacticipants.name b) ≡ false) (db.trees in_pacticipants.tree)
-  pacticipant_keys = text_keys (db.trees in_pacticipants.tree) in_pacticipants.name pacticipant_names (apart_by db broker.kept pacticipants 2 (pacticipants_there db broker) _ 2 (ap (λ (s : Schema). slice_get s.indexes 2) broker.schema) refl)
+  pacticipant_names x has = texts_in at_pacticipants db broker in_pacticipants.name refl x has
 
   pub refers_pacticipant : (t : Table) → Has db.schema.tables t → (p : ℕ) → Has t.references (to p (codes "pacticipants") (codes "name")) → (r : Row) → Has (db.trees t.tree) r → column r p ≡ Text (text p r)
       → (x : Row) × Has (db.trees in_pacticipants.tree) x × (text in_pacticipants.name x ≡ text p r)

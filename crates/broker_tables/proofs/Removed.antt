@@ -1,36 +1,47 @@
 -- DELETE from a table of the broker to which no other refers: what it leaves, and that it fails only as the store fails.
-use Rattle.std.proofs.Common.{◌≡◌, ◌∙◌, ℕ, List, [], ◌∷◌, filter, length, slice_get, Bool, true, false, not, sym, ap, subst, Some, None, Ok}
+use Rattle.std.specs.Option.{option_map_or}
+use Rattle.std.proofs.Common.{◌≡◌, ◌∙◌, ◌≤◌, ℕ, List, [], ◌∷◌, filter, length, slice_get, Bool, true, false, not, sym, ap, subst, Some, None, Ok}
 use Rattle.sqlite.specs.{Command.TheVariants.{Delete}, Order.{Row}, Schema.{Schema}, State.{State, Executes}, Table.{Table}, Term.{Term, col}}
 use Rattle.sqlite.specs.Tree.{IsAscending}
 use Rattle.sqlite_schema.specs.Rules.{references_fit}
-use Rattle.sqlite_rules.specs.Lists.{Has}
 use Rattle.table_access.specs.{declared.StoreFault.{StoreFault}, Calls.{HasFailed, FailsToRun, fault_of}, Sound.{IsNumbered}}
 use Rattle.table_access.{specs.Statements.{ChangesOnly, from_table, keeps}, proofs.{Answered.{Runs}, Deleted.{IsLeaf, delete_fails}, Edits.{IsAlone}}}
-use Rattle.table_access.proofs.{SoundLemmas.{has_place, at_has}, Steps.{Means, deletes, deletes_counted}}
-use Rattle.broker_tables.{specs.{Schema.{broker_schema}, Holds.{IsBroker}}, proofs.{Frames.{meant, runs_here}, Inserted.{plainly, apart}, Placed.{calm}}}
+use Rattle.table_access.proofs.{SoundLemmas.{has_place}, Steps.{Means, deletes, deletes_counted}}
+use Rattle.broker_core.specs.State.{State as Broker}
+use Rattle.broker_tables.{specs.{Schema.{broker_schema}, Holds.{IsBroker, Holds, HoldsAfter}}, proofs.Frames.{Frame, frame_of, meant, runs_here}}
+use Rattle.broker_tables.proofs.{Inserted.{apart}, Placed.{Placed, calm, numbered_in, plain_there, plainly}, RoomLemmas.{Grows, after_one, grows_kept}}
 
--- The text, with these parameters, takes the rows that WHERE keeps out of the table at this place. `refl` finds each field
--- but the last, under `unfolding understood everything`.
-pub record TakesFrom (at : ℕ) (t : Table) (sql : List ℕ) (params : Row) (terms : List Term) : Type 0 where
-  pub means : Means broker_schema sql (Delete at (record { lets = []; body = from_table t.tree terms (col 1 0 ∷ []) [] }))
+-- The text, with these parameters, takes the rows that WHERE keeps out of the table. `refl` finds each field but the last,
+-- under `unfolding understood everything`.
+pub record TakesFrom {t : Table} (at : Placed t) (sql : List ℕ) (params : Row) (terms : List Term) : Type 0 where
+  pub means : Means broker_schema sql (Delete at.place (record { lets = []; body = from_table t.tree terms (col 1 0 ∷ []) [] }))
   pub runs : Runs broker_schema sql params (from_table t.tree terms (col 1 0 ∷ []) [])
   pub alone : IsAlone broker_schema t.tree
   pub fits : (removes : Bool) → references_fit broker_schema (plainly t) false removes ≡ true
 
-module _ {at : ℕ} {t : Table} {sql : List ℕ} {params : Row} {terms : List Term} (takes : TakesFrom at t sql params terms) (old new : State) (broker : IsBroker old.now) (there : slice_get old.now.schema.tables at ≡ Some (plainly t)) where
-  listed : Has old.now.schema.tables (plainly t)
-  listed = has_place _ at (plainly t) there
+module _ {t : Table} {at : Placed t} {sql : List ℕ} {params : Row} {terms : List Term} (takes : TakesFrom at sql params terms) (old new : State) (broker : IsBroker old.now) where
+  found : slice_get old.now.schema.tables at.place ≡ Some (plainly t)
+  found = plain_there at old.now broker
 
   numbered : IsNumbered (old.now.trees t.tree)
-  numbered = at_has _ old.now.schema.tables (plainly t) broker.kept.numbered listed
+  numbered = numbered_in at old.now broker
 
   -- where it is done, these rows are gone, the count says how many they were, and no other table changes
   pub taken_from : (count : ℕ) → Executes sql params old new (Ok count) → ChangesOnly t.tree old new × (new.now.trees t.tree ≡ filter (λ r. not (keeps terms params r)) (old.now.trees t.tree))
       × (count ≡ length (filter (keeps terms params) (old.now.trees t.tree)))
   taken_from count h =
       let means = meant old.now broker sql takes.means in
-      let it = deletes t.name t.tree t.columns t.key t.primary t.uniques t.orders t.checks t.references sql params old new at there terms means (calm old.now broker) numbered count h in
-      (it.0, it.1, deletes_counted t.name t.tree t.columns t.key t.primary t.uniques t.orders t.checks t.references sql params old new at there terms means count h)
+      let it = deletes t.name t.tree t.columns t.key t.primary t.uniques t.orders t.checks t.references sql params old new at.place found terms means (calm old.now broker) numbered count h in
+      (it.0, it.1, deletes_counted t.name t.tree t.columns t.key t.primary t.uniques t.orders t.checks t.references sql params old new at.place found terms means count h)
+
+  -- so the state is held that the rows tell then
+  pub held_taken : {taken : ℕ} → 1 ≤ taken → {next : Broker} (count : ℕ) → Executes sql params old new (Ok count)
+      → (Frame (t.name ∷ []) old.now new.now → new.now.trees t.tree ≡ filter (λ r. not (keeps terms params r)) (old.now.trees t.tree) → Holds new.now next) → HoldsAfter taken old new next
+  held_taken {taken} some {next} count h holds =
+      let it = taken_from count h in
+      let frame = frame_of (t.name ∷ []) t.tree at.alone old new broker it.0 in
+      after_one taken some t.name old new next frame
+      (λ counted. subst (λ o. Grows (option_map_or old.now.trees o []) (option_map_or new.now.trees o [])) (sym at.named) (grows_kept _ _ _ it.1)) (holds frame it.1)
 
   -- and without a limit of steps it fails only as the store fails
   pub taking_ends : old.step_limit ≡ None → (fault : StoreFault) → FailsToRun sql params old new fault → HasFailed old new fault
@@ -42,6 +53,6 @@ module _ {at : ℕ} {t : Table} {sql : List ℕ} {params : Row} {terms : List Te
         alone = here (λ s. IsAlone s t.tree) takes.alone;
         fits = here (λ s. (removes : Bool) → references_fit s (plainly t) false removes ≡ true) takes.fits;
       } in
-      let it = delete_fails t.name t.tree t.columns t.key t.primary t.uniques t.orders t.checks t.references sql params old new at there terms (meant old.now broker sql takes.means)
-      (runs_here old.now broker sql params _ takes.runs) unlimited leaf listed numbered.0 broker.kept.sound.obeys.rules error h in
+      let it = delete_fails t.name t.tree t.columns t.key t.primary t.uniques t.orders t.checks t.references sql params old new at.place found terms (meant old.now broker sql takes.means)
+      (runs_here old.now broker sql params _ takes.runs) unlimited leaf (has_place _ at.place (plainly t) found) numbered.0 broker.kept.sound.obeys.rules error h in
       record { cause = it.0; fault_is = is ∙ ap fault_of it.1; has = it.2; over = it.3.autocommit; blamed = it.4 }

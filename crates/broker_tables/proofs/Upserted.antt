@@ -16,15 +16,16 @@ use Rattle.table_access.{specs.{Calls.{fault_of}, Sound.{IsNumbered, IsShortValu
 use Rattle.table_access.proofs.{Edits.{IsAlone}, SoundLemmas.{has_place, at_has}, Steps.{Means}, Upsert.{setting, Upserted, upsert_leaves}}
 use Rattle.table_access.proofs.{UpsertRefused.{Takes, key_of, upsert_fails}, Values.{cast_null, cast_kept}}
 use Rattle.broker_tables.{specs.{Schema.{broker_schema}, Holds.{IsBroker}, Refusals.{AreShort}, Room.{LeavesAbove, LeaveNumbers}}, proofs.Frames.{meant}}
-use Rattle.broker_tables.proofs.{Inserted.{plainly, apart, storable, EndsOnly}, Placed.{calm}, RoomLemmas.{Grows, grows_added, grows_changed, number_for}}
+use Rattle.broker_tables.proofs.{Inserted.{apart, storable, EndsOnly}, Placed.{Placed, calm, numbered_in, plain_there, plainly}}
+use Rattle.broker_tables.proofs.RoomLemmas.{Grows, grows_added, grows_changed, number_for}
 
--- The text, with these parameters, puts one row into the table at this place, or sets columns of the one that has its key.
+-- The text, with these parameters, puts one row into the table, or sets columns of the one that has its key.
 -- The row has these columns beside its number, and its key is the one of the table. `refl` finds each field, under
 -- `unfolding understood everything`.
-pub record PutsOver (at : ℕ) (t : Table) (sql : List ℕ) (params : Row) (target : List ℕ) (n : ℕ) (project : List Term) (rest : Row) : Type 0 where
+pub record PutsOver {t : Table} (at : Placed t) (sql : List ℕ) (params : Row) (target : List ℕ) (n : ℕ) (project : List Term) (rest : Row) : Type 0 where
   pub terms : List Term
   pub width : ℕ
-  pub means : Means broker_schema sql (InsertOr at Abort (Values terms width) (record { target = Some target; update = Some (record { lets = []; body = setting t.tree n project }) } ∷ []))
+  pub means : Means broker_schema sql (InsertOr at.place Abort (Values terms width) (record { target = Some target; update = Some (record { lets = []; body = setting t.tree n project }) } ∷ []))
   pub whole : is_whole sql (length params) (understood broker_schema sql) ≡ true
   pub kinds : accepts_terms terms params ≡ true
   pub one : value_rows params width (length terms / width) terms ≡ (Null ∷ rest) ∷ []
@@ -35,9 +36,12 @@ pub record PutsOver (at : ℕ) (t : Table) (sql : List ℕ) (params : Row) (targ
   pub no_first : (v w : Value) (r : Row) → agree plain target r target (v ∷ rest) ≡ agree plain target r target (w ∷ rest)
   pub alone : IsAlone broker_schema t.tree
   pub fits : references_fit broker_schema (plainly t) true true ≡ true
+  pub stored : cast_all t.columns rest ≡ rest
 
-module _ {at : ℕ} {t : Table} {sql : List ℕ} {params : Row} {target : List ℕ} {n : ℕ} {project : List Term} {rest : Row} (puts : PutsOver at t sql params target n project rest) (stored : cast_all t.columns rest ≡ rest)
-    (old new : State) (broker : IsBroker old.now) (there : slice_get old.now.schema.tables at ≡ Some (plainly t)) where
+module _ {t : Table} {at : Placed t} {sql : List ℕ} {params : Row} {target : List ℕ} {n : ℕ} {project : List Term} {rest : Row} (puts : PutsOver at sql params target n project rest) (old new : State) (broker : IsBroker old.now) where
+  found : slice_get old.now.schema.tables at.place ≡ Some (plainly t)
+  found = plain_there at old.now broker
+
   abbrev rows : List Row
   rows = old.now.trees t.tree
 
@@ -49,8 +53,11 @@ module _ {at : ℕ} {t : Table} {sql : List ℕ} {params : Row} {target : List �
   abbrev IsMet : Row → Type 0
   IsMet r = conflicts (Some target) old.now.schema.indexes (plainly t) it r ≡ true
 
+  here_listed : Has old.now.schema.tables (plainly t)
+  here_listed = has_place _ at.place (plainly t) found
+
   numbered : IsNumbered rows
-  numbered = at_has _ old.now.schema.tables (plainly t) broker.kept.numbered (has_place _ at (plainly t) there)
+  numbered = numbered_in at old.now broker
 
   -- SET makes it the same row, under its own number
   module _ (changed : (r : Row) → Has rows r → IsMet r → shows project (params ++ rowid r ∷ shown (plainly t) it) r ≡ rowid r ∷ rest) where
@@ -63,13 +70,13 @@ module _ {at : ℕ} {t : Table} {sql : List ℕ} {params : Row} {target : List �
     -- where it is done, the row is there, and no other table changes
     pub upserted : (count : ℕ) → Executes sql params old new (Ok count) → ChangesOnly t.tree old new × IsPutOver
     upserted count h =
-        let done = upsert_leaves t.name t.tree t.columns t.key t.primary t.uniques t.orders t.checks t.references sql params old new at target n project puts.terms puts.width (Null ∷ rest) there puts.one puts.placed
+        let done = upsert_leaves t.name t.tree t.columns t.key t.primary t.uniques t.orders t.checks t.references sql params old new at.place target n project puts.terms puts.width (Null ∷ rest) found puts.one puts.placed
         (meant old.now broker sql puts.means) (calm old.now broker) numbered count h in
-        let made : with_rowid Chosen rows (cast_row (plainly t) (Null ∷ rest)) ≡ it = λ i. with_rowid Chosen rows (cast_null i ∷ stored i) in (
+        let made : with_rowid Chosen rows (cast_row (plainly t) (Null ∷ rest)) ≡ it = λ i. with_rowid Chosen rows (cast_null i ∷ puts.stored i) in (
           done.0,
-          elim (subst (Upserted t.name t.tree t.columns t.key t.primary t.uniques t.orders t.checks t.references sql params old new at target n project) made done.1) [
-            | inl none ↦ inl (none.0, subst (IsAdded rows (new.now.trees t.tree)) (cast_kept (plainly t) it refl stored) none.1)
-            | inr some ↦ inr (some.0, some.1, some.2, subst (IsAdded _ (new.now.trees t.tree)) (ap (cast_row (plainly t)) (changed some.0 some.1 some.2) ∙ cast_kept (plainly t) (rowid some.0 ∷ rest) (at_has _ rows some.0 numbered.1 some.1) stored) some.3)
+          elim (subst (Upserted t.name t.tree t.columns t.key t.primary t.uniques t.orders t.checks t.references sql params old new at.place target n project) made done.1) [
+            | inl none ↦ inl (none.0, subst (IsAdded rows (new.now.trees t.tree)) (cast_kept (plainly t) it refl puts.stored) none.1)
+            | inr some ↦ inr (some.0, some.1, some.2, subst (IsAdded _ (new.now.trees t.tree)) (ap (cast_row (plainly t)) (changed some.0 some.1 some.2) ∙ cast_kept (plainly t) (rowid some.0 ∷ rest) (at_has _ rows some.0 numbered.1 some.1) puts.stored) some.3)
           ],
         )
 
@@ -84,9 +91,9 @@ module _ {at : ℕ} {t : Table} {sql : List ℕ} {params : Row} {target : List �
         → (texts : List (List ℕ)) → (AreShort texts → AllByRecursion IsShortValue rest) → 0 < length rest → length rest ≤ 11 → EndsOnly texts sql params old new
     upsert_ends room pass parents texts short some few unlimited fault (error, is, h) =
         let here : (P : Schema → Type 0) → P broker_schema → P old.now.schema = λ P. subst P (sym broker.schema) in
-        let takes : Takes t.name t.tree t.columns t.key t.primary t.uniques t.orders t.checks t.references sql params old new at target n project puts.terms puts.width rest (¬ AreShort texts) = record {
-          found = there;
-          listed = has_place _ at (plainly t) there;
+        let takes : Takes t.name t.tree t.columns t.key t.primary t.uniques t.orders t.checks t.references sql params old new at.place target n project puts.terms puts.width rest (¬ AreShort texts) = record {
+          found = found;
+          listed = here_listed;
           apart = here (λ s. IsAscending (λ a b. a.tree ≡ b.tree → ⊥) s.tables) apart;
           calm = calm old.now broker;
           rules = broker.kept.sound.obeys.rules;
@@ -102,13 +109,13 @@ module _ {at : ℕ} {t : Table} {sql : List ℕ} {params : Row} {target : List �
           one = puts.one;
           placed = puts.placed;
           typed = here (λ s. (z : ℤ) → accepts_program s [] (setting t.tree n project) (params ++ Int z ∷ shown (plainly t) it) ≡ true) (λ z. puts.typed z (next_rowid rows));
-          cast = stored;
+          cast = puts.stored;
           changed = changed;
           room = number_for rows room;
           numbers = λ r has. let above = at_has (LeavesAbove 1) rows r room.1 has in ap (λ v. fits_i64 (id_in v)) above.1 ∙ lt-ltb above.0 (2 ^ 63) (let low : above.0 < 2 ^ 63 = omega (arith, above.2) in low);
-          storable = λ z big are. storable old.now broker (plainly t) (has_place _ at (plainly t) there) (Int z ∷ rest) (record { wide = omega (arith, some); narrow = omega (arith, few); short = (tt, short are) }) big;
+          storable = λ z big are. storable old.now broker (plainly t) here_listed (Int z ∷ rest) (record { wide = omega (arith, some); narrow = omega (arith, few); short = (tt, short are) }) big;
           pass = pass;
           parents = λ v ref named. here (λ s. has_parent s.tables old.now.trees (v ∷ rest) ref ≡ true) (at_has _ t.references ref (parents v) named);
         } in
-        let it = upsert_fails t.name t.tree t.columns t.key t.primary t.uniques t.orders t.checks t.references sql params old new at target n project puts.terms puts.width rest (¬ AreShort texts) takes unlimited error h in
+        let it = upsert_fails t.name t.tree t.columns t.key t.primary t.uniques t.orders t.checks t.references sql params old new at.place target n project puts.terms puts.width rest (¬ AreShort texts) takes unlimited error h in
         record { cause = it.0; fault_is = is ∙ ap fault_of it.1; has = it.2; over = it.3.autocommit; blamed = it.4 }

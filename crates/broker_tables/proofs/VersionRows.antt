@@ -1,18 +1,17 @@
 -- The rows of versions, and the pairs that a JOIN by a version's number keeps.
 use Rattle.std.specs.{Prelude.{option_map, option_and_then, ◌↔◌}, Ordering.{eq_by_cmp}, Cmp.{IsTotalOrder, eq_by_cmp_equiv, Equal-is, int_cmp_total}}
 use Rattle.std.specs.{Cmp.Lexicographic.{nat_list_cmp_total}, FinMap.{IsAntisymmetric, int_cmp-IsAntisymmetric}}
-use Rattle.std.proofs.Common.{true≢false, slice_get, ◌≡◌, inl, inr, ℕ, ℤ, pos, List, [], ◌∷◌, Bool, true, false, ◌&&◌, refl, sym, ap, ◌∙◌, Some, None, Option, Ordering}
+use Rattle.std.proofs.Common.{true≢false, ◌≡◌, inl, inr, ℕ, ℤ, pos, List, Bool, true, false, ◌&&◌, refl, sym, ap, ◌∙◌, Some, None, Option, Ordering}
 use Rattle.std.proofs.lemmas.Bool.{and_parts, and_from}
 use Rattle.sqlite.specs.{declared.types.Value.{Value}, declared.types.Value.TheVariants.{Int, Text}, Order.{Row, column}, Tree.{IsAscending, rowid}}
-use Rattle.sqlite.specs.{Schema.{Schema}, Collation.TheVariants.{Binary}, Effect.{Database}}
+use Rattle.sqlite.specs.{Collation.TheVariants.{Binary}, Effect.{Database}}
 use Rattle.sqlite_sql.specs.{declared.ops.BinaryOp.TheVariants.{Compare}, declared.ops.CompareOp.TheVariants.{Eq}, Ops.{binary, is_true}}
 use Rattle.sqlite_rules.{specs.Lists.{Has}, proofs.TableLemmas.{int_is}}
-use Rattle.table_access.{specs.{Columns.{text, text_cmp, whole_at, pair_cmp}, Sound.{IsNumbered}}, proofs.Values.{same_ints, same_texts}}
-use Rattle.table_access.proofs.{SoundLemmas.{at_has, has_place, text_at}, Keys.{apart_by}, Parts.{text_part, agree_last, agree_and, once}}
+use Rattle.table_access.{specs.{Columns.{text, whole_at}, Sound.{IsNumbered}}, proofs.{Values.{same_ints, same_texts}, SoundLemmas.{at_has}}}
 use Rattle.table_access.proofs.{Maps.{find_has, has_find}, Changes.{apart_or_same}}
 use Rattle.broker_core.specs.{declared.command.Version.{Version}, Text.{Text as Words, version}}
 use Rattle.broker_tables.{specs.{Numbers.{number_of}, Holds.{IsBroker, AreVersions}, Schema.{in_versions}}, proofs.NumberLemmas.{version_row}}
-use Rattle.broker_tables.proofs.{Orders.{exact_texts, pairs_total, exact_pair}, Placed.{versions, versions_there}}
+use Rattle.broker_tables.proofs.{Orders.{exact_texts, pairs_total, exact_pair}, Keyed.{keys_of, versions_by_name}, Placed.{at_versions, numbered_in, texts_in}}
 -- a truth value that can't be true is false
 pub use Rattle.std.proofs.lemmas.Bool.{false_from_ne_true as false_if}
 
@@ -60,7 +59,7 @@ numbered_as z (Some k) h = (k, refl, cc)
 
 module _ (db : Database) (broker : IsBroker db) where
   pub versions_numbered : IsNumbered (db.trees in_versions.tree)
-  versions_numbered = at_has _ db.schema.tables versions broker.kept.numbered (has_place _ 3 versions (versions_there db broker))
+  versions_numbered = numbered_in at_versions db broker
 
   -- the number in a row of versions is a whole number
   pub version_number : (v : Row) → Has (db.trees in_versions.tree) v → column v in_versions.number ≡ Int (whole_at in_versions.number v)
@@ -68,29 +67,22 @@ module _ (db : Database) (broker : IsBroker db) where
 
   -- the pacticipant in a row of versions is a text
   pub owners : (v : Row) → Has (db.trees in_versions.tree) v → column v in_versions.pacticipant ≡ Text (text in_versions.pacticipant v)
-  owners v has = text_at db broker.kept.sound versions (has_place _ 3 versions (versions_there db broker)) v has 1 _ refl refl refl refl refl
+  owners v has = texts_in at_versions db broker in_versions.pacticipant refl v has
 
   -- the version's name in a row of versions is a text
   pub names : (v : Row) → Has (db.trees in_versions.tree) v → column v in_versions.version ≡ Text (text in_versions.version v)
-  names v has = text_at db broker.kept.sound versions (has_place _ 3 versions (versions_there db broker)) v has 2 _ refl refl refl refl refl
-
-  pub version_keys : IsAscending (λ a b. eq_by_cmp pair_cmp (text in_versions.pacticipant a, text in_versions.version a) (text in_versions.pacticipant b, text in_versions.version b) ≡ false) (db.trees in_versions.tree)
-  version_keys = once pair_cmp (db.trees in_versions.tree) (in_versions.pacticipant ∷ in_versions.version ∷ []) (λ r. (text in_versions.pacticipant r, text in_versions.version r))
-      (λ a b ha hb. agree_and nat_list_cmp_total (db.trees in_versions.tree) in_versions.pacticipant (text in_versions.pacticipant) (text_part (db.trees in_versions.tree) in_versions.pacticipant owners) text_cmp (text in_versions.version) (in_versions.version ∷ []) a b ha hb
-      (agree_last nat_list_cmp_total (db.trees in_versions.tree) in_versions.version (text in_versions.version)
-      (text_part (db.trees in_versions.tree) in_versions.version names) a b ha hb))
-      (apart_by db broker.kept versions 3 (versions_there db broker) _ 3 (ap (λ (s : Schema). slice_get s.indexes 3) broker.schema) refl)
+  names v has = texts_in at_versions db broker in_versions.version refl v has
 
   -- rows of one version's names are one
   pub same_version : (v w : Row) → Has (db.trees in_versions.tree) v → Has (db.trees in_versions.tree) w
       → text in_versions.pacticipant v ≡ text in_versions.pacticipant w → text in_versions.version v ≡ text in_versions.version w → v ≡ w
-  same_version v w hv hw owner name = one_row pairs_total (λ r. (text in_versions.pacticipant r, text in_versions.version r)) (db.trees in_versions.tree) version_keys v w hv hw (λ i. (owner i, name i))
+  same_version v w hv hw owner name = one_row pairs_total (λ r. (text in_versions.pacticipant r, text in_versions.version r)) (db.trees in_versions.tree) (keys_of versions_by_name db broker) v w hv hw (λ i. (owner i, name i))
 
   -- the number that a row has is that of its version
   pub row_number : (vs : List Version) → AreVersions vs (db.trees in_versions.tree) → (v : Row) → Has (db.trees in_versions.tree) v → (k : ℕ) × (number_of vs (version (text in_versions.pacticipant v) (text in_versions.version v)) ≡ Some k) × (whole_at in_versions.number v ≡ pos k)
   row_number vs are v has =
       numbered_as (whole_at in_versions.number v) (number_of vs (version (text in_versions.pacticipant v) (text in_versions.version v)))
-      (sym (has_find pairs_total exact_pair (λ r. (text in_versions.pacticipant r, text in_versions.version r)) (whole_at in_versions.number) (db.trees in_versions.tree) v version_keys has) ∙ version_row (db.trees in_versions.tree) vs (text in_versions.pacticipant v) (text in_versions.version v) are)
+      (sym (has_find pairs_total exact_pair (λ r. (text in_versions.pacticipant r, text in_versions.version r)) (whole_at in_versions.number) (db.trees in_versions.tree) v (keys_of versions_by_name db broker) has) ∙ version_row (db.trees in_versions.tree) vs (text in_versions.pacticipant v) (text in_versions.version v) are)
 
   -- the row of a version that has a number
   pub find_version : (vs : List Version) (v : Version) (k : ℕ) → AreVersions vs (db.trees in_versions.tree) → number_of vs v ≡ Some k → (r : Row) × Has (db.trees in_versions.tree) r × (text in_versions.pacticipant r ≡ v.pacticipant) × (text in_versions.version r ≡ v.name) × (whole_at in_versions.number r ≡ pos k)

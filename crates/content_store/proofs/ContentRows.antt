@@ -6,7 +6,7 @@ use Rattle.std.proofs.Common.{◌≡◌, ◌<◌, ◌^◌, ◌+◌, ℕ, ℤ, po
 use Rattle.std.proofs.{lemmas.List.{length-map, map-append}, lemmas.Bool.{ltb-true, lt-ltb}}
 use Rattle.sqlite.specs.{Tree.{IsAscending, rowid}, Edit.{id_in, with_rowid}, declared.types.Value.TheVariants.{Null, Int, Text}}
 use Rattle.sqlite.specs.{Order.{Row, column, value_cmp}, Term.{Term, col, lit, op2}, Collation.TheVariants.{Binary}, Rowids.TheVariants.{Chosen}}
-use Rattle.sqlite.specs.{Cast.{cast_all, cast_row}, Table.{Table}, Effect.{Database}, State.{State, Shown, Executes}, Listing.{understood}}
+use Rattle.sqlite.specs.{Cast.{cast_row}, Table.{Table}, Effect.{Database}, State.{State, Shown, Executes}, Listing.{understood}}
 use Rattle.sqlite_keyed.{specs.Lists.{insert_sorted, sort_by}, proofs.ListLemmas.{ascending-filter, map-map}}
 use Rattle.sqlite_sql.specs.{Query.{sort_cmp}, declared.ops.BinaryOp.TheVariants.{Compare}, declared.ops.CompareOp.TheVariants.{Eq}}
 use Rattle.sqlite_value.{specs.declared.keys.Key.{Key}, proofs.OrderLemmas.{then-Equal}}
@@ -14,25 +14,22 @@ use Rattle.sqlite_rules.{specs.{Lists.{Has}, Edit.{is_taken}}, proofs.TableLemma
 use Rattle.sqlite_tied.specs.Compute.{everything}
 use Rattle.table_access.specs.{Columns.{text, text_cmp, whole_at}, Statements.{from_table, up_to, newest, keeps, shows}, Sound.{IsNumbered}}
 use Rattle.table_access.proofs.{Values.{cast_null, cast_int}, Steps.{answered}, Newest.{newest_number}, Ordered.{selects_in_order}, Members.{ascending_on}}
-use Rattle.table_access.proofs.{Keys.{by_text}, Maps.{looks_up_at}, Parts.{numbers_once, number_part, where_last}}
-use Rattle.table_access.proofs.{SoundLemmas.{text_at, has_place, at_has, all_of}, ReadLemmas.{option_map_twice}}
-use Rattle.broker_tables.specs.{Schema.{in_contents, broker_schema}, Numbers.{numbered}, Holds.{IsBroker, Holds, with_digest}, Rows.{rows_of}}
-use Rattle.broker_tables.proofs.{Inserted.{EndsOnly, Puts, inserted, insert_ends, next_counted}, Newest.{newest as newest_count}, Asked.{Asked, IsShown}}
-use Rattle.broker_tables.proofs.{Frames.{meant, frame_of, Frame, is_other, still_broker}, Placed.{contents, contents_there}, NextRow.{next_row}}
-use Rattle.broker_tables.proofs.ByNumber.{by_number}
-use Rattle.broker_core.specs.{State.{State as Broker}, Limit.{has_room}, Text.{same_text}}
+use Rattle.table_access.proofs.{Keys.{keeps_key, numbers_once, text_key, whole_key}, Maps.{looks_up_at}, SoundLemmas.{at_has, all_of}}
+use Rattle.table_access.proofs.ReadLemmas.{option_map_twice}
+use Rattle.broker_tables.specs.{Schema.{in_contents, broker_schema}, Numbers.{numbered}, Holds.{IsBroker, with_digest}, Rows.{rows_of}}
+use Rattle.broker_tables.proofs.{Inserted.{EndsFrom, Puts, inserted, insert_ends, next_counted}, Newest.{newest as newest_count}, Asked.{Asked, IsShown}}
+use Rattle.broker_tables.proofs.{Frames.{meant, frame_of, Frame, is_other, still_broker}, Placed.{contents, at_contents, numbered_in, texts_in}}
+use Rattle.broker_tables.proofs.{NextRow.{next_row}, ByNumber.{by_number}}
+use Rattle.broker_core.specs.{Limit.{has_room}, Text.{same_text}}
 use Rattle.content_store.specs.Contents.{ContentsBy, AreContentsBy, with_digest_by, text_in, is_among, found_in, IsPut}
 use Rattle.content_store.proofs.TextNumbers.{same_is, none_before, with_new}
 
 module _ (db : Database) (broker : IsBroker db) where
   pub numbered_rows : IsNumbered (db.trees in_contents.tree)
-  numbered_rows = at_has _ db.schema.tables contents broker.kept.numbered (has_place _ 7 contents (contents_there db broker))
+  numbered_rows = numbered_in at_contents db broker
 
   pub ids : (r : Row) → Has (db.trees in_contents.tree) r → column r in_contents.number ≡ Int (whole_at in_contents.number r)
   ids r has = int_is (rowid r) (at_has _ (db.trees in_contents.tree) r numbered_rows.1 has)
-
-  pub digests : (r : Row) → Has (db.trees in_contents.tree) r → column r in_contents.digest ≡ Text (text in_contents.digest r)
-  digests r has = text_at db broker.kept.sound contents (has_place _ 7 contents (contents_there db broker)) r has 1 _ refl refl refl refl refl
 
 -- ---- the text with a number
 
@@ -75,7 +72,7 @@ bodies digest rows texts is = sym (map-map turn (λ r. (whole_at in_contents.num
     without m (t ∷ ts) = ap (λ more. (pos m, t) ∷ more) (without (m + 1) ts)
 
 by_id : (db : Database) (broker : IsBroker db) (z : ℤ) → AllByRecursion (λ r. keeps (op2 (Compare Eq Binary) (col 1 in_contents.number) (col 0 0) ∷ []) (Int z ∷ []) r ≡ eq_by_cmp int_cmp z (whole_at in_contents.number r)) (db.trees in_contents.tree)
-by_id db broker z = all_of _ (db.trees in_contents.tree) (where_last int_cmp_total (db.trees in_contents.tree) in_contents.number (whole_at in_contents.number) (number_part (db.trees in_contents.tree) (numbered_rows db broker)) (Int z ∷ []) 0 z refl)
+by_id db broker z = all_of _ (db.trees in_contents.tree) (λ r has. keeps_key (whole_key in_contents.number) 0 (Int z ∷ []) z refl r (λ i. ids db broker r has i ∷ []))
 
 pub body_found : (digest : List ℕ → List ℕ) (z : ℤ) (n : ℕ) → z ≡ pos n → (db : Database) (rows : List Row) (texts : List (List ℕ)) → ContentsBy digest db texts → IsShown (stored z) db rows
     → option_map (text 0) (slice_get rows 0) ≡ text_in texts n
@@ -184,7 +181,7 @@ module _ (digest : List ℕ → List ℕ) (body dg : List ℕ) (is : digest body
       named found (is_among texts body) (sym (option_map_twice id_in (λ n. Int (pos n)) found) ∙ ap (option_map id_in) read ∙ option_map_twice id_in (λ row. column row 0) (first has_text rows)
       ∙ ap (λ rs. option_map (whole_at 0) (first has_text rs)) (candidates dg db rows held.broker h)
       ∙ first_from 1 (keeps of_digest (Text dg ∷ [])) (db.trees in_contents.tree) texts
-      (by_text (db.trees in_contents.tree) in_contents.digest dg (digests db held.broker)) held.are)
+      (all_of _ (db.trees in_contents.tree) (λ r has. keeps_key (text_key in_contents.digest) 0 (Text dg ∷ []) dg refl r (λ i. texts_in at_contents db held.broker in_contents.digest refl r has i ∷ []))) held.are)
     where
       named : (x : Option ℕ) (b : Bool) → option_map pos x ≡ cond b (Some (pos (place texts + 1))) None → x ≡ cond b (Some (place texts + 1)) None
       named None false e = refl
@@ -196,13 +193,12 @@ module _ (digest : List ℕ → List ℕ) (body dg : List ℕ) (is : digest body
 abbrev pub put_sql : List ℕ
 put_sql = codes "INSERT INTO contents (number, digest, body) VALUES (?1, ?2, ?3)"
 
-put_puts : (number : ℕ) (dg body : List ℕ) → Puts 7 put_sql (Int (pos number) ∷ Text dg ∷ Text body ∷ []) (Int (pos number) ∷ Null ∷ Text dg ∷ Text body ∷ [])
+put_puts : (number : ℕ) (dg body : List ℕ) → Puts at_contents put_sql (Int (pos number) ∷ Text dg ∷ Text body ∷ []) (Int (pos number) ∷ Null ∷ Text dg ∷ Text body ∷ [])
 unfolding understood everything
 put_puts number dg body = record { terms = col 0 0 ∷ lit Null ∷ col 0 1 ∷ col 0 2 ∷ []; width = 4; means = record { is = refl; plain = (refl, refl); unlisted = refl }; whole = refl; kinds = refl; one = refl }
 
 put_stored : (number : ℕ) (dg body : List ℕ) (rows : List Row) → with_rowid Chosen rows (cast_row contents (Int (pos number) ∷ Null ∷ Text dg ∷ Text body ∷ [])) ≡ Int (pos number) ∷ Null ∷ Text dg ∷ Text body ∷ []
-put_stored number dg body rows =
-    ap (λ v. with_rowid Chosen rows (v ∷ cast_all contents.columns (Null ∷ Text dg ∷ Text body ∷ []))) (cast_int (pos number)) ∙ ap (λ v. Int (pos number) ∷ v ∷ Text dg ∷ Text body ∷ []) cast_null
+put_stored number dg body rows = λ i. with_rowid Chosen rows (cast_int (pos number) i ∷ cast_null i ∷ Text dg ∷ Text body ∷ [])
 
 -- of a change of this table alone
 others_kept : (name : List ℕ) (ts : List Table) (old new : Database) → AllByRecursion (λ n. is_other (name ∷ []) n ≡ true → rows_of new n ≡ rows_of old n) (map (λ t. t.name) ts) → AllByRecursion (λ t. same_text t.name name ≡ false → rows_of new t.name ≡ rows_of old t.name) ts
@@ -213,7 +209,7 @@ pub content_put : (digest : List ℕ → List ℕ) (number : ℕ) (dg body : Lis
     → Executes put_sql (Int (pos number) ∷ Text dg ∷ Text body ∷ []) old new (Ok count) → IsPut digest body texts number old.now new.now
 content_put digest number dg body by old new count texts held free is h =
     let made = Int (pos number) ∷ Null ∷ Text dg ∷ Text body ∷ [] in
-    let it = inserted put_sql (Int (pos number) ∷ Text dg ∷ Text body ∷ []) old new held.broker contents 7 (contents_there old.now held.broker) _ made (put_puts number dg body) (put_stored number dg body (old.now.trees in_contents.tree)) count h in
+    let it = inserted at_contents (put_puts number dg body) old new held.broker (put_stored number dg body (old.now.trees in_contents.tree)) count h in
     let frame : Frame (codes "contents" ∷ []) old.now new.now = frame_of (codes "contents" ∷ []) in_contents.tree refl old new held.broker it.0 in
     let broker : IsBroker new.now = still_broker (codes "contents" ∷ []) old.now new.now frame held.broker in
     let entry : Row → List ℕ × List ℕ = λ r. (text in_contents.digest r, text in_contents.body r) in
@@ -228,16 +224,16 @@ content_put digest number dg body by old new count texts held free is h =
     }
 
 -- where the number is the next one, and low, it fails only as the store fails, or since one of its texts is too long
-pub content_ends : (number : ℕ) (dg body : List ℕ) (old new : State) (s : Broker) → Holds old.now s → number ≡ length s.contents + 1 → has_room s.contents ≡ true → EndsOnly (dg ∷ body ∷ []) put_sql (Int (pos number) ∷ Text dg ∷ Text body ∷ []) old new
-content_ends number dg body old new s held is room =
+pub content_ends : (number : ℕ) (dg body : List ℕ) (old new : State) → EndsFrom [] (dg ∷ body ∷ []) put_sql (Int (pos number) ∷ Text dg ∷ Text body ∷ []) old new (λ s. (number ≡ length s.contents + 1) × (has_room s.contents ≡ true))
+content_ends number dg body old new s here (is, room) numbers =
     let rows = old.now.trees in_contents.tree in
     let few : length s.contents < 1000000000 = ltb-true (length s.contents) 1000000000 room in
-    let next : is_taken rows (Int (pos (length (map with_digest s.contents) + 1)) ∷ Null ∷ Text dg ∷ Text body ∷ []) ≡ false = next_counted (λ r. (text in_contents.digest r, text in_contents.body r)) rows (map with_digest s.contents) (Null ∷ Text dg ∷ Text body ∷ []) held.contents (numbered_rows old.now held.broker) in
-    insert_ends put_sql (Int (pos number) ∷ Text dg ∷ Text body ∷ []) old new held.broker contents 7 (contents_there old.now held.broker) _ _ (put_puts number dg body) (put_stored number dg body rows) (record {
+    let next : is_taken rows (Int (pos (length (map with_digest s.contents) + 1)) ∷ Null ∷ Text dg ∷ Text body ∷ []) ≡ false = next_counted (λ r. (text in_contents.digest r, text in_contents.body r)) rows (map with_digest s.contents) (Null ∷ Text dg ∷ Text body ∷ []) here.held.contents (numbered_rows old.now here.held.broker) in
+    insert_ends at_contents (put_puts number dg body) old new here.held.broker (put_stored number dg body rows) (record {
       pass = record { typed = refl; present = refl; checked = refl };
       fits = lt-ltb number (2 ^ 63) (omega (arith, is, few));
       keyed = refl;
       fresh = subst (λ n. is_taken rows (Int (pos n) ∷ Null ∷ Text dg ∷ Text body ∷ []) ≡ false) (sym (is ∙ ap (λ k. k + 1) (sym (length-map s.contents with_digest)))) next;
       free = tt;
       parents = tt;
-    }) (dg ∷ body ∷ []) (λ are. record { wide = omega arith; narrow = omega arith; short = (tt, (tt, are)) })
+    }) (dg ∷ body ∷ []) (λ are. record { wide = omega arith; narrow = omega arith; short = (tt, (tt, are)) }) here.unlimited

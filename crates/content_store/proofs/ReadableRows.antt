@@ -2,13 +2,13 @@
 use Rattle.std.proofs.Common.{◌≡◌, refl, ℕ, ℤ, List, [], ◌∷◌, arith}
 use Rattle.sqlite.specs.{Order.{Row, column}, declared.types.Value.TheVariants.{Text as SqlText}, Term.{col}, Effect.{Database}}
 use Rattle.sqlite_rules.specs.Lists.{Has}
-use Rattle.table_access.{specs.{Columns.{text, whole_at}, Reading.{IsTextAt, IsNumberRow}, Statements.{shows}}, proofs.SoundLemmas.{text_at, has_place}}
+use Rattle.table_access.specs.{Columns.{text, whole_at}, Reading.{IsTextAt, IsNumberRow}, Statements.{shows}}
 use Rattle.broker_tables.{specs.{Schema.{in_contents}, Holds.{IsBroker}}, proofs.Asked.{EachReads, of_table, of_first}}
-use Rattle.broker_tables.proofs.{ReadableRows.{content_low, body_utf8, number_cell}, Placed.{contents, contents_there}}
+use Rattle.broker_tables.proofs.{ReadableRows.{content_low, body_utf8, number_cell}, Placed.{at_contents, texts_in}}
 use Rattle.content_store.proofs.ContentRows.{ids, project, stored, highest, sharing}
 
 bodies : (db : Database) → IsBroker db → (r : Row) → Has (db.trees in_contents.tree) r → column r in_contents.body ≡ SqlText (text in_contents.body r)
-bodies db broker r has = text_at db broker.kept.sound contents (has_place _ 7 contents (contents_there db broker)) r has 2 _ refl refl refl refl refl
+bodies db broker r has = texts_in at_contents db broker in_contents.body refl r has
 
 -- the text of a number
 pub stored_reads : (z : ℤ) (db : Database) → EachReads (stored z) db (IsTextAt 0)

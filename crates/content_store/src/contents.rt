@@ -129,6 +129,7 @@ pub fn find<S: Alter, D: Digester>(
 }
 
 /// Puts in a text under a number, with this digest.
+#[tactic(auto, unfolding(sqlite_tied::specs::Compute::everything))]
 fn put_under<'a, S: Alter>(
     conn: &mut Connection<S>,
     number: u32,

@@ -1,4 +1,6 @@
 //! The table as a new broker makes it.
+#![tactic(auto, unfolding(sqlite_tied::specs::Compute::everything))]
+
 ghost use Rattle.std.specs.Prelude.{◌≡◌, ◌∷◌, []};
 ghost use Rattle.table_access.specs.Calls.{CallsStore};
 ghost use Rattle.table_access.specs.Statements.{Makes, Indexes};

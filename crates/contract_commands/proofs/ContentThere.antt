@@ -4,12 +4,12 @@ use Rattle.std.proofs.Common.{◌≡◌, ◌==◌, ◌+◌, ◌-◌, ◌<◌, �
 use Rattle.std.proofs.{lemmas.Bool.Decides.{nat_tests}, lemmas.List.{length-map}, lemmas.Option.{slice_get-get_or, slice_get_within}}
 use Rattle.sqlite.specs.{Order.{Row}, Effect.{Database}}
 use Rattle.sqlite_rules.specs.Lists.{Has}
-use Rattle.table_access.{specs.Columns.{text, whole_at}, proofs.{Maps.{find_has}, SoundLemmas.{has_place}}}
+use Rattle.table_access.{specs.Columns.{text, whole_at}, proofs.Maps.{find_has}}
 use Rattle.broker_core.specs.{Text.{Text}, State.{State}, Change.{text_of}, Request.{consumer_version}, declared.answer.Answer.{Answer}}
 use Rattle.broker_core.specs.{declared.command.PactPath.{PactPath}, declared.command.Version.{Version}, declared.policy.Caller.{Caller}}
 use Rattle.broker_core.specs.declared.policy.Rule.{Rule}
 use Rattle.broker_tables.specs.{Schema.{in_contents, in_contracts}, Holds.{Holds, with_digest}, Numbers.{number_of}}
-use Rattle.broker_tables.proofs.{Orders.{marked_total, exact_marked}, Placed.{contracts, contracts_there}, References.{refers_content}}
+use Rattle.broker_tables.proofs.{Orders.{marked_total, exact_marked}, Placed.{contracts, at_contracts, listed}, References.{refers_content}}
 use Rattle.contract_tables.proofs.ContractRows.{key, content_at, contents}
 use Rattle.contract_commands.specs.{BranchPact.{ReachesBranch}, Pacts.{HasContent, Reaches, HasReachedContent}}
 
@@ -61,7 +61,7 @@ module _ (db : Database) (s : State) (held : Holds db s) where
   pub contract_text : (v : Version) (p : Text) (n : ℕ) → s.contracts (v, p) ≡ Some n → HasContent s n
   contract_text v p n is =
       let row = contract_row v p n is in
-      let x = refers_content db held.broker contracts (has_place _ 8 contracts (contracts_there db held.broker)) in_contracts.content (inr (inr (inl refl))) row.0 row.1 (contents db held.broker row.0 row.1) in
+      let x = refers_content db held.broker contracts (listed at_contracts db held.broker) in_contracts.content (inr (inr (inl refl))) row.0 row.1 (contents db held.broker row.0 row.1) in
       let it = within (λ r. (text in_contents.digest r, text in_contents.body r)) (db.trees in_contents.tree) (map with_digest s.contents) 1 n held.contents x.0 x.1 (x.2 ∙ row.2) in
       text_there s n it.0 (let same = length-map s.contents with_digest in omega (arith, it.1, same))
 

@@ -1,30 +1,26 @@
 -- The rows of contracts: by their keys, listed by a version and by a content, and one more.
-use Rattle.std.specs.{Prelude.{option_map, option_and_then, is_some, ◌↔◌}, Ordering.{eq_by_cmp, int_cmp, nat_cmp, ordering_then}, Cmp.{int_cmp_total}}
-use Rattle.std.specs.Cmp.Lexicographic.{nat_list_cmp_total, texts_ties}
-use Rattle.std.proofs.Common.{◌≡◌, arith, ◌≤◌, length, IsTrue, ℕ, ℤ, pos, codes, List, [], ◌∷◌, Bool, true, false, cond, ◌&&◌, refl, sym, ap, ◌∙◌, slice_get, Some, None, Option, Ok}
+use Rattle.std.specs.{Prelude.{option_map, option_and_then, is_some, ◌↔◌}, Ordering.{eq_by_cmp, int_cmp, nat_cmp, ordering_then}}
+use Rattle.std.specs.Cmp.Lexicographic.{texts_ties}
+use Rattle.std.proofs.Common.{◌≡◌, arith, ℕ, ℤ, pos, codes, List, [], ◌∷◌, Bool, true, false, cond, ◌&&◌, refl, sym, subst, ap, ◌∙◌, slice_get, Some, None, Option, Ok}
 use Rattle.std.proofs.lemmas.Bool.{and_left}
-use Rattle.sqlite.specs.{Tree.{IsAscending}, Edit.{id_in, next_rowid, with_rowid}, Rowids.TheVariants.{Chosen}, Cast.{cast_row}, Effect.{Database}}
-use Rattle.sqlite.specs.{State.{State, Executes}, Collation.TheVariants.{Binary}, Listing.{understood}, declared.types.Value.TheVariants.{Null, Int, Text}}
-use Rattle.sqlite.specs.{Order.{Row, column, value_cmp}, Term.{Term, col, lit, op2}, Schema.{Schema}}
+use Rattle.sqlite.specs.{Edit.{id_in}, Effect.{Database}, State.{State, Executes}, Collation.TheVariants.{Binary}, Listing.{understood}}
+use Rattle.sqlite.specs.{declared.types.Value.TheVariants.{Null, Int, Text}, Order.{Row, column, value_cmp}, Term.{Term, col, lit, op2}}
 use Rattle.sqlite_rules.specs.Lists.{Has}
 use Rattle.sqlite_tied.specs.Compute.{everything}
 use Rattle.sqlite_sql.specs.{declared.ops.BinaryOp.TheVariants.{Compare}, declared.ops.CompareOp.TheVariants.{Eq}}
 use Rattle.sqlite_value.{specs.Keys.{ascending}, proofs.OrderLemmas.{value_cmp-Text}}
 use Rattle.table_access.specs.{Columns.{text, text_cmp, whole_at, by_both}, Sound.{IsNumbered, text_in, whole}}
-use Rattle.table_access.{specs.{Statements.{from_table, from_both, by_two, keeps, keeps_both}, Reading.{AreRead}}, proofs.Values.{cast_null, cast_int}}
-use Rattle.table_access.proofs.{Steps.{answered}, Maps.{looks_up_at, puts_at, find_has, has_find}, Keys.{apart_by}}
-use Rattle.table_access.proofs.Parts.{Part, text_part, whole_part, is_param, where_last, where_and, all_where, agree_last, agree_and, once}
-use Rattle.table_access.proofs.{SoundLemmas.{at_has, text_at, whole_in, has_place}, ReadLemmas.{number_found, same_numbers}}
-use Rattle.broker_core.specs.{Text.{Text as Words, version, put_at, same_text, same_version, same_pair}, declared.command.Version.{Version}, Listing.{Lists}}
+use Rattle.table_access.{specs.{Statements.{from_table, from_both, by_two, keeps_both}, Reading.{AreRead}}, proofs.Values.{cast_int}}
+use Rattle.table_access.proofs.{Maps.{puts_at, find_has, has_find}, Keys.{is_param}, ReadLemmas.{number_found, same_numbers}}
+use Rattle.broker_core.specs.{Text.{Text as Words, version, same_text, same_version}, declared.command.Version.{Version}, Listing.{Lists}}
 use Rattle.broker_core.specs.{Machine.{version_cmp}, State.{State as Broker}}
 use Rattle.broker_tables.specs.{Schema.{in_versions, in_contracts}, Rows.{value_at}, Numbers.{number_of}, Holds.{Holds, HoldsAfter, IsBroker}}
-use Rattle.broker_tables.specs.Refusals.{HaveNumbers}
 use Rattle.broker_tables.proofs.VersionRows.{whole_test, text_test, version_number, versions_numbered, owners, names, row_number, find_version, one_row, by_number, same_version as one_version}
-use Rattle.broker_tables.proofs.{Frames.{frame_of, contracts_change}, Orders.{marked_total, exact_marked, exact_texts, exact_pair}, Ties.{both_eq, two_tests}}
-use Rattle.broker_tables.proofs.{Standing.{stands_found}, RoomLemmas.{after_one, grows_added, number_for}, NumberLemmas.{number_ties, version_unknown}}
-use Rattle.broker_tables.proofs.{Placed.{contracts, contracts_there}, References.{leads}, Asked.{Asked, IsShown}}
-use Rattle.broker_tables.proofs.Inserted.{EndsOnly, Puts, inserted, next_ends, new_text, new_whole, free_two, version_there, pacticipant_there}
-use Rattle.contract_tables.specs.{declared.listings.Contract.{Contract}, Listings.{contract_cmp, IsContractRow, IsConsumerRow}}
+use Rattle.broker_tables.proofs.{Keyed.{contracts_by_key, finds, is_free, keys_of}, Frames.{contracts_change}}
+use Rattle.broker_tables.proofs.{Orders.{marked_total, exact_marked, exact_texts, exact_pair}, Ties.{both_eq, two_tests}, Standing.{stands_found}}
+use Rattle.broker_tables.proofs.{NumberLemmas.{number_ties, version_unknown}, Placed.{at_contracts, numbered_in, texts_in, wholes_in}, References.{leads}}
+use Rattle.broker_tables.proofs.{Asked.{Asked, IsShown}, Inserted.{EndsFrom, Adds, held_added, adds_ends, added, version_there, pacticipant_there}}
+use Rattle.contract_tables.specs.{Verified.{AddsContract}, declared.listings.Contract.{Contract}, Listings.{contract_cmp, IsContractRow, IsConsumerRow}}
 use Rattle.contract_tables.proofs.{ReferredRows.{number_there, has_content}, ItemLists.{and_tests, last_test, last_text, first_less, list_rows, list_pairs}}
 
 abbrev pub key : Row → ℤ × List ℕ
@@ -36,27 +32,16 @@ content_at rows n p = value_at (by_both int_cmp text_cmp) key (whole_at in_contr
 
 module _ (db : Database) (broker : IsBroker db) where
   pub contracts_numbered : IsNumbered (db.trees in_contracts.tree)
-  contracts_numbered = at_has _ db.schema.tables contracts broker.kept.numbered (has_place _ 8 contracts (contracts_there db broker))
+  contracts_numbered = numbered_in at_contracts db broker
 
-  pub numbers : Part int_cmp Int (db.trees in_contracts.tree) in_contracts.version_number (whole_at in_contracts.version_number)
-  numbers = whole_part (db.trees in_contracts.tree) in_contracts.version_number (λ r has. whole_in db broker.kept.sound contracts (has_place _ 8 contracts (contracts_there db broker)) r has 0 _ refl refl refl refl refl)
+  pub numbers : (r : Row) → Has (db.trees in_contracts.tree) r → column r in_contracts.version_number ≡ Int (whole_at in_contracts.version_number r)
+  numbers = wholes_in at_contracts db broker in_contracts.version_number refl
 
-  pub providers : Part text_cmp Text (db.trees in_contracts.tree) in_contracts.provider (text in_contracts.provider)
-  providers = text_part (db.trees in_contracts.tree) in_contracts.provider (λ r has. text_at db broker.kept.sound contracts (has_place _ 8 contracts (contracts_there db broker)) r has 1 _ refl refl refl refl refl)
+  pub providers : (r : Row) → Has (db.trees in_contracts.tree) r → column r in_contracts.provider ≡ Text (text in_contracts.provider r)
+  providers = texts_in at_contracts db broker in_contracts.provider refl
 
   pub contents : (r : Row) → Has (db.trees in_contracts.tree) r → column r in_contracts.content ≡ Int (whole_at in_contracts.content r)
-  contents r has = whole_in db broker.kept.sound contracts (has_place _ 8 contracts (contracts_there db broker)) r has 2 _ refl refl refl refl refl
-
-  pub keys : IsAscending (λ a b. eq_by_cmp (by_both int_cmp text_cmp) (key a) (key b) ≡ false) (db.trees in_contracts.tree)
-  keys = once (by_both int_cmp text_cmp) (db.trees in_contracts.tree) (in_contracts.version_number ∷ in_contracts.provider ∷ []) key
-      (λ a b ha hb. agree_and int_cmp_total (db.trees in_contracts.tree) in_contracts.version_number (whole_at in_contracts.version_number) numbers text_cmp (text in_contracts.provider) (in_contracts.provider ∷ []) a b ha hb (agree_last nat_list_cmp_total (db.trees in_contracts.tree) in_contracts.provider (text in_contracts.provider) providers a b ha hb))
-      (apart_by db broker.kept contracts 8 (contracts_there db broker) _ 7 (ap (λ (s : Schema). slice_get s.indexes 7) broker.schema) refl)
-
-  by_key : (n : ℕ) (p : List ℕ) → (r : Row) → Has (db.trees in_contracts.tree) r → keeps (by_two in_contracts.version_number in_contracts.provider) (Int (pos n) ∷ Text p ∷ []) r ≡ eq_by_cmp (by_both int_cmp text_cmp) (pos n, p) (key r)
-  by_key n p r has =
-      where_and int_cmp_total (db.trees in_contracts.tree) in_contracts.version_number (whole_at in_contracts.version_number) numbers text_cmp
-      (text in_contracts.provider) p (is_param 2 1 ∷ []) (Int (pos n) ∷ Text p ∷ []) 0 (pos n) refl r has
-      (where_last nat_list_cmp_total (db.trees in_contracts.tree) in_contracts.provider (text in_contracts.provider) providers (Int (pos n) ∷ Text p ∷ []) 1 p refl r has)
+  contents = wholes_in at_contracts db broker in_contracts.content refl
 
 -- ---- the content of a contract
 
@@ -77,9 +62,7 @@ pub content_found : (n : ℕ) (p : List ℕ) (db : Database) (s : Broker) (v : V
     → (found : Option ℕ) → option_map (λ n. Int (pos n)) found ≡ option_map (λ r. column r 0) (slice_get rows 0) → found ≡ s.contracts (v, p)
 content_found n p db s v held is rows h found read = same_numbers found (s.contracts (v, p)) (
     number_found found rows read
-    ∙ looks_up_at marked_total exact_marked key (whole_at in_contracts.content) _ (whole_at 0) (λ r. refl) (pos n, p) _ (db.trees in_contracts.tree) rows
-    (all_where (by_both int_cmp text_cmp) (db.trees in_contracts.tree) key (pos n, p) (by_two in_contracts.version_number in_contracts.provider) (Int (pos n) ∷ Text p ∷ []) (by_key db held.broker n p)) (keys db held.broker)
-    (answered db _ in_contracts.tree _ _ _ rows h)
+    ∙ finds contracts_by_key db held.broker (Int (pos n) ∷ Text p ∷ []) (pos n, p) refl (whole_at in_contracts.content) (whole_at 0) (λ r. refl) rows h
     ∙ held_content db s v n p held is
     )
 
@@ -91,7 +74,7 @@ module _ (db : Database) (s : Broker) (held : Holds db s) (v : Version) (n : ℕ
   row_content r p content has number provider told = same_numbers (s.contracts (v, p)) (Some content) (
       sym (held_content db s v n p held is)
       ∙ ap (value_at (by_both int_cmp text_cmp) key (whole_at in_contracts.content) (db.trees in_contracts.tree)) (λ i. (sym number i, sym provider i))
-      ∙ has_find marked_total exact_marked key (whole_at in_contracts.content) (db.trees in_contracts.tree) r (keys db held.broker) has ∙ ap Some told
+      ∙ has_find marked_total exact_marked key (whole_at in_contracts.content) (db.trees in_contracts.tree) r (keys_of contracts_by_key db held.broker) has ∙ ap Some told
       )
 
   -- and its contract is told by a row of it
@@ -122,11 +105,11 @@ module _ (db : Database) (s : Broker) (held : Holds db s) (v : Version) (n : ℕ
   pub contracts_listed : (rows : List Row) (items : List Contract) → IsShown (own n) db rows → AreRead IsContractRow rows items → Lists contract_cmp Is items
   contracts_listed = list_rows db IsContractRow contract_cmp Is exact_texts (λ c. c.provider)
       (λ x y. first_less (text_cmp x.provider y.provider) (nat_cmp x.content y.content)) (own n) (λ r. whole_at in_contracts.version_number r ≡ pos n) (contracts_numbered db held.broker)
-      (λ r has. last_test (whole_test (column r in_contracts.version_number) (Int (pos n)) (whole_at in_contracts.version_number r) (pos n) ((numbers db held.broker).typed r has) refl)) (record {
+      (λ r has. last_test (whole_test (column r in_contracts.version_number) (Int (pos n)) (whole_at in_contracts.version_number r) (pos n) (numbers db held.broker r has) refl)) (record {
         key = text in_contracts.provider;
         sorted = λ a b one two. last_text (column a in_contracts.provider) (column b in_contracts.provider) (text in_contracts.provider a) (text in_contracts.provider b)
-            ((providers db held.broker).typed a one.0) ((providers db held.broker).typed b two.0);
-        one = λ a b one two same. one_row marked_total key (db.trees in_contracts.tree) (keys db held.broker) a b one.0 two.0 (λ i. ((one.1 ∙ sym two.1) i, same i));
+            (providers db held.broker a one.0) (providers db held.broker b two.0);
+        one = λ a b one two same. one_row marked_total key (db.trees in_contracts.tree) (keys_of contracts_by_key db held.broker) a b one.0 two.0 (λ i. ((one.1 ∙ sym two.1) i, same i));
         read = λ r x read. ap text_in read.1;
         sound = λ r x it read. row_content db s held v n is r x.provider x.content it.0 it.1 (ap text_in read.1) (ap id_in read.0);
         complete = λ x there.
@@ -159,9 +142,9 @@ module _ (db : Database) (s : Broker) (held : Holds db s) (content : ℕ) (p : W
       → (keeps_both users_terms (Int (pos content) ∷ Text p ∷ []) c v ≡ true) ↔ IsKept c v
   joined c v hc hv =
       and_tests (whole_test (column v 0) (column c in_contracts.version_number) (whole_at 0 v) (whole_at in_contracts.version_number c)
-      (version_number db held.broker v hv) ((numbers db held.broker).typed c hc))
+      (version_number db held.broker v hv) (numbers db held.broker c hc))
       (and_tests (whole_test (column c in_contracts.content) (Int (pos content)) (whole_at in_contracts.content c) (pos content) (contents db held.broker c hc) refl)
-      (last_test (text_test (column c in_contracts.provider) (Text p) (text in_contracts.provider c) p ((providers db held.broker).typed c hc) refl)))
+      (last_test (text_test (column c in_contracts.provider) (Text p) (text in_contracts.provider c) p (providers db held.broker c hc) refl)))
 
   abbrev IsUser : Version → Type 0
   IsUser w = (s.contracts (w, p) ≡ Some content)
@@ -179,7 +162,7 @@ module _ (db : Database) (s : Broker) (held : Holds db s) (content : ℕ) (p : W
             let same_row : a.1 ≡ b.1 = one_version db held.broker a.1 b.1 one.1 two.1 (ap (λ k. k.0) same) (ap (λ k. k.1) same) in
             let number : whole_at in_contracts.version_number a.0 ≡ whole_at in_contracts.version_number b.0 = sym one.2.0 ∙ ap (whole_at 0) same_row ∙ two.2.0 in
             let keyed : key a.0 ≡ key b.0 = λ i. (number i, (one.2.1.1 ∙ sym two.2.1.1) i) in
-            λ i. (one_row marked_total key (db.trees in_contracts.tree) (keys db held.broker) a.0 b.0 one.0 two.0 keyed i, same_row i);
+            λ i. (one_row marked_total key (db.trees in_contracts.tree) (keys_of contracts_by_key db held.broker) a.0 b.0 one.0 two.0 keyed i, same_row i);
         read = λ q x read i. (text_in (read.0 i), text_in (read.1 i));
         sound = λ q x it read.
             let at = row_number db held.broker s.versions held.versions q.1 it.1 in
@@ -200,35 +183,29 @@ module _ (db : Database) (s : Broker) (held : Holds db s) (content : ℕ) (p : W
 abbrev pub add_sql : List ℕ
 add_sql = codes "INSERT INTO contracts (version_number, provider, content) VALUES (?1, ?2, ?3)"
 
-add_puts : (n : ℕ) (p : List ℕ) (content : ℕ) → Puts 8 add_sql (Int (pos n) ∷ Text p ∷ Int (pos content) ∷ []) (Null ∷ Int (pos n) ∷ Text p ∷ Int (pos content) ∷ [])
+adding : (n : ℕ) (p : List ℕ) (content : ℕ) → Adds at_contracts add_sql (Int (pos n) ∷ Text p ∷ Int (pos content) ∷ []) (Int (pos n) ∷ Text p ∷ Int (pos content) ∷ [])
 unfolding understood everything
-add_puts n p content = record { terms = lit Null ∷ col 0 0 ∷ col 0 1 ∷ col 0 2 ∷ []; width = 4; means = record { is = refl; plain = (refl, refl); unlisted = refl }; whole = refl; kinds = refl; one = refl }
+adding n p content = record {
+  puts = record { terms = lit Null ∷ col 0 0 ∷ col 0 1 ∷ col 0 2 ∷ []; width = 4; means = record { is = refl; plain = (refl, refl); unlisted = refl }; whole = refl; kinds = refl; one = refl };
+  stored = λ i. cast_int (pos n) i ∷ Text p ∷ cast_int (pos content) i ∷ [];
+}
 
-module _ (n : ℕ) (p : List ℕ) (content : ℕ) (old new : State) (s : Broker) (v : Version) (held : Holds old.now s) (is : number_of s.versions v ≡ Some n) (free : s.contracts (v, p) ≡ None) where
+module _ (n : ℕ) (p : List ℕ) (content : ℕ) (old new : State) where
   abbrev params : Row
   params = Int (pos n) ∷ Text p ∷ Int (pos content) ∷ []
 
   abbrev rows : List Row
   rows = old.now.trees in_contracts.tree
 
-  abbrev made : Row
-  made = Int (next_rowid rows) ∷ params
-
-  stored : with_rowid Chosen rows (cast_row contracts (Null ∷ params)) ≡ made
-  stored = λ i. with_rowid Chosen rows (cast_null i ∷ cast_int (pos n) i ∷ Text p ∷ cast_int (pos content) i ∷ [])
-
   -- none has its key
-  none : content_at rows n p ≡ None
-  none = held_content old.now s v n p held is ∙ ap (option_map pos) free
+  none : (s : Broker) (v : Version) → Holds old.now s → number_of s.versions v ≡ Some n → s.contracts (v, p) ≡ None → content_at rows n p ≡ None
+  none s v held is free = held_content old.now s v n p held is ∙ ap (option_map pos) free
 
-  pub contract_added : (count : ℕ) → Executes add_sql params old new (Ok count) → HoldsAfter 2 old new (record s { contracts = put_at (same_pair same_version same_text) s.contracts (v, p) (Some content) })
-  contract_added count h =
-      let it = inserted add_sql params old new held.broker contracts 8 (contracts_there old.now held.broker) _ made (add_puts n p content) stored count h in
-      let put = puts_at marked_total exact_marked key (whole_at in_contracts.content) rows (new.now.trees in_contracts.tree) made it.1 none in
-      let frame = frame_of (codes "contracts" ∷ []) in_contracts.tree refl old new held.broker it.0 in
-      after_one 2 (omega arith) (codes "contracts") old new _ frame (λ counted. grows_added rows (new.now.trees in_contracts.tree) made it.1 refl)
-      (contracts_change old.now new.now s _ held frame (λ w q.
-      each w q (number_of s.versions w) refl (λ k. put (pos k, q)) ∙ sym (map_cond pos (same_version w v && same_text q p) content (s.contracts (w, q)))))
+  pub contract_added : (s : Broker) → Holds old.now s → (t : Broker) → AddsContract n p content s t → (count : ℕ) → Executes add_sql params old new (Ok count) → HoldsAfter 2 old new t
+  contract_added s held t (v, is, free, there, low, high, next) count h = held_added (adding n p content) old new held.broker (omega arith) count h (λ frame it.
+      let put = puts_at marked_total exact_marked key (whole_at in_contracts.content) rows (new.now.trees in_contracts.tree) _ it (none s v held is free) in
+      subst (Holds new.now) (sym next) (contracts_change old.now new.now s _ held frame (λ w q.
+      each w q (number_of s.versions w) refl (λ k. put (pos k, q)) ∙ sym (map_cond pos (same_version w v && same_text q p) content (s.contracts (w, q))))))
     where
       after : Bool → Option ℤ → Option ℤ
       after b was = cond b (Some (pos content)) was
@@ -247,12 +224,14 @@ module _ (n : ℕ) (p : List ℕ) (content : ℕ) (old new : State) (s : Broker)
           ∙ (λ i. after (sym same i) (held_content old.now s w k q held e i))
 
   -- it fails only as the store fails, or since the name is too long
-  pub contract_ends : HaveNumbers (codes "contracts" ∷ []) old.now → IsTrue (is_some (s.pacticipants p)) → 1 ≤ content → content ≤ length s.contents → EndsOnly (p ∷ []) add_sql params old new
-  contract_ends room known low high =
-      next_ends add_sql params old new held.broker contracts 8 (contracts_there old.now held.broker) _ _ (add_puts n p content) stored (number_for rows room.0) (record { typed = refl; present = refl; checked = refl }) (
-        free_two rows made int_cmp_total in_contracts.version_number (whole_at in_contracts.version_number) (new_whole rows made in_contracts.version_number (numbers old.now held.broker).typed refl) marked_total nat_list_cmp_total in_contracts.provider (text in_contracts.provider) (new_text rows made in_contracts.provider (providers old.now held.broker).typed refl)
-            (sym (stands_found (by_both int_cmp text_cmp) key (whole_at in_contracts.content) rows (pos n, p)) ∙ ap is_some none),
+  pub contract_ends : EndsFrom (codes "contracts" ∷ []) (p ∷ []) add_sql params old new (λ s. (t : Broker) × AddsContract n p content s t)
+  contract_ends s here (t, (v, is, free, known, low, high, next)) room =
+      let held = here.held in
+      let made = added (adding n p content) old new held.broker in
+      adds_ends (adding n p content) old new held.broker room.0 (record { typed = refl; present = refl; checked = refl }) (
+        is_free contracts_by_key old.now held.broker made refl
+            (sym (stands_found (by_both int_cmp text_cmp) key (whole_at in_contracts.content) rows (pos n, p)) ∙ ap is_some (none s v held is free)),
         tt,
       )
       (version_there old.now s held made in_contracts.version_number v n is refl, (pacticipant_there old.now s held made in_contracts.provider p known refl, (number_there _ old.now made in_contracts.content content refl (leads in_contracts.content).1 (has_content old.now s held content low high), tt)))
-      (p ∷ []) (λ are. (tt, (are.0, (tt, tt)))) (omega arith) (omega arith)
+      (p ∷ []) (λ are. (tt, (are.0, (tt, tt)))) (omega arith) (omega arith) here.unlimited

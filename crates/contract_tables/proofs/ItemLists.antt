@@ -10,7 +10,7 @@ use Rattle.sqlite_rules.specs.Lists.{Has}
 use Rattle.sqlite_keyed.proofs.{ListLemmas.{ascending-filter}, RuleLemmas.{first_of_both, second_of_both}}
 use Rattle.table_access.specs.{Columns.{text_cmp, whole_at}, Sound.{IsNumbered}, Reading.{AreRead}}
 use Rattle.table_access.specs.Statements.{from_table, from_both, keeps, keeps_both, pairs_kept}
-use Rattle.table_access.proofs.{Members.{ascending_on, pairs, pairs_rise, has_pair, pair_has, has_filter, filter_has}, Parts.{numbers_once}}
+use Rattle.table_access.proofs.{Members.{ascending_on, pairs, pairs_rise, has_pair, pair_has, has_filter, filter_has}, Keys.{numbers_once}}
 use Rattle.broker_core.specs.Listing.{Lists}
 use Rattle.broker_tables.proofs.{Listed.{sorts, lists_table, lists_join}, Asked.{Asked, IsShown}}
 

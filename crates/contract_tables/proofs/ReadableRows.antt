@@ -5,11 +5,11 @@ use Rattle.sqlite.specs.{declared.types.Value.TheVariants.{Int}, Order.{Row, col
 use Rattle.sqlite_rules.{specs.Lists.{Has}, proofs.TableLemmas.{int_is}}
 use Rattle.sqlite_sql.specs.{declared.ops.BinaryOp.TheVariants.{Compare}, declared.ops.CompareOp.TheVariants.{Eq}, Ops.{binary, is_true}}
 use Rattle.sqlite_keyed.proofs.RuleLemmas.{first_of_both, second_of_both}
-use Rattle.table_access.{specs.{Columns.{text, whole_at}, Reading.{IsNumberRow}, Statements.{shows}}, proofs.SoundLemmas.{whole_in, at_has, has_place}}
+use Rattle.table_access.{specs.{Columns.{text, whole_at}, Reading.{IsNumberRow}, Statements.{shows}}, proofs.SoundLemmas.{at_has}}
 use Rattle.broker_core.specs.{State.{State as Broker}, declared.command.Version.{Version}}
 use Rattle.broker_tables.specs.{Schema.{in_versions, in_contracts, in_results, in_latest}, Holds.{Holds}, Readable.{IsReadable}, Numbers.{number_of}}
 use Rattle.broker_tables.proofs.ReadableRows.{IsLow, number_cell, name_cell, truth_cell, result_low, to_version_low, to_content_low, to_result_low, version_named, to_pacticipant_named, pass_low}
-use Rattle.broker_tables.proofs.{Placed.{contracts, contracts_there, results, results_there, latest, latest_there}, NoVersion.{no_row}}
+use Rattle.broker_tables.proofs.{Placed.{contracts, at_contracts, results, at_results, latest, at_latest, listed, wholes_in}, NoVersion.{no_row}}
 use Rattle.broker_tables.proofs.{VersionRows.{owners, names, whole_test}, Asked.{EachReads, NoneFor, of_table, of_both, of_first, number_reads}}
 use Rattle.contract_tables.specs.{Listings.{ReadsAsMarked, ReadsAsNames}, VersionResults.{ReadsAsLatest}, Verified.{ReadsAsResult}}
 use Rattle.contract_tables.proofs.ContractRows.{numbers, contents, providers, content, project, own, users_project, users}
@@ -21,41 +21,34 @@ use Rattle.contract_tables.proofs.ResultLookups.{numbered_rows, count, run_proje
 -- ---- the columns of the tables
 
 module _ (db : Database) (s : Broker) (held : Holds db s) (readable : IsReadable s) where
-  there : Has db.schema.tables contracts × Has db.schema.tables results × Has db.schema.tables latest
-  there = (
-    has_place _ 8 contracts (contracts_there db held.broker),
-    has_place _ 9 results (results_there db held.broker),
-    has_place _ 10 latest (latest_there db held.broker),
-  )
-
   abbrev IsLowAt : ℕ → ℕ → Type 0
   IsLowAt tree place = (r : Row) → Has (db.trees tree) r → (column r place ≡ Int (whole_at place r)) × IsLow (whole_at place r)
 
   contract_content : IsLowAt in_contracts.tree in_contracts.content
-  contract_content r has = let it = contents db held.broker r has in (it, to_content_low db s held readable contracts there.0 3 r has it (inr (inr (inl refl))))
+  contract_content r has = let it = contents db held.broker r has in (it, to_content_low db s held readable contracts (listed at_contracts db held.broker) 3 r has it (inr (inr (inl refl))))
 
   result_number : IsLowAt in_results.tree 0
   result_number r has = (int_is (column r 0) (at_has _ (db.trees in_results.tree) r (numbered_rows db held.broker).1 has), result_low db s held readable r has)
 
   result_content : IsLowAt in_results.tree in_results.content
   result_content r has =
-      let it : column r in_results.content ≡ Int (whole_at in_results.content r) = whole_in db held.broker.kept.sound results there.1 r has 1 _ refl refl refl refl refl in
-      (it, to_content_low db s held readable results there.1 2 r has it (inl refl))
+      let it : column r in_results.content ≡ Int (whole_at in_results.content r) = wholes_in at_results db held.broker in_results.content refl r has in
+      (it, to_content_low db s held readable results (listed at_results db held.broker) 2 r has it (inl refl))
 
   result_version : IsLowAt in_results.tree in_results.provider_version
   result_version r has =
-      let it : column r in_results.provider_version ≡ Int (whole_at in_results.provider_version r) = whole_in db held.broker.kept.sound results there.1 r has 3 _ refl refl refl refl refl in
-      (it, to_version_low db s held readable results there.1 in_results.provider_version r has it (inr (inr (inl refl))))
+      let it : column r in_results.provider_version ≡ Int (whole_at in_results.provider_version r) = wholes_in at_results db held.broker in_results.provider_version refl r has in
+      (it, to_version_low db s held readable results (listed at_results db held.broker) in_results.provider_version r has it (inr (inr (inl refl))))
 
   result_pass : (r : Row) → Has (db.trees in_results.tree) r
       → (column r in_results.pass ≡ Int (whole_at in_results.pass r)) × ((n : ℕ) × (whole_at in_results.pass r ≡ pos n) × (n ≤ 1))
-  result_pass r has = (whole_in db held.broker.kept.sound results there.1 r has 4 _ refl refl refl refl refl, pass_low db s held readable r has)
+  result_pass r has = (wholes_in at_results db held.broker in_results.pass refl r has, pass_low db s held readable r has)
 
   latest_content : IsLowAt in_latest.tree in_latest.content
-  latest_content r has = let it = latest_contents db held.broker r has in (it, to_content_low db s held readable latest there.2 1 r has it (inl refl))
+  latest_content r has = let it = latest_contents db held.broker r has in (it, to_content_low db s held readable latest (listed at_latest db held.broker) 1 r has it (inl refl))
 
   latest_result : IsLowAt in_latest.tree in_latest.result
-  latest_result r has = let it = latest_numbers db held.broker r has in (it, to_result_low db s held readable latest there.2 3 r has it (inr (inr (inl refl))))
+  latest_result r has = let it = latest_numbers db held.broker r has in (it, to_result_low db s held readable latest (listed at_latest db held.broker) 3 r has it (inr (inr (inl refl))))
 
 -- ---- contracts
 
@@ -65,10 +58,10 @@ content_reads n p db s held readable = number_reads (content n p) db (contract_c
 pub own_reads : (n : ℕ) (db : Database) → EachReads (own n) db ReadsAsMarked
 own_reads n db s held readable = of_table (own n) db _ (λ r has kept.
     let it = contract_content db s held readable r has in
-    let provider = (providers db held.broker).typed r has in
+    let provider = providers db held.broker r has in
     let shown : Row = shows project [] r in (
       number_cell shown 0 (whole_at in_contracts.content r) (omega arith) it.0 it.1,
-      name_cell shown 1 (text in_contracts.provider r) (omega arith) provider (to_pacticipant_named db s held readable contracts (has_place _ 8 contracts (contracts_there db held.broker)) in_contracts.provider (inr (inl refl)) r has provider),
+      name_cell shown 1 (text in_contracts.provider r) (omega arith) provider (to_pacticipant_named db s held readable contracts (listed at_contracts db held.broker) in_contracts.provider (inr (inl refl)) r has provider),
     ))
 
 pub users_reads : (n : ℕ) (p : List ℕ) (db : Database) → EachReads (users n p) db ReadsAsNames
@@ -154,10 +147,10 @@ run_reads p u db s held readable = of_table (run p u) db _ (λ r has kept.
 module _ (db : Database) (s : Broker) (held : Holds db s) (n : ℕ) (none : (v : Version) → ¬ (number_of s.versions v ≡ Some n)) where
   of_version : (r : Row) → Has (db.trees in_contracts.tree) r → is_true (binary (Compare Eq Binary) (column r in_contracts.version_number) (Int (pos n))) ≡ true
       → ⊥
-  of_version r has = no_row db s held n none contracts (has_place _ 8 contracts (contracts_there db held.broker)) in_contracts.version_number (inl refl) r has ((numbers db held.broker).typed r has)
+  of_version r has = no_row db s held n none contracts (listed at_contracts db held.broker) in_contracts.version_number (inl refl) r has (numbers db held.broker r has)
 
   of_latest : (r : Row) → Has (db.trees in_latest.tree) r → is_true (binary (Compare Eq Binary) (column r in_latest.provider_version) (Int (pos n))) ≡ true → ⊥
-  of_latest r has = no_row db s held n none latest (has_place _ 10 latest (latest_there db held.broker)) in_latest.provider_version (inr (inl refl)) r has (versions db held.broker r has)
+  of_latest r has = no_row db s held n none latest (listed at_latest db held.broker) in_latest.provider_version (inr (inl refl)) r has (versions db held.broker r has)
 
 pub content_none : (n : ℕ) (p : List ℕ) (db : Database) → NoneFor (content n p) db n
 content_none n p db s held none = of_table (content n p) db _ (λ r has kept. of_version db s held n none r has (first_of_both _ _ kept))

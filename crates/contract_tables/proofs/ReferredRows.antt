@@ -6,10 +6,10 @@ use Rattle.std.proofs.{lemmas.Bool.{cond-false, ne_eqb}, lemmas.List.{length-map
 use Rattle.sqlite.specs.{declared.types.Value.TheVariants.{Int}, Order.{Row, column}, Tree.{rowid}, Effect.{Database}, Collation.TheVariants.{Binary}}
 use Rattle.sqlite_schema.specs.Rules.{equal, has_parent}
 use Rattle.sqlite_rules.proofs.{ListLemmas.{some_from}, TableLemmas.{int_is}}
-use Rattle.table_access.{specs.Columns.{text, text_cmp, whole_at}, proofs.{Values.{same_ints}, Maps.{find_has}, SoundLemmas.{at_has, has_place}}}
+use Rattle.table_access.{specs.Columns.{text, text_cmp, whole_at}, proofs.{Values.{same_ints}, Maps.{find_has}, SoundLemmas.{at_has}}}
 use Rattle.broker_core.specs.{State.{State as Broker}, declared.command.Version.{Version}}
 use Rattle.broker_tables.specs.{Schema.{in_pacticipants, in_versions, in_contents, broker_schema, to}, Holds.{Holds, with_digest}, Numbers.{number_of}}
-use Rattle.broker_tables.proofs.{Placed.{contents, contents_there, versions, versions_there}, References.{LeadsTo, refers_pacticipant}, Inserted.{stands}}
+use Rattle.broker_tables.proofs.{Placed.{at_contents, versions, at_versions, listed, numbered_in}, References.{LeadsTo, refers_pacticipant}, Inserted.{stands}}
 use Rattle.broker_tables.proofs.{Standing.{stands_found}, VersionRows.{find_version, version_number, owners}, ByNumber.{by_number}}
 use Rattle.contract_tables.specs.Verified.{HasRowWith}
 
@@ -27,7 +27,7 @@ module _ (db : Database) (s : Broker) (held : Holds db s) where
       let some = cond-false (n == 0) None (slice_get bodies (n - 1)) (ne_eqb n 0 (λ none. omega (arith, low, none))) in
       let listed = ap (find int_cmp (pos n)) held.contents ∙ by_number bodies n ∙ some ∙ slice_get-get_or bodies (n - 1) ([], []) within in
       let it = find_has int_cmp_total int_cmp-IsAntisymmetric (whole_at 0) (λ r. (text in_contents.digest r, text in_contents.body r)) (pos n) _ (db.trees in_contents.tree) listed in
-      let rows = at_has _ db.schema.tables contents held.broker.kept.numbered (has_place _ 7 contents (contents_there db held.broker)) in
+      let rows = numbered_in at_contents db held.broker in
       (it.0, it.1, int_is (rowid it.0) (at_has _ (db.trees in_contents.tree) it.0 rows.1 it.1) ∙ ap Int (sym it.2))
 
   -- and a version
@@ -38,7 +38,7 @@ module _ (db : Database) (s : Broker) (held : Holds db s) where
   pub has_owner : (v : Version) (n : ℕ) → number_of s.versions v ≡ Some n → IsTrue (is_some (s.pacticipants v.pacticipant))
   has_owner v n is =
       let it = find_version db held.broker s.versions v n held.versions is in
-      let row = refers_pacticipant db held.broker versions (has_place _ 3 versions (versions_there db held.broker)) in_versions.pacticipant (inl refl) it.0 it.1 (owners db held.broker it.0 it.1) in
+      let row = refers_pacticipant db held.broker versions (listed at_versions db held.broker) in_versions.pacticipant (inl refl) it.0 it.1 (owners db held.broker it.0 it.1) in
       ap is_some (sym (held.pacticipants v.pacticipant))
       ∙ stands_found text_cmp (text in_pacticipants.name) (text in_pacticipants.team) (db.trees in_pacticipants.tree) v.pacticipant
       ∙ some_from (λ r. eq_by_cmp text_cmp v.pacticipant (text in_pacticipants.name r)) (db.trees in_pacticipants.tree) row.0 row.1

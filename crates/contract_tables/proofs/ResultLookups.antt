@@ -5,37 +5,37 @@ use Rattle.std.specs.Cmp.Lexicographic.{nat_list_cmp_total, texts_ties}
 use Rattle.std.proofs.Common.{◌≡◌, ◌==◌, ◌+◌, ◌-◌, ◌≤◌, inl, inr, ℕ, ℤ, pos, codes, List, [], ◌∷◌, map, filter, length, Bool, true, false, cond, ◌&&◌, refl, sym, ap, subst, ◌∙◌, slice_get, unwrap_or, Some, None, Option, arith}
 use Rattle.std.proofs.{lemmas.Bool.{false_from_ne_true, and_from, and_left, and_right}, lemmas.List.{length-map}, lemmas.Option.{slice_get-map}}
 use Rattle.std.proofs.Math.Bool.{and-true}
-use Rattle.sqlite.specs.{Tree.{IsAscending}, Edit.{id_in}, declared.types.Value.{Value}, declared.types.Value.TheVariants.{Null, Int, Text}}
-use Rattle.sqlite.specs.{Order.{Row, column, value_cmp}, Term.{Term, col}, Collation.TheVariants.{Binary}, Schema.{Schema}, Effect.{Database}}
-use Rattle.sqlite.specs.{State.{State, Shown}, Listing.{understood}}
+use Rattle.sqlite.specs.{Tree.{IsAscending, rowid}, Edit.{id_in}, declared.types.Value.{Value}, declared.types.Value.TheVariants.{Null, Int, Text}}
+use Rattle.sqlite.specs.{Order.{Row, column, value_cmp}, Term.{Term, col}, Collation.TheVariants.{Binary}, Effect.{Database}, State.{State, Shown}}
+use Rattle.sqlite.specs.Listing.{understood}
 use Rattle.sqlite_tied.specs.Compute.{everything}
 use Rattle.sqlite_sql.specs.{declared.ops.BinaryOp.TheVariants.{Compare}, declared.ops.CompareOp.TheVariants.{Eq}, Ops.{binary, is_true}}
 use Rattle.sqlite_schema.specs.Rules.{agree, equal}
 use Rattle.sqlite_trees.proofs.ListLemmas.{filter_same}
 use Rattle.sqlite_value.specs.Keys.{plain, first_key}
-use Rattle.sqlite_rules.{specs.Lists.{Has}, proofs.ListLemmas.{has_kept}}
+use Rattle.sqlite_rules.{specs.Lists.{Has}, proofs.{ListLemmas.{has_kept}, TableLemmas.{int_is}}}
 use Rattle.sqlite_keyed.proofs.{ListLemmas.{filter-map, ascending-filter}, RuleLemmas.{first_of_both, second_of_both}}
 use Rattle.table_access.specs.{Columns.{text, whole_at}, Sound.{IsNumbered, whole}, Statements.{from_table, by_two, up_to, newest, keeps, shows}}
 use Rattle.table_access.proofs.{Steps.{answered}, Newest.{newest_number}, Maps.{looks_up_at, find_has, few_permuted}}
-use Rattle.table_access.proofs.{Parts.{number_part, is_param, where_last, all_where, numbers_once}, Values.{same_texts, equal_text}, Keys.{apart_by}}
-use Rattle.table_access.proofs.{Members.{filter_has}, SoundLemmas.{at_has, text_at, has_place, all_of}, ReadLemmas.{option_map_twice, whole_pos}}
+use Rattle.table_access.proofs.{Keys.{is_param, keeps_key, numbers_once, whole_key}, Values.{same_texts, equal_text}, Members.{filter_has}}
+use Rattle.table_access.proofs.{SoundLemmas.{at_has, all_of}, ReadLemmas.{option_map_twice, whole_pos}}
 use Rattle.broker_core.specs.{Text.{same_text}, Change.{is_text, result_of_run}, State.{State as Broker, Verification}}
 use Rattle.broker_tables.specs.{Schema.{in_results, in_checked_results}, Rows.{value_at, stands_at, text_or_null}, Numbers.{number_of}}
 use Rattle.broker_tables.{specs.Holds.{Holds, IsBroker, ResultRow, result_in, result_of}, proofs.{Frames.{meant}, Standing.{stands_found}}}
-use Rattle.broker_tables.proofs.{Placed.{results, results_there, checked_results, checked_results_there}, ByNumber.{by_number}, Newest.{newest_result}}
-use Rattle.broker_tables.proofs.{Asked.{Asked, IsShown}, Inserted.{IsFree}, Ties.{two_tests}}
+use Rattle.broker_tables.proofs.{Placed.{keys_apart, at_results, at_checked_results, numbered_in, texts_in}, ByNumber.{by_number}, Newest.{newest_result}}
+use Rattle.broker_tables.proofs.{Asked.{Asked, IsShown}, Keyed.{IsFree}, Ties.{two_tests}}
 use Rattle.contract_tables.specs.Verified.{Cells, cells, cells_of, ByNumbers, by_numbers, numbers_are, result_with, run_value}
 
 module _ (db : Database) (broker : IsBroker db) where
   pub numbered_rows : IsNumbered (db.trees in_results.tree)
-  numbered_rows = at_has _ db.schema.tables results broker.kept.numbered (has_place _ 9 results (results_there db broker))
+  numbered_rows = numbered_in at_results db broker
 
   pub marked_rows : IsNumbered (db.trees in_checked_results.tree)
-  marked_rows = at_has _ db.schema.tables checked_results broker.kept.numbered (has_place _ 13 checked_results (checked_results_there db broker))
+  marked_rows = numbered_in at_checked_results db broker
 
 -- WHERE the number is the parameter
 of_number : (rows : List Row) → IsNumbered rows → (n : ℕ) → AllByRecursion (λ r. keeps (is_param 0 0 ∷ []) (Int (pos n) ∷ []) r ≡ eq_by_cmp int_cmp (pos n) (whole_at 0 r)) rows
-of_number rows rising n = all_where int_cmp rows (whole_at 0) (pos n) (is_param 0 0 ∷ []) (Int (pos n) ∷ []) (where_last int_cmp_total rows 0 (whole_at 0) (number_part rows rising) (Int (pos n) ∷ []) 0 (pos n) refl)
+of_number rows rising n = all_of _ rows (λ r has. keeps_key (whole_key 0) 0 (Int (pos n) ∷ []) (pos n) refl r (λ i. int_is (rowid r) (at_has _ rows r rising.1 has) i ∷ []))
 
 -- the row of a number is that of the result with this number
 pub result_at : (db : Database) (s : Broker) (n : ℕ) → Holds db s → value_at int_cmp (whole_at 0) (result_in (db.trees in_checked_results.tree)) (db.trees in_results.tree) (pos n) ≡ option_map (result_of s.versions) (result_with s n)
@@ -121,7 +121,7 @@ module _ (db : Database) (broker : IsBroker db) (p u : List ℕ) where
   kept = filter (keeps (by_two in_results.provider in_results.run) params) (db.trees in_results.tree)
 
   providers : (r : Row) → Has (db.trees in_results.tree) r → column r in_results.provider ≡ Text (text in_results.provider r)
-  providers r has = text_at db broker.kept.sound results (has_place _ 9 results (results_there db broker)) r has 2 _ refl refl refl refl refl
+  providers r has = texts_in at_results db broker in_results.provider refl r has
 
   texts : (r : Row) → keeps (by_two in_results.provider in_results.run) params r ≡ true
       → (column r in_results.provider ≡ Text p) × (column r in_results.run ≡ Text u)
@@ -143,7 +143,7 @@ module _ (db : Database) (broker : IsBroker db) (p u : List ℕ) where
   few : length kept ≤ 1
   few = at_most_one kept (λ r has. (filter_has (keeps (by_two in_results.provider in_results.run) params) (db.trees in_results.tree) r has).1)
       (ascending-filter _ (keeps (by_two in_results.provider in_results.run) params) (db.trees in_results.tree)
-      (apart_by db broker.kept results 9 (results_there db broker) _ 8 (ap (λ (s : Schema). slice_get s.indexes 8) broker.schema) refl))
+      (keys_apart at_results db broker (in_results.provider ∷ in_results.run ∷ []) (inl refl)))
 
   abbrev entry : Row → ℤ × ResultRow
   entry r = (whole_at 0 r, result_in (db.trees in_checked_results.tree) r)

@@ -1,24 +1,23 @@
 -- The statements on results, on those that the broker checked, and on the latest ones.
 use Rattle.std.specs.{Prelude.{if◌then◌else◌, is_some}, Ordering.{eq_by_cmp, is_eq, int_cmp}, Cmp.{eq_by_cmp_equiv, Equal-is, int_cmp_total}}
-use Rattle.std.proofs.Common.{◌≡◌, ◌+◌, ◌<◌, ◌^◌, arith, IsTrue, map, inl, inr, ℕ, ℤ, pos, codes, List, [], ◌∷◌, Bool, true, false, refl, sym, ap, subst, ◌∙◌, slice_get, Some, None, Option, Ok}
+use Rattle.std.proofs.Common.{◌≡◌, ◌+◌, ◌<◌, ◌^◌, arith, IsTrue, map, ℕ, ℤ, pos, codes, List, [], ◌∷◌, Bool, true, false, refl, sym, ap, subst, ◌∙◌, Some, None, Option, Ok}
 use Rattle.std.proofs.{lemmas.Bool.{false_from_ne_true, lt-ltb}, lemmas.List.{length-map}, Math.Bool.{or-false}}
-use Rattle.sqlite.specs.{Tree.{IsAscending, rowid}, Edit.{next_rowid, with_rowid}, Rowids.TheVariants.{Chosen}}
-use Rattle.sqlite.specs.{declared.types.Value.TheVariants.{Null, Int, Text}, Order.{Row, column, value_cmp}, Cast.{cast, cast_all, cast_row}, Term.{col, lit}}
-use Rattle.sqlite.specs.{Schema.{Schema}, Effect.{Database}, State.{State, Executes}, Listing.{understood}}
+use Rattle.sqlite.specs.{Tree.{rowid}, Edit.{next_rowid, with_rowid}, Rowids.TheVariants.{Chosen}, declared.types.Value.TheVariants.{Null, Int, Text}}
+use Rattle.sqlite.specs.{Order.{Row, column, value_cmp}, Cast.{cast, cast_row}, Term.{col, lit}, Schema.{Schema}, Effect.{Database}, State.{State, Executes}}
+use Rattle.sqlite.specs.Listing.{understood}
 use Rattle.sqlite_sql.specs.Ops.{binary}
 use Rattle.sqlite_rules.{specs.{Lists.{Has}, Steps.{PassAlone}, Edit.{is_taken}, Keys.{conflicts}}, proofs.ListLemmas.{some_has, some_from}}
 use Rattle.sqlite_rules.proofs.TableLemmas.{int_is}
 use Rattle.sqlite_value.{specs.Keys.{plain}, proofs.OrderLemmas.{value_cmp-Int}}
 use Rattle.sqlite_schema.specs.Rules.{agree}
 use Rattle.sqlite_tied.specs.Compute.{everything}
-use Rattle.table_access.{specs.{Columns.{whole_at, by_both}, Sound.{IsNumbered}}, proofs.{Values.{cast_null, cast_int}, Changes.{upserts_at}, Keys.{apart_by}}}
-use Rattle.table_access.proofs.{Parts.{Part, whole_part, agree_last, agree_and, once}, SoundLemmas.{whole_in, has_place, at_has}, Storable.{IsShortRow}}
-use Rattle.broker_core.specs.State.{State as Broker}
-use Rattle.broker_tables.specs.{Schema.{in_results, in_latest, in_checked_results}, Rows.{stands_at}, Holds.{IsBroker, Holds, result_in, result_of}}
+use Rattle.table_access.{specs.{Columns.{whole_at, by_both}, Sound.{IsNumbered}}, proofs.{Values.{cast_null, cast_int}, Changes.{upserts_at}, Keys.{agrees}}}
+use Rattle.table_access.proofs.{SoundLemmas.{at_has}, Storable.{IsShortRow}}
+use Rattle.broker_tables.specs.{Schema.{in_results, in_latest, in_checked_results}, Rows.{stands_at}, Holds.{IsBroker, result_in, result_of}}
 use Rattle.broker_tables.{specs.Refusals.{AreShort}, proofs.Orders.{numbers_total, exact_numbers}}
-use Rattle.broker_tables.proofs.{Placed.{results, results_there, checked_results, checked_results_there, latest, latest_there}, References.{leads}}
-use Rattle.broker_tables.proofs.Inserted.{EndsOnly, Puts, inserted, insert_ends, next_counted, new_whole, pacticipant_there, version_there}
-use Rattle.broker_tables.proofs.Upserted.{PutsOver, upserted, upsert_grows, upsert_ends}
+use Rattle.broker_tables.proofs.Placed.{results, at_results, checked_results, at_checked_results, latest, at_latest, numbered_in, wholes_in}
+use Rattle.broker_tables.proofs.{References.{leads}, Inserted.{EndsFrom, EndsOnly, Puts, inserted, insert_ends, next_counted, pacticipant_there, version_there}}
+use Rattle.broker_tables.proofs.{Keyed.{keys_of, latest_by_key}, Upserted.{PutsOver, upserted, upsert_grows, upsert_ends}}
 use Rattle.contract_tables.specs.Verified.{run_value, result_row, AllowsResult, AllowsMark, AllowsPoint, PutsRow, Points, texts_of}
 use Rattle.contract_tables.proofs.{ReferredRows.{number_there, has_content, has_owner}, ResultLookups.{numbered_rows, marked_rows, run_free}}
 use Rattle.sqlite.specs.Kind.TheVariants as kind
@@ -29,7 +28,7 @@ abbrev pub put_sql : List ℕ
 put_sql = codes "INSERT INTO results (number, content, provider, provider_version, pass, run) VALUES (?1, ?2, ?3, ?4, ?5, ?6)"
 
 pub put_puts : (number content : ℕ) (provider : List ℕ) (version : ℕ) (pass : ℤ) (run : List ℕ)
-    → Puts 9 put_sql (Int (pos number) ∷ Int (pos content) ∷ Text provider ∷ Int (pos version) ∷ Int pass ∷ Text run ∷ []) (Int (pos number) ∷ Null ∷ Int (pos content) ∷ Text provider ∷ Int (pos version) ∷ Int pass ∷ Text run ∷ [])
+    → Puts at_results put_sql (Int (pos number) ∷ Int (pos content) ∷ Text provider ∷ Int (pos version) ∷ Int pass ∷ Text run ∷ []) (Int (pos number) ∷ Null ∷ Int (pos content) ∷ Text provider ∷ Int (pos version) ∷ Int pass ∷ Text run ∷ [])
 unfolding understood everything
 put_puts number content provider version pass run = record {
   terms = col 0 0 ∷ lit Null ∷ col 0 1 ∷ col 0 2 ∷ col 0 3 ∷ col 0 4 ∷ col 0 5 ∷ [];
@@ -44,7 +43,7 @@ abbrev pub plain_sql : List ℕ
 plain_sql = codes "INSERT INTO results (number, content, provider, provider_version, pass, run) VALUES (?1, ?2, ?3, ?4, ?5, NULL)"
 
 pub plain_puts : (number content : ℕ) (provider : List ℕ) (version : ℕ) (pass : ℤ)
-    → Puts 9 plain_sql (Int (pos number) ∷ Int (pos content) ∷ Text provider ∷ Int (pos version) ∷ Int pass ∷ []) (Int (pos number) ∷ Null ∷ Int (pos content) ∷ Text provider ∷ Int (pos version) ∷ Int pass ∷ Null ∷ [])
+    → Puts at_results plain_sql (Int (pos number) ∷ Int (pos content) ∷ Text provider ∷ Int (pos version) ∷ Int pass ∷ []) (Int (pos number) ∷ Null ∷ Int (pos content) ∷ Text provider ∷ Int (pos version) ∷ Int pass ∷ Null ∷ [])
 unfolding understood everything
 plain_puts number content provider version pass = record {
   terms = col 0 0 ∷ lit Null ∷ col 0 1 ∷ col 0 2 ∷ col 0 3 ∷ col 0 4 ∷ lit Null ∷ [];
@@ -79,14 +78,15 @@ module _ (number content : ℕ) (provider : List ℕ) (version : ℕ) (pass : Bo
       let mark = if pass then pos 1 else pos 0 in
       λ i. with_rowid Chosen (old.now.trees in_results.tree) (cast_int (pos number) i ∷ cast_null i ∷ cast_int (pos content) i ∷ Text provider ∷ cast_int (pos version) i ∷ cast_int mark i ∷ cast_run run i ∷ [])
 
-  module _ (sql : List ℕ) (params : Row) (puts : Puts 9 sql params made) where
+  module _ {sql : List ℕ} {params : Row} (puts : Puts at_results sql params made) where
     pub result_put : IsBroker old.now → (count : ℕ) → Executes sql params old new (Ok count) → PutsRow in_results.tree made old new
-    result_put broker count h = inserted sql params old new broker results 9 (results_there old.now broker) made made puts stored count h
+    result_put broker count h = inserted at_results puts old new broker stored count h
 
     -- where it may be recorded, it fails only as the store fails, or since one of its names is too long
-    pub result_ends : number < 2 ^ 32 → (s : Broker) → Holds old.now s → AllowsResult number content provider version run s → EndsOnly (texts_of provider run) sql params old new
-    result_ends few s held (v, numbered, owner, is, low, high, unused) =
-        insert_ends sql params old new held.broker results 9 (results_there old.now held.broker) made made puts stored (record {
+    pub result_ends : number < 2 ^ 32 → EndsFrom [] (texts_of provider run) sql params old new (AllowsResult number content provider version run)
+    result_ends few s here (v, numbered, owner, is, low, high, unused) numbers =
+        let held = here.held in
+        insert_ends at_results puts old new held.broker stored (record {
           pass = passes number content provider version pass run;
           fits = lt-ltb number (2 ^ 63) (omega (arith, few));
           keyed = refl;
@@ -98,7 +98,7 @@ module _ (number content : ℕ) (provider : List ℕ) (version : ℕ) (pass : Bo
             number_there _ old.now made in_results.content content refl (leads in_results.content).1 (has_content old.now s held content low high),
             (pacticipant_there old.now s held made in_results.provider provider (subst (λ p. IsTrue (is_some (s.pacticipants p))) owner (has_owner old.now s held v version numbered)) refl, (version_there old.now s held made in_results.provider_version v version numbered refl, tt)),
           );
-        }) (texts_of provider run) (short number content provider version pass run)
+        }) (texts_of provider run) (short number content provider version pass run) here.unlimited
 
 -- ---- the mark that the broker checked it
 
@@ -114,7 +114,7 @@ not_taken rows rising n off = false_from_ne_true _ (λ taken.
     let stands : stands_at int_cmp (whole_at 0) rows (pos n) ≡ true = some_from (λ r. eq_by_cmp int_cmp (pos n) (whole_at 0 r)) rows hit.0 hit.1 ties in
     cc)
 
-mark_puts : (number : ℕ) → Puts 13 mark_sql (Int (pos number) ∷ []) (Int (pos number) ∷ Null ∷ [])
+mark_puts : (number : ℕ) → Puts at_checked_results mark_sql (Int (pos number) ∷ []) (Int (pos number) ∷ Null ∷ [])
 unfolding understood everything
 mark_puts number = record { terms = col 0 0 ∷ lit Null ∷ []; width = 2; means = record { is = refl; plain = (refl, refl); unlisted = refl }; whole = refl; kinds = refl; one = refl }
 
@@ -126,12 +126,12 @@ module _ (number : ℕ) (old new : State) (broker : IsBroker old.now) where
   mark_stored = λ i. with_rowid Chosen (old.now.trees in_checked_results.tree) (cast_int (pos number) i ∷ cast_null i ∷ [])
 
   pub marked : (count : ℕ) → Executes mark_sql (Int (pos number) ∷ []) old new (Ok count) → PutsRow in_checked_results.tree mark_made old new
-  marked count h = inserted mark_sql (Int (pos number) ∷ []) old new broker checked_results 13 (checked_results_there old.now broker) mark_made mark_made (mark_puts number) mark_stored count h
+  marked count h = inserted at_checked_results (mark_puts number) old new broker mark_stored count h
 
   -- of a result that is there and isn't marked it fails only as the store fails
   pub mark_ends : number < 2 ^ 32 → AllowsMark number old.now → EndsOnly [] mark_sql (Int (pos number) ∷ []) old new
   mark_ends few (there, off) =
-      insert_ends mark_sql (Int (pos number) ∷ []) old new broker checked_results 13 (checked_results_there old.now broker) mark_made mark_made (mark_puts number) mark_stored (record {
+      insert_ends at_checked_results (mark_puts number) old new broker mark_stored (record {
         pass = record { typed = refl; present = refl; checked = refl };
         fits = lt-ltb number (2 ^ 63) (omega (arith, few));
         keyed = refl;
@@ -147,32 +147,21 @@ key r = (whole_at in_latest.content r, whole_at in_latest.provider_version r)
 
 module _ (db : Database) (broker : IsBroker db) where
   pub latest_numbered : IsNumbered (db.trees in_latest.tree)
-  latest_numbered = at_has _ db.schema.tables latest broker.kept.numbered (has_place _ 10 latest (latest_there db broker))
+  latest_numbered = numbered_in at_latest db broker
 
   pub contents : (r : Row) → Has (db.trees in_latest.tree) r → column r in_latest.content ≡ Int (whole_at in_latest.content r)
-  contents r has = whole_in db broker.kept.sound latest (has_place _ 10 latest (latest_there db broker)) r has 0 _ refl refl refl refl refl
+  contents r has = wholes_in at_latest db broker in_latest.content refl r has
 
   pub versions : (r : Row) → Has (db.trees in_latest.tree) r → column r in_latest.provider_version ≡ Int (whole_at in_latest.provider_version r)
-  versions r has = whole_in db broker.kept.sound latest (has_place _ 10 latest (latest_there db broker)) r has 1 _ refl refl refl refl refl
+  versions r has = wholes_in at_latest db broker in_latest.provider_version refl r has
 
   pub numbers : (r : Row) → Has (db.trees in_latest.tree) r → column r in_latest.result ≡ Int (whole_at in_latest.result r)
-  numbers r has = whole_in db broker.kept.sound latest (has_place _ 10 latest (latest_there db broker)) r has 2 _ refl refl refl refl refl
-
--- rows whose key is two numbers
-agree_keys : (rows : List Row) → Part int_cmp Int rows in_latest.content (whole_at in_latest.content)
-    → Part int_cmp Int rows in_latest.provider_version (whole_at in_latest.provider_version) → (a b : Row) → Has rows a → Has rows b
-    → agree plain (in_latest.content ∷ in_latest.provider_version ∷ []) a (in_latest.content ∷ in_latest.provider_version ∷ []) b ≡ eq_by_cmp (by_both int_cmp int_cmp) (key a) (key b)
-agree_keys rows one two a b ha hb = agree_and int_cmp_total rows in_latest.content (whole_at in_latest.content) one int_cmp (whole_at in_latest.provider_version) (in_latest.provider_version ∷ []) a b ha hb (agree_last int_cmp_total rows in_latest.provider_version (whole_at in_latest.provider_version) two a b ha hb)
-
-module _ (db : Database) (broker : IsBroker db) where
-  pub keys : IsAscending (λ a b. eq_by_cmp (by_both int_cmp int_cmp) (key a) (key b) ≡ false) (db.trees in_latest.tree)
-  keys = once (by_both int_cmp int_cmp) (db.trees in_latest.tree) (in_latest.content ∷ in_latest.provider_version ∷ []) key (agree_keys (db.trees in_latest.tree) (whole_part (db.trees in_latest.tree) in_latest.content (contents db broker)) (whole_part (db.trees in_latest.tree) in_latest.provider_version (versions db broker)))
-      (apart_by db broker.kept latest 10 (latest_there db broker) _ 9 (ap (λ (s : Schema). slice_get s.indexes 9) broker.schema) refl)
+  numbers r has = wholes_in at_latest db broker in_latest.result refl r has
 
 abbrev pub point_sql : List ℕ
 point_sql = codes "INSERT INTO latest (content, provider_version, result) VALUES (?1, ?2, ?3) ON CONFLICT (content, provider_version) DO UPDATE SET result = excluded.result"
 
-point_puts : (c v n : ℕ) → PutsOver 10 latest point_sql (Int (pos c) ∷ Int (pos v) ∷ Int (pos n) ∷ []) (in_latest.content ∷ in_latest.provider_version ∷ []) 3 (col 1 0 ∷ col 1 in_latest.content ∷ col 1 in_latest.provider_version ∷ col 0 7 ∷ []) (Int (pos c) ∷ Int (pos v) ∷ Int (pos n) ∷ [])
+point_puts : (c v n : ℕ) → PutsOver at_latest point_sql (Int (pos c) ∷ Int (pos v) ∷ Int (pos n) ∷ []) (in_latest.content ∷ in_latest.provider_version ∷ []) 3 (col 1 0 ∷ col 1 in_latest.content ∷ col 1 in_latest.provider_version ∷ col 0 7 ∷ []) (Int (pos c) ∷ Int (pos v) ∷ Int (pos n) ∷ [])
 unfolding understood everything
 point_puts c v n = record {
   terms = lit Null ∷ col 0 0 ∷ col 0 1 ∷ col 0 2 ∷ [];
@@ -188,6 +177,7 @@ point_puts c v n = record {
   no_first = λ v w r. refl;
   alone = refl;
   fits = refl;
+  stored = λ i. cast_int (pos c) i ∷ cast_int (pos v) i ∷ cast_int (pos n) i ∷ [];
 }
 
 module _ (c v n : ℕ) (old new : State) (broker : IsBroker old.now) where
@@ -200,14 +190,11 @@ module _ (c v n : ℕ) (old new : State) (broker : IsBroker old.now) where
   abbrev it : Row
   it = Int (next_rowid rows) ∷ params
 
-  point_stored : cast_all latest.columns params ≡ params
-  point_stored = λ i. cast_int (pos c) i ∷ cast_int (pos v) i ∷ cast_int (pos n) i ∷ []
-
   meets : (r : Row) → Has rows r → conflicts (Some (in_latest.content ∷ in_latest.provider_version ∷ [])) old.now.schema.indexes latest it r ≡ eq_by_cmp (by_both int_cmp int_cmp) (pos c, pos v) (key r)
   meets r has =
       ap (λ (s : Schema). conflicts (Some (in_latest.content ∷ in_latest.provider_version ∷ [])) s.indexes latest it r) broker.schema
       ∙ or-false (agree plain (in_latest.content ∷ in_latest.provider_version ∷ []) r (in_latest.content ∷ in_latest.provider_version ∷ []) it)
-      ∙ agree_keys (it ∷ rows) (new_whole rows it 1 (contents old.now broker) refl) (new_whole rows it 2 (versions old.now broker) refl) r it (inr has) (inl refl)
+      ∙ agrees latest_by_key.columns.of r it (latest_by_key.columns.typed old.now broker r has) refl
       ∙ (eq_by_cmp_equiv numbers_total).symm (key r) (pos c, pos v)
 
   point_set : (r : Row) → Has rows r → conflicts (Some (in_latest.content ∷ in_latest.provider_version ∷ [])) old.now.schema.indexes latest it r ≡ true → column r 0 ∷ column r in_latest.content ∷ column r in_latest.provider_version ∷ Int (pos n) ∷ [] ≡ rowid r ∷ params
@@ -217,17 +204,17 @@ module _ (c v n : ℕ) (old new : State) (broker : IsBroker old.now) where
 
   pub pointed : (count : ℕ) → Executes point_sql params old new (Ok count) → Points c v n old new
   pointed count h =
-      let done = upserted (point_puts c v n) point_stored old new broker (latest_there old.now broker) point_set count h in
+      let done = upserted (point_puts c v n) old new broker point_set count h in
       let numbered = latest_numbered old.now broker in (
         done.0,
-        λ d w. upserts_at numbers_total exact_numbers key (whole_at in_latest.result) (Some (in_latest.content ∷ in_latest.provider_version ∷ [])) old.now.schema.indexes latest rows (new.now.trees in_latest.tree) it it (λ r. rowid r ∷ params) (pos c, pos v) (pos n) (keys old.now broker) numbered.0
+        λ d w. upserts_at numbers_total exact_numbers key (whole_at in_latest.result) (Some (in_latest.content ∷ in_latest.provider_version ∷ [])) old.now.schema.indexes latest rows (new.now.trees in_latest.tree) it it (λ r. rowid r ∷ params) (pos c, pos v) (pos n) (keys_of latest_by_key old.now broker) numbered.0
             meets (refl, refl) (λ r has hit. (refl, refl)) done.1 (pos d, pos w),
-        upsert_grows (point_puts c v n) point_stored old new broker (latest_there old.now broker) point_set done.1,
+        upsert_grows (point_puts c v n) old new broker point_set done.1,
       )
 
   -- of what is there it fails only as the store fails
   pub point_ends : AllowsPoint c v n old.now → EndsOnly [] point_sql params old new
   point_ends (content, version, result, room) =
-      upsert_ends (point_puts c v n) point_stored old new broker (latest_there old.now broker) point_set room.0 (λ id. record { typed = refl; present = refl; checked = refl }) (λ id.
+      upsert_ends (point_puts c v n) old new broker point_set room.0 (λ id. record { typed = refl; present = refl; checked = refl }) (λ id.
       (number_there _ old.now (id ∷ params) in_latest.content c refl (leads in_latest.content).1 content, (number_there _ old.now (id ∷ params) in_latest.provider_version v refl (leads in_latest.provider_version).0 version, (number_there _ old.now (id ∷ params) in_latest.result n refl (leads in_latest.result).2 result, tt))))
       [] (λ are. (tt, (tt, (tt, tt)))) (omega arith) (omega arith)

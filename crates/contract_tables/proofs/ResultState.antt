@@ -4,16 +4,16 @@ use Rattle.std.proofs.Common.{◌≡◌, ◌==◌, inl, inr, ℕ, ℤ, pos, ◌+
 use Rattle.std.proofs.{lemmas.Bool.{ne_eqb, and_right}, lemmas.List.{map-append, length-map}, Math.Bool.{and-true, or-false}}
 use Rattle.sqlite.specs.{Tree.{rowid}, declared.types.Value.TheVariants.{Int, Null}, Order.{Row}, State.{State}, Effect.{Database}}
 use Rattle.sqlite_rules.{specs.Lists.{Has}, proofs.TableLemmas.{int_is}}
-use Rattle.table_access.{specs.{Columns.{whole_at, by_both}, Sound.{IsNumbered}, Statements.{IsAdded}}, proofs.SoundLemmas.{at_has, all_of, has_place}}
+use Rattle.table_access.{specs.{Columns.{whole_at, by_both}, Sound.{IsNumbered}, Statements.{IsAdded}}, proofs.SoundLemmas.{at_has, all_of}}
 use Rattle.table_access.proofs.Members.{has_right}
 use Rattle.broker_core.specs.{State.{State as Broker, Verification, latest_result}, Text.{same_version}, declared.command.Version.{Version}}
 use Rattle.broker_tables.specs.Schema.{in_results, in_latest, in_checked_results}
 use Rattle.broker_tables.specs.Holds.{Holds, HoldsAfter, IsBroker, AreResults, AreLatest, ResultRow, result_in, result_of}
 use Rattle.broker_tables.specs.{Rows.{stands_at, truth_in, text_or_null}, Numbers.{numbered, number_of}, Refusals.{HaveNumbers}}
 use Rattle.broker_tables.proofs.{Frames.{Frame, frame_of, frame_then, still_broker, results_change}, Standing.{stands_put}, Growth.{none_stands}}
-use Rattle.broker_tables.proofs.{Ties.{both_eq, two_tests, nat_ties}, References.{refers_result, row_number}, Placed.{checked_results, checked_results_there}}
-use Rattle.broker_tables.proofs.{RoomLemmas.{Grows, takes_more, takes_rows}, NextRow.{next_row}, NumberLemmas.{version_ties, number_ties, version_unknown}}
-use Rattle.broker_tables.proofs.Orders.{pairs_total, numbers_total}
+use Rattle.broker_tables.proofs.{Ties.{both_eq, two_tests, nat_ties}, References.{refers_result, row_number}}
+use Rattle.broker_tables.proofs.{Placed.{checked_results, at_checked_results, listed}, RoomLemmas.{Grows, takes_more, takes_rows}, NextRow.{next_row}}
+use Rattle.broker_tables.proofs.{NumberLemmas.{version_ties, number_ties, version_unknown}, Orders.{pairs_total, numbers_total}}
 use Rattle.contract_tables.specs.Verified.{latest_at, result_row, result_for, run_value, PutsRow, Marks, Points, HasRowWith, AllowsResult, AllowsMark, AllowsPoint}
 use Rattle.contract_tables.proofs.{ContractRows.{map_cond}, ReferredRows.{has_content, has_version}, LastRow.{last_pushed}}
 use Rattle.contract_tables.proofs.ResultLookups.{numbered_rows, marked_rows}
@@ -42,7 +42,7 @@ module _ (s : Broker) where
   unmarked : (db : Database) → Holds db s → stands_at int_cmp (whole_at 0) (db.trees in_checked_results.tree) (pos next) ≡ false
   unmarked db held = none_stands int_cmp (whole_at 0) (whole_at 0) (pos next) (db.trees in_checked_results.tree) (λ r has.
       let number = int_is (rowid r) (at_has _ (db.trees in_checked_results.tree) r (marked_rows db held.broker).1 has) in
-      let x = refers_result db held.broker checked_results (has_place _ 13 checked_results (checked_results_there db held.broker)) 0 (inl refl) r has number in
+      let x = refers_result db held.broker checked_results (listed at_checked_results db held.broker) 0 (inl refl) r has number in
       ap (eq_by_cmp int_cmp (pos next)) (sym x.2) ∙ old_apart (db.trees in_checked_results.tree) (db.trees in_results.tree) held.results x.0 x.1)
 
 -- what the second statement makes of the marks

@@ -13,9 +13,9 @@ use Rattle.broker_core.specs.{declared.command.Version.{Version}, Listing.{Lists
 use Rattle.broker_core.specs.State.{State as Broker, Verification, latest_result}
 use Rattle.broker_tables.{specs.{Schema.{in_versions, in_latest}, Rows.{value_at}, Numbers.{number_of}, Holds.{Holds}}, proofs.Asked.{Asked, IsShown}}
 use Rattle.broker_tables.proofs.VersionRows.{whole_test, text_test, by_number, version_number, versions_numbered, owners, names, same_version, row_number, find_version, one_row}
-use Rattle.broker_tables.proofs.Orders.{exact_texts, numbers_total, exact_numbers}
+use Rattle.broker_tables.proofs.{Orders.{exact_texts, numbers_total, exact_numbers}, Keyed.{keys_of, latest_by_key}}
 use Rattle.contract_tables.specs.{declared.told_versions.NamedResult.{NamedResult}, ToldVersions.{named_cmp, IsNamedRow}, Verified.{latest_at}}
-use Rattle.contract_tables.proofs.{ItemLists.{and_tests, last_test, last_text, list_pairs}, ResultRows.{key, keys, contents, versions, latest_numbered}}
+use Rattle.contract_tables.proofs.{ItemLists.{and_tests, last_test, last_text, list_pairs}, ResultRows.{key, contents, versions, latest_numbered}}
 
 -- a result by what is told of it
 pub told_as : {A B : Type 0} (f : A → B) (o : Option A) (b : B) → option_map f o ≡ Some b → (e : A) × (o ≡ Some e) × (f e ≡ b)
@@ -32,7 +32,7 @@ module _ (db : Database) (s : Broker) (held : Holds db s) (v : Version) (n : ℕ
       → whole_at in_latest.provider_version l ≡ pos n
       → (e : ℕ × Verification) × (latest_result s content v ≡ Some e) × (whole_at in_latest.result l ≡ pos e.0)
   row_tells l content has one two =
-      let value = has_find numbers_total exact_numbers key (whole_at in_latest.result) (db.trees in_latest.tree) l (keys db held.broker) has in
+      let value = has_find numbers_total exact_numbers key (whole_at in_latest.result) (db.trees in_latest.tree) l (keys_of latest_by_key db held.broker) has in
       let e = told_as (λ e. pos e.0) (latest_result s content v) (whole_at in_latest.result l)
       (sym (held_latest content) ∙ ap (value_at (by_both int_cmp int_cmp) key (whole_at in_latest.result) (db.trees in_latest.tree)) (λ i. (sym one i, sym two i)) ∙ value) in
       (e.0, e.1, sym e.2)
@@ -86,7 +86,7 @@ module _ (db : Database) (s : Broker) (held : Holds db s) (content : ℕ) (p : W
             let second : a.1 ≡ b.1 = same_version db held.broker a.1 b.1 one.1 two.1 (one.2.1.1 ∙ sym two.2.1.1) same in
             let number : whole_at in_latest.provider_version a.0 ≡ whole_at in_latest.provider_version b.0 = sym one.2.0 ∙ ap (whole_at 0) second ∙ two.2.0 in
             let keyed : key a.0 ≡ key b.0 = λ i. ((one.2.1.0 ∙ sym two.2.1.0) i, number i) in
-            λ i. (one_row numbers_total key (db.trees in_latest.tree) (keys db held.broker) a.0 b.0 one.0 two.0 keyed i, second i);
+            λ i. (one_row numbers_total key (db.trees in_latest.tree) (keys_of latest_by_key db held.broker) a.0 b.0 one.0 two.0 keyed i, second i);
         read = λ q x read. ap text_in read.1;
         sound = λ q x it read.
             let known = row_number db held.broker s.versions held.versions q.1 it.1 in

@@ -10,20 +10,20 @@ use Rattle.sqlite_value.specs.{declared.keys.Key.{Key}, Keys.{ascending}}
 use Rattle.sqlite_rules.{specs.Lists.{Has}, proofs.TableLemmas.{int_is}}
 use Rattle.sqlite_tied.specs.Compute.{everything}
 use Rattle.table_access.specs.{Columns.{text, whole_at}, Sound.{IsNumbered, whole}, Statements.{from_both, keeps_both}, Reading.{AreRead}}
-use Rattle.table_access.proofs.{Maps.{find_has}, Members.{has_pair, any_has, contains_has, has_contains}, Parts.{numbers_once}}
-use Rattle.table_access.proofs.{SoundLemmas.{any_of, at_has, has_place}, ReadLemmas.{option_map_twice}}
+use Rattle.table_access.proofs.{Maps.{find_has}, Members.{has_pair, any_has, contains_has, has_contains}, Keys.{numbers_once}, SoundLemmas.{any_of, at_has}}
+use Rattle.table_access.proofs.ReadLemmas.{option_map_twice}
 use Rattle.broker_core.specs.{declared.command.Version.{Version}, Text.{version}, Listing.{Lists}}
 use Rattle.broker_core.{specs.{State.{State as Broker, Verification, latest_result, latest, said_by}, declared.need.Latest.{Latest}}, proofs.Lists.{some_is}}
 use Rattle.broker_tables.specs.{Schema.{in_results, in_latest, in_checked_results, in_versions}, Rows.{truth}, Numbers.{number_of}}
 use Rattle.broker_tables.{specs.Holds.{Holds, ResultRow, result_in, result_of}, proofs.{Asked.{Asked, IsShown, EachShown, of_both}, Listed.{lists_read}}}
-use Rattle.broker_tables.proofs.{Orders.{numbers_total}, Placed.{latest as latest_table, latest_there}, References.{refers_version}}
-use Rattle.broker_tables.proofs.VersionRows.{whole_test, one_row, row_number}
+use Rattle.broker_tables.proofs.{Orders.{numbers_total}, Placed.{latest as latest_table, at_latest, listed}, References.{refers_version}}
+use Rattle.broker_tables.proofs.{VersionRows.{whole_test, one_row, row_number}, Keyed.{keys_of, latest_by_key}}
 use Rattle.contract_tables.specs.VersionResults.{pass_cmp, latest_cmp, IsPassOf, IsLatestOf, said_of, IsPassRow, is_among, marked}
 use Rattle.contract_tables.specs.Verified.{result_with, PassCells, pass_cells, pass_of, Passed, passed_of, passed_as}
 use Rattle.contract_tables.specs.{declared.version_results.ContentPass.{ContentPass}, declared.version_results.LatestResult.{LatestResult}}
 use Rattle.contract_tables.proofs.{ItemLists.{and_tests, last_test, last_number, less_nat, list_pairs}, JoinRows.{pair_shown}}
 use Rattle.contract_tables.proofs.{LastRow.{latest_pair, latest_with}, Rising.{sorted as in_order}, VerifiedList.{told_as, row_tells, tells_row}}
-use Rattle.contract_tables.proofs.{ResultLookups.{numbered_rows, marked_rows, result_at}, ResultRows.{key, keys, contents, versions, numbers, latest_numbered}}
+use Rattle.contract_tables.proofs.{ResultLookups.{numbered_rows, marked_rows, result_at}, ResultRows.{key, contents, versions, numbers, latest_numbered}}
 
 -- ---- the two statements
 
@@ -96,7 +96,7 @@ module _ (db : Database) (s : Broker) (held : Holds db s) where
       → whole_at 0 r ≡ whole_at in_latest.result l
       → (whole_at in_results.content r ≡ whole_at in_latest.content l) × (whole_at in_results.provider_version r ≡ whole_at in_latest.provider_version l)
   of_its_pair l r hl hr c content joined =
-      let v = refers_version db held.broker latest_table (has_place _ 10 latest_table (latest_there db held.broker)) in_latest.provider_version (inr (inl refl)) l hl (versions db held.broker l hl) in
+      let v = refers_version db held.broker latest_table (listed at_latest db held.broker) in_latest.provider_version (inr (inl refl)) l hl (versions db held.broker l hl) in
       let known = row_number db held.broker s.versions held.versions v.0 v.1 in
       let w = version (text in_versions.pacticipant v.0) (text in_versions.version v.0) in
       let number : whole_at in_latest.provider_version l ≡ pos known.0 = sym v.2 ∙ known.2 in
@@ -141,7 +141,7 @@ module _ (db : Database) (s : Broker) (held : Holds db s) (v : Version) (n : ℕ
               (contents db held.broker a.0 one.0) (contents db held.broker b.0 two.0);
           one = λ a b one two same.
               let keyed : key a.0 ≡ key b.0 = λ i. (same i, (one.2.1 ∙ sym two.2.1) i) in
-              let first : a.0 ≡ b.0 = one_row numbers_total key (db.trees in_latest.tree) (keys db held.broker) a.0 b.0 one.0 two.0 keyed in
+              let first : a.0 ≡ b.0 = one_row numbers_total key (db.trees in_latest.tree) (keys_of latest_by_key db held.broker) a.0 b.0 one.0 two.0 keyed in
               let number : whole_at 0 a.1 ≡ whole_at 0 b.1 = one.2.0 ∙ ap (whole_at in_latest.result) first ∙ sym two.2.0 in
               let second : a.1 ≡ b.1 = one_row int_cmp_total (whole_at 0) (db.trees u) (numbers_once (db.trees u) rising) a.1 b.1 one.1 two.1 number in
               λ i. (first i, second i);

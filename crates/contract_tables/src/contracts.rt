@@ -37,6 +37,7 @@ pub fn contract_of<S: Alter>(
 ///
 /// # Errors
 /// `StoreFault::Memory` if the database is out of memory; `StoreFault::Store` if it refused the row.
+#[tactic(auto, unfolding(sqlite_tied::specs::Compute::everything))]
 pub fn add_contract<S: Alter>(
     conn: &mut Connection<S>,
     version_number: u32,

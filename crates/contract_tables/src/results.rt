@@ -15,6 +15,7 @@ use sqlite::{Alter, Connection, params};
 use table_access::{StoreFault, change};
 
 /// Puts in the row of a result of a run.
+#[tactic(auto, unfolding(sqlite_tied::specs::Compute::everything))]
 fn put_run<S: Alter>(
     conn: &mut Connection<S>,
     number: u32,
@@ -39,6 +40,7 @@ fn put_run<S: Alter>(
 }
 
 /// Puts in the row of a result of no run.
+#[tactic(auto, unfolding(sqlite_tied::specs::Compute::everything))]
 fn put_plain<S: Alter>(
     conn: &mut Connection<S>,
     number: u32,
@@ -87,6 +89,7 @@ fn put_result<S: Alter>(
 }
 
 /// Marks a result as checked.
+#[tactic(auto, unfolding(sqlite_tied::specs::Compute::everything))]
 fn mark_checked<S: Alter>(conn: &mut Connection<S>, number: u32) -> Result<(), StoreFault>
     ensures puts { CallsStore S.Store conn.old conn.new result
         (λ _ old new. IsBroker old.now →
@@ -115,6 +118,7 @@ fn mark<S: Alter>(conn: &mut Connection<S>, number: u32, checked: bool) -> Resul
 }
 
 /// Makes a result the latest one for its content and its version.
+#[tactic(auto, unfolding(sqlite_tied::specs::Compute::everything))]
 fn point_latest<S: Alter>(
     conn: &mut Connection<S>,
     content: u32,

@@ -6,7 +6,8 @@ use Rattle.sqlite_rules.specs.Lists.{Has}
 use Rattle.sqlite_tied.specs.Compute.{everything}
 use Rattle.broker_tables.specs.{Schema.{in_versions, in_contracts, in_deployed, in_released}, Rows.{value_at}, Numbers.{number_of}, Holds.{Holds, IsBroker}}
 use Rattle.broker_tables.proofs.{Asked.{Asked, IsShown, EachShown, of_table}, Orders.{marked_total, exact_marked}}
-use Rattle.broker_tables.proofs.{VersionRows.{whole_test, text_test, all_three, row_number}, References.{refers_version}, Placed.{contracts, contracts_there}}
+use Rattle.broker_tables.proofs.{VersionRows.{whole_test, text_test, all_three, row_number}, References.{refers_version}, Keyed.{contracts_by_key, keys_of}}
+use Rattle.broker_tables.proofs.Placed.{contracts, at_contracts, listed}
 use Rattle.deploy_tables.specs.declared.contracts_there.NumberedContract.{NumberedContract}
 use Rattle.deploy_tables.{specs.ContractsThere.{IsDeployedIn, IsReleasedIn, TellsContracts, IsNumberedRow}, proofs.DeployedState.{deployed_in}}
 use Rattle.deploy_tables.proofs.{ReleasedRows.{released_in}, VersionRows.{same_pos, Names}, MatrixLoop.{both_ways, both_of}}
@@ -16,7 +17,7 @@ use Rattle.sqlite.specs.{Term.{Term, lit, col, op2}, Collation.TheVariants.{Bina
 use Rattle.sqlite_keyed.proofs.RuleLemmas.{first_of_both, second_of_both}
 use Rattle.sqlite_sql.specs.{declared.ops.BinaryOp.TheVariants.{Compare, Is}, declared.ops.CompareOp.TheVariants.{Eq}, Ops.{binary, is_true}}
 use Rattle.table_access.specs.{Columns.{text, text_cmp, whole_at, by_both}, Statements.{from_both, from_table, keeps_both}, Reading.{AreRead}}
-use Rattle.table_access.proofs.{ReadLemmas.{same_numbers}, SoundLemmas.{has_place}, Maps.{find_has, has_find}, Members.{pair_has, has_pair}}
+use Rattle.table_access.proofs.{ReadLemmas.{same_numbers}, Maps.{find_has, has_find}, Members.{pair_has, has_pair}}
 use Rattle.broker_core.specs.{declared.command.Version.{Version}, Text.{Text as Words, version}, State.{State as Broker}, Gate.{Stands}}
 use Rattle.contract_tables.proofs.ContractRows as contract_rows
 use Rattle.deploy_tables.proofs.DeployedRows as deployed_rows
@@ -61,7 +62,7 @@ never_null v z is h = let clash : false ≡ true = subst (λ w. is_true (binary 
 -- no held state has one
 pub none_unnumbered : (e : Words) (db : Database) → IsBroker db → EachShown (unnumbered e) db (λ row. ⊥)
 none_unnumbered e db broker = of_table (unnumbered e) db (λ row. ⊥) (λ r has kept.
-    never_null (column r in_deployed.version_number) (whole_at in_deployed.version_number r) ((deployed_rows.numbers db broker).typed r has) (first_of_both _ true (second_of_both _ _ kept)))
+    never_null (column r in_deployed.version_number) (whole_at in_deployed.version_number r) (deployed_rows.numbers db broker r has) (first_of_both _ true (second_of_both _ _ kept)))
 
 -- ---- rows of a table that name an environment and a version, joined with the contracts
 
@@ -78,13 +79,13 @@ module _ (db : Database) (s : Broker) (held : Holds db s) (e p : Words) where
   -- and what such a row tells: its version is there
   row_contract : (c : Row) → Has (db.trees in_contracts.tree) c → text in_contracts.provider c ≡ p → (w : Version) × ((n : ℕ) × (number_of s.versions w ≡ Some n) × (whole_at in_contracts.version_number c ≡ pos n) × ((content : ℕ) → whole_at in_contracts.content c ≡ pos content → s.contracts (w, p) ≡ Some content))
   row_contract c has provider =
-      let v = refers_version db held.broker contracts (has_place _ 8 contracts (contracts_there db held.broker)) in_contracts.version_number (inl refl) c has ((contract_rows.numbers db held.broker).typed c has) in
+      let v = refers_version db held.broker contracts (listed at_contracts db held.broker) in_contracts.version_number (inl refl) c has (contract_rows.numbers db held.broker c has) in
       let it = row_number db held.broker s.versions held.versions v.0 v.1 in
       let w = version (text in_versions.pacticipant v.0) (text in_versions.version v.0) in
       let number : whole_at in_contracts.version_number c ≡ pos it.0 = sym v.2 ∙ it.2 in
       let place : (pos it.0, p) ≡ contract_rows.key c = (λ i. (sym number i, sym provider i)) in
       let at : contract_rows.content_at (db.trees in_contracts.tree) it.0 p ≡ Some (whole_at in_contracts.content c) =
-      ap (value_at (by_both int_cmp text_cmp) contract_rows.key (whole_at in_contracts.content) (db.trees in_contracts.tree)) place ∙ has_find marked_total exact_marked contract_rows.key (whole_at in_contracts.content) (db.trees in_contracts.tree) c (contract_rows.keys db held.broker) has in
+      ap (value_at (by_both int_cmp text_cmp) contract_rows.key (whole_at in_contracts.content) (db.trees in_contracts.tree)) place ∙ has_find marked_total exact_marked contract_rows.key (whole_at in_contracts.content) (db.trees in_contracts.tree) c (keys_of contracts_by_key db held.broker) has in
       (w, (it.0, it.1, number, λ content value. same_numbers (s.contracts (w, p)) (Some content) (sym (contract_rows.held_content db s w it.0 p held it.1) ∙ at ∙ ap Some value)))
 
   module _ (t place : ℕ) (Is : Version → Type 0) (names : Names db s t place e Is) where
@@ -94,10 +95,10 @@ module _ (db : Database) (s : Broker) (held : Holds db s) (e p : Words) where
     -- what ON and WHERE test
     parts_of : (r c : Row) → Has (db.trees t) r → Has (db.trees in_contracts.tree) c → (joins r c ≡ true) ↔ ((whole_at in_contracts.version_number c ≡ whole_at place r) × (text in_deployed.environment r ≡ e) × (text in_contracts.provider c ≡ p))
     parts_of r c hr hc =
-        let one = whole_test (column c in_contracts.version_number) (column r place) (whole_at in_contracts.version_number c) (whole_at place r) ((contract_rows.numbers db held.broker).typed c hc)
+        let one = whole_test (column c in_contracts.version_number) (column r place) (whole_at in_contracts.version_number c) (whole_at place r) (contract_rows.numbers db held.broker c hc)
         (names.numbers r hr) in
         let two = text_test (column r in_deployed.environment) (Text e) (text in_deployed.environment r) e (names.environments r hr) refl in
-        let three = text_test (column c in_contracts.provider) (Text p) (text in_contracts.provider c) p ((contract_rows.providers db held.broker).typed c hc) refl in
+        let three = text_test (column c in_contracts.provider) (Text p) (text in_contracts.provider c) p (contract_rows.providers db held.broker c hc) refl in
         let all = all_three (is_true (binary (Compare Eq Binary) (column c in_contracts.version_number) (column r place))) (is_true (binary (Compare Eq Binary) (column r in_deployed.environment) (Text e))) (is_true (binary (Compare Eq Binary) (column c in_contracts.provider) (Text p))) in
         (λ h. let it = all.0 h in (one.0 it.0, two.0 it.1, three.0 it.2), λ h. all.1 (one.1 h.0, two.1 h.1, three.1 h.2))
 

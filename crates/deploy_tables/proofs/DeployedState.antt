@@ -4,24 +4,25 @@ use Rattle.std.specs.{FinMap.{int_cmp-IsAntisymmetric}, Cmp.Lexicographic.{texts
 use Rattle.std.proofs.Common.{◌≡◌, ◌==◌, inl, inr, ℕ, ℤ, pos, codes, List, [], ◌∷◌, Bool, true, false, ◌&&◌, refl, sym, ap, ◌∙◌, cond, nat_lt, Some, None, Option, Ok, IsTrue, subst, arith}
 use Rattle.std.proofs.lemmas.Cmp.{int_cmp_total}
 use Rattle.broker_core.specs.{State.{State as Broker}, Machine.{deployed_cmp}, declared.command.Version.{Version}}
-use Rattle.broker_core.specs.{Text.{Text as Words, same_text, same_place, put_at, version}, Change.{is_text}, declared.answer.DeployedItem.{DeployedItem}}
+use Rattle.broker_core.specs.{Text.{Text as Words, same_text, same_place, version}, Change.{is_text}, declared.answer.DeployedItem.{DeployedItem}}
 use Rattle.broker_core.{specs.Listing.{Lists}, proofs.{Lists.{some_is}, Judgement.{text_refl}}}
 use Rattle.contract_tables.proofs.ReferredRows.{has_owner}
-use Rattle.deploy_tables.specs.{Deployments.{MayBeDeployed, IsVersionOf, TakesOutAndTells, FindsNothing, without_instance}, Listings.{IsDeployedRow}}
-use Rattle.deploy_tables.specs.ContractsThere.{IsDeployedIn}
-use Rattle.deploy_tables.proofs.DeployedRows.{Place, place_of, place_cmp, record_sql, row_for, recording, stored, set, recorded, end_sql, is_number, number_in, at_place, ended, environments, pacticipants, instances, numbers, keys}
+use Rattle.deploy_tables.specs.Deployments.{MayBeDeployed, RecordsDeployed, IsVersionOf, TakesOutAndTells, FindsNothing, without_instance}
+use Rattle.deploy_tables.specs.{Listings.{IsDeployedRow}, ContractsThere.{IsDeployedIn}}
+use Rattle.deploy_tables.proofs.DeployedRows.{Place, place_of, place_cmp, record_sql, row_for, recording, set, recorded, end_sql, is_number, number_in, at_place, ended, environments, pacticipants, instances, numbers}
 use Rattle.deploy_tables.proofs.VersionRows.{same_pos, joined_by, on_number, in_environment, named_version, still_less, two_texts, tied_texts, Names, has_kept, is_kept, pairs_apart}
 use Rattle.deploy_tables.proofs.LeftRows.{from_left, as_join}
 use Rattle.sqlite_typing.specs.Types.{accepts_program}
-use Rattle.broker_tables.specs.{Schema.{in_versions, in_deployed, broker_schema}, Numbers.{number_of}, Holds.{Holds, HoldsAfter}, Refusals.{HaveNumbers}}
+use Rattle.broker_tables.specs.{Schema.{in_versions, in_deployed, broker_schema}, Numbers.{number_of}, Holds.{Holds, HoldsAfter}}
 use Rattle.broker_tables.proofs.{VersionRows.{false_if, find_version, row_number, numbered_as}, Listed.{lists_join}, NumberLemmas.{one_version, number_ties}}
-use Rattle.broker_tables.proofs.{Frames.{Frame, frame_of, deployed_change}, Inserted.{EndsOnly, environment_there, pacticipant_there, version_there}}
-use Rattle.broker_tables.proofs.{Placed.{deployed, deployed_there}, RoomLemmas.{Grows, after_one}, Upserted.{upsert_ends}, Orders.{exact_triple, triples_total}}
+use Rattle.broker_tables.proofs.{Keyed.{deployed_by_place, keys_of}, Frames.{Frame, frame_of, deployed_change}}
+use Rattle.broker_tables.proofs.{Inserted.{EndsFrom, environment_there, pacticipant_there, version_there}, Placed.{deployed, at_deployed, listed}}
+use Rattle.broker_tables.proofs.{RoomLemmas.{Grows, after_one}, Upserted.{upsert_ends}, Orders.{exact_triple, triples_total}}
 use Rattle.broker_tables.proofs.{Ties.{two_tests, both_eq, nat_ties}, Asked.{Asked, IsShown}}
 use Rattle.sqlite_rules.specs.Lists.{Has}
 use Rattle.sqlite_tied.specs.Compute.{everything}
 use Rattle.table_access.specs.{Columns.{text, text_cmp, whole_at, by_both}, Sound.{text_in}, Statements.{from_both, ChangesOnly}, Reading.{AreRead}}
-use Rattle.table_access.proofs.{Maps.{find_has, has_find}, SoundLemmas.{has_place}}
+use Rattle.table_access.proofs.Maps.{find_has, has_find}
 use Rattle.sqlite.specs.{declared.types.Value.TheVariants.{Int, Text}, State.{State, Executes}, Order.{Row}, Term.{Term, col}, Collation.TheVariants.{Binary}}
 use Rattle.sqlite.specs.{Effect.{Database, Answers}, Query.{Query}, Listing.{understood}}
 use Rattle.sqlite_value.specs.{declared.keys.Key.{Key}, Keys.{ascending}}
@@ -71,13 +72,12 @@ place_ties e p i f q j =
     two_tests _ _ _ _ (texts_ties e f) (two_tests _ _ _ _ (texts_ties p q) (texts_ties i j) ∙ both_eq (text_cmp p q) (text_cmp i j)) ∙ both_eq (text_cmp e f) (by_both text_cmp text_cmp (p, i) (q, j))
 
 -- the version is deployed there now, in place of what was there
-pub now_deployed : (e p i : Words) (n : ℕ) (v : Version) (old new : State) (count : ℕ) (s : Broker) → Holds old.now s → number_of s.versions v ≡ Some n → v.pacticipant ≡ p → Executes record_sql (row_for e p i n) old new (Ok count)
-    → HoldsAfter 2 old new (record s { deployed = put_at same_place s.deployed (e, p, i) (Some v.name) })
-now_deployed e p i n v old new count s held numbered owner h =
+pub now_deployed : (e p i : Words) (n : ℕ) (old new : State) (s : Broker) → Holds old.now s → (t : Broker) → RecordsDeployed e p i n s t → (count : ℕ) → Executes record_sql (row_for e p i n) old new (Ok count) → HoldsAfter 2 old new t
+now_deployed e p i n old new s held t (v, numbered, owner, next) count h =
     let it = recorded e p i n old new count held.broker h in
     let frame = frame_of (codes "deployed" ∷ []) in_deployed.tree refl old new held.broker it.0 in
-    after_one 2 (omega arith) (codes "deployed") old new _ frame (λ counted. it.1) (deployed_change old.now new.now s _ held frame (λ f q j.
-    ap (option_map Some) (it.2 (f, (q, j))) ∙ go f q j (eq_by_cmp place_cmp (f, (q, j)) (e, (p, i))) refl ∙ ap (λ b. option_map (λ name. option_map pos (number_of s.versions (version q name))) (cond b (Some v.name) (s.deployed (f, q, j)))) (sym (place_ties f q j e p i))))
+    after_one 2 (omega arith) (codes "deployed") old new _ frame (λ counted. it.1) (subst (Holds new.now) (sym next) (deployed_change old.now new.now s _ held frame (λ f q j.
+    ap (option_map Some) (it.2 (f, (q, j))) ∙ go f q j (eq_by_cmp place_cmp (f, (q, j)) (e, (p, i))) refl ∙ ap (λ b. option_map (λ name. option_map pos (number_of s.versions (version q name))) (cond b (Some v.name) (s.deployed (f, q, j)))) (sym (place_ties f q j e p i)))))
   where
     go : (f q j : Words) (b : Bool) → eq_by_cmp place_cmp (f, (q, j)) (e, (p, i)) ≡ b
         → option_map Some (cond b (Some (pos n)) (number_in (old.now.trees in_deployed.tree) (f, (q, j)))) ≡ option_map (λ name. option_map pos (number_of s.versions (version q name))) (cond b (Some v.name) (s.deployed (f, q, j)))
@@ -87,13 +87,14 @@ now_deployed e p i n v old new count s held numbered owner h =
     go f q j false miss = held.deployed f q j
 
 -- that a version is deployed fails only as the store fails, or since one of its names is too long
-pub deployment_ends : (e p i : Words) (n : ℕ) (old new : State) (s : Broker) → Holds old.now s → HaveNumbers (codes "deployed" ∷ []) old.now → MayBeDeployed e p n s → EndsOnly (e ∷ p ∷ i ∷ []) record_sql (row_for e p i n) old new
-deployment_ends e p i n old new s held numbers (there, (v, numbered, owner)) =
+pub deployment_ends : (e p i : Words) (n : ℕ) (old new : State) → EndsFrom (codes "deployed" ∷ []) (e ∷ p ∷ i ∷ []) record_sql (row_for e p i n) old new (MayBeDeployed e p n)
+deployment_ends e p i n old new s here (there, (v, numbered, owner)) numbers =
+    let held = here.held in
     let row = row_for e p i n in
-    upsert_ends (recording e p i n) (stored e p i n) old new held.broker (deployed_there old.now held.broker) (set old.now held.broker e p i n) numbers.0 (λ id. record { typed = refl; present = refl; checked = refl }) (λ id. (
+    upsert_ends (recording e p i n) old new held.broker (set old.now held.broker e p i n) numbers.0 (λ id. record { typed = refl; present = refl; checked = refl }) (λ id. (
       environment_there old.now s held (id ∷ row) in_deployed.environment e there refl,
       (pacticipant_there old.now s held (id ∷ row) in_deployed.pacticipant p (subst (λ x. IsTrue (is_some (s.pacticipants x))) owner (has_owner old.now s held v n numbered)) refl, (version_there old.now s held (id ∷ row) in_deployed.version_number v n numbered refl, tt)),
-    )) (e ∷ p ∷ i ∷ []) (λ are. (are.0, (are.1.0, (are.1.1.0, (tt, tt))))) (omega arith) (omega arith)
+    )) (e ∷ p ∷ i ∷ []) (λ are. (are.0, (are.1.0, (are.1.1.0, (tt, tt))))) (omega arith) (omega arith) here.unlimited
 
 -- ---- the end of a deployment
 
@@ -169,7 +170,7 @@ module _ (db : Database) (s : Broker) (held : Holds db s) (e : Words) where
   row_deployed d has there =
       let value : number_in (db.trees in_deployed.tree) (e, (text in_deployed.pacticipant d, text in_deployed.instance d)) ≡ Some (whole_at in_deployed.version_number d) =
       subst (λ f. number_in (db.trees in_deployed.tree) (f, (text in_deployed.pacticipant d, text in_deployed.instance d)) ≡ Some (whole_at in_deployed.version_number d)) there
-      (has_find triples_total exact_triple place_of (whole_at in_deployed.version_number) (db.trees in_deployed.tree) d (keys db held.broker) has) in
+      (has_find triples_total exact_triple place_of (whole_at in_deployed.version_number) (db.trees in_deployed.tree) d (keys_of deployed_by_place db held.broker) has) in
       named s.versions (text in_deployed.pacticipant d) (whole_at in_deployed.version_number d) (s.deployed (e, text in_deployed.pacticipant d, text in_deployed.instance d)) (sym (ap (option_map Some) value) ∙ held.deployed e (text in_deployed.pacticipant d) (text in_deployed.instance d))
 
   -- the version that has this number
@@ -192,8 +193,8 @@ module _ (db : Database) (s : Broker) (held : Holds db s) (e : Words) where
 
   pub deployed_in : Names db s in_deployed.tree in_deployed.version_number e (IsDeployedIn s e)
   deployed_in = record {
-    environments = (environments db held.broker).typed;
-    numbers = (numbers db held.broker).typed;
+    environments = (environments db held.broker);
+    numbers = (numbers db held.broker);
     row_is = λ d w n has there known number.
         let it = deployed_of d w n has there known number in
         (text in_deployed.instance d, ap (λ p. s.deployed (e, p, text in_deployed.instance d)) (sym it.0) ∙ it.1);
@@ -207,24 +208,24 @@ module _ (db : Database) (s : Broker) (held : Holds db s) (e : Words) where
   deployed_joined rows h =
       as_join db (Text e ∷ []) in_deployed.tree in_versions.tree (on_number in_deployed.version_number) in_environment list_project list_order rows
       (subst (λ x. accepts_program x [] joined_query (Text e ∷ []) ≡ true) (sym held.broker.schema) (join_typed e))
-      (named_version db held.broker in_deployed.tree in_deployed.version_number (environments db held.broker).typed (numbers db held.broker).typed e
-      deployed (has_place _ 11 deployed (deployed_there db held.broker)) refl (inr (inr (inl refl)))) h
+      (named_version db held.broker in_deployed.tree in_deployed.version_number (environments db held.broker) (numbers db held.broker) e
+      deployed (listed at_deployed db held.broker) refl (inr (inr (inl refl)))) h
 
   joined_listed : (rows : List Row) (items : List DeployedItem) → Answers db (record { lets = []; body = joined_query }) (Text e ∷ []) rows → AreRead IsDeployedRow rows items
       → Lists deployed_cmp (λ x. s.deployed (e, x.pacticipant, x.instance) ≡ Some x.version) items
   joined_listed = lists_join db (Text e ∷ []) (joined_by in_deployed.version_number) list_project list_order IsDeployedRow deployed_cmp (λ x. s.deployed (e, x.pacticipant, x.instance) ≡ Some x.version) in_deployed.tree in_versions.tree
-      (pairs_apart db held.broker in_deployed.tree in_deployed.version_number (environments db held.broker).typed (numbers db held.broker).typed e triples_total place_of list_order
-      (keys db held.broker) (λ p q hp hq tied.
-      let a = has_kept db held.broker in_deployed.tree in_deployed.version_number (environments db held.broker).typed (numbers db held.broker).typed e p hp in
-      let b = has_kept db held.broker in_deployed.tree in_deployed.version_number (environments db held.broker).typed (numbers db held.broker).typed e q hq in
+      (pairs_apart db held.broker in_deployed.tree in_deployed.version_number (environments db held.broker) (numbers db held.broker) e triples_total place_of list_order
+      (keys_of deployed_by_place db held.broker) (λ p q hp hq tied.
+      let a = has_kept db held.broker in_deployed.tree in_deployed.version_number (environments db held.broker) (numbers db held.broker) e p hp in
+      let b = has_kept db held.broker in_deployed.tree in_deployed.version_number (environments db held.broker) (numbers db held.broker) e q hq in
       let owner = pacticipants db held.broker in
       let instance = instances db held.broker in
-      let same = tied_texts _ _ _ _ _ _ _ _ (owner.typed p.0 a.0) (owner.typed q.0 b.0) (instance.typed p.0 a.0) (instance.typed q.0 b.0) tied in
+      let same = tied_texts _ _ _ _ _ _ _ _ (owner p.0 a.0) (owner q.0 b.0) (instance p.0 a.0) (instance q.0 b.0) tied in
       λ i. ((a.2.1 ∙ sym b.2.1) i, same i)))
       (λ a b x y ha hb ra rb h. still_less (text_cmp x.pacticipant y.pacticipant) (text_cmp x.instance y.instance) (text_cmp x.version y.version)
       (sym (two_texts _ _ _ _ _ _ _ _ ra.0 rb.0 ra.1 rb.1) ∙ h))
       (λ q x has read.
-      let it = has_kept db held.broker in_deployed.tree in_deployed.version_number (environments db held.broker).typed (numbers db held.broker).typed e q has in
+      let it = has_kept db held.broker in_deployed.tree in_deployed.version_number (environments db held.broker) (numbers db held.broker) e q has in
       let known = row_number db held.broker s.versions held.versions q.1 it.1 in
       (λ i. s.deployed (e, sym (ap text_in read.0) i, sym (ap text_in read.1) i))
       ∙ (deployed_of q.0 (version (text in_versions.pacticipant q.1) (text in_versions.version q.1)) known.0 it.0 it.2.1 known.1 (sym it.2.0 ∙ known.2)).1
@@ -233,7 +234,7 @@ module _ (db : Database) (s : Broker) (held : Holds db s) (e : Words) where
       let at = deployed_row x.pacticipant x.instance x.version there in
       let d = at.2 in
       let v = find_version db held.broker s.versions (version x.pacticipant x.version) at.0 held.versions at.1 in
-      let kept = is_kept db held.broker in_deployed.tree in_deployed.version_number (environments db held.broker).typed (numbers db held.broker).typed e d.0 v.0 d.1 v.1 (v.4 ∙ sym d.5) d.2 in
+      let kept = is_kept db held.broker in_deployed.tree in_deployed.version_number (environments db held.broker) (numbers db held.broker) e d.0 v.0 d.1 v.1 (v.4 ∙ sym d.5) d.2 in
       (_, kept, λ y read i. record { pacticipant = (sym (ap text_in read.0) ∙ d.3) i; instance = (sym (ap text_in read.1) ∙ d.4) i; version = (sym (ap text_in read.2) ∙ v.3) i }))
 
   pub deployed_listed : (rows : List Row) (items : List DeployedItem) → IsShown (deployments e) db rows → AreRead IsDeployedRow rows items

@@ -3,7 +3,7 @@ use Rattle.std.specs.Prelude.{Contains, ◌↔◌, filter_map, if◌then◌else�
 use Rattle.std.proofs.Common.{◌≡◌, ◌∙◌, inl, inr, ℕ, pos, codes, List, [], ◌∷◌, ◌++◌, Some, None, true, refl, sym, ap, subst}
 use Rattle.sqlite_rules.specs.Lists.{Has}
 use Rattle.sqlite_tied.specs.Compute.{everything}
-use Rattle.table_access.{specs.{Columns.{text}, Statements.{from_table, keeps}, Reading.{AreRead}}, proofs.Parts.{is_param}}
+use Rattle.table_access.{specs.{Columns.{text}, Statements.{from_table, keeps}, Reading.{AreRead}}, proofs.Keys.{is_param}}
 use Rattle.broker_tables.{specs.{Schema.{in_deployed}, Numbers.{number_of}, Holds.{Holds}}, proofs.{Asked.{Asked, IsShown}, VersionRows.{text_test}}}
 use Rattle.deploy_tables.specs.{declared.partners.ReleasedNumber.{ReleasedNumber}, ContractsThere.{IsDeployedIn}}
 use Rattle.deploy_tables.{specs.Partners.{ArePartners, AreReleasedNumbers, AreNumbered, number_if}, proofs.DeployedRows.{environments, pacticipants}}
@@ -33,8 +33,8 @@ module _ (db : Database) (s : Broker) (held : Holds db s) (e p : Words) where
   is_kept : (r : Row) → Has (db.trees in_deployed.tree) r
       → (keeps by_owner params r ≡ true) ↔ ((text in_deployed.environment r ≡ e) × (text in_deployed.pacticipant r ≡ p))
   is_kept r has =
-      let one = text_test (column r in_deployed.environment) (Text e) (text in_deployed.environment r) e ((environments db held.broker).typed r has) refl in
-      let two = text_test (column r in_deployed.pacticipant) (Text p) (text in_deployed.pacticipant r) p ((pacticipants db held.broker).typed r has) refl in
+      let one = text_test (column r in_deployed.environment) (Text e) (text in_deployed.environment r) e (environments db held.broker r has) refl in
+      let two = text_test (column r in_deployed.pacticipant) (Text p) (text in_deployed.pacticipant r) p (pacticipants db held.broker r has) refl in
       let all = both_hold (is_true (binary (Compare Eq Binary) (column r in_deployed.environment) (Text e))) (is_true (binary (Compare Eq Binary) (column r in_deployed.pacticipant) (Text p))) in
       (λ kept. let it = all.0 kept in (one.0 it.0, two.0 it.1), λ same. all.1 (one.1 same.0, two.1 same.1))
 

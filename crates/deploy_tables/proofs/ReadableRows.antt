@@ -1,12 +1,11 @@
 -- The rows of each query of these tables can be read, if the state that the database holds can.
 use Rattle.std.{specs.Prelude.{IsUtf8}, proofs.Common.{◌≡◌, inl, inr, ℕ, List, [], ◌∷◌, true, refl, sym, subst, arith}}
 use Rattle.sqlite_rules.specs.Lists.{Has}
-use Rattle.table_access.specs.{Columns.{text, whole_at}, Reading.{IsNumberRow}, Statements.{shows, from_both, keeps_both}}
-use Rattle.table_access.proofs.{SoundLemmas.{whole_in, has_place}, Answered.{pair_shown}}
+use Rattle.table_access.{specs.{Columns.{text, whole_at}, Reading.{IsNumberRow}, Statements.{shows, from_both, keeps_both}}, proofs.Answered.{pair_shown}}
 use Rattle.broker_core.specs.State.{State as Broker}
 use Rattle.broker_tables.specs.{Schema.{in_versions, in_contracts, in_deployed, in_released}, Holds.{Holds}, Readable.{IsReadable, IsNamed}}
 use Rattle.broker_tables.proofs.Asked.{Asked, IsShown, EachShown, EachReads, of_both, of_table, number_reads}
-use Rattle.broker_tables.proofs.Placed.{contracts, contracts_there, deployed, deployed_there, released, released_there}
+use Rattle.broker_tables.proofs.Placed.{contracts, at_contracts, deployed, at_deployed, released, at_released, listed, wholes_in}
 use Rattle.broker_tables.proofs.ReadableRows.{IsLow, number_cell, name_cell, to_version_low, to_content_low, version_named, to_pacticipant_named}
 use Rattle.broker_tables.proofs.VersionRows.{owners, names}
 use Rattle.deploy_tables.{specs.Listings.{ReadsAsDeployed, ReadsAsReleased}, proofs.{ContractsThere.{of_deployed, of_released}, PartnerRows.{numbers_of}}}
@@ -24,12 +23,12 @@ module _ (db : Database) (s : Broker) (held : Holds db s) (readable : IsReadable
   deployed_number : (r : Row) → Has (db.trees in_deployed.tree) r
       → (column r in_deployed.version_number ≡ Int (whole_at in_deployed.version_number r)) × IsLow (whole_at in_deployed.version_number r)
   deployed_number r has =
-      let typed = (deployed_rows.numbers db held.broker).typed r has in
-      (typed, to_version_low db s held readable deployed (has_place _ 11 deployed (deployed_there db held.broker)) in_deployed.version_number r has typed (inr (inr (inl refl))))
+      let typed = deployed_rows.numbers db held.broker r has in
+      (typed, to_version_low db s held readable deployed (listed at_deployed db held.broker) in_deployed.version_number r has typed (inr (inr (inl refl))))
 
   deployed_named : (r : Row) → Has (db.trees in_deployed.tree) r → IsNamed (text in_deployed.pacticipant r)
-  deployed_named r has = to_pacticipant_named db s held readable deployed (has_place _ 11 deployed (deployed_there db held.broker)) in_deployed.pacticipant (inr (inl refl)) r has
-      ((deployed_rows.pacticipants db held.broker).typed r has)
+  deployed_named r has = to_pacticipant_named db s held readable deployed (listed at_deployed db held.broker) in_deployed.pacticipant (inr (inl refl)) r has
+      (deployed_rows.pacticipants db held.broker r has)
 
   -- an instance is a text in UTF-8
   deployed_instance : (r : Row) → Has (db.trees in_deployed.tree) r → IsUtf8 (text in_deployed.instance r)
@@ -39,21 +38,19 @@ module _ (db : Database) (s : Broker) (held : Holds db s) (readable : IsReadable
       → (column r in_released.version_number ≡ Int (whole_at in_released.version_number r)) × IsLow (whole_at in_released.version_number r)
   released_number r has =
       let typed = released_list.numbers db held.broker r has in
-      (typed, to_version_low db s held readable released (has_place _ 12 released (released_there db held.broker)) in_released.version_number r has typed (inr (inl refl)))
+      (typed, to_version_low db s held readable released (listed at_released db held.broker) in_released.version_number r has typed (inr (inl refl)))
 
   contract_version : (r : Row) → Has (db.trees in_contracts.tree) r
       → (column r in_contracts.version_number ≡ Int (whole_at in_contracts.version_number r)) × IsLow (whole_at in_contracts.version_number r)
   contract_version r has =
-      let listed = has_place _ 8 contracts (contracts_there db held.broker) in
-      let typed : column r in_contracts.version_number ≡ Int (whole_at in_contracts.version_number r) = whole_in db held.broker.kept.sound contracts listed r has 0 _ refl refl refl refl refl in
-      (typed, to_version_low db s held readable contracts listed 1 r has typed (inl refl))
+      let typed = wholes_in at_contracts db held.broker in_contracts.version_number refl r has in
+      (typed, to_version_low db s held readable contracts (listed at_contracts db held.broker) in_contracts.version_number r has typed (inl refl))
 
   contract_content : (r : Row) → Has (db.trees in_contracts.tree) r
       → (column r in_contracts.content ≡ Int (whole_at in_contracts.content r)) × IsLow (whole_at in_contracts.content r)
   contract_content r has =
-      let listed = has_place _ 8 contracts (contracts_there db held.broker) in
-      let typed : column r in_contracts.content ≡ Int (whole_at in_contracts.content r) = whole_in db held.broker.kept.sound contracts listed r has 2 _ refl refl refl refl refl in
-      (typed, to_content_low db s held readable contracts listed 3 r has typed (inr (inr (inl refl))))
+      let typed = wholes_in at_contracts db held.broker in_contracts.content refl r has in
+      (typed, to_content_low db s held readable contracts (listed at_contracts db held.broker) in_contracts.content r has typed (inr (inr (inl refl))))
 
 -- ---- of a LEFT JOIN that shows what the JOIN shows
 
@@ -72,8 +69,8 @@ number_at_reads e p i db s held readable = number_reads (deployed_rows.number_at
 pub deployments_reads : (e : List ℕ) (db : Database) → EachReads (deployed_list.deployments e) db ReadsAsDeployed
 deployments_reads e db s held readable = of_joined (deployed_list.deployments e) db _ (λ rows h. deployed_list.deployed_joined db s held e rows h) (λ d v hd hv kept.
     let shown : Row = eval_all (col 1 in_deployed.pacticipant ∷ col 1 in_deployed.instance ∷ col 2 in_versions.version ∷ []) ([] ∷ d ∷ v ∷ []) in (
-      name_cell shown 0 (text in_deployed.pacticipant d) (omega arith) ((deployed_rows.pacticipants db held.broker).typed d hd) (deployed_named db s held readable d hd),
-      (omega arith, (text in_deployed.instance d, (deployed_rows.instances db held.broker).typed d hd, deployed_instance db s held readable d hd)),
+      name_cell shown 0 (text in_deployed.pacticipant d) (omega arith) (deployed_rows.pacticipants db held.broker d hd) (deployed_named db s held readable d hd),
+      (omega arith, (text in_deployed.instance d, deployed_rows.instances db held.broker d hd, deployed_instance db s held readable d hd)),
       name_cell shown 2 (text in_versions.version v) (omega arith) (names db held.broker v hv) (version_named db s held readable v hv).1,
     ))
 

@@ -1,29 +1,26 @@
 -- What is released: the list, and the statements.
-use Rattle.std.specs.{Prelude.{Contains, option_map, is_some}, Option.{option_map_or}, Ordering.{eq_by_cmp, int_cmp}, Cmp.{eq_by_cmp_equiv, Equal-is}}
-use Rattle.std.specs.Cmp.Lexicographic.{nat_list_cmp_total, texts_ties}
+use Rattle.std.specs.{Prelude.{Contains, is_some}, Option.{option_map_or}, Ordering.{eq_by_cmp, int_cmp}, Cmp.{eq_by_cmp_equiv, Equal-is}}
+use Rattle.std.specs.Cmp.Lexicographic.{texts_ties}
 use Rattle.std.proofs.Common.{slice_get, IsTrue, ◌≡◌, ℕ, ℤ, pos, codes, List, [], ◌∷◌, Bool, true, false, refl, sym, ap, subst, ◌∙◌, Some, None, Option, Ordering, inl, inr, ◌&&◌, not, cond, nat_lt, Ok, arith}
-use Rattle.std.proofs.{lemmas.Cmp.{int_cmp_total}, Math.Bool.{and-false, or-true}}
+use Rattle.std.proofs.Math.Bool.{and-false, or-true}
 use Rattle.sqlite_rules.specs.Lists.{Has}
 use Rattle.sqlite_tied.specs.Compute.{everything}
-use Rattle.table_access.specs.{Columns.{text, text_cmp, whole_at, by_both}, Statements.{from_table, keeps, shows, from_both}, Sound.{text_in}}
-use Rattle.table_access.{specs.Reading.{AreRead}, proofs.{Members.{any_has}, Values.{cast_null, cast_int}, SoundLemmas.{has_place, text_at, whole_in, any_of}}}
-use Rattle.table_access.proofs.{Keys.{apart_by}, Parts.{text_part, whole_part, agree_last, agree_and, once, where_last, where_and, all_where, is_param}}
-use Rattle.table_access.proofs.{Steps.{answered}, CountLemmas.{some_counted, same_any}, Maps.{looks_up_at}}
+use Rattle.table_access.specs.{Columns.{text, text_cmp, whole_at, by_both}, Statements.{from_table, keeps, from_both}, Sound.{text_in}, Reading.{AreRead}}
+use Rattle.table_access.proofs.{Members.{any_has}, Values.{cast_int}, SoundLemmas.{any_of}, CountLemmas.{some_counted, same_any}, Keys.{is_param, keeps_key}}
 use Rattle.broker_core.specs.{State.{State as Broker}, declared.command.Version.{Version}}
 use Rattle.broker_core.specs.{Text.{Text as Words, version, put_at, same_text, same_pair, same_version}, Listing.{Lists}, Machine.{version_cmp}}
 use Rattle.broker_tables.specs.{Schema.{in_versions, in_released, broker_schema}, Rows.{stands_at}, Numbers.{number_of}, Holds.{Holds, IsBroker, HoldsAfter}}
-use Rattle.broker_tables.{specs.Refusals.{HaveNumbers}, proofs.{Asked.{Asked, IsShown, of_table}, Listed.{lists_join}}}
-use Rattle.broker_tables.proofs.Inserted.{EndsOnly, Puts, inserted, next_ends, new_text, new_whole, free_two, environment_there, version_there}
-use Rattle.broker_tables.proofs.{VersionRows.{owners, names, same_version as same_row}, Orders.{placed_total, exact_placed}, NoVersion.{no_row, no_first}}
-use Rattle.broker_tables.proofs.{Frames.{frame_of, released_change}, NumberLemmas.{number_ties, version_unknown}}
-use Rattle.broker_tables.proofs.{RoomLemmas.{after_one, grows_added, grows_kept, number_for}, Standing.{stands_found, stands_set, stands_out}}
-use Rattle.broker_tables.proofs.{Ties.{two_tests, both_eq}, Placed.{released, released_there}, Removed.{TakesFrom, taken_from}}
-use Rattle.sqlite.specs.{Listing.{understood}, Tree.{IsAscending}, Edit.{id_in, next_rowid, with_rowid}, declared.types.Value.TheVariants.{Int, Text, Null}}
-use Rattle.sqlite.specs.{Order.{Row, column}, Term.{Term, col, lit}, Collation.TheVariants.{Binary}, Effect.{Database, Answers}, Query.{Query}, Schema.{Schema}}
-use Rattle.sqlite.specs.{Rowids.TheVariants.{Chosen}, Cast.{cast_row}, State.{State, Executes}}
+use Rattle.broker_tables.proofs.{Asked.{Asked, IsShown, of_table}, Listed.{lists_join}}
+use Rattle.broker_tables.proofs.Inserted.{EndsFrom, Adds, held_added, adds_ends, added, environment_there, version_there}
+use Rattle.broker_tables.proofs.{Keyed.{finds_row, is_free, kept_by, keys_of, released_by_key}, VersionRows.{owners, names, same_version as same_row}}
+use Rattle.broker_tables.proofs.{Orders.{placed_total, exact_placed}, NoVersion.{no_row, no_first}, Frames.{released_change}}
+use Rattle.broker_tables.proofs.{NumberLemmas.{number_ties, version_unknown}, Standing.{stands_set, stands_out}, Ties.{two_tests, both_eq}}
+use Rattle.broker_tables.proofs.{Placed.{released, at_released, listed, texts_in, wholes_in}, Removed.{TakesFrom, held_taken, taken_from}}
+use Rattle.sqlite.specs.{Listing.{understood}, Edit.{id_in}, declared.types.Value.TheVariants.{Int, Text, Null}, Order.{Row, column}, Term.{Term, col, lit}}
+use Rattle.sqlite.specs.{Collation.TheVariants.{Binary}, Effect.{Database, Answers}, Query.{Query}, State.{State, Executes}}
 use Rattle.sqlite_keyed.proofs.RuleLemmas.{first_of_both, second_of_both}
-use Rattle.deploy_tables.specs.{Releases.{IsVersion, MayBeReleased}, declared.partners.ReleasedNumber.{ReleasedNumber}, Listings.{IsReleasedRow}}
-use Rattle.deploy_tables.specs.{ContractsThere.{IsReleasedIn}, Partners.{IsNumberOfReleased, AreReleasedNumbers}}
+use Rattle.deploy_tables.specs.{Releases.{IsVersion, MayBeReleased, RecordsReleased}, declared.partners.ReleasedNumber.{ReleasedNumber}}
+use Rattle.deploy_tables.specs.{Listings.{IsReleasedRow}, ContractsThere.{IsReleasedIn}, Partners.{IsNumberOfReleased, AreReleasedNumbers}}
 use Rattle.deploy_tables.proofs.VersionRows.{joined_by, on_number, in_environment, named_version, same_pos, two_texts, tied_texts, Names, has_kept, pairs_apart, pair_is, is_pair}
 use Rattle.deploy_tables.proofs.LeftRows.{from_left, as_join}
 use Rattle.sqlite_typing.specs.Types.{accepts_program}
@@ -76,18 +73,10 @@ place_of r = (text in_released.environment r, whole_at in_released.version_numbe
 
 module _ (db : Database) (broker : IsBroker db) where
   pub environments : (r : Row) → Has (db.trees in_released.tree) r → column r in_released.environment ≡ Text (text in_released.environment r)
-  environments r has = text_at db broker.kept.sound released (has_place _ 12 released (released_there db broker)) r has 0 _ refl refl refl refl refl
+  environments = texts_in at_released db broker in_released.environment refl
 
   pub numbers : (r : Row) → Has (db.trees in_released.tree) r → column r in_released.version_number ≡ Int (whole_at in_released.version_number r)
-  numbers r has = whole_in db broker.kept.sound released (has_place _ 12 released (released_there db broker)) r has 1 _ refl refl refl refl refl
-
-  -- a version is released once in an environment
-  pub keys : IsAscending (λ a b. eq_by_cmp placed (place_of a) (place_of b) ≡ false) (db.trees in_released.tree)
-  keys = once placed (db.trees in_released.tree) (in_released.environment ∷ in_released.version_number ∷ []) place_of
-      (λ a b ha hb. agree_and nat_list_cmp_total (db.trees in_released.tree) in_released.environment (text in_released.environment) (text_part (db.trees in_released.tree) in_released.environment environments) int_cmp (whole_at in_released.version_number) (in_released.version_number ∷ []) a b ha hb
-      (agree_last int_cmp_total (db.trees in_released.tree) in_released.version_number (whole_at in_released.version_number)
-      (whole_part (db.trees in_released.tree) in_released.version_number numbers) a b ha hb))
-      (apart_by db broker.kept released 12 (released_there db broker) _ 11 (ap (λ (s : Schema). slice_get s.indexes 11) broker.schema) refl)
+  numbers r has = wholes_in at_released db broker in_released.version_number refl r has
 
 -- ---- what the rows of an environment say
 
@@ -126,7 +115,7 @@ module _ (db : Database) (s : Broker) (held : Holds db s) (e : Words) where
       as_join db (Text e ∷ []) in_released.tree in_versions.tree (on_number in_released.version_number) in_environment project order rows
       (subst (λ x. accepts_program x [] (joined_query project order) (Text e ∷ []) ≡ true) (sym held.broker.schema) typed)
       (named_version db held.broker in_released.tree in_released.version_number (environments db held.broker) (numbers db held.broker) e
-      released (has_place _ 12 released (released_there db held.broker)) refl (inr (inl refl)))
+      released (listed at_released db held.broker) refl (inr (inl refl)))
 
   pub released_joined : (rows : List Row) → IsShown (releases e) db rows → Answers db (record { lets = []; body = joined_query list_project list_order }) (Text e ∷ []) rows
   released_joined = as_joined list_project list_order (list_typed e)
@@ -138,7 +127,7 @@ module _ (db : Database) (s : Broker) (held : Holds db s) (e : Words) where
       → Lists version_cmp (λ v. IsTrue (s.released (e, v))) items
   released_listed rows items shown = lists_join db (Text e ∷ []) (joined_by in_released.version_number) list_project list_order IsReleasedRow version_cmp
       (λ v. IsTrue (s.released (e, v))) in_released.tree in_versions.tree
-      (pairs_apart db held.broker in_released.tree in_released.version_number (environments db held.broker) (numbers db held.broker) e placed_total place_of list_order (keys db held.broker)
+      (pairs_apart db held.broker in_released.tree in_released.version_number (environments db held.broker) (numbers db held.broker) e placed_total place_of list_order (keys_of released_by_key db held.broker)
       (λ p q hp hq tied.
       let a = has_kept db held.broker in_released.tree in_released.version_number (environments db held.broker) (numbers db held.broker) e p hp in
       let b = has_kept db held.broker in_released.tree in_released.version_number (environments db held.broker) (numbers db held.broker) e q hq in
@@ -177,14 +166,6 @@ module _ (db : Database) (s : Broker) (held : Holds db s) (e : Words) where
 abbrev pub by_place : List Term
 by_place = is_param 1 0 ∷ is_param 2 1 ∷ []
 
-module _ (db : Database) (broker : IsBroker db) where
-  pub where_place : (e : Words) (n : ℕ) (r : Row) → Has (db.trees in_released.tree) r → keeps by_place (Text e ∷ Int (pos n) ∷ []) r ≡ eq_by_cmp placed (e, pos n) (place_of r)
-  where_place e n r has =
-      let params = Text e ∷ Int (pos n) ∷ [] in
-      where_and nat_list_cmp_total (db.trees in_released.tree) in_released.environment (text in_released.environment) (text_part (db.trees in_released.tree) in_released.environment (environments db broker)) int_cmp (whole_at in_released.version_number) (pos n) (is_param 2 1 ∷ []) params 0 e refl r has
-      (where_last int_cmp_total (db.trees in_released.tree) in_released.version_number (whole_at in_released.version_number)
-      (whole_part (db.trees in_released.tree) in_released.version_number (numbers db broker)) params 1 (pos n) refl r has)
-
 -- ---- whether a version is released
 
 pub release : (e : Words) (n : ℕ)
@@ -195,23 +176,18 @@ release e n = record { names = _; means = record { is = refl; plain = (refl, ref
 
 -- a row is shown just where one has this environment and number
 row_found : (e : Words) (n : ℕ) (db : Database) (rows : List Row) → IsBroker db → IsShown (release e n) db rows
-    → is_some (option_map (text 0) (slice_get rows 0)) ≡ stands_at placed place_of (db.trees in_released.tree) (e, pos n)
-row_found e n db rows broker h =
-    let params = Text e ∷ Int (pos n) ∷ [] in
-    ap is_some (looks_up_at placed_total exact_placed place_of (text in_released.environment) (shows (col 1 in_released.environment ∷ []) params) (text 0) (λ r. refl) (e, pos n) (keeps by_place params) (db.trees in_released.tree) rows
-    (all_where placed (db.trees in_released.tree) place_of (e, pos n) by_place params (where_place db broker e n)) (keys db broker)
-    (answered db params in_released.tree by_place (col 1 in_released.environment ∷ []) [] rows h))
-    ∙ stands_found placed place_of (text in_released.environment) (db.trees in_released.tree) (e, pos n)
+    → is_some (slice_get rows 0) ≡ stands_at placed place_of (db.trees in_released.tree) (e, pos n)
+row_found e n db rows broker h = finds_row released_by_key db broker (Text e ∷ Int (pos n) ∷ []) (e, pos n) refl rows h
 
 -- no row is shown for a number that no version has
 pub none_released : (e : Words) (n : ℕ) (db : Database) (rows : List Row) (s : Broker) → Holds db s → (¬ IsVersion n s) → IsShown (release e n) db rows
     → slice_get rows 0 ≡ None
 none_released e n db rows s held none h = no_first rows (of_table (release e n) db (λ row. ⊥) (λ r has kept.
-    no_row db s held n (λ v is. none (v, is)) released (has_place _ 12 released (released_there db held.broker)) in_released.version_number (inr (inl refl)) r has
+    no_row db s held n (λ v is. none (v, is)) released (listed at_released db held.broker) in_released.version_number (inr (inl refl)) r has
     (numbers db held.broker r has) (first_of_both _ _ (second_of_both _ _ kept))) rows h)
 
 pub release_found : (e : Words) (n : ℕ) (db : Database) (rows : List Row) (s : Broker) (v : Version) → Holds db s → number_of s.versions v ≡ Some n → IsShown (release e n) db rows
-    → is_some (option_map (text 0) (slice_get rows 0)) ≡ s.released (e, v)
+    → is_some (slice_get rows 0) ≡ s.released (e, v)
 release_found e n db rows s v held is h =
     row_found e n db rows held.broker h ∙ stands db s held e v n is
 
@@ -238,54 +214,42 @@ module _ (old new : Database) (s : Broker) (held : Holds old s) (e : Words) (n :
 abbrev pub record_sql : List ℕ
 record_sql = codes "INSERT INTO released (environment, version_number) VALUES (?1, ?2)"
 
-record_puts : (e : Words) (n : ℕ) → Puts 12 record_sql (Text e ∷ Int (pos n) ∷ []) (Null ∷ Text e ∷ Int (pos n) ∷ [])
+recording : (e : Words) (n : ℕ) → Adds at_released record_sql (Text e ∷ Int (pos n) ∷ []) (Text e ∷ Int (pos n) ∷ [])
 unfolding understood everything
-record_puts e n = record { terms = lit Null ∷ col 0 0 ∷ col 0 1 ∷ []; width = 3; means = record { is = refl; plain = (refl, refl); unlisted = refl }; whole = refl; kinds = refl; one = refl }
+recording e n = record {
+  puts = record { terms = lit Null ∷ col 0 0 ∷ col 0 1 ∷ []; width = 3; means = record { is = refl; plain = (refl, refl); unlisted = refl }; whole = refl; kinds = refl; one = refl };
+  stored = λ i. Text e ∷ cast_int (pos n) i ∷ [];
+}
 
--- as it is stored
-record_stored : (rows : List Row) (e : Words) (n : ℕ) → with_rowid Chosen rows (cast_row released (Null ∷ Text e ∷ Int (pos n) ∷ [])) ≡ Int (next_rowid rows) ∷ Text e ∷ Int (pos n) ∷ []
-record_stored rows e n = λ i. with_rowid Chosen rows (cast_null i ∷ Text e ∷ cast_int (pos n) i ∷ [])
-
-pub now_released : (e : Words) (n : ℕ) (old new : State) (count : ℕ) (s : Broker) (v : Version) → Holds old.now s → number_of s.versions v ≡ Some n → Executes record_sql (Text e ∷ Int (pos n) ∷ []) old new (Ok count)
-    → HoldsAfter 2 old new (record s { released = put_at (same_pair same_text same_version) s.released (e, v) true })
-now_released e n old new count s v held is h =
-    let rows = old.now.trees in_released.tree in
-    let made = Int (next_rowid rows) ∷ Text e ∷ Int (pos n) ∷ [] in
-    let it = inserted record_sql (Text e ∷ Int (pos n) ∷ []) old new held.broker released 12 (released_there old.now held.broker) _ made (record_puts e n) (record_stored rows e n) count h in
-    let frame = frame_of (codes "released" ∷ []) in_released.tree refl old new held.broker it.0 in
-    after_one 2 (omega arith) (codes "released") old new _ frame (λ counted. grows_added _ _ made it.1 refl) (released_change old.now new.now s _ held frame (λ f w. each old.now new.now s held e n v is true
-    (stands_set placed place_of rows (new.now.trees in_released.tree) made it.1) f w (number_of s.versions w) refl))
+pub now_released : (e : Words) (n : ℕ) (old new : State) (s : Broker) → Holds old.now s → (t : Broker) → RecordsReleased e n s t → (count : ℕ) → Executes record_sql (Text e ∷ Int (pos n) ∷ []) old new (Ok count) → HoldsAfter 2 old new t
+now_released e n old new s held t (v, is, off, next) count h = held_added (recording e n) old new held.broker (omega arith) count h (λ frame it.
+    subst (Holds new.now) (sym next) (released_change old.now new.now s _ held frame (λ f w. each old.now new.now s held e n v is true
+    (stands_set placed place_of (old.now.trees in_released.tree) (new.now.trees in_released.tree) _ it) f w (number_of s.versions w) refl)))
 
 -- that a version is released fails only as the store fails, or since the environment's name is too long
-pub release_ends : (e : Words) (n : ℕ) (old new : State) (s : Broker) → Holds old.now s → HaveNumbers (codes "released" ∷ []) old.now → MayBeReleased e n s → EndsOnly (e ∷ []) record_sql (Text e ∷ Int (pos n) ∷ []) old new
-release_ends e n old new s held numbers_left (there, (v, is, free)) =
-    let rows = old.now.trees in_released.tree in
-    let made = Int (next_rowid rows) ∷ Text e ∷ Int (pos n) ∷ [] in
-    next_ends record_sql (Text e ∷ Int (pos n) ∷ []) old new held.broker released 12 (released_there old.now held.broker) _ _ (record_puts e n) (record_stored rows e n) (number_for _ numbers_left.0) (record { typed = refl; present = refl; checked = refl }) (
-      free_two rows made nat_list_cmp_total in_released.environment (text in_released.environment) (new_text rows made in_released.environment (environments old.now held.broker) refl) placed_total int_cmp_total in_released.version_number (whole_at in_released.version_number) (new_whole rows made in_released.version_number (numbers old.now held.broker) refl)
-          (sym (ap (λ o. option_map_or (λ k. stands_at placed place_of rows (e, pos k)) o false) is) ∙ held.released e v ∙ free),
-      tt,
-    )
-    (environment_there old.now s held made in_released.environment e there refl, (version_there old.now s held made in_released.version_number v n is refl, tt)) (e ∷ []) (λ are. (are.0, (tt, tt))) (omega arith) (omega arith)
+pub release_ends : (e : Words) (n : ℕ) (old new : State) → EndsFrom (codes "released" ∷ []) (e ∷ []) record_sql (Text e ∷ Int (pos n) ∷ []) old new (MayBeReleased e n)
+release_ends e n old new s here (there, (v, is, free)) numbers =
+    let held = here.held in
+    let made = added (recording e n) old new held.broker in
+    adds_ends (recording e n) old new held.broker numbers.0 (record { typed = refl; present = refl; checked = refl })
+    (is_free released_by_key old.now held.broker made refl (sym (ap (λ o. option_map_or (λ k. stands_at placed place_of (old.now.trees in_released.tree) (e, pos k)) o false) is) ∙ held.released e v ∙ free), tt)
+    (environment_there old.now s held made in_released.environment e there refl, (version_there old.now s held made in_released.version_number v n is refl, tt)) (e ∷ []) (λ are. (are.0, (tt, tt))) (omega arith) (omega arith) here.unlimited
 
 -- ---- the end of support
 
 abbrev pub end_sql : List ℕ
 end_sql = codes "DELETE FROM released WHERE environment = ?1 AND version_number = ?2"
 
-pub ending : (e : Words) (n : ℕ) → TakesFrom 12 released end_sql (Text e ∷ Int (pos n) ∷ []) by_place
+pub ending : (e : Words) (n : ℕ) → TakesFrom at_released end_sql (Text e ∷ Int (pos n) ∷ []) by_place
 unfolding understood everything
 ending e n = record { means = record { is = refl; plain = (refl, refl); unlisted = refl }; runs = record { whole = refl; typed = refl; sumless = refl }; alone = refl; fits = λ b. or-true (not b) }
 
 pub now_ended : (e : Words) (n : ℕ) (old new : State) (count : ℕ) (s : Broker) (v : Version) → Holds old.now s → number_of s.versions v ≡ Some n → Executes end_sql (Text e ∷ Int (pos n) ∷ []) old new (Ok count)
     → HoldsAfter 2 old new (record s { released = put_at (same_pair same_text same_version) s.released (e, v) false })
-now_ended e n old new count s v held is h =
-    let rows = old.now.trees in_released.tree in
-    let params = Text e ∷ Int (pos n) ∷ [] in
-    let it = taken_from (ending e n) old new held.broker (released_there old.now held.broker) count h in
-    let frame = frame_of (codes "released" ∷ []) in_released.tree refl old new held.broker it.0 in
-    after_one 2 (omega arith) (codes "released") old new _ frame (λ counted. grows_kept _ _ _ it.1) (released_change old.now new.now s _ held frame (λ f w. each old.now new.now s held e n v is false
-    (stands_out placed_total exact_placed place_of (e, pos n) (keeps by_place params) rows (new.now.trees in_released.tree) (all_where placed rows place_of (e, pos n) by_place params (where_place old.now held.broker e n)) it.1) f w (number_of s.versions w) refl))
+now_ended e n old new count s v held is h = held_taken (ending e n) old new held.broker (omega arith) count h (λ frame left.
+    released_change old.now new.now s _ held frame (λ f w. each old.now new.now s held e n v is false
+    (stands_out placed_total exact_placed place_of (e, pos n) (keeps by_place (Text e ∷ Int (pos n) ∷ [])) (old.now.trees in_released.tree) (new.now.trees in_released.tree)
+    (kept_by released_by_key old.now held.broker (Text e ∷ Int (pos n) ∷ []) (e, pos n) refl) left) f w (number_of s.versions w) refl))
 
 -- and the count says whether it was released
 pub ended_count : (e : Words) (n : ℕ) (old new : State) (count : ℕ) (s : Broker) (v : Version) → Holds old.now s → number_of s.versions v ≡ Some n → Executes end_sql (Text e ∷ Int (pos n) ∷ []) old new (Ok count)
@@ -293,6 +257,6 @@ pub ended_count : (e : Words) (n : ℕ) (old new : State) (count : ℕ) (s : Bro
 ended_count e n old new count s v held is h =
     let rows = old.now.trees in_released.tree in
     let params = Text e ∷ Int (pos n) ∷ [] in
-    ap (nat_lt 0) (taken_from (ending e n) old new held.broker (released_there old.now held.broker) count h).2
-    ∙ some_counted (keeps by_place params) rows ∙ same_any (keeps by_place params) (λ r. eq_by_cmp placed (e, pos n) (place_of r)) rows (where_place old.now held.broker e n)
+    ap (nat_lt 0) (taken_from (ending e n) old new held.broker count h).2
+    ∙ some_counted (keeps by_place params) rows ∙ same_any (keeps by_place params) (λ r. eq_by_cmp placed (e, pos n) (place_of r)) rows (λ r has. keeps_key released_by_key.columns.of 0 params (e, pos n) refl r (released_by_key.columns.typed old.now held.broker r has))
     ∙ stands old.now s held e v n is

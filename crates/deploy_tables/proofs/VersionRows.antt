@@ -12,7 +12,7 @@ use Rattle.sqlite.specs.{declared.types.Value.{Value}, declared.types.Value.TheV
 use Rattle.sqlite.specs.{Term.{Term, col, op2, holds}, Table.{Table}, Tree.{IsAscending}, Collation.TheVariants.{Binary}, Effect.{Database, Answers}}
 use Rattle.sqlite_sql.specs.{declared.ops.BinaryOp.TheVariants.{Compare}, declared.ops.CompareOp.TheVariants.{Eq}, Ops.{binary, is_true}}
 use Rattle.table_access.specs.{Columns.{text, whole_at, pair_cmp}, Statements.{keeps_both, pairs_kept, from_table, keeps, shows}, Reading.{AreRead}}
-use Rattle.table_access.proofs.Parts.{numbers_once}
+use Rattle.table_access.proofs.Keys.{numbers_once}
 use Rattle.table_access.proofs.Members.{ascending_on, has_pair, pair_has, pairs_rise, contains_has, has_contains, has_map, map_has, has_filter, filter_has}
 use Rattle.table_access.proofs.{Steps.{answered}, Answered.{permuted_has}}
 use Rattle.broker_core.specs.{declared.command.Version.{Version}, Text.{Text as Words, version}, State.{State as Broker}}

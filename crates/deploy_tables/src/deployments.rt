@@ -48,6 +48,7 @@ fn is_number(found: Option<u32>, number: u32) -> bool
 ///
 /// # Errors
 /// `StoreFault::Memory` if the database is out of memory; `StoreFault::Store` if it refused the row.
+#[tactic(auto, unfolding(sqlite_tied::specs::Compute::everything))]
 pub fn record_deployed<S: Alter>(
     conn: &mut Connection<S>,
     environment: &str,
@@ -74,6 +75,7 @@ pub fn record_deployed<S: Alter>(
 ///
 /// # Errors
 /// `StoreFault::Memory` if the database is out of memory; `StoreFault::Store` if it refused the change.
+#[tactic(auto, unfolding(sqlite_tied::specs::Compute::everything))]
 pub fn take_out<S: Alter>(
     conn: &mut Connection<S>,
     environment: &str,

@@ -1,4 +1,6 @@
 //! The tables as a new broker makes them.
+#![tactic(auto, unfolding(sqlite_tied::specs::Compute::everything))]
+
 ghost use Rattle.std.specs.Prelude.{◌≡◌, ◌++◌, ◌∷◌};
 ghost use Rattle.table_access.specs.Calls.{CallsStore};
 ghost use Rattle.table_access.specs.Statements.{Makes};

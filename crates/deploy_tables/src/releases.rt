@@ -32,6 +32,7 @@ pub fn is_released<S: Alter>(
 ///
 /// # Errors
 /// `StoreFault::Memory` if the database is out of memory; `StoreFault::Store` if it refused the row.
+#[tactic(auto, unfolding(sqlite_tied::specs::Compute::everything))]
 pub fn record_released<S: Alter>(
     conn: &mut Connection<S>,
     environment: &str,
@@ -53,6 +54,7 @@ pub fn record_released<S: Alter>(
 ///
 /// # Errors
 /// `StoreFault::Memory` if the database is out of memory; `StoreFault::Store` if it refused the change.
+#[tactic(auto, unfolding(sqlite_tied::specs::Compute::everything))]
 pub fn end_support<S: Alter>(
     conn: &mut Connection<S>,
     environment: &str,

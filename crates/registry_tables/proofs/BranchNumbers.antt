@@ -12,13 +12,14 @@ use Rattle.sqlite_keyed.proofs.{KeyedLemmas.{lt_from_Less, Less-from_lt}, RuleLe
 use Rattle.sqlite_tied.specs.Compute.{everything}
 use Rattle.table_access.specs.{Columns.{text, text_cmp, whole_at, by_both}, Reading.{AreRead, IsNumberRow}}
 use Rattle.table_access.{specs.Statements.{from_both, up_to, keeps_both, pairs_kept}, proofs.{Answered.{pair_shown}, Newest.{first_joined}}}
-use Rattle.table_access.proofs.{Parts.{numbers_once}, SoundLemmas.{any_of, at_has}}
+use Rattle.table_access.proofs.{Keys.{numbers_once}, SoundLemmas.{any_of, at_has}}
 use Rattle.table_access.proofs.{Members.{any_has, ascending_on, contains_has, pair_has, has_pair, pairs_rise}, Values.{less_ints}}
 use Rattle.broker_core.{specs.{Listing.{Lists}, State.{State as Broker}, Text.{version}}, proofs.Lists.{contains_none, contains_cases, contains_here}}
 use Rattle.broker_tables.{specs.{Schema.{in_versions, in_branches}, Holds.{Holds}}, proofs.Asked.{Asked, IsShown, EachReads, of_both, of_first_both}}
-use Rattle.broker_tables.proofs.{Listed.{sorts, lists_join}, Orders.{marked_total, exact_marked}, ReadableRows.{number_cell, version_low}}
+use Rattle.broker_tables.proofs.{Keyed.{branches_by_key, keys_of}, Placed.{at_branches, texts_in, wholes_in}, Listed.{sorts, lists_join}}
+use Rattle.broker_tables.proofs.{Orders.{marked_total, exact_marked}, ReadableRows.{number_cell, version_low}}
 use Rattle.broker_tables.proofs.VersionRows.{versions_numbered, version_number, owners, row_number, find_version, whole_test, text_test, all_three}
-use Rattle.registry_tables.{specs.Registry.{IsBranchNumber, IsNewestBelow}, proofs.BranchRows.{key, is_on, numbers as branch_numbers, names, keys}}
+use Rattle.registry_tables.{specs.Registry.{IsBranchNumber, IsNewestBelow}, proofs.BranchRows.{key, is_on}}
 
 -- ON b.version_number = v.number WHERE v.pacticipant = ?1 AND b.branch = ?2
 abbrev terms : List Term
@@ -70,9 +71,9 @@ module _ (db : Database) (s : Broker) (held : Holds db s) (p b : List ℕ) where
       → (keeps_both terms (Text p ∷ Text b ∷ more) r x ≡ true) ↔ IsPair p b r x
   keeps more r x hr hx =
       let all = all_three (is_true (binary (Compare Eq Binary) (column x in_branches.version_number) (column r in_versions.number))) (is_true (binary (Compare Eq Binary) (column r in_versions.pacticipant) (Text p))) (is_true (binary (Compare Eq Binary) (column x in_branches.branch) (Text b))) in
-      let number = whole_test (column x in_branches.version_number) (column r in_versions.number) _ _ ((branch_numbers db held.broker).typed x hx) (version_number db held.broker r hr) in
+      let number = whole_test (column x in_branches.version_number) (column r in_versions.number) _ _ (wholes_in at_branches db held.broker in_branches.version_number refl x hx) (version_number db held.broker r hr) in
       let owner = text_test (column r in_versions.pacticipant) (Text p) _ p (owners db held.broker r hr) refl in
-      let branch = text_test (column x in_branches.branch) (Text b) _ b ((names db held.broker).typed x hx) refl in
+      let branch = text_test (column x in_branches.branch) (Text b) _ b (texts_in at_branches db held.broker in_branches.branch refl x hx) refl in
       (λ kept. let it = all.0 kept in (number.0 it.0, owner.0 it.1, branch.0 it.2), λ is. all.1 (number.1 is.0, owner.1 is.1, branch.1 is.2))
 
   -- a pair stands for a number on the branch
@@ -117,7 +118,7 @@ module _ (db : Database) (s : Broker) (held : Holds db s) (p b : List ℕ) where
         let one = agrees x y hx hy ky in
         let two = agrees x z hx hz kz in
         let same : key y ≡ key z = λ i. ((one.0 ∙ sym two.0) i, (one.2 ∙ sym two.2) i) in
-        absurd (true≢false (sym (ap (eq_by_cmp (by_both int_cmp text_cmp) (key y)) (sym same) ∙ (eq_by_cmp_equiv marked_total).refl (key y)) ∙ differ))) (keys db held.broker))
+        absurd (true≢false (sym (ap (eq_by_cmp (by_both int_cmp text_cmp) (key y)) (sym same) ∙ (eq_by_cmp_equiv marked_total).refl (key y)) ∙ differ))) (keys_of branches_by_key db held.broker))
         (ascending_on _ _ (db.trees in_versions.tree) (λ x w hx hw differ y z hy hz ky kz. ap is_eq (by_number (x, y) (w, z) hx hw) ∙ (eq_by_cmp_equiv int_cmp_total).symm (whole_at in_versions.number w) (whole_at in_versions.number x) ∙ differ)
         (numbers_once (db.trees in_versions.tree) (versions_numbered db held.broker)))
 

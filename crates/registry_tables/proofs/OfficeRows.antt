@@ -1,19 +1,14 @@
 -- The query on meta.
 use Rattle.std.specs.{Prelude.{option_map, IsUtf8}, List.Sorted.{IsPermutation}}
 use Rattle.std.proofs.Common.{◌≡◌, inl, inr, ℕ, codes, List, [], ◌∷◌, IsTrue, Some, None, refl, sym, ap, subst, ◌∙◌, slice_get, filter, map, arith, ℤ}
-use Rattle.sqlite.specs.{Order.{Row, column}, declared.types.Value.TheVariants.{Text}, Schema.{Schema}, Term.{col}, Effect.{Database}, State.{State}}
-use Rattle.sqlite.{specs.Listing.{understood}, proofs.Callers.{one_permutation}}
-use Rattle.sqlite_rules.specs.Lists.{Has}
+use Rattle.sqlite.{specs.{Order.{Row}, Term.{col}, Effect.{Database}, State.{State}, Listing.{understood}}, proofs.Callers.{one_permutation}}
 use Rattle.table_access.specs.{declared.StoreFault.{StoreFault}, declared.StoreFault.TheVariants.{Memory}, Calls.{IsEnded}}
 use Rattle.table_access.{specs.{Reading.{FailsToTake, TellsText, IsTextAt}, Columns.{text}, Statements.{from_table, keeps, shows}}, proofs.Maps.{few_permuted}}
-use Rattle.table_access.proofs.{SoundLemmas.{text_at, has_place}, Steps.{answered}, CallLemmas.{query_by, refused_memory}}
-use Rattle.broker_tables.{specs.{Schema.{in_meta}, Holds.{Holds, IsBroker, IsMeta, format}}, proofs.Placed.{meta}}
+use Rattle.table_access.proofs.{Steps.{answered}, CallLemmas.{query_by, refused_memory}}
+use Rattle.broker_tables.{specs.{Schema.{in_meta}, Holds.{Holds, IsBroker, IsMeta, format}}, proofs.Placed.{at_meta, texts_in}}
 use Rattle.broker_tables.proofs.Asked.{Asked, IsShown, FirstReads, is_answer, text_reads}
 use Rattle.sqlite_tied.specs.Compute.{everything}
 use Rattle.broker_core.specs.State.{State as Broker}
-
-digests : (db : Database) → IsBroker db → (r : Row) → Has (db.trees in_meta.tree) r → column r in_meta.office_digest ≡ Text (text in_meta.office_digest r)
-digests db broker r has = text_at db broker.kept.sound meta (has_place _ 0 meta (ap (λ (c : Schema). slice_get c.tables 0) broker.schema)) r has 2 _ refl refl refl refl refl
 
 abbrev office_sql : List ℕ
 office_sql = codes "SELECT office_digest FROM meta"
@@ -33,7 +28,7 @@ office_found db rows s held h = one_row format (db.trees in_meta.tree) rows s.of
 
 -- where the digest is a text in UTF-8, it can be read
 pub office_reads : (db : Database) → FirstReads office db (IsTextAt 0)
-office_reads db s held readable = text_reads office db (digests db held.broker) (λ rows h row head.
+office_reads db s held readable = text_reads office db (texts_in at_meta db held.broker in_meta.office_digest refl) (λ rows h row head.
     let is : Some (text 0 row) ≡ Some s.office = sym (ap (option_map (text 0)) head) ∙ office_found db rows s held h in
     let same : text 0 row ≡ s.office = cc in
     subst IsUtf8 (sym same) readable.office)

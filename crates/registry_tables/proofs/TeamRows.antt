@@ -1,30 +1,17 @@
 -- The statements on teams.
-use Rattle.std.specs.{Prelude.{option_map, is_some}, Cmp.Lexicographic.{nat_list_cmp_total, texts_ties}, Ordering.{eq_by_cmp}}
+use Rattle.std.specs.{Prelude.{option_map, is_some}, Cmp.Lexicographic.{nat_list_cmp_total, texts_ties}}
 use Rattle.std.proofs.Common.{◌≡◌, ℕ, codes, List, [], ◌∷◌, false, refl, sym, subst, ap, ◌∙◌, cond, slice_get, Some, None, Ok, MatchOption, Option, arith}
-use Rattle.sqlite.specs.{Tree.{IsAscending}, Edit.{next_rowid, with_rowid}, Rowids.TheVariants.{Chosen}, declared.types.Value.TheVariants.{Null, Int, Text}}
-use Rattle.sqlite.specs.{Order.{Row, column}, Term.{col, op2, lit}, Collation.TheVariants.{Binary}, Cast.{cast_row}, Schema.{Schema}, Effect.{Database}}
+use Rattle.sqlite.specs.{declared.types.Value.TheVariants.{Null, Text}, Order.{Row}, Term.{col, op2, lit}, Collation.TheVariants.{Binary}, Effect.{Database}}
 use Rattle.sqlite.specs.{State.{State, Executes}, Listing.{understood}}
 use Rattle.sqlite_sql.specs.{declared.ops.BinaryOp.TheVariants.{Compare}, declared.ops.CompareOp.TheVariants.{Eq}}
-use Rattle.sqlite_rules.specs.Lists.{Has}
 use Rattle.sqlite_tied.specs.Compute.{everything}
-use Rattle.table_access.{specs.{Columns.{text, text_cmp}, Statements.{from_table}, Reading.{IsTextAt}}, proofs.{Values.{cast_null}, Steps.{answered}}}
-use Rattle.table_access.proofs.{Maps.{looks_up_at, puts_at, other_way, no_other_way}, Keys.{apart_by, text_keys, by_text}, SoundLemmas.{text_at, has_place}}
-use Rattle.broker_core.specs.{Text.{put_at, same_text}, State.{State as Broker}, Laws.{TeamsDiffer}}
-use Rattle.broker_tables.specs.{Schema.{in_teams}, Rows.{value_at}, Holds.{Holds, HoldsAfter, IsBroker}, Refusals.{HaveNumbers}}
-use Rattle.broker_tables.proofs.{Asked.{Asked, IsShown, FirstShown, FirstReads, text_reads}, Frames.{frame_of, teams_change}, Orders.{exact_texts}}
-use Rattle.broker_tables.proofs.{Placed.{teams, teams_there}, References.{team_names}, Standing.{stands_found}, RoomLemmas.{after_one, grows_added, number_for}}
-use Rattle.broker_tables.proofs.Inserted.{EndsOnly, Puts, inserted, next_ends, new_text, free_one}
+use Rattle.table_access.{specs.{Columns.{text, text_cmp}, Statements.{from_table}, Reading.{IsTextAt}}, proofs.Maps.{puts_at, other_way, no_other_way}}
+use Rattle.broker_core.specs.{State.{State as Broker}, Laws.{TeamsDiffer}}
+use Rattle.broker_tables.specs.{Schema.{in_teams}, Rows.{value_at}, Holds.{Holds, HoldsAfter}}
+use Rattle.broker_tables.proofs.{Asked.{Asked, IsShown, FirstShown, FirstReads, text_reads}, Frames.{teams_change}, Orders.{exact_texts}}
+use Rattle.broker_tables.proofs.{Keyed.{finds, is_free, keys_of, teams_by_digest, teams_by_name}, Placed.{at_teams, texts_in}, Standing.{stands_found}}
+use Rattle.broker_tables.proofs.Inserted.{EndsFrom, Adds, held_added, adds_ends, added}
 use Rattle.registry_tables.specs.Registry.{AddsTeam}
-
-module _ (db : Database) (broker : IsBroker db) where
-  digests : (r : Row) → Has (db.trees in_teams.tree) r → column r in_teams.token_digest ≡ Text (text in_teams.token_digest r)
-  digests r has = text_at db broker.kept.sound teams (has_place _ 1 teams (teams_there db broker)) r has 1 _ refl refl refl refl refl
-
-  team_keys : IsAscending (λ a b. eq_by_cmp text_cmp (text in_teams.name a) (text in_teams.name b) ≡ false) (db.trees in_teams.tree)
-  team_keys = text_keys (db.trees in_teams.tree) in_teams.name (team_names db broker) (apart_by db broker.kept teams 1 (teams_there db broker) _ 0 (ap (λ (s : Schema). slice_get s.indexes 0) broker.schema) refl)
-
-  digest_keys : IsAscending (λ a b. eq_by_cmp text_cmp (text in_teams.token_digest a) (text in_teams.token_digest b) ≡ false) (db.trees in_teams.tree)
-  digest_keys = text_keys (db.trees in_teams.tree) in_teams.token_digest digests (apart_by db broker.kept teams 1 (teams_there db broker) _ 1 (ap (λ (s : Schema). slice_get s.indexes 1) broker.schema) refl)
 
 -- ---- the digest of a team
 
@@ -36,13 +23,12 @@ token team = record { names = _; means = record { is = refl; plain = (refl, refl
 
 pub token_found : (team : List ℕ) (db : Database) (rows : List Row) (s : Broker) → Holds db s → IsShown (token team) db rows → option_map (text 0) (slice_get rows 0) ≡ s.teams team
 token_found team db rows s held h =
-    looks_up_at nat_list_cmp_total exact_texts (text in_teams.name) (text in_teams.token_digest) _ (text 0) (λ r. refl) team _ (db.trees in_teams.tree) rows (by_text (db.trees in_teams.tree) in_teams.name team (team_names db held.broker)) (team_keys db held.broker)
-    (answered db _ in_teams.tree _ _ _ rows h) ∙ held.teams team
+    finds teams_by_name db held.broker (Text team ∷ []) team refl (text in_teams.token_digest) (text 0) (λ r. refl) rows h ∙ held.teams team
 
 -- where the digest is a text in UTF-8, it can be read
 pub token_reads : (team : List ℕ) (db : Database) → FirstReads (token team) db (IsTextAt 0)
 token_reads team db s held readable =
-    text_reads (token team) db (digests db held.broker) (λ rows h row head. (readable.teams team (text 0 row) (sym (token_found team db rows s held h) ∙ ap (option_map (text 0)) head)).1)
+    text_reads (token team) db (texts_in at_teams db held.broker in_teams.token_digest refl) (λ rows h row head. (readable.teams team (text 0 row) (sym (token_found team db rows s held h) ∙ ap (option_map (text 0)) head)).1)
 
 -- where there is no such team, no row is shown
 pub token_missing : (team : List ℕ) (db : Database) (s : Broker) → Holds db s → s.teams team ≡ None → FirstShown (token team) db (λ row. ⊥)
@@ -58,8 +44,7 @@ holder digest = record { names = _; means = record { is = refl; plain = (refl, r
 
 found_by_digest : (digest : List ℕ) (db : Database) (rows : List Row) (s : Broker) → Holds db s → IsShown (holder digest) db rows → option_map (text 0) (slice_get rows 0) ≡ value_at text_cmp (text in_teams.token_digest) (text in_teams.name) (db.trees in_teams.tree) digest
 found_by_digest digest db rows s held h =
-    looks_up_at nat_list_cmp_total exact_texts (text in_teams.token_digest) (text in_teams.name) _ (text 0) (λ r. refl) digest _ (db.trees in_teams.tree) rows (by_text (db.trees in_teams.tree) in_teams.token_digest digest (digests db held.broker)) (digest_keys db held.broker)
-    (answered db _ in_teams.tree _ _ _ rows h)
+    finds teams_by_digest db held.broker (Text digest ∷ []) digest refl (text in_teams.name) (text 0) (λ r. refl) rows h
 
 -- that team has it, or no team has it
 abbrev pub IsTeamOf : Broker → List ℕ → Option (List ℕ) → Type 0
@@ -70,12 +55,12 @@ holder_found digest db rows s held h = subst (IsTeamOf s digest) (sym (found_by_
   where
     go : (o : Option (List ℕ)) → value_at text_cmp (text in_teams.token_digest) (text in_teams.name) (db.trees in_teams.tree) digest ≡ o → IsTeamOf s digest o
     go None e = λ t has. no_other_way nat_list_cmp_total exact_texts nat_list_cmp_total exact_texts (text in_teams.name) (text in_teams.token_digest) (db.trees in_teams.tree) t digest e (held.teams t ∙ has)
-    go (Some name) e = sym (held.teams name) ∙ other_way nat_list_cmp_total exact_texts nat_list_cmp_total exact_texts (text in_teams.name) (text in_teams.token_digest) (db.trees in_teams.tree) name digest (team_keys db held.broker) e
+    go (Some name) e = sym (held.teams name) ∙ other_way nat_list_cmp_total exact_texts nat_list_cmp_total exact_texts (text in_teams.name) (text in_teams.token_digest) (db.trees in_teams.tree) name digest (keys_of teams_by_name db held.broker) e
 
 -- where the team's name is a text in UTF-8, it can be read
 pub holder_reads : (digest : List ℕ) (db : Database) → FirstReads (holder digest) db (IsTextAt 0)
 holder_reads digest db s held readable =
-    text_reads (holder digest) db (team_names db held.broker) (λ rows h row head. (readable.teams (text 0 row) digest (subst (IsTeamOf s digest) (ap (option_map (text 0)) head) (holder_found digest db rows s held h))).0.0)
+    text_reads (holder digest) db (texts_in at_teams db held.broker in_teams.name refl) (λ rows h row head. (readable.teams (text 0 row) digest (subst (IsTeamOf s digest) (ap (option_map (text 0)) head) (holder_found digest db rows s held h))).0.0)
 
 -- where no team has this digest, no row is shown
 pub holder_missing : (digest : List ℕ) (db : Database) (s : Broker) → Holds db s → ((t : List ℕ) → ¬ (s.teams t ≡ Some digest)) → FirstShown (holder digest) db (λ row. ⊥)
@@ -91,41 +76,36 @@ teams_differ db s held digest a b has_a has_b = let both : Some a ≡ Some b = s
   where
     team_with : (team : List ℕ) → s.teams team ≡ Some digest
         → value_at text_cmp (text in_teams.token_digest) (text in_teams.name) (db.trees in_teams.tree) digest ≡ Some team
-    team_with team has = other_way nat_list_cmp_total exact_texts nat_list_cmp_total exact_texts (text in_teams.token_digest) (text in_teams.name) (db.trees in_teams.tree) digest team (digest_keys db held.broker) (held.teams team ∙ has)
+    team_with team has = other_way nat_list_cmp_total exact_texts nat_list_cmp_total exact_texts (text in_teams.token_digest) (text in_teams.name) (db.trees in_teams.tree) digest team (keys_of teams_by_digest db held.broker) (held.teams team ∙ has)
 
 -- ---- a new team
 
 abbrev pub add_sql : List ℕ
 add_sql = codes "INSERT INTO teams (name, token_digest) VALUES (?1, ?2)"
 
-add_puts : (team digest : List ℕ) → Puts 1 add_sql (Text team ∷ Text digest ∷ []) (Null ∷ Text team ∷ Text digest ∷ [])
+adding : (team digest : List ℕ) → Adds at_teams add_sql (Text team ∷ Text digest ∷ []) (Text team ∷ Text digest ∷ [])
 unfolding understood everything
-add_puts team digest = record { terms = lit Null ∷ col 0 0 ∷ col 0 1 ∷ []; width = 3; means = record { is = refl; plain = (refl, refl); unlisted = refl }; whole = refl; kinds = refl; one = refl }
+adding team digest = record {
+  puts = record { terms = lit Null ∷ col 0 0 ∷ col 0 1 ∷ []; width = 3; means = record { is = refl; plain = (refl, refl); unlisted = refl }; whole = refl; kinds = refl; one = refl };
+  stored = refl;
+}
 
-module _ (team digest : List ℕ) (old new : State) (s : Broker) (held : Holds old.now s) where
-  abbrev made : Row
-  made = Int (next_rowid (old.now.trees in_teams.tree)) ∷ Text team ∷ Text digest ∷ []
+module _ (team digest : List ℕ) (old new : State) where
+  pub team_added : (s : Broker) → Holds old.now s → (t : Broker) → AddsTeam team digest s t → (count : ℕ) → Executes add_sql (Text team ∷ Text digest ∷ []) old new (Ok count) → HoldsAfter 2 old new t
+  team_added s held t next count h = held_added (adding team digest) old new held.broker (omega arith) count h (λ frame it.
+      subst (Holds new.now) (sym next.2) (teams_change old.now new.now s _ held frame (λ u.
+      puts_at nat_list_cmp_total exact_texts (text in_teams.name) (text in_teams.token_digest) (old.now.trees in_teams.tree) (new.now.trees in_teams.tree) _ it (held.teams team ∙ next.0) u ∙ (λ i. cond (sym (texts_ties u team) i) (Some digest) (held.teams u i)))))
 
-  stored : with_rowid Chosen (old.now.trees in_teams.tree) (cast_row teams (Null ∷ Text team ∷ Text digest ∷ [])) ≡ made
-  stored = ap (λ v. with_rowid Chosen (old.now.trees in_teams.tree) (v ∷ Text team ∷ Text digest ∷ [])) cast_null
-
-  pub team_added : (count : ℕ) → s.teams team ≡ None → Executes add_sql (Text team ∷ Text digest ∷ []) old new (Ok count) → HoldsAfter 2 old new (record s { teams = put_at same_text s.teams team (Some digest) })
-  team_added count free h =
-      let it = inserted add_sql (Text team ∷ Text digest ∷ []) old new held.broker teams 1 (teams_there old.now held.broker) _ made (add_puts team digest) stored count h in
-      let frame = frame_of (codes "teams" ∷ []) in_teams.tree refl old new held.broker it.0 in
-      after_one 2 (omega arith) (codes "teams") old new _ frame (λ counted. grows_added _ _ made it.1 refl)
-      (teams_change old.now new.now s _ held frame (λ t.
-      puts_at nat_list_cmp_total exact_texts (text in_teams.name) (text in_teams.token_digest) (old.now.trees in_teams.tree) (new.now.trees in_teams.tree) made it.1 (held.teams team ∙ free) t ∙ (λ i. cond (sym (texts_ties t team) i) (Some digest) (held.teams t i))))
-
-  unknown : ((other : List ℕ) → ¬ (s.teams other ≡ Some digest)) → (found : Option (List ℕ)) → value_at text_cmp (text in_teams.token_digest) (text in_teams.name) (old.now.trees in_teams.tree) digest ≡ found → is_some found ≡ false
-  unknown none None is = refl
-  unknown none (Some other) is = absurd (none other (sym (held.teams other) ∙ other_way nat_list_cmp_total exact_texts nat_list_cmp_total exact_texts (text in_teams.name) (text in_teams.token_digest) (old.now.trees in_teams.tree) other digest (team_keys old.now held.broker) is))
+  unknown : (s : Broker) → Holds old.now s → ((other : List ℕ) → ¬ (s.teams other ≡ Some digest)) → (found : Option (List ℕ)) → value_at text_cmp (text in_teams.token_digest) (text in_teams.name) (old.now.trees in_teams.tree) digest ≡ found → is_some found ≡ false
+  unknown s held none None is = refl
+  unknown s held none (Some other) is = absurd (none other (sym (held.teams other) ∙ other_way nat_list_cmp_total exact_texts nat_list_cmp_total exact_texts (text in_teams.name) (text in_teams.token_digest) (old.now.trees in_teams.tree) other digest (keys_of teams_by_name old.now held.broker) is))
 
   -- it fails only as the store fails, or since one of its texts is too long
-  pub team_ends : HaveNumbers (codes "teams" ∷ []) old.now → (t : Broker) → AddsTeam team digest s t → EndsOnly (team ∷ digest ∷ []) add_sql (Text team ∷ Text digest ∷ []) old new
-  team_ends numbers t next =
-      let free_name = sym (stands_found text_cmp (text in_teams.name) (text in_teams.token_digest) (old.now.trees in_teams.tree) team) ∙ ap is_some (held.teams team ∙ next.0) in
-      let free_digest = sym (stands_found text_cmp (text in_teams.token_digest) (text in_teams.name) (old.now.trees in_teams.tree) digest) ∙ unknown next.1 _ refl in
-      next_ends add_sql (Text team ∷ Text digest ∷ []) old new held.broker teams 1 (teams_there old.now held.broker) _ _ (add_puts team digest) stored (number_for _ numbers.0) (record { typed = refl; present = refl; checked = refl })
-      (free_one (old.now.trees in_teams.tree) made nat_list_cmp_total in_teams.name (text in_teams.name) (new_text (old.now.trees in_teams.tree) made in_teams.name (team_names old.now held.broker) refl) free_name, (free_one (old.now.trees in_teams.tree) made nat_list_cmp_total in_teams.token_digest (text in_teams.token_digest) (new_text (old.now.trees in_teams.tree) made in_teams.token_digest (digests old.now held.broker) refl) free_digest, tt)) tt
-      (team ∷ digest ∷ []) (λ are. are) (omega arith) (omega arith)
+  pub team_ends : EndsFrom (codes "teams" ∷ []) (team ∷ digest ∷ []) add_sql (Text team ∷ Text digest ∷ []) old new (λ s. (t : Broker) × AddsTeam team digest s t)
+  team_ends s here (t, next) numbers =
+      let made = added (adding team digest) old new here.held.broker in
+      let free_name = sym (stands_found text_cmp (text in_teams.name) (text in_teams.token_digest) (old.now.trees in_teams.tree) team) ∙ ap is_some (here.held.teams team ∙ next.0) in
+      let free_digest = sym (stands_found text_cmp (text in_teams.token_digest) (text in_teams.name) (old.now.trees in_teams.tree) digest) ∙ unknown s here.held next.1 _ refl in
+      adds_ends (adding team digest) old new here.held.broker numbers.0 (record { typed = refl; present = refl; checked = refl })
+      (is_free teams_by_name old.now here.held.broker made refl free_name, (is_free teams_by_digest old.now here.held.broker made refl free_digest, tt)) tt
+      (team ∷ digest ∷ []) (λ are. are) (omega arith) (omega arith) here.unlimited

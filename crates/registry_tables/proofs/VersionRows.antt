@@ -1,23 +1,22 @@
 -- The statements on versions.
-use Rattle.std.specs.{Prelude.{option_map, is_some}, Cmp.Lexicographic.{nat_list_cmp_total}}
-use Rattle.std.proofs.Common.{◌≡◌, ℕ, pos, ◌+◌, IsTrue, codes, List, [], ◌∷◌, ◌++◌, length, true, false, refl, sym, ap, subst, ◌∙◌, slice_get, ◌<◌, ◌^◌, arith, Some, Option, Ok, unwrap_or}
+use Rattle.std.specs.Prelude.{option_map, is_some}
+use Rattle.std.proofs.Common.{◌≡◌, ℕ, pos, ◌+◌, codes, List, [], ◌∷◌, ◌++◌, length, false, refl, sym, ap, subst, ◌∙◌, slice_get, ◌<◌, ◌^◌, arith, Some, Option, Ok, unwrap_or}
 use Rattle.std.proofs.lemmas.Bool.{ltb-true, lt-ltb}
-use Rattle.sqlite.specs.{Edit.{with_rowid}, Rowids.TheVariants.{Chosen}, Cast.{cast_all, cast_row}, declared.types.Value.TheVariants.{Null, Int, Text}}
+use Rattle.sqlite.specs.{Edit.{with_rowid}, Rowids.TheVariants.{Chosen}, Cast.{cast_row}, declared.types.Value.TheVariants.{Null, Int, Text}}
 use Rattle.sqlite.specs.{Order.{Row, column}, Term.{col, lit}, Effect.{Database}, State.{State, Shown, Executes}, Listing.{understood}}
 use Rattle.sqlite_rules.specs.Edit.{is_taken}
 use Rattle.sqlite_tied.specs.Compute.{everything}
 use Rattle.table_access.specs.{Columns.{text, pair_cmp, whole_at}, Statements.{from_table, up_to, newest, by_two, shows}, Reading.{IsNumberRow}}
-use Rattle.table_access.proofs.{Values.{cast_null, cast_int}, Steps.{answered}, Maps.{looks_up_at}, Newest.{newest_number}, Keys.{by_pair}}
-use Rattle.table_access.proofs.ReadLemmas.{number_found, same_numbers}
-use Rattle.broker_core.specs.{declared.command.Version.{Version}, Text.{version}, State.{State as Broker}, Request.{is_known}, Limit.{has_room}}
-use Rattle.broker_tables.specs.{Schema.{in_versions, in_branches}, Numbers.{number_of}, Holds.{Holds, HoldsAfter, IsBroker}}
+use Rattle.table_access.proofs.{Values.{cast_null, cast_int}, Newest.{newest_number}, ReadLemmas.{number_found, same_numbers}}
+use Rattle.broker_core.specs.{declared.command.Version.{Version}, Text.{version}, State.{State as Broker}, Request.{is_known}}
+use Rattle.broker_tables.specs.{Schema.{in_versions, in_branches}, Numbers.{number_of}, Holds.{Holds, HoldsAfter}}
 use Rattle.broker_tables.proofs.{Asked.{Asked, IsShown, EachReads, of_first, number_reads}, ReadableRows.{number_cell, version_low}}
-use Rattle.broker_tables.proofs.{Frames.{meant, frame_of, Frame}, Growth.{versions_grow}, Newest.{newest as newest_count}, NextRow.{next_row}}
-use Rattle.broker_tables.proofs.{RoomLemmas.{after_one}, VersionRows.{owners, names, version_keys, versions_numbered, version_number}}
-use Rattle.broker_tables.proofs.{NumberLemmas.{version_row, known_numbered, newly_numbered, none_numbered}, Orders.{pairs_total, exact_pair}}
-use Rattle.broker_tables.proofs.{Placed.{versions, versions_there}, Standing.{stands_found}}
-use Rattle.broker_tables.proofs.Inserted.{EndsOnly, Puts, inserted, insert_ends, new_text, free_two, pacticipant_there, next_counted}
-use Rattle.registry_tables.{specs.Registry.{AddsVersion}, proofs.BranchRows.{is_on}}
+use Rattle.broker_tables.proofs.{Frames.{meant, frame_of, Frame, still_broker}, Growth.{versions_grow}, Newest.{newest as newest_count}, NextRow.{next_row}}
+use Rattle.broker_tables.proofs.{RoomLemmas.{after_one}, VersionRows.{versions_numbered, version_number}}
+use Rattle.broker_tables.proofs.{NumberLemmas.{version_row, known_numbered, newly_numbered, none_numbered}, Keyed.{finds, is_free, versions_by_name}}
+use Rattle.broker_tables.proofs.{Placed.{versions, at_versions}, Standing.{stands_found}}
+use Rattle.broker_tables.proofs.Inserted.{EndsFrom, Puts, inserted, insert_ends, pacticipant_there, next_counted}
+use Rattle.registry_tables.{specs.Registry.{AddsVersion, AllowsVersionAs, PutsVersion}, proofs.BranchRows.{is_on}}
 
 -- ---- the number of a version
 
@@ -29,10 +28,7 @@ known p name = record { names = _; means = record { is = refl; plain = (refl, re
 
 row_found : (p name : List ℕ) (db : Database) (rows : List Row) (s : Broker) → Holds db s → IsShown (known p name) db rows → option_map (whole_at 0) (slice_get rows 0) ≡ option_map pos (number_of s.versions (version p name))
 row_found p name db rows s held h =
-    looks_up_at pairs_total exact_pair (λ r. (text in_versions.pacticipant r, text in_versions.version r)) (whole_at in_versions.number) _ (whole_at 0) (λ r. refl) (p, name) _ (db.trees in_versions.tree) rows
-    (by_pair (db.trees in_versions.tree) in_versions.pacticipant in_versions.version p name (owners db held.broker) (names db held.broker))
-    (version_keys db held.broker)
-    (answered db _ in_versions.tree _ _ _ rows h)
+    finds versions_by_name db held.broker (Text p ∷ Text name ∷ []) (p, name) refl (whole_at in_versions.number) (whole_at 0) (λ r. refl) rows h
     ∙ version_row (db.trees in_versions.tree) s.versions p name held.versions
 
 pub known_found : (p name : List ℕ) (db : Database) (rows : List Row) (s : Broker) (found : Option ℕ) → Holds db s → IsShown (known p name) db rows
@@ -68,39 +64,39 @@ highest_reads db s held readable = of_first highest db _ (λ r has kept. number_
 abbrev pub put_sql : List ℕ
 put_sql = codes "INSERT INTO versions (number, pacticipant, version) VALUES (?1, ?2, ?3)"
 
-put_puts : (number : ℕ) (p name : List ℕ) → Puts 3 put_sql (Int (pos number) ∷ Text p ∷ Text name ∷ []) (Int (pos number) ∷ Null ∷ Text p ∷ Text name ∷ [])
+put_puts : (number : ℕ) (p name : List ℕ) → Puts at_versions put_sql (Int (pos number) ∷ Text p ∷ Text name ∷ []) (Int (pos number) ∷ Null ∷ Text p ∷ Text name ∷ [])
 unfolding understood everything
 put_puts number p name = record { terms = col 0 0 ∷ lit Null ∷ col 0 1 ∷ col 0 2 ∷ []; width = 4; means = record { is = refl; plain = (refl, refl); unlisted = refl }; whole = refl; kinds = refl; one = refl }
 
-module _ (number : ℕ) (p name : List ℕ) (old new : State) (s : Broker) (held : Holds old.now s) (unknown : is_known s (version p name) ≡ false) (is : number ≡ length s.versions + 1) where
+module _ (number : ℕ) (p name : List ℕ) (old new : State) where
   abbrev made : Row
   made = Int (pos number) ∷ Null ∷ Text p ∷ Text name ∷ []
 
   stored : with_rowid Chosen (old.now.trees in_versions.tree) (cast_row versions made) ≡ made
-  stored = ap (λ v. with_rowid Chosen (old.now.trees in_versions.tree) (v ∷ cast_all versions.columns (Null ∷ Text p ∷ Text name ∷ []))) (cast_int (pos number)) ∙ ap (λ v. Int (pos number) ∷ v ∷ Text p ∷ Text name ∷ []) cast_null
+  stored = λ i. with_rowid Chosen (old.now.trees in_versions.tree) (cast_int (pos number) i ∷ cast_null i ∷ Text p ∷ Text name ∷ [])
 
-  pub version_put : (count : ℕ) → Executes put_sql (Int (pos number) ∷ Text p ∷ Text name ∷ []) old new (Ok count) → HoldsAfter 2 old new (record s { versions = s.versions ++ version p name ∷ [] })
-  version_put count h =
-      let it = inserted put_sql (Int (pos number) ∷ Text p ∷ Text name ∷ []) old new held.broker versions 3 (versions_there old.now held.broker) _ made (put_puts number p name) stored count h in
+  pub version_put : (s : Broker) → Holds old.now s → (t : Broker) → PutsVersion number (version p name) s t → (count : ℕ) → Executes put_sql (Int (pos number) ∷ Text p ∷ Text name ∷ []) old new (Ok count) → HoldsAfter 2 old new t
+  version_put s held t (unknown, is, next) count h =
+      let it = inserted at_versions (put_puts number p name) old new held.broker stored count h in
       let frame : Frame (codes "versions" ∷ []) old.now new.now = frame_of (codes "versions" ∷ []) in_versions.tree refl old new held.broker it.0 in
-      let now_broker : IsBroker new.now = record { schema = frame.schema ∙ held.broker.schema; kept = frame.kept held.broker.kept } in
-      after_one 2 (omega arith) (codes "versions") old new _ frame (λ no. absurd cc)
+      after_one 2 (omega arith) (codes "versions") old new _ frame (λ no. absurd cc) (subst (Holds new.now) (sym next)
       (versions_grow old.now new.now s (version p name) held unknown frame
-      (next_row (λ r. version (text in_versions.pacticipant r) (text in_versions.version r)) s.versions (old.now.trees in_versions.tree) (new.now.trees in_versions.tree) made held.versions (versions_numbered new.now now_broker) (ap pos is) it.1))
+      (next_row (λ r. version (text in_versions.pacticipant r) (text in_versions.version r)) s.versions (old.now.trees in_versions.tree) (new.now.trees in_versions.tree) made held.versions (versions_numbered new.now (still_broker _ old.now new.now frame held.broker)) (ap pos is) it.1)))
 
   -- it fails only as the store fails, or since one of its names is too long
-  pub version_ends : IsTrue (is_some (s.pacticipants p)) → has_room s.versions ≡ true → EndsOnly (p ∷ name ∷ []) put_sql (Int (pos number) ∷ Text p ∷ Text name ∷ []) old new
-  version_ends there room =
+  pub version_ends : EndsFrom [] (p ∷ name ∷ []) put_sql (Int (pos number) ∷ Text p ∷ Text name ∷ []) old new (AllowsVersionAs number (version p name))
+  version_ends s here ((unknown, known, room), is) numbers =
+      let held = here.held in
       let few : length s.versions < 1000000000 = ltb-true (length s.versions) 1000000000 room in
       let free = sym (stands_found pair_cmp (λ r. (text in_versions.pacticipant r, text in_versions.version r)) (whole_at in_versions.number) (old.now.trees in_versions.tree) (p, name)) ∙ ap is_some (version_row (old.now.trees in_versions.tree) s.versions p name held.versions ∙ ap (option_map pos) (none_numbered s.versions (version p name) unknown)) in
-      insert_ends put_sql (Int (pos number) ∷ Text p ∷ Text name ∷ []) old new held.broker versions 3 (versions_there old.now held.broker) _ made (put_puts number p name) stored (record {
+      insert_ends at_versions (put_puts number p name) old new held.broker stored (record {
         pass = record { typed = refl; present = refl; checked = refl };
         fits = lt-ltb number (2 ^ 63) (omega (arith, is, few));
         keyed = refl;
         fresh = subst (λ n. is_taken (old.now.trees in_versions.tree) (Int (pos n) ∷ Null ∷ Text p ∷ Text name ∷ []) ≡ false) (sym is) (next_counted (λ x. version (text in_versions.pacticipant x) (text in_versions.version x)) (old.now.trees in_versions.tree) s.versions (Null ∷ Text p ∷ Text name ∷ []) held.versions (versions_numbered old.now held.broker));
-        free = (free_two (old.now.trees in_versions.tree) made nat_list_cmp_total in_versions.pacticipant (text in_versions.pacticipant) (new_text (old.now.trees in_versions.tree) made in_versions.pacticipant (owners old.now held.broker) refl) pairs_total nat_list_cmp_total in_versions.version (text in_versions.version) (new_text (old.now.trees in_versions.tree) made in_versions.version (names old.now held.broker) refl) free, tt);
-        parents = (pacticipant_there old.now s held made in_versions.pacticipant p there refl, tt);
-      }) (p ∷ name ∷ []) (λ are. record { wide = omega arith; narrow = omega arith; short = (tt, (tt, are)) })
+        free = (is_free versions_by_name old.now held.broker made refl free, tt);
+        parents = (pacticipant_there old.now s held made in_versions.pacticipant p known refl, tt);
+      }) (p ∷ name ∷ []) (λ are. record { wide = omega arith; narrow = omega arith; short = (tt, (tt, are)) }) here.unlimited
 
 -- a version that isn't there is on no branch
 pub no_branch : (db : Database) (s : Broker) (v : Version) → Holds db s → is_known s v ≡ false → (branch : List ℕ) → s.branches (v, branch) ≡ false

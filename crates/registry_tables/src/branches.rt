@@ -41,6 +41,7 @@ pub fn on_branch<S: Alter>(
 ///
 /// # Errors
 /// `StoreFault::Memory` if the database is out of memory; `StoreFault::Store` if it refused the row.
+#[tactic(auto, unfolding(sqlite_tied::specs::Compute::everything))]
 pub fn add_branch<S: Alter>(
     conn: &mut Connection<S>,
     number: u32,

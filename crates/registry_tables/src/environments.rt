@@ -102,6 +102,7 @@ fn number_for(truth: bool) -> u32
 }
 
 /// Puts in an environment that isn't strict.
+#[tactic(auto, unfolding(sqlite_tied::specs::Compute::everything))]
 fn put_environment<S: Alter>(
     conn: &mut Connection<S>,
     environment: &str,
@@ -123,6 +124,7 @@ fn put_environment<S: Alter>(
 }
 
 /// Makes an environment strict.
+#[tactic(auto, unfolding(sqlite_tied::specs::Compute::everything))]
 fn put_strict<S: Alter>(conn: &mut Connection<S>, environment: &str) -> Result<(), StoreFault>
     ensures changes { ChangesTaking S.Store conn.old conn.new 1 result (MakesStrict environment.now) }
     ensures calm { IsCalmStoring S.Store conn.old conn.new result (codes "strict_environments" ∷ []) (environment.now ∷ [])

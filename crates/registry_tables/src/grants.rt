@@ -31,6 +31,7 @@ pub fn granted<S: Alter>(
 ///
 /// # Errors
 /// `StoreFault::Memory` if the database is out of memory; `StoreFault::Store` if it refused the row.
+#[tactic(auto, unfolding(sqlite_tied::specs::Compute::everything))]
 pub fn add_grant<S: Alter>(
     conn: &mut Connection<S>,
     team: &str,
@@ -52,6 +53,7 @@ pub fn add_grant<S: Alter>(
 ///
 /// # Errors
 /// `StoreFault::Memory` if the database is out of memory; `StoreFault::Store` if it refused the statement.
+#[tactic(auto, unfolding(sqlite_tied::specs::Compute::everything))]
 pub fn remove_grant<S: Alter>(
     conn: &mut Connection<S>,
     team: &str,

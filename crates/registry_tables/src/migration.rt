@@ -51,6 +51,7 @@ pub fn to_format_2<S: Alter>(conn: &mut Connection<S>) -> Result<(), StoreFault>
 }
 
 /// Sets the format to 2.
+#[tactic(auto, unfolding(sqlite_tied::specs::Compute::everything))]
 fn set_format<S: Alter>(conn: &mut Connection<S>) -> Result<(), StoreFault>
     ensures sets { CallsStore S.Store conn.old conn.new result
         (λ _ old new. BecomesFormat2 added_tables old.now new.now) }

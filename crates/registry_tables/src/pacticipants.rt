@@ -33,6 +33,7 @@ pub fn owner_of<S: Alter>(
 ///
 /// # Errors
 /// `StoreFault::Memory` if the database is out of memory; `StoreFault::Store` if it refused the row.
+#[tactic(auto, unfolding(sqlite_tied::specs::Compute::everything))]
 pub fn add_pacticipant<S: Alter>(
     conn: &mut Connection<S>,
     pacticipant: &str,

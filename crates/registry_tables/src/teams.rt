@@ -64,6 +64,7 @@ pub fn team_of_digest<S: Alter>(
 ///
 /// # Errors
 /// `StoreFault::Memory` if the database is out of memory; `StoreFault::Store` if it refused the row.
+#[tactic(auto, unfolding(sqlite_tied::specs::Compute::everything))]
 pub fn add_team<S: Alter>(
     conn: &mut Connection<S>,
     team: &str,

@@ -50,6 +50,7 @@ pub fn version_count<S: Alter>(conn: &mut Connection<S>) -> Result<u64, StoreFau
 }
 
 /// Puts in a version under a number.
+#[tactic(auto, unfolding(sqlite_tied::specs::Compute::everything))]
 fn put_version<S: Alter>(
     conn: &mut Connection<S>,
     number: u32,

@@ -21,7 +21,6 @@ pub mod Upsert
 pub mod UpsertRefused
 pub mod Joins
 pub mod ReadLemmas
-pub mod Parts
 pub mod Changes
 pub mod Ordered
 pub mod Members

@@ -1,12 +1,7 @@
 use Rattle.std.proofs.Common.{refl, take, drop, inr}
-use Rattle.sqlite_tied.specs.Compute.{everything}
 use Rattle.table_access.{specs.Statements.{IndexesTable}, proofs.{CallLemmas.{call_with}, Creation.{each_single}}}
 use Rattle.broker_tables.specs.{Schema.{contents_by_digest}, Making.{index_texts}}
 use Rattle.content_store.proofs.making.make_index.Goals as goal
-
-pub make_each-requires : goal.make_each-requires
-unfolding everything
-make_each-requires g c = (refl, tt)
 
 pub returns-clause-makes : goal.returns-clause-makes
 returns-clause-makes g c =

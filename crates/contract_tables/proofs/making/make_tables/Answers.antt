@@ -1,12 +1,7 @@
 use Rattle.std.proofs.Common.{refl, take, drop, inl}
-use Rattle.sqlite_tied.specs.Compute.{everything}
 use Rattle.table_access.proofs.CallLemmas.{call_with}
 use Rattle.broker_tables.specs.Making.{table_texts}
 use Rattle.contract_tables.proofs.making.make_tables.Goals as goal
-
-pub make_each-requires : goal.make_each-requires
-unfolding everything
-make_each-requires g c = (refl, (refl, (refl, tt)))
 
 pub returns-clause-makes : goal.returns-clause-makes
 returns-clause-makes g c =

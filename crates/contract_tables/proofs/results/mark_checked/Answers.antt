@@ -1,12 +1,7 @@
-use Rattle.std.proofs.{Common.{refl, arith}, lemmas.Result.{IfErr-weaker}}
-use Rattle.sqlite_tied.specs.Compute.{everything}
+use Rattle.std.proofs.{Common.{arith}, lemmas.Result.{IfErr-weaker}}
 use Rattle.table_access.proofs.CallLemmas.{call_with, ended_with}
 use Rattle.contract_tables.proofs.ResultRows.{marked, mark_ends}
 use Rattle.contract_tables.proofs.results.mark_checked.Goals as goal
-
-pub change-requires : goal.change-requires
-unfolding everything
-change-requires g c = refl
 
 pub returns-clause-puts : goal.returns-clause-puts
 returns-clause-puts g c =

@@ -1,12 +1,7 @@
-use Rattle.std.proofs.{Common.{refl}, lemmas.Result.{IfErr-weaker}}
-use Rattle.sqlite_tied.specs.Compute.{everything}
+use Rattle.std.proofs.lemmas.Result.{IfErr-weaker}
 use Rattle.table_access.proofs.CallLemmas.{call_with, ended_with}
 use Rattle.contract_tables.proofs.ResultRows.{pointed, point_ends}
 use Rattle.contract_tables.proofs.results.point_latest.Goals as goal
-
-pub change-requires : goal.change-requires
-unfolding everything
-change-requires g c = refl
 
 pub returns-clause-points : goal.returns-clause-points
 returns-clause-points g c =

@@ -1,23 +1,9 @@
-use Rattle.sqlite.specs.Held.{state}
-use Rattle.sqlite_tied.specs.Compute.{everything}
-use Rattle.table_access.proofs.CallLemmas.{call_with}
-use Rattle.broker_tables.specs.Holds.{HoldsAfter}
+use Rattle.broker_tables.proofs.Alters.{alters, calmly}
 use Rattle.deploy_tables.proofs.DeployedState.{now_deployed, deployment_ends}
-use Rattle.std.proofs.{Common.{refl, sym, subst}, lemmas.Result.{IfErr-weaker}}
 use Rattle.deploy_tables.proofs.deployments.record_deployed.Goals as goal
 
-pub change-requires : goal.change-requires
-unfolding everything
-change-requires g c = refl
-
 pub returns-clause-changes : goal.returns-clause-changes
-returns-clause-changes g c =
-    let old = state g.S.Store c.args.conn.now in
-    let new = state g.S.Store c.change.new.conn in
-    call_with old new c.change.result _ _ (λ _ h s held t next. subst (HoldsAfter 2 old new) (sym next.3) (now_deployed c.args.environment.now c.args.pacticipant.now c.args.instance.now c.args.number next.0 old new h.0 s held next.1 next.2 h.1))
-    (rw (c.params-to_sql.ensures, c.params-to_sql-2.ensures, c.params-to_sql-3.ensures, c.params-to_sql-4.ensures) at c.change.ensures.leaves)
+returns-clause-changes g c = alters (now_deployed c.args.environment.now c.args.pacticipant.now c.args.instance.now c.args.number _ _) (rw (c.params-to_sql.ensures, c.params-to_sql-2.ensures, c.params-to_sql-3.ensures, c.params-to_sql-4.ensures) at c.change.ensures.leaves)
 
 pub returns-clause-calm : goal.returns-clause-calm
-returns-clause-calm g c =
-    let said = rw (c.params-to_sql.ensures, c.params-to_sql-2.ensures, c.params-to_sql-3.ensures, c.params-to_sql-4.ensures) at c.change.ensures.cause in
-    λ clean s here may numbers. IfErr-weaker c.change.result _ _ (deployment_ends c.args.environment.now c.args.pacticipant.now c.args.instance.now c.args.number _ _ s here.held numbers may here.unlimited) (said clean)
+returns-clause-calm g c = calmly c.change.result (deployment_ends c.args.environment.now c.args.pacticipant.now c.args.instance.now c.args.number _ _) (rw (c.params-to_sql.ensures, c.params-to_sql-2.ensures, c.params-to_sql-3.ensures, c.params-to_sql-4.ensures) at c.change.ensures.cause)

@@ -1,14 +1,9 @@
-use Rattle.std.proofs.Common.{Bool, Err, refl}
+use Rattle.std.proofs.Common.{Bool, Err}
 use Rattle.sqlite.specs.Held.{state}
-use Rattle.sqlite_tied.specs.Compute.{everything}
 use Rattle.table_access.proofs.CallLemmas.{then_ok, then_err}
 use Rattle.broker_tables.proofs.QueryLemmas.{calm_by}
 use Rattle.deploy_tables.proofs.{DeployedState.{taken_out, none_taken}, Removals.{taking_out_ends}}
 use Rattle.deploy_tables.proofs.deployments.take_out.Goals as goal
-
-pub change_counted-requires : goal.change_counted-requires
-unfolding everything
-change_counted-requires g c = refl
 
 pub returns-clause-taken : goal.returns-clause-taken
 returns-clause-taken g c =

@@ -1,12 +1,7 @@
 use Rattle.std.proofs.Common.{refl, take, drop, inl}
-use Rattle.sqlite_tied.specs.Compute.{everything}
 use Rattle.table_access.proofs.CallLemmas.{call_with}
 use Rattle.broker_tables.specs.Making.{table_texts}
 use Rattle.deploy_tables.proofs.making.make_tables.Goals as goal
-
-pub make_each-requires : goal.make_each-requires
-unfolding everything
-make_each-requires g c = (refl, (refl, tt))
 
 pub returns-clause-makes : goal.returns-clause-makes
 returns-clause-makes g c = call_with _ _ c.make_each.result _ _ (λ _ made is. made.0 (take 11 table_texts) (take 2 (drop 11 table_texts)) (drop 13 table_texts) refl

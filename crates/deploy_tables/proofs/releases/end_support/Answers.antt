@@ -1,15 +1,10 @@
 use Rattle.std.proofs.Common.{Bool, Err, refl, false}
 use Rattle.sqlite.specs.Held.{state}
-use Rattle.sqlite_tied.specs.Compute.{everything}
 use Rattle.table_access.proofs.CallLemmas.{then_ok, then_err}
 use Rattle.broker_tables.proofs.QueryLemmas.{calm_by}
 use Rattle.broker_core.specs.{Text.{put_at, same_pair, same_text, same_version}, State.{State}}
 use Rattle.deploy_tables.proofs.{ReleasedRows.{now_ended, ended_count}, Removals.{support_ends}}
 use Rattle.deploy_tables.proofs.releases.end_support.Goals as goal
-
-pub change_counted-requires : goal.change_counted-requires
-unfolding everything
-change_counted-requires g c = refl
 
 pub returns-clause-ended : goal.returns-clause-ended
 returns-clause-ended g c =

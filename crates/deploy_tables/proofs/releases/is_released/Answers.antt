@@ -1,6 +1,4 @@
-use Rattle.std.{specs.Prelude.{is_some}, proofs.Common.{ap, sym, ◌∙◌, slice_get}}
-use Rattle.sqlite_keyed.proofs.SliceLemmas.{is_some-map}
-use Rattle.table_access.specs.Columns.{text}
+use Rattle.std.{specs.Prelude.{is_some}, proofs.Common.{ap, ◌∙◌}}
 use Rattle.broker_tables.proofs.Asked.{looks_for}
 use Rattle.deploy_tables.proofs.ReleasedRows.{release, release_found, none_released}
 use Rattle.deploy_tables.proofs.releases.is_released.Goals as goal
@@ -9,6 +7,6 @@ pub returns : goal.returns
 returns g c =
     let said = rw (c.params-to_sql.ensures, c.params-to_sql-2.ensures) at c.has_row.ensures in
     looks_for (release c.args.environment.now c.args.number) _ _ (λ s held rows h has is. (
-      λ v numbered. is ∙ sym (is_some-map (text 0) (slice_get rows 0)) ∙ release_found c.args.environment.now c.args.number _ rows s v held numbered h,
+      λ v numbered. is ∙ release_found c.args.environment.now c.args.number _ rows s v held numbered h,
       λ none. is ∙ ap is_some (none_released c.args.environment.now c.args.number _ rows s held none h),
     )) said.leaves said.cause

@@ -1,6 +1,4 @@
-use Rattle.std.proofs.Common.{sym, ◌∙◌, slice_get}
-use Rattle.sqlite_keyed.proofs.SliceLemmas.{is_some-map}
-use Rattle.table_access.specs.Columns.{text}
+use Rattle.std.proofs.Common.{◌∙◌}
 use Rattle.broker_tables.proofs.Asked.{looks_for, looks_for_none}
 use Rattle.registry_tables.proofs.BranchRows.{on, on_found, on_none}
 use Rattle.registry_tables.proofs.branches.on_branch.Goals as goal
@@ -9,7 +7,7 @@ pub returns-clause-answers : goal.returns-clause-answers
 returns-clause-answers g c =
     let said = rw (c.params-to_sql.ensures, c.params-to_sql-2.ensures) at c.has_row.ensures in
     looks_for (on c.args.number c.args.branch.now) _ _
-    (λ s held rows h has there v is. there ∙ sym (is_some-map (text 0) (slice_get rows 0)) ∙ on_found c.args.number c.args.branch.now _ rows s v held is h) said.leaves said.cause
+    (λ s held rows h has there v is. there ∙ on_found c.args.number c.args.branch.now _ rows s v held is h) said.leaves said.cause
 
 pub returns-clause-unknown : goal.returns-clause-unknown
 returns-clause-unknown g c =

@@ -1,6 +1,4 @@
-use Rattle.std.proofs.Common.{sym, ◌∙◌, slice_get}
-use Rattle.sqlite_keyed.proofs.SliceLemmas.{is_some-map}
-use Rattle.table_access.specs.Columns.{text}
+use Rattle.std.proofs.Common.{◌∙◌}
 use Rattle.broker_tables.proofs.Asked.{looks_for}
 use Rattle.registry_tables.proofs.EnvironmentRows.{strict, strict_found}
 use Rattle.registry_tables.proofs.environments.is_strict.Goals as goal
@@ -9,4 +7,4 @@ pub returns : goal.returns
 returns g c =
     let said = rw c.params-to_sql.ensures at c.has_row.ensures in
     looks_for (strict c.args.environment.now) _ _
-    (λ s held rows h has there marks is. there ∙ sym (is_some-map (text 0) (slice_get rows 0)) ∙ strict_found c.args.environment.now _ rows s marks held is h) said.leaves said.cause
+    (λ s held rows h has there marks is. there ∙ strict_found c.args.environment.now _ rows s marks held is h) said.leaves said.cause

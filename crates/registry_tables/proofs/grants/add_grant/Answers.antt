@@ -1,22 +1,9 @@
-use Rattle.broker_tables.specs.Holds.{HoldsAfter}
+use Rattle.broker_tables.proofs.Alters.{alters, calmly}
 use Rattle.registry_tables.proofs.GrantRows.{grant_added, grant_ends}
-use Rattle.sqlite.specs.Held.{state}
-use Rattle.sqlite_tied.specs.Compute.{everything}
-use Rattle.std.proofs.{Common.{refl, subst, sym}, lemmas.Result.{IfErr-weaker}}
-use Rattle.table_access.proofs.CallLemmas.{call_with}
 use Rattle.registry_tables.proofs.grants.add_grant.Goals as goal
 
-pub change-requires : goal.change-requires
-unfolding everything
-change-requires g c = refl
-
 pub returns-clause-changes : goal.returns-clause-changes
-returns-clause-changes g c =
-    let old = state g.S.Store c.args.conn.now in
-    let new = state g.S.Store c.change.new.conn in
-    call_with old new c.change.result _ _ (λ _ h s held t next. subst (HoldsAfter 2 old new) (sym next.3) (grant_added c.args.team.now c.args.environment.now old new h.0 s held h.1)) (rw (c.params-to_sql.ensures, c.params-to_sql-2.ensures) at c.change.ensures.leaves)
+returns-clause-changes g c = alters (grant_added c.args.team.now c.args.environment.now _ _) (rw (c.params-to_sql.ensures, c.params-to_sql-2.ensures) at c.change.ensures.leaves)
 
 pub returns-clause-calm : goal.returns-clause-calm
-returns-clause-calm g c =
-    let said = rw (c.params-to_sql.ensures, c.params-to_sql-2.ensures) at c.change.ensures.cause in
-    λ clean s here next numbers. IfErr-weaker c.change.result _ _ (grant_ends c.args.team.now c.args.environment.now _ _ s next.0 here.held numbers next.1 here.unlimited) (said clean)
+returns-clause-calm g c = calmly c.change.result (grant_ends c.args.team.now c.args.environment.now _ _) (rw (c.params-to_sql.ensures, c.params-to_sql-2.ensures) at c.change.ensures.cause)

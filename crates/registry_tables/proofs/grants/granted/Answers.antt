@@ -1,6 +1,4 @@
-use Rattle.std.proofs.Common.{sym, ◌∙◌, slice_get}
-use Rattle.sqlite_keyed.proofs.SliceLemmas.{is_some-map}
-use Rattle.table_access.specs.Columns.{text}
+use Rattle.std.proofs.Common.{◌∙◌}
 use Rattle.broker_tables.proofs.Asked.{looks_for}
 use Rattle.registry_tables.proofs.GrantRows.{granted, grant_found}
 use Rattle.registry_tables.proofs.grants.granted.Goals as goal
@@ -8,5 +6,4 @@ use Rattle.registry_tables.proofs.grants.granted.Goals as goal
 pub returns : goal.returns
 returns g c =
     let said = rw (c.params-to_sql.ensures, c.params-to_sql-2.ensures) at c.has_row.ensures in
-    looks_for (granted c.args.team.now c.args.environment.now) _ _
-    (λ s held rows h has is. is ∙ sym (is_some-map (text 0) (slice_get rows 0)) ∙ grant_found c.args.team.now c.args.environment.now _ rows s held h) said.leaves said.cause
+    looks_for (granted c.args.team.now c.args.environment.now) _ _ (λ s held rows h has is. is ∙ grant_found c.args.team.now c.args.environment.now _ rows s held h) said.leaves said.cause

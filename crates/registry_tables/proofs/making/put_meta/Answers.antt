@@ -1,14 +1,9 @@
-use Rattle.std.proofs.{Common.{refl}, lemmas.Result.{IfErr-weaker}}
+use Rattle.std.proofs.lemmas.Result.{IfErr-weaker}
 use Rattle.sqlite.specs.Held.{state}
-use Rattle.sqlite_tied.specs.Compute.{everything}
 use Rattle.table_access.proofs.CallLemmas.{call_with}
 use Rattle.broker_tables.proofs.MakingFails.{has_failed}
 use Rattle.registry_tables.proofs.{MetaRow.{put_sql, meta_put}, MetaFails.{meta_fails}}
 use Rattle.registry_tables.proofs.making.put_meta.Goals as goal
-
-pub change-requires : goal.change-requires
-unfolding everything
-change-requires g c = refl
 
 pub returns-clause-puts : goal.returns-clause-puts
 returns-clause-puts g c =

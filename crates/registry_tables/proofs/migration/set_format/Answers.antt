@@ -1,13 +1,8 @@
 use Rattle.broker_tables.proofs.MakingFails.{has_failed}
 use Rattle.registry_tables.proofs.FormatRow.{format_fails, format_set, set_sql}
-use Rattle.sqlite_tied.specs.Compute.{everything}
-use Rattle.std.proofs.{Common.{[], refl}, lemmas.Result.{IfErr-weaker}}
+use Rattle.std.proofs.{Common.{[]}, lemmas.Result.{IfErr-weaker}}
 use Rattle.table_access.proofs.CallLemmas.{call_with}
 use Rattle.registry_tables.proofs.migration.set_format.Goals as goal
-
-pub change-requires : goal.change-requires
-unfolding everything
-change-requires g c = refl
 
 pub returns-clause-sets : goal.returns-clause-sets
 returns-clause-sets g c = call_with _ _ c.change.result _ _ (λ _ h s held. format_set _ _ s held h.0 h.1) c.change.ensures.leaves
