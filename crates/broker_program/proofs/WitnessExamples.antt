@@ -1,5 +1,5 @@
 -- What two wrong bodies leave: clauses that end in an existential exclude it, whatever witness is given.
-use Rattle.std.{specs.Prelude.{Option}, proofs.Common.{◌≡◌, ◌≢◌, ◌⊎◌, inl, inr, ℕ, List, [], ◌∷◌, ◌++◌, length, true, refl, sym, ap, ◌∙◌, arith, length-append}}
+use Rattle.std.{specs.Prelude.{Option}, proofs.Common.{◌≡◌, ◌≢◌, inl, inr, ℕ, List, [], ◌∷◌, ◌++◌, length, true, sym, ap, ◌∙◌, arith, length-append}}
 use Rattle.sqlite_disk.specs.declared.Disk.{Ghosts}
 use Rattle.sqlite.specs.{Recovery.{Image}, declared.FileStore.{FileStore}}
 use Rattle.clap.specs.Words.{Text}

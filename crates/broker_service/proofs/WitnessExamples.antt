@@ -1,5 +1,5 @@
 -- What a wrong body leaves: a clause that ends in an existential excludes it, whatever witness is given.
-use Rattle.std.{specs.Prelude.{IsTrue}, proofs.Common.{◌≡◌, ◌≢◌, inl, inr, Option, Result, Err, true, false, sym, subst, ◌∙◌, arith}}
+use Rattle.std.{specs.Prelude.{IsTrue}, proofs.Common.{◌≡◌, ◌≢◌, inl, inr, Option, Result, Err, true, false, sym, ◌∙◌}}
 use Rattle.sqlite.specs.{Held.{Held}, State.{State, HasCleanDisk, HasCause, store_error}}
 use Rattle.sqlite_trees.specs.declared.error.StoreError.{StoreError}
 use Rattle.sqlite_trees.specs.declared.error.StoreError.TheVariants.{OutOfMemory, Io, Corrupt, Full, Broken, Unstorable}

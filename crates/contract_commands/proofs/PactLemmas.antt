@@ -3,7 +3,7 @@ use Rattle.std.specs.{List.{cons_option, position_or_len, list_any}, Option.{opt
 use Rattle.std.proofs.Common.{◌≡◌, ℕ, ◌+◌, ◌≤◌, List, [], ◌∷◌, ◌++◌, length, Bool, true, false, not, ◌&&◌, ◌||◌, cond, is_some, Option, Some, None, MatchOption, refl, sym, ap, ◌∙◌, subst, arith, if◌then◌else◌}
 use Rattle.broker_core.specs.{Text.{Text, same_text, same_pair, same_version, put_at}, State.{State}, Policy.{allows}, Limit.{has_room}}
 use Rattle.broker_core.specs.Change.{Transition, unchanged_with, put_pact, republished, text_of, can_name, named, stored, is_stored, content_number}
-use Rattle.broker_core.specs.Request.{consumer_version, Asked, contract_of, asks, first_absent, unless, refused, refusal, has_grant, is_known, is_allowed, first_missing}
+use Rattle.broker_core.specs.Request.{consumer_version, Asked, contract_of, first_absent, unless, refused, refusal, has_grant, is_known, is_allowed, first_missing}
 use Rattle.broker_core.specs.{Machine.{TakesEffect, FindsFault, StepOfCaller, fault_of_reading}, Machine.Reading.{IsPact}, declared.policy.Caller.{Caller}}
 use Rattle.broker_core.specs.{declared.policy.Caller.TheVariants.{Office, Team}, declared.policy.Rule.TheVariants.{A3, A4, A5}}
 use Rattle.broker_core.specs.{declared.command.Command.{Command}, declared.command.Command.TheVariants.{PutPact, GetPact}, declared.command.PactPath.{PactPath}}

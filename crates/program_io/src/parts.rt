@@ -109,7 +109,6 @@ fn pact_parts<'a>(fault: &'a PactFault) -> Parts<'a>
         PactFault::Messages => plain("pact 5"),
         PactFault::Tree(TreeFault::NotWhole) => plain("pact 6.1"),
         PactFault::Tree(TreeFault::TooDeep) => plain("pact 6.2"),
-        PactFault::Tree(TreeFault::Memory) => plain("pact 6.3"),
         PactFault::Rules(index, fault) => pact_rules(*index, fault),
         PactFault::SameInteraction => plain("pact 8"),
         PactFault::TooMany => plain("pact 9"),
@@ -137,7 +136,6 @@ fn replies_parts(fault: &RepliesFault) -> Parts<'static>
         RepliesFault::Shape(place) => replies_place(*place),
         RepliesFault::Tree(TreeFault::NotWhole) => plain("replies 3.1"),
         RepliesFault::Tree(TreeFault::TooDeep) => plain("replies 3.2"),
-        RepliesFault::Tree(TreeFault::Memory) => plain("replies 3.3"),
         RepliesFault::SameReplyTwice => plain("replies 4"),
         RepliesFault::Memory => plain("memory"),
     }

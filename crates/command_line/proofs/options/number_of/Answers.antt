@@ -1,4 +1,4 @@
-use Rattle.std.proofs.Common.{◌≡◌, ◌≤◌, ℕ, Option, Some, None, ap, sym, unwrap_or, ◌∙◌, arith}
+use Rattle.std.proofs.Common.{◌≡◌, ℕ, Option, Some, None, ap, sym, unwrap_or, ◌∙◌, arith}
 use Rattle.clap.specs.Words.{found_of}
 use Rattle.command_line.proofs.NumberLemmas.{number_lacks, number_read}
 use Rattle.command_line.proofs.options.number_of.Goals as goal

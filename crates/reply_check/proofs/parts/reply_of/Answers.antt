@@ -1,4 +1,4 @@
-use Rattle.std.proofs.Common.{◌≡◌, string_bytes, ap, ◌∙◌}
+use Rattle.std.proofs.Common.{ap, ◌∙◌}
 use Rattle.serde_json.specs.Written.{compact_text}
 use Rattle.pact_file.{specs.Pact.{states_data}, proofs.SoundData.{whole}}
 use Rattle.reply_check.proofs.parts.reply_of.Goals as goal

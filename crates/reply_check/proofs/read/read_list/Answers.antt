@@ -2,7 +2,7 @@ use Rattle.serde_json.specs.View.{view, items_view}
 use Rattle.pact_file.specs.Sound.{AreSound}
 use Rattle.reply_check.specs.Replies.{ReplyRead}
 use Rattle.pact_rules.proofs.Each.{Completes, goes_on, ends, is_done, begins}
-use Rattle.std.proofs.{Common.{Ok, Err, sym, ap, ◌∙◌, subst}, lemmas.List.{nil_from_length}, lemmas.Result.{err_from_is_err_and}}
+use Rattle.std.proofs.{Common.{Ok, Err, sym, ◌∙◌, subst}, lemmas.List.{nil_from_length}, lemmas.Result.{err_from_is_err_and}}
 use Rattle.reply_check.proofs.read.read_list.Goals as goal
 
 pub loop-item-init : goal.loop-item-init

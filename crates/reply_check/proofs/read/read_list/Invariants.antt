@@ -1,4 +1,3 @@
-use Rattle.std.proofs.Common.{◌≡◌}
 use Rattle.serde_json.specs.View.{view, items_view}
 use Rattle.pact_file.specs.Sound.{AreSound}
 use Rattle.reply_check.specs.Replies.{ReplyRead}

@@ -1,5 +1,5 @@
-use Rattle.serde_json.specs.View.{view, items_view}
-use Rattle.pact_file.{specs.Sound.{AreSound}, proofs.{ReadLemmas.{values_sound}, Steps.{err_same, ok_err}}}
+use Rattle.serde_json.specs.View.{view}
+use Rattle.pact_file.proofs.{ReadLemmas.{values_sound}, Steps.{err_same, ok_err}}
 use Rattle.pact_rules.specs.Reading.{EachRead}
 use Rattle.reply_check.{specs.Replies.{HasRivals, ReplyRead}, proofs.{Deciding.{decides_not}, ReadLemmas.{items_sound}}}
 use Rattle.std.proofs.{Common.{Ok, Err, map, refl, sym, ap, ◌∙◌, subst}, lemmas.Result.{err_from_is_err_and}}
