@@ -22,7 +22,7 @@ use Rattle.broker_core.proofs.SessionLemmas.{sessions, runs_once}
 use Rattle.broker_tables.specs.{Former.{former_format, former_tables}, Holds.{format}, Making.{IsBlank, IsMarked}, Schema.{no_schema, schema_of, broker_schema}}
 use Rattle.command_facts.specs.Primitives.{broker_primitives}
 use Rattle.broker_database.specs.{BrokerView.{BrokerView}, Calls.{Created, Opened, Migrated}, Ends.{AddsNoCrashState}, Handed.{verdict}}
-use Rattle.broker_database.specs.Life.{Kept, Period, calls_of, RunsFrom, LeavesAsWas, PeriodLeads, LifeLeads, BeginsFrom, sessions_in, LivesRun, AreTreesOf, KeepsLatest, PeriodRuns, PeriodsLead, MayLeave, AreFilesOf, EndsAs, HoldsAsBefore, IsKeptIn, LeavesUnopened, PeriodOnFiles, LifeOnFiles, LivesLead, OpenedFilesHold, IsUnharmed, OpeningSpares, PeriodLeaves, Programs, ProgramsLead, RunsOver}
+use Rattle.broker_database.specs.Life.{Kept, Period, calls_of, RunsFrom, LeavesAsWas, PeriodLeads, LifeLeads, BeginsFrom, sessions_in, LivesRun, AreTreesOf, KeepsLatest, PeriodRuns, PeriodsLead, MayLeave, EndsAs, HoldsAsBefore, IsKeptIn, LeavesUnopened, OpenedFilesHold, IsUnharmed, OpeningSpares, PeriodLeaves, Programs, ProgramsLead, RunsOver}
 use Rattle.broker_database.specs.{Life.Kept.{Blank, OfFormer, OfToday}, Life.Period.{Serving, Making, Migrating, NotOpened}, Migration.{StoresFormer, IsFormer}}
 use Rattle.broker_database.specs.{Opening.{Refuses, Judged, judgement}, Sessions.{IsOpenedOn, GivenRuns}, Stored.{Stores, HoldsState}}
 use Rattle.broker_database.{specs.{declared.opening.Refused.{Refused}, declared.opening.OpenFault.{OpenFault}}, proofs.Judgements.{blank_none, marked_some}}
@@ -255,7 +255,7 @@ module _ {D : Type 0} (g : Ghosts D) where
   abbrev Found : Kept → Held (FileStore D g) → Type 0
   Found old conn = (trees : Trees) × AreTreesOf old trees × IsOpenedOn trees (shown conn)
 
-  found : (old : Kept) (held : Image) (conn : Held (FileStore D g)) → AreFilesOf g old held → IsOpened conn → FindsIn held (shown conn) → ∥ Found old conn ∥₁
+  found : (old : Kept) (held : Image) (conn : Held (FileStore D g)) → IsKeptIn old held → IsOpened conn → FindsIn held (shown conn) → ∥ Found old conn ∥₁
   found old held conn are opened finds = ∥∥₁_map are (λ (it : Holds old held). elim it [
     | inl some ↦ let r : Found old conn = (some.0, some.2, record { opens = opened.0; live = opened.1; found = finds.holds some.0 some.1 }) in r
     | inr none ↦
@@ -279,54 +279,13 @@ module _ {D : Type 0} (g : Ghosts D) where
 
     -- a period, from files which held this to what a crash may leave of its end
     pub file_leads : (old : Kept) (held : Image) (period : Period) (first last : Held (FileStore D g)) (rest : Leftover D g) (image : Image)
-        → AreFilesOf g old held → IsOpened first → FindsIn held (shown first) → PeriodRuns shown period first last → HasCleanDisk (shown last) → EndsAs g last rest → MayLeave g rest image
-        → ∥ ((new : Kept) × PeriodLeads old period new × AreFilesOf g new image) ∥₁
+        → IsKeptIn old held → IsOpened first → FindsIn held (shown first) → PeriodRuns shown period first last → HasCleanDisk (shown last) → EndsAs g last rest → MayLeave g rest image
+        → ∥ ((new : Kept) × PeriodLeads old period new × IsKeptIn new image) ∥₁
     file_leads old held period first last rest image are opened finds runs clean over may =
         ∥∥₁_elim (found old held first are opened finds) squash₁ (λ (one : Found old first).
         ∥∥₁_map (ends last rest image over may) (λ (end : EndsIn last image).
         let led = periods_lead shown settled old period first last one.0 end.0 one.1 one.2 runs clean end.1 in
-        let r : (new : Kept) × PeriodLeads old period new × AreFilesOf g new image = (led.0, led.1, ∣ inl (end.0, end.2, led.2) ∣₁) in r))
-
-    -- something of this kind is kept by an image, or by all that a crash may leave
-    abbrev Keeps : (Kept → Type 0) → Image → Type 0
-    Keeps P image = (kept : Kept) × P kept × AreFilesOf g kept image
-
-    abbrev AllKeep : (Kept → Type 0) → Leftover D g → Type 0
-    AllKeep P rest = (image : Image) → MayLeave g rest image → ∥ Keeps P image ∥₁
-
-    abbrev After : (Kept → Type 0) → Period → Kept → Type 0
-    After P period new = (old : Kept) × P old × PeriodLeads old period new
-
-    opened_keeps : (P : Kept → Type 0) (first last : Leftover D g) (period : Period) (old new : Held (FileStore D g)) (files : Files D) → AllKeep P first → MayLeave g first (image_of g files)
-        → IsOpened old → FindsIn (image_of g files) (shown old) → PeriodRuns shown period old new → HasCleanDisk (shown new) → EndsAs g new last → AllKeep (After P period) last
-    opened_keeps P first last period old new files keep seen opened finds runs clean over image may =
-        let read = image_of g files in
-        ∥∥₁_elim (keep read seen) squash₁ (λ (one : Keeps P read).
-        ∥∥₁_map (file_leads one.0 read period old new last image one.2 opened finds runs clean over may) (λ (led : (new : Kept) × PeriodLeads one.0 period new × AreFilesOf g new image).
-        let r : Keeps (After P period) image = (led.0, (one.0, one.1, led.1), led.2) in r))
-
-    period_keeps : (P : Kept → Type 0) (first last : Leftover D g) (period : Period) → AllKeep P first → PeriodOnFiles g first period last → AllKeep (After P period) last
-    period_keeps P first last NotOpened keep it image may = elim (it.2 image may) [
-      | inl before ↦ ∥∥₁_map (keep image (it.1.left image before)) (λ (one : Keeps P image). let r : Keeps (After P NotOpened) image = (one.0, (one.0, one.1, not_opened one.0), one.2) in r)
-      | inr same ↦ ∥∥₁_map (keep (image_of g it.0) it.1.seen) (λ (one : Keeps P (image_of g it.0)).
-          let r : Keeps (After P NotOpened) image = (one.0, (one.0, one.1, not_opened one.0), kept_before one.0 (image_of g it.0) image one.2 same) in r)
-    ]
-    period_keeps P first last period keep it image may =
-        opened_keeps P first last period it.0 it.1 it.2.0 keep it.2.1.seen it.2.2 (record { holds = it.2.3.holds; reads = it.2.3.reads }) it.3 it.4 it.5 image may
-
-    life_keeps : (P : Kept → Type 0) (first last : Leftover D g) (life : List Period) → AllKeep P first → LifeOnFiles g first life last → AllKeep (λ new. (old : Kept) × P old × LifeLeads old life new) last
-    life_keeps P first last [] keep same image may =
-        ∥∥₁_map (keep image (subst (λ (rest : Leftover D g). MayLeave g rest image) same may)) (λ (one : Keeps P image).
-        let r : Keeps (λ new. (old : Kept) × P old × LifeLeads old [] new) image = (one.0, (one.0, one.1, refl), one.2) in r)
-    life_keeps P first last (period ∷ life) keep it image may =
-        ∥∥₁_map (life_keeps (After P period) it.0 last life (period_keeps P first it.0 period keep it.1) it.2 image may) (λ (end : Keeps (λ new. (mid : Kept) × After P period mid × LifeLeads mid life new) image).
-        let r : Keeps (λ new. (old : Kept) × P old × LifeLeads old (period ∷ life) new) image = (end.0, (end.1.1.0, end.1.1.1, (end.1.0, end.1.1.2, end.1.2)), end.2) in r)
-
-    pub lives_lead : LivesLead g
-    lives_lead old first last life keep it image may =
-        let only : Kept → Type 0 = λ kept. kept ≡ old in
-        ∥∥₁_map (life_keeps only first last life (λ i m. ∣ (old, refl, keep i m) ∣₁) it image may) (λ (end : Keeps (λ new. (old : Kept) × only old × LifeLeads old life new) image).
-        let r : (new : Kept) × LifeLeads old life new × AreFilesOf g new image = (end.0, subst (λ (k : Kept). LifeLeads k life end.0) end.1.1 end.1.2, end.2) in r)
+        let r : (new : Kept) × PeriodLeads old period new × IsKeptIn new image = (led.0, led.1, ∣ inl (end.0, end.2, led.2) ∣₁) in r))
 
     pub opened_files_hold : OpenedFilesHold g
     opened_files_hold s files trees conn some are opened finds =

@@ -164,9 +164,6 @@ module _ {D : Type 0} (g : Ghosts D) where
   MayLeave (left.Unopened it) = (state_of it).may_leave
   MayLeave (left.Store store) = (store_state store).may_leave
 
-  abbrev pub AreFilesOf : Kept → Image → Type 0
-  AreFilesOf = IsKeptIn
-
   -- Files that are opened after this was left. They read as a crash may have left them, and a crash may leave of them
   -- only what it might have left before: so it is after a program's end, whether it was stopped or the machine was.
   pub record AreAfter (rest : Leftover D g) (files : Files D) : Type 0 where
@@ -194,28 +191,6 @@ module _ {D : Type 0} (g : Ghosts D) where
   LeavesUnopened files rest =
       (image : Image) → MayLeave rest image
       → outcomes g files.log files.db image ⊎ HoldsAsBefore (image_of g files) image
-
-  -- a period on files, from what was left before to what it leaves
-  abbrev pub PeriodOnFiles : Leftover D g → Period → Leftover D g → Type 0
-  PeriodOnFiles first NotOpened last = (files : Files D) × AreAfter first files × LeavesUnopened files last
-  PeriodOnFiles first period last =
-      (old : Held (FileStore D g)) × (new : Held (FileStore D g)) × IsOpenedAfter first old
-      × PeriodRuns file_state period old new × HasCleanDisk (file_state new) × EndsAs new last
-
-  abbrev pub LifeOnFiles : Leftover D g → List Period → Leftover D g → Type 0
-  LifeOnFiles first [] last = last ≡ first
-  LifeOnFiles first (period ∷ life) last =
-      (mid : Leftover D g) × PeriodOnFiles first period mid × LifeOnFiles mid life last
-
-  -- ---- the law
-
-  -- Whatever a crash leaves at the end keeps what the periods lead to.
-  abbrev pub LivesLead : Type 0
-  LivesLead =
-      (old : Kept) (first last : Leftover D g) (life : List Period)
-      → ((image : Image) → MayLeave first image → AreFilesOf old image) → LifeOnFiles first life last
-      → (image : Image) → MayLeave last image
-      → ∥ ((new : Kept) × LifeLeads old life new × AreFilesOf new image) ∥₁
 
   -- a connection that was opened on files with trees that keep a broker's state holds it
   abbrev pub OpenedFilesHold : Type 0

@@ -6,7 +6,7 @@ ghost use Rattle.command_facts.specs.Readings.{is_refusal};
 ghost use Rattle.sqlite.specs.Held.{state};
 ghost use Rattle.command_facts.specs.Primitives.{broker_primitives};
 ghost use Rattle.broker_database.specs.Laws.{FormerGateStays, StoredRunsDeployExactly, StoredRunsReleaseExactly, StoredTeamsDiffer, StoredStepExists};
-ghost use Rattle.broker_database.specs.Life.{KeepsLatest, LivesLead, LivesRun, OpenedFilesHold, OpeningSpares, PeriodsLead};
+ghost use Rattle.broker_database.specs.Life.{KeepsLatest, LivesRun, OpenedFilesHold, OpeningSpares, PeriodsLead};
 ghost use Rattle.broker_database.specs.Life.{Programs, ProgramsLead, two};
 
 use broker_core::laws::{self, Machine};
@@ -64,20 +64,11 @@ pub fn retry()
     laws::retry::<BrokerMachine>()
 }
 
-/// The files of a broker from the first byte to the last: stopped at any call on the disk, in a command or between two,
-/// any number of times, and opened again, they keep what was done. They begin with nothing, or with what a broker left in
-/// this format or in format 1. Any number of times a program opens them, makes a broker, migrates one, or serves, and then
-/// closes them, gives them up, or is stopped; or it can't open them, or is stopped as it does. Whatever a crash leaves
-/// then keeps what these lead to: no tables if no broker was made; the state of format 1 until it was migrated; and the
-/// state to which the machine leads by the commands of all sessions since. A command that was answered by a step took
-/// it, with that answer; one that was answered by no step took none; and one that was cut, or answered `Store`, took its
-/// step or none (`files`; what that makes of the state, [`sessions_done`] says). A call that was stopped or refused left
-/// what was there, or what the call was to make, whole. The latest results are right: for each content and version of
-/// its provider the one with the greatest number (`latest`). A connection that is opened on files which keep a state
-/// holds it (`opened`). What is asked of an opening that failed is what `open_files` of `sqlite` promises, and two
-/// things that it doesn't say (`unopened`). The disk is one that returns what was written and that nobody else writes.
-pub fn sessions<D: Disk>()
-    ensures files { LivesLead D.Disk }
+/// What the files of a broker keep. The latest results there are right: for each content and version of its provider the
+/// one with the greatest number (`latest`). A connection that is opened on files which keep a state holds it (`opened`).
+/// What [`lives`] asks of an opening that failed is what `open_files` of `sqlite` promises, and two things that it doesn't
+/// say (`unopened`).
+pub fn kept_files<D: Disk>()
     ensures latest { KeepsLatest }
     ensures opened { OpenedFilesHold D.Disk }
     ensures unopened { OpeningSpares D.Disk }
@@ -88,10 +79,18 @@ pub trait OverDisks {
     ghost programs: { Programs };
 }
 
-/// The files of a broker, as [`sessions`] has them, over any number of programs, each with a disk of its own: one is
-/// killed, or its machine, and the next one finds what that left. What the last one leaves keeps what the periods of all
-/// of them lead to. If a program was stopped as it opened files that held nothing, they hold nothing, or half of a first
-/// page, and the next one makes its broker in them.
+/// The files of a broker from the first byte to the last: stopped at any call on the disk, in a command or between two,
+/// any number of times, and opened again, they keep what was done. They begin with nothing, or with what a broker left in
+/// this format or in format 1. Any number of programs use them, each over a disk of its own, which returns what was
+/// written and to which nobody else writes: one is killed, or its machine, and the next one finds what that left. A program
+/// opens them, makes a broker, migrates one, or serves, and then closes them, gives them up, or is stopped; or it can't
+/// open them, or is stopped as it does. Whatever a crash leaves then keeps what these lead to: no tables if no broker was
+/// made; the state of format 1 until it was migrated; and the state to which the machine leads by the commands of all
+/// sessions since. A command that was answered by a step took it, with that answer; one that was answered by no step took
+/// none; and one that was cut, or answered `Store`, took its step or none (what that makes of the state,
+/// [`sessions_done`] says). A call that was stopped or refused left what was there, or what the call was to make, whole. If
+/// a program was stopped as it opened files that held nothing, they hold nothing, or half of a first page, and the next
+/// one makes its broker in them.
 pub fn lives<P: OverDisks>()
     ensures programs { ProgramsLead P.programs }
 {}
@@ -112,7 +111,7 @@ pub fn restarts<D: Disk, E: Disk>()
     lives::<TwoDisks<D, E>>()
 }
 
-/// One period of [`sessions`], from a connection that was opened to its end, over any store.
+/// One period of [`lives`], from a connection that was opened to its end, over any store.
 pub fn period_leads<S: Alter>()
     ensures { PeriodsLead (state S.Store) }
 {}

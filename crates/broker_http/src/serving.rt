@@ -45,7 +45,7 @@ fn message_parts(bytes: &[u8], head_len: usize, body_len: usize) -> (&[u8], &[u8
 /// Answers the messages of a stream one after another, by what the broker promises of each command on any disk.
 ///
 /// It is apart from `serve_for`, whose clause on the machine follows from this one at once.
-fn serve_all<T: Turn<R>, R: FallibleRead, W: FallibleWrite, B: Service>(
+fn serve_messages<T: Turn<R>, R: FallibleRead, W: FallibleWrite, B: Service>(
     alloc: Global,
     routes: &RouteTable,
     broker: &mut B,
@@ -116,7 +116,7 @@ pub(crate) fn serve_for<T: Turn<R>, R: FallibleRead, W: FallibleWrite, B: Servic
         (W.contents writer.old) (W.contents writer.new) result }
     ensures failed { IfErr result (λ fault. TellsDevice fault (R.HasFailed reader.new) (W.HasFailed writer.new)) }
 {
-    serve_all::<T, R, W, B>(alloc, routes, broker, reader, writer)
+    serve_messages::<T, R, W, B>(alloc, routes, broker, reader, writer)
 }
 
 /// Answers the requests of a stream by HTTP/1.1 (RFC 9112) one after another, each command in one transaction of the

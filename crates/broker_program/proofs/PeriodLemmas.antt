@@ -9,7 +9,7 @@ use Rattle.sqlite.specs.{Files.{IsOpened, file_state, image_of}, Held.{Held}, Re
 use Rattle.sqlite.specs.{declared.FileStore.{FileStore}, declared.file.Leftover.{Leftover}, FileStore.{files as store_files, state as store_state, view}}
 use Rattle.sqlite.specs.{View.{IsClean}, WalFiles.{outcomes}, WalReads.{AreClean}}
 use Rattle.broker_database.specs.BrokerView.{BrokerView}
-use Rattle.broker_database.specs.Life.{Kept, Period, PeriodLeads, LifeLeads, PeriodRuns, AreFilesOf, EndsAs, HoldsAsBefore, IsGivenBack, IsKeptIn, MayLeave, two}
+use Rattle.broker_database.specs.Life.{Kept, Period, PeriodLeads, LifeLeads, PeriodRuns, EndsAs, HoldsAsBefore, IsGivenBack, IsKeptIn, MayLeave, two}
 use Rattle.broker_database.specs.{declared.opening.OpenFault.{OpenFault}, Life.Period.{NotOpened, Serving}}
 use Rattle.broker_database.proofs.LifeLemmas.{file_leads, opening_spares, programs_lead}
 use Rattle.program_io.specs.{Entrance.{Visit}, declared.fault.RunFault.{RunFault}}
@@ -26,7 +26,7 @@ then_period old mid new (first ∷ life) period it leads = (it.0, it.1, then_per
 module _ {D : Type 0} (g : Ghosts D) (stays : (file : D) → g.may_leave file (g.seen file)) where
   -- what a crash leaves keeps what these lead to
   abbrev pub Keeps : Kept → List Period → Image → Type 0
-  Keeps old life image = (new : Kept) × LifeLeads old life new × AreFilesOf g new image
+  Keeps old life image = (new : Kept) × LifeLeads old life new × IsKeptIn new image
 
   -- the connection was opened on files that keep it
   abbrev pub Begins : Kept → List Period → Held (FileStore D g) → Type 0
@@ -37,7 +37,7 @@ module _ {D : Type 0} (g : Ghosts D) (stays : (file : D) → g.may_leave file (g
   adds_period old life period first last rest image begins runs clean ends may =
       ∥∥₁_elim begins squash₁ (λ (one : Begins old life first).
       ∥∥₁_map (file_leads g (λ conn now. stays_at conn.store stays now) (λ conn trees now here. settled_at conn.store stays trees now here)
-      one.1.0 one.0 period first last rest image one.1.2 one.2 one.3 runs clean ends may) (λ (led : (new : Kept) × PeriodLeads one.1.0 period new × AreFilesOf g new image).
+      one.1.0 one.0 period first last rest image one.1.2 one.2 one.3 runs clean ends may) (λ (led : (new : Kept) × PeriodLeads one.1.0 period new × IsKeptIn new image).
       let r : Keeps old (life ++ (period ∷ [])) image = (led.0, then_period old one.1.0 led.0 life period one.1.1 led.1, led.2) in r))
 
   pub adds_works : (old : Kept) (work : Work) (works : List Work) (conn : Held (FileStore D g)) (end : BrokerView (FileStore D g)) (rest : Leftover D g) (image : Image) → ∥ Begins old (periods_of works) conn ∥₁
@@ -45,10 +45,10 @@ module _ {D : Type 0} (g : Ghosts D) (stays : (file : D) → g.may_leave file (g
   adds_works old work works conn end rest image begins does clean ends may =
       adds_period old (periods_of works) (Serving work.calls) conn end.connection rest image begins (Ok does.broker, does.opened, (end, work_runs work conn end does, refl)) clean ends may
 
-  pub begins_from : (old : Kept) (held : Image) (conn : Held (FileStore D g)) → AreFilesOf g old held → StartsFrom held conn → ∥ Begins old [] conn ∥₁
+  pub begins_from : (old : Kept) (held : Image) (conn : Held (FileStore D g)) → IsKeptIn old held → StartsFrom held conn → ∥ Begins old [] conn ∥₁
   begins_from old held conn are it = ∣ (held, (old, refl, are), it.opened, it.found) ∣₁
 
-  pub starts_after : (old : Kept) (held : Image) (works : List Work) (conn : Held (FileStore D g)) → AreFilesOf g old held → StartsAfter held works conn → HasCleanDisk (file_state conn)
+  pub starts_after : (old : Kept) (held : Image) (works : List Work) (conn : Held (FileStore D g)) → IsKeptIn old held → StartsAfter held works conn → HasCleanDisk (file_state conn)
       → ∥ Begins old (periods_of works) conn ∥₁
   starts_after old held [] conn are it clean = begins_from old held conn are (it clean)
   starts_after old held (work ∷ works) conn are it clean =
@@ -69,7 +69,7 @@ module _ {D : Type 0} (g : Ghosts D) (stays : (file : D) → g.may_leave file (g
       let last = subst (λ (k : Kept). PeriodLeads one.0 NotOpened k) (sym led.1.2) led.1.1 in
       let r : Keeps old (life ++ (NotOpened ∷ [])) image = (led.0, then_period old one.0 led.0 life NotOpened one.1 last, led.2) in r))
 
-  module _ (old : Kept) (held : Image) (visits : List Visit) (are : AreFilesOf g old held) where
+  module _ (old : Kept) (held : Image) (visits : List Visit) (are : IsKeptIn old held) where
     -- what is left of the last connection keeps what was led to
     leads_to : (Ends : Held (FileStore D g) → Type 0) (it : ServesTo g held visits Ends) (rest : Leftover D g) → HasCleanDisk (file_state it.end.connection) → EndsAs g it.end.connection rest → (image : Image) → MayLeave g rest image
         → ∥ Keeps old (periods_over g it) image ∥₁

@@ -12,7 +12,7 @@ use Rattle.broker_core.specs.declared.answer.Answer.{Answer}
 use Rattle.broker_tables.specs.Readable.{IsReadable}
 use Rattle.command_facts.specs.Primitives.{broker_primitives}
 use Rattle.broker_database.specs.{BrokerView.{BrokerView}, Calls.{Applied}, Sessions.{RunsCalls, exit_of}, Stored.{HoldsState, Stores}}
-use Rattle.broker_database.specs.{Causes.{IsToBeDone, StaysReadable}, Life.{AreFilesOf, AreTreesOf, Kept, LifeLeads, Period, PeriodLeads}}
+use Rattle.broker_database.specs.{Causes.{IsToBeDone, StaysReadable}, Life.{IsKeptIn, AreTreesOf, Kept, LifeLeads, Period, PeriodLeads}}
 use Rattle.broker_database.{specs.{Life.Kept.{Blank, OfToday}, Life.Period.{Serving}}, proofs.SchemaLemmas.{one_schema}}
 use Rattle.sqlite_store.specs.Laws.{settled_at}
 use Rattle.broker_program.specs.{Calm.{AllStopCalmly, DiskWorked, DiskWorks, ServesCalmly, StopsAtChange, StopsCalmly, StopsFrom}, Life.{periods_of}}
@@ -176,12 +176,12 @@ module _ {D : Type 0} (g : Ghosts D) (stays : (file : D) → g.may_leave file (g
   abbrev HoldsToday : Broker → List Work → Held (FileStore D g) → Type 0
   HoldsToday first works conn = (s : Broker) × LifeLeads (OfToday first) (periods_of works) (OfToday s) × IsReadable s × HoldsState s (file_state conn)
 
-  starts_today : (first : Broker) (held : Image) (works : List Work) (conn : Held (FileStore D g)) → IsReadable first → AreFilesOf g (OfToday first) held → StartsAfter held works conn → HasCleanDisk (file_state conn) → ∥ HoldsToday first works conn ∥₁
+  starts_today : (first : Broker) (held : Image) (works : List Work) (conn : Held (FileStore D g)) → IsReadable first → IsKeptIn (OfToday first) held → StartsAfter held works conn → HasCleanDisk (file_state conn) → ∥ HoldsToday first works conn ∥₁
   starts_today first held works conn readable are it clean =
       ∥∥₁_elim (starts_after g stays (OfToday first) held works conn are it clean) squash₁ (λ (one : Begins g stays (OfToday first) (periods_of works) conn).
       let today = works_readable held works conn it first readable one.1.0 one.1.1 in
       let leads = subst (λ (k : Kept). LifeLeads (OfToday first) (periods_of works) k) today.1 one.1.1 in
-      ∥∥₁_map (subst (λ (k : Kept). AreFilesOf g k one.0) today.1 one.1.2) (λ keeps. elim keeps [
+      ∥∥₁_map (subst (λ (k : Kept). IsKeptIn k one.0) today.1 one.1.2) (λ keeps. elim keeps [
         | inl some ↦ let r : HoldsToday first works conn = (today.0, leads, today.2, file_holds today.0 one.0 conn some.0 some.1 some.2 one.2 one.3) in r
         | inr none ↦ absurd (let bad : OfToday today.0 ≡ Blank = none.0 in cc)
       ]))
@@ -191,7 +191,7 @@ module _ {D : Type 0} (g : Ghosts D) (stays : (file : D) → g.may_leave file (g
   starts_fresh held [] conn it clean = let starts = it clean in (starts.opened, starts.fresh)
   starts_fresh held (work ∷ works) conn it clean = let opens = it.4 clean in (opens.after.2, opens.fresh)
 
-  works_calm : (first : Broker) (held : Image) (work : Work) (works : List Work) (conn : Held (FileStore D g)) (end : BrokerView (FileStore D g)) → IsReadable first → AreFilesOf g (OfToday first) held
+  works_calm : (first : Broker) (held : Image) (work : Work) (works : List Work) (conn : Held (FileStore D g)) (end : BrokerView (FileStore D g)) → IsReadable first → IsKeptIn (OfToday first) held
       → StartsAfter held works conn → Works work conn end → HasCleanDisk (file_state end.connection) → DiskWorks g conn end.connection → IsTrue end.is_stopped → StopsCalmly first work works
   works_calm first held work works conn end readable are starts does clean disk stopped =
       let early = works_clean work conn end does clean in
@@ -199,7 +199,7 @@ module _ {D : Type 0} (g : Ghosts D) (stays : (file : D) → g.may_leave file (g
       ∥∥₁_map (starts_today first held works conn readable are starts early) (λ (it : HoldsToday first works conn).
       let r : StopsFrom first work works = (it.0, it.1, opened_runs work conn end does it.0 fresh.0 fresh.1 clean disk it.3 it.2 stopped) in r)
 
-  all_calm : (first : Broker) (held : Image) (works : List Work) (conn : Held (FileStore D g)) → IsReadable first → AreFilesOf g (OfToday first) held → (starts : StartsAfter held works conn)
+  all_calm : (first : Broker) (held : Image) (works : List Work) (conn : Held (FileStore D g)) → IsReadable first → IsKeptIn (OfToday first) held → (starts : StartsAfter held works conn)
       → HasCleanDisk (file_state conn) → DiskWorked g held works conn starts → AllStopCalmly first works
   all_calm first held [] conn readable are starts clean worked = tt
   all_calm first held (work ∷ works) conn readable are starts clean worked =

@@ -14,7 +14,7 @@ use Rattle.broker_core.specs.State.{State as Broker}
 use Rattle.broker_tables.specs.Readable.{IsReadable}
 use Rattle.command_facts.specs.Primitives.{broker_primitives}
 use Rattle.broker_database.specs.Causes.{IsToBeDone}
-use Rattle.broker_database.specs.Life.{AreFilesOf, LifeLeads}
+use Rattle.broker_database.specs.Life.{IsKeptIn, LifeLeads}
 use Rattle.broker_database.specs.Life.Kept.{OfToday}
 use Rattle.program_io.specs.Entrance.{Visit}
 use Rattle.broker_program.specs.Files.{EndsClean}
@@ -61,6 +61,6 @@ module _ {D : Type 0} (g : Ghosts D) where
   abbrev pub ServesCalmly : Type 0
   ServesCalmly =
       (first : Broker) (held : Image) (visits : List Visit) (rest : Leftover D g) (it : ServesOver g held visits rest)
-      → IsReadable first → AreFilesOf g (OfToday first) held
+      → IsReadable first → IsKeptIn (OfToday first) held
       → EndsClean rest → DiskWorked held it.before it.connection it.starts → DiskWorks it.connection it.end.connection
       → AllStopCalmly first it.before × (IsTrue it.end.is_stopped → StopsCalmly first it.last it.before)

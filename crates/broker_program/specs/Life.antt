@@ -16,7 +16,7 @@ use Rattle.broker_core.specs.Text.{Text}
 use Rattle.broker_core.specs.declared.answer.Answer.{Answer}
 use Rattle.broker_core.specs.declared.command.Command.{Command}
 use Rattle.command_facts.specs.Primitives.{broker_primitives}
-use Rattle.broker_database.specs.Life.{Kept, Period, IsUnharmed, LifeLeads, AreFilesOf, MayLeave}
+use Rattle.broker_database.specs.Life.{Kept, Period, IsUnharmed, LifeLeads, IsKeptIn, MayLeave}
 use Rattle.broker_database.specs.Life.Period.{Making, Migrating, NotOpened, Serving}
 use Rattle.broker_database.specs.Sessions.{exit_of}
 use Rattle.broker_database.specs.declared.opening.OpenFault.{OpenFault}
@@ -38,8 +38,8 @@ module _ {D : Type 0} (g : Ghosts D) where
   -- whatever a crash leaves keeps something to which these periods lead from what the files held
   abbrev pub KeepsAfter : Image → List Period → (Image → Type 0) → Type 0
   KeepsAfter held life may_leave =
-      (old : Kept) → AreFilesOf g old held → (image : Image) → may_leave image
-      → ∥ ((new : Kept) × LifeLeads old life new × AreFilesOf g new image) ∥₁
+      (old : Kept) → IsKeptIn old held → (image : Image) → may_leave image
+      → ∥ ((new : Kept) × LifeLeads old life new × IsKeptIn new image) ∥₁
 
   -- of the files that `init` closed
   abbrev pub MakingLeads : Type 0

@@ -55,7 +55,7 @@ fn serve_next<S: Start, P: Peers>(
 /// Serves the peers that are to come, one after the other, over the broker of the file, and closes it. If the broker
 /// stops, its files are opened again before the next peer. None if a sync of them failed: then some are still to come.
 /// If they aren't opened again or closed, what is left of them comes with the fault.
-fn serve_over<S: Start, P: Peers>(
+fn serve_opened<S: Start, P: Peers>(
     rt: &HostRuntime,
     routes: &RouteTable,
     broker: FileBroker<S>,
@@ -114,7 +114,7 @@ fn is_lost<D: Disk + Drop>(
 }
 
 /// Serves the peers that are to come over the file that has this path then.
-fn serve_again<P: Peers>(
+fn serve_reopened<P: Peers>(
     rt: &HostRuntime,
     routes: &RouteTable,
     file: FilePath<'_>,
@@ -126,7 +126,7 @@ fn serve_again<P: Peers>(
     ensures cause { IfErr result IsReopeningFault }
 {
     let mut broker = open_again(rt, file)?;
-    while is_lost(serve_over(rt, routes, broker, peers))? {
+    while is_lost(serve_opened(rt, routes, broker, peers))? {
         broker = open_again(rt, file)?;
     }
     Ok(())
@@ -136,7 +136,7 @@ fn serve_again<P: Peers>(
 type CutShort<S> = (RunFault, Option<Leftover<FileFrom<S>>>, Option<NoSeed>);
 
 /// Serves the peers that are to come. If a sync of the broker's files fails, those of its path are opened.
-fn serve_all<S: Start, P: Peers>(
+fn serve_queue<S: Start, P: Peers>(
     rt: &HostRuntime,
     routes: &RouteTable,
     broker: FileBroker<S>,
@@ -151,9 +151,9 @@ fn serve_all<S: Start, P: Peers>(
     ensures cut { IfErr result (CutsAfter ⟦<FileFrom<S> as Disk>⟧ ⟦<FileFrom<Unknown> as Disk>⟧ (image_at S.Start)
         (P.queue peers.old) (P.queue peers.new)) }
 {
-    match serve_over(rt, routes, broker, peers) {
+    match serve_opened(rt, routes, broker, peers) {
         Ok(Some(files)) => Ok(Some(files)),
-        Ok(None) => match serve_again(rt, routes, file, peers) {
+        Ok(None) => match serve_reopened(rt, routes, file, peers) {
             Ok(()) => Ok(None),
             Err(fault) => Err((fault, None, None)),
         },
@@ -214,14 +214,14 @@ pub fn serve_each<S: Start, P: Peers>(
     ensures cut { IfErr result (CutsService ⟦<FileFrom<S> as Disk>⟧ ⟦<FileFrom<Unknown> as Disk>⟧ (image_at S.Start)
         (P.queue peers.old) (P.queue peers.new)) }
 {
-    match serve_all(rt, routes, broker, file, peers) {
+    match serve_queue(rt, routes, broker, file, peers) {
         Ok(files) => Ok(service_of(peers, files)),
         Err((fault, rest, seed)) => Err((fault, Left::Cut(cut_of(peers, rest, seed)))),
     }
 }
 
 /// Serves so many connections over the broker in the file.
-fn serve_at<S: Start>(
+fn serve_listening<S: Start>(
     rt: &HostRuntime,
     routes: &RouteTable,
     file: FilePath<'_>,
@@ -240,7 +240,7 @@ fn serve_at<S: Start>(
     }
 }
 
-/// The same, with a table of routes.
+/// Makes the table of routes, and serves so many connections over the broker in the file.
 pub(crate) fn serve_file<S: Start>(
     rt: &HostRuntime,
     file: FilePath<'_>,
@@ -253,7 +253,7 @@ pub(crate) fn serve_file<S: Start>(
     ensures cause { IfErr result (λ failed. FailsToServe (image_at S.Start) listen.now connections failed.0 failed.1) }
 {
     match route_table(rt.alloc()) {
-        Ok(routes) => serve_at(rt, &routes, file, listen, connections, start),
+        Ok(routes) => serve_listening(rt, &routes, file, listen, connections, start),
         Err(fault) => Err((fault, Left::Nothing)),
     }
 }

@@ -7,7 +7,7 @@ use Rattle.sqlite.{specs.{declared.FileStore.{FileStore}, declared.file.Leftover
 use Rattle.table_access.specs.Durability.{HoldsDurably}
 use Rattle.broker_core.specs.State.{State as Broker}
 use Rattle.broker_tables.specs.{Holds.{format}, Making.{IsMarked}}
-use Rattle.broker_database.specs.{BrokerView.{BrokerView}, Calls.{Opened}, Life.{AreTreesOf, AreFilesOf, HoldsAsBefore, OpenedFilesHold, OpeningSpares}}
+use Rattle.broker_database.specs.{BrokerView.{BrokerView}, Calls.{Opened}, Life.{AreTreesOf, IsKeptIn, HoldsAsBefore, OpenedFilesHold, OpeningSpares}}
 use Rattle.broker_database.specs.{Life.Kept.{Blank, OfToday}, Opening.{Judged}, Stored.{Stores, HoldsState}, declared.opening.Refused.{Refused}}
 use Rattle.broker_database.specs.declared.opening.OpenFault.{OpenFault}
 use Rattle.uses.specs.Reopening.{KeepState, KeepsOverCrash, KeepsAsFiles, AreClosed, IsLeftOf, IsOpenedOver, IsOpenedAgain, IsOfDatabase, LosesNothing}
@@ -49,7 +49,7 @@ module _ {D : Type 0} (g : Ghosts D) where
   closed old files law copied = record { copied = copied; keep = λ s held. keep_state s old files law held copied }
 
   -- what holds the database that was there keeps the state that was there
-  kept_before : (s : Broker) (old new : Image) → AreFilesOf g (OfToday s) old → HoldsAsBefore old new → AreFilesOf g (OfToday s) new
+  kept_before : (s : Broker) (old new : Image) → IsKeptIn (OfToday s) old → HoldsAsBefore old new → IsKeptIn (OfToday s) new
   kept_before s old new keeps same =
       ∥∥₁_elim keeps squash₁ (λ (it : Holds s old). elim it [
         | inl found ↦ ∥∥₁_map (same.same found.0 found.1) (λ holds. let r : Holds s new = inl (found.0, holds, found.2) in r)

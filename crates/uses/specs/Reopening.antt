@@ -16,7 +16,7 @@ use Rattle.sqlite.specs.declared.file.Leftover.{Leftover}
 use Rattle.broker_core.specs.State.{State as Broker}
 use Rattle.broker_database.specs.BrokerView.{BrokerView}
 use Rattle.broker_database.specs.Ends.{IsAsBefore}
-use Rattle.broker_database.specs.Life.{AreTreesOf, AreFilesOf, IsUnharmed, MayLeave}
+use Rattle.broker_database.specs.Life.{AreTreesOf, IsKeptIn, IsUnharmed, MayLeave}
 use Rattle.broker_database.specs.Life.Kept.{OfToday}
 use Rattle.broker_database.specs.Stored.{HoldsState}
 use Rattle.broker_database.specs.declared.opening.OpenFault.{OpenFault}
@@ -35,8 +35,8 @@ KeepsOverCrash s may_leave = (trees : Trees) → may_leave trees → AreTreesOf 
 module _ {D : Type 0} (g : Ghosts D) where
   -- Files that keep the state: as they read, as a crash may leave them, and as a connection finds them.
   pub record KeepState (s : Broker) (files : Files D) : Type 0 where
-    pub seen : AreFilesOf g (OfToday s) (image_of g files)
-    pub left : (image : Image) → outcomes g files.log files.db image → AreFilesOf g (OfToday s) image
+    pub seen : IsKeptIn (OfToday s) (image_of g files)
+    pub left : (image : Image) → outcomes g files.log files.db image → IsKeptIn (OfToday s) image
     pub found : (conn : Held (FileStore D g)) → IsOpened conn → Finds files conn → HoldsState s (file_state conn)
 
 module _ {D : Type 0} {g : Ghosts D} where
@@ -75,7 +75,7 @@ module _ {D : Type 0} {g : Ghosts D} where
     pub kept : AreClean g files.log files.db → KeepState g s files
     pub leaves : IsCleanLeft left → LeavesFiles files left
     pub still : AreClean g files.log files.db → IsCleanLeft left → IsUnharmed g (image_of g files) left
-        → (image : Image) → MayLeave g left image → AreFilesOf g (OfToday s) image
+        → (image : Image) → MayLeave g left image → IsKeptIn (OfToday s) image
 
   -- ---- no broker
 

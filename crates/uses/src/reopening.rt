@@ -5,7 +5,7 @@ ghost use Rattle.sqlite.specs.State.{HasCleanDisk};
 ghost use Rattle.sqlite.specs.WalReads.{AreClean};
 ghost use Rattle.uses.specs.Reopening.{AreClosed, IsOpenedAgain, IsOpenedOver, KeepsAsFiles, LosesNothing};
 
-use broker_database::laws::sessions;
+use broker_database::laws::kept_files;
 use broker_service::{Broker, Refused};
 use sqlite::{Connection, Error, FileStore, Files, Leftover, Options};
 use sqlite_disk::Disk;
@@ -27,7 +27,7 @@ fn close<D: Disk + Drop>(broker: Broker<FileStore<D>>) -> Result<Files<D>, NotRe
     ensures closed { IfOk result (λ files. AreClean D.Disk files.log files.db → AreClosed broker files) }
     ensures kept { IfErr result (LosesNothing broker) }
 {
-    sessions::<D>();
+    kept_files::<D>();
     match broker.close().close_files() {
         Ok(files) => Ok(files),
         Err((error, store)) => Err(NotReopened::Unclosed(error, store)),
@@ -45,7 +45,7 @@ fn connect<D: Disk + Drop>(
     ensures found { IfOk result (λ conn. HasCleanDisk (file_state conn) → IsOpened conn × Finds files conn) }
     ensures kept { IfErr result (KeepsAsFiles files) }
 {
-    sessions::<D>();
+    kept_files::<D>();
     match Connection::open_files(alloc, files, options) {
         Ok(conn) => Ok(conn),
         Err((error, left)) => Err(NotReopened::Unopened(error, left)),

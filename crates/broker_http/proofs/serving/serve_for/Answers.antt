@@ -52,8 +52,8 @@ module _ {X : Type 0} (shown : Held X → State) (s t : BrokerView X) (before af
 
 pub returns-clause-served : goal.returns-clause-served
 returns-clause-served g c = record {
-  answers = c.serve_all.ensures.answers;
-  machine = machines (g.B.Service.shown) _ _ _ _ _ _ c.serve_all.result c.serve_all.ensures.answers;
-  survives = survives (g.B.Service.shown) _ _ _ _ _ _ c.serve_all.result c.serve_all.ensures.answers;
-  survives_fault = survives_fault (g.B.Service.shown) _ _ _ _ _ _ c.serve_all.result c.serve_all.ensures.answers;
+  answers = c.serve_messages.ensures.answers;
+  machine = machines (g.B.Service.shown) _ _ _ _ _ _ c.serve_messages.result c.serve_messages.ensures.answers;
+  survives = survives (g.B.Service.shown) _ _ _ _ _ _ c.serve_messages.result c.serve_messages.ensures.answers;
+  survives_fault = survives_fault (g.B.Service.shown) _ _ _ _ _ _ c.serve_messages.result c.serve_messages.ensures.answers;
 }

@@ -5,7 +5,7 @@ use Rattle.uses.proofs.reopening.close.Goals as goal
 
 pub returns-in-Ok-clause-closed : goal.returns-in-Ok-clause-closed
 returns-in-Ok-clause-closed g c clean =
-    closed g.D.Disk c.args.broker c.in-Ok.files c.sessions.ensures.opened
+    closed g.D.Disk c.args.broker c.in-Ok.files c.kept_files.ensures.opened
     (subst (λ (h : Held (FileStore g.row.D.Denot g.D.Disk)). IsCopied h c.in-Ok.files) c.close.ensures (c.in-Ok.ensures.copied clean))
 
 pub returns-in-Err-clause-kept : goal.returns-in-Err-clause-kept

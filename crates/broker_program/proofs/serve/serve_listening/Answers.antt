@@ -1,7 +1,7 @@
 use Rattle.std.proofs.{Common.{◌∙◌, inl, inr}, lemmas.Result.{IfErr-weaker}}
 use Rattle.broker_program.proofs.{RefusalLemmas.{cut_weaker}, ResultLemmas.{if_ok, ok_with}, ServingLemmas.{file_cut, file_served, unserved}}
 use Rattle.broker_program.proofs.VisitLemmas.{new_count, new_queue}
-use Rattle.broker_program.proofs.serve.serve_at.Goals as goal
+use Rattle.broker_program.proofs.serve.serve_listening.Goals as goal
 
 pub returns-in-Ok-clause-said : goal.returns-in-Ok-clause-said
 returns-in-Ok-clause-said g c = if_ok c.serve_each.result c.in-Ok.ensures.said

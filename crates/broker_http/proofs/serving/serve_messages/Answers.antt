@@ -5,8 +5,8 @@ use Rattle.std.proofs.lemmas.Bool.{eqb-false}
 use Rattle.http_messages.specs.Reading.{IsOutcome}
 use Rattle.broker_http.specs.{Calls.{ByBroker}, Stream.{texts}}
 use Rattle.broker_http.proofs.ResponsesLemmas.{Responses-came, Responses-answered, Responses-broken, Responses-unread, AllOpen-then, texts-then, StreamEnds-at_end, StreamEnds-rest, tells_reader, tells_writer}
-use Rattle.broker_http.proofs.serving.serve_all.Goals.{then-is_empty, else-is_empty}
-use Rattle.broker_http.proofs.serving.serve_all.Goals as goal
+use Rattle.broker_http.proofs.serving.serve_messages.Goals.{then-is_empty, else-is_empty}
+use Rattle.broker_http.proofs.serving.serve_messages.Goals as goal
 
 pub loop-answered-init : goal.loop-answered-init
 loop-answered-init g c =

@@ -3,7 +3,7 @@ use Rattle.sqlite.specs.WalFiles.{image_at}
 use Rattle.sqlite_disk.specs.contracts.start.UnknownStart.TheImpl.{ghosts}
 use Rattle.program_io.specs.Entrance.{NoneIsIn}
 use Rattle.broker_program.specs.{Files.{OpensBroker}, Reopening.{ServesBefore}}
-use Rattle.broker_program.proofs.serve.serve_again.Given as goal
+use Rattle.broker_program.proofs.serve.serve_reopened.Given as goal
 
 -- each opening takes one of those that are to come
 abbrev pub decreases-loop-file : goal.decreases-loop-file

@@ -1,7 +1,7 @@
 use Rattle.std.{specs.{Io.KnownBytes.{Appends, Consumes}, Prelude.{vec_capacity}}, proofs.Common.{◌≡◌, ◌≤◌, ℕ, List, length}}
 use Rattle.http_responses.specs.{Responses.{Response}, declared.head.TheConstants.{HEAD_CAPACITY}}
 use Rattle.broker_http.specs.{Calls.{ByBroker}, Stream.{texts, AllOpen, Responses}}
-use Rattle.broker_http.proofs.serving.serve_all.Given as goal
+use Rattle.broker_http.proofs.serving.serve_messages.Given as goal
 
 -- What was read is answered, and out, as far as the buffer; and there is room for the head of a response.
 abbrev pub invariant-loop-answered : goal.invariant-loop-answered

@@ -2,7 +2,7 @@ use Rattle.std.proofs.Common.{◌≡◌, ◌<◌, false, length, sym, subst, inl
 use Rattle.sqlite.specs.WalFiles.{image_at}
 use Rattle.broker_program.{specs.Reopening.{ServesOn}, proofs.ServingLemmas.{all_served, next_goes, next_less, next_served, none_served, stays_unclosed}}
 use Rattle.broker_program.proofs.{ResultLemmas.{err_no_ok, none_no_some}, VisitLemmas.{more_went}}
-use Rattle.broker_program.proofs.serve.serve_over.Goals as goal
+use Rattle.broker_program.proofs.serve.serve_opened.Goals as goal
 
 pub loop-broker-init : goal.loop-broker-init
 loop-broker-init g c = (c.requires.idle, inl c.requires.runs, omega arith, none_served _ _ c.args.broker c.requires.opened)

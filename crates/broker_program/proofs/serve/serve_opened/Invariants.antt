@@ -2,7 +2,7 @@ use Rattle.std.proofs.Common.{◌≡◌, ◌≤◌, ◌<◌, ◌⊎◌, length, 
 use Rattle.sqlite.specs.WalFiles.{image_at}
 use Rattle.program_io.specs.Entrance.{NoneIsIn}
 use Rattle.broker_program.specs.Reopening.{ServesMore}
-use Rattle.broker_program.proofs.serve.serve_over.Given as goal
+use Rattle.broker_program.proofs.serve.serve_opened.Given as goal
 
 -- each turn takes one of those that are to come
 abbrev pub decreases-loop-broker : goal.decreases-loop-broker
