@@ -107,29 +107,29 @@ module _ {X : Type 0} (shown : Held X → State) (settled : (c : Held X) (t : Tr
     serves_today s (Ok b) calls are opened it =
         ran s b calls opened.runs (opened.holds (given_clean shown (Ok b) calls last it clean) s (holds_today trees (shown first) on (settled first) s are)) it
     serves_today s (Err r) calls are opened it =
-        let less = adds_nothing _ _ opened.survives (given_clean shown (Err r) calls last it clean) in
+        let less = adds_nothing _ _ opened.tables.survives (given_clean shown (Err r) calls last it clean) in
         (OfToday s, ran_none s calls it.0, as_was (OfToday s) are (subst (λ (c : Held X). AddsNoCrashState (shown first) (shown c)) it.1 less))
 
     -- a database of another kind is not opened
     serves_none : (old : Kept) (given : Result (BrokerView X) (Refused X)) (calls : List (Request × Exit)) → AreTreesOf old trees → Opened shown first given
         → verdict given ≢ Ok tt → GivenRuns shown given calls last → (new : Kept) × LeavesAsWas old calls new × AreTreesOf new end
     serves_none old (Ok b) calls are opened never it = absurd (never refl)
-    serves_none old (Err r) calls are opened never it = refused old r calls are (adds_nothing _ _ opened.survives (given_clean shown (Err r) calls last it clean)) it
+    serves_none old (Err r) calls are opened never it = refused old r calls are (adds_nothing _ _ opened.tables.survives (given_clean shown (Err r) calls last it clean)) it
 
     -- where there are tables no broker is made
     makes_none : (old : Kept) (office : Text) (given : Result (BrokerView X) (Refused X)) (calls : List (Request × Exit)) → AreTreesOf old trees → Created shown first office given
         → ¬ ((shown first).now.schema ≡ no_schema) → GivenRuns shown given calls last → (new : Kept) × LeavesAsWas old calls new × AreTreesOf new end
-    makes_none old office (Ok b) calls are made some it = absurd (made.not_empty.1 some)
+    makes_none old office (Ok b) calls are made some it = absurd (let no = made.tables.not_empty.1 some in cc)
     makes_none old office (Err r) calls are made some it =
-        refused old r calls are (subst (λ (c : Held X). AddsNoCrashState (shown first) (shown c)) (sym (made.same (made.not_empty.1 some))) (λ t may. may)) it
+        refused old r calls are (subst (λ (c : Held X). AddsNoCrashState (shown first) (shown c)) (sym (made.tables.same (made.tables.not_empty.1 some))) (λ t may. may)) it
 
     makes_new : (office : Text) (given : Result (BrokerView X) (Refused X)) (calls : List (Request × Exit)) → IsOnDisk IsBlank trees → Created shown first office given
         → GivenRuns shown given calls last → (new : Kept) × (LeavesAsWas Blank calls new ⊎ RunsFrom (opening office) calls new) × AreTreesOf new end
     makes_new office (Ok b) calls are made it =
-        let led = ran (opening office) b calls made.runs (made.made (given_clean shown (Ok b) calls last it clean) (holds_blank trees (shown first) on (settled first) are)).0 it in
+        let led = ran (opening office) b calls made.runs (made.tables.made (given_clean shown (Ok b) calls last it clean) (holds_blank trees (shown first) on (settled first) are)).0 it in
         (led.0, inr led.1, led.2)
     makes_new office (Err r) calls are made it =
-        by r.fault (made.refuses (given_clean shown (Err r) calls last it clean) (holds_blank trees (shown first) on (settled first) are) (no_table trees (shown first) on (settled first) are))
+        by r.fault (made.tables.refuses (given_clean shown (Err r) calls last it clean) (holds_blank trees (shown first) on (settled first) are) (no_table trees (shown first) on (settled first) are))
       where
         may_here : (shown r.connection).may_leave end
         may_here = subst (λ (c : Held X). (shown c).may_leave end) (sym it.1) may
@@ -167,10 +167,10 @@ module _ {X : Type 0} (shown : Held X → State) (settled : (c : Held X) (t : Tr
   periods_lead (OfToday s) (Serving calls) first last trees end are on it clean may = serves_today first last trees end on clean may s it.0 calls are it.1 it.2
   periods_lead (OfFormer s) (Serving calls) first last trees end are on it clean may =
       let held = held_as (λ db. StoresFormer db s) (IsMarked former_format s.office) (shown first) (λ db is. former_marked db s is.tables) (holds_former trees (shown first) on (settled first) s are) in
-      let judged = it.1.marked (given_clean shown it.0 calls last it.2 clean) former_format s.office held in
+      let judged = it.1.tables.marked (given_clean shown it.0 calls last it.2 clean) former_format s.office held in
       serves_none first last trees end on clean may (OfFormer s) it.0 calls are it.1 (is_refused (Some former_format) (verdict it.0) (λ ok. let wrong : Err (fault.Format former_format) ≡ Ok tt = ok in cc) judged) it.2
   periods_lead Blank (Serving calls) first last trees end are on it clean may =
-      let judged = it.1.blank (given_clean shown it.0 calls last it.2 clean) (holds_blank trees (shown first) on (settled first) are) in
+      let judged = it.1.tables.blank (given_clean shown it.0 calls last it.2 clean) (holds_blank trees (shown first) on (settled first) are) in
       serves_none first last trees end on clean may Blank it.0 calls are it.1 (is_refused None (verdict it.0) (λ ok. let wrong : Err fault.NotABroker ≡ Ok tt = ok in cc) judged) it.2
   periods_lead (OfToday s) (Making office calls) first last trees end are on it clean may =
       let some = some_table trees (shown first) on (settled first) (λ db. Stores db s) broker_schema (λ db is. is.tables.broker.schema) refl (holds_today trees (shown first) on (settled first) s are) in

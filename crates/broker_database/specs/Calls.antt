@@ -1,7 +1,7 @@
 -- what a public call of the broker promises, on any disk and any database: one record a call
-use Rattle.std.specs.Prelude.{◌≡◌, ◌≢◌, ◌⊎◌, ◌↔◌, ℕ, List, false, IsTrue, Option, Some, None, Result, Err, OnOk, IfOk, IfErr, IsErrAnd}
+use Rattle.std.specs.Prelude.{◌≡◌, ◌≢◌, ◌⊎◌, ◌↔◌, ℕ, List, false, IsTrue, Option, Some, None, Result, Err, OnOk, IfOk, IfErr}
 use Rattle.sqlite.specs.Held.{Held}
-use Rattle.sqlite.specs.State.{State, HasCleanDisk, Survives}
+use Rattle.sqlite.specs.State.{State, HasCleanDisk}
 use Rattle.table_access.specs.Calls.{KeepsLastCommit, HasFailed}
 use Rattle.table_access.specs.Durability.{HoldsDurably}
 use Rattle.table_access.specs.declared.StoreFault.TheVariants as faults
@@ -19,14 +19,13 @@ use Rattle.broker_tables.specs.Former.{former_format}
 use Rattle.broker_tables.specs.Holds.{format}
 use Rattle.broker_tables.specs.Making.{IsBlank, IsMarked}
 use Rattle.broker_tables.specs.Room.{HasRoomFor}
-use Rattle.broker_tables.specs.Schema.{no_schema}
 use Rattle.broker_database.specs.BrokerView.{BrokerView}
 use Rattle.broker_database.specs.Causes.{HoldsReadable, IsNotKept, KeepsRoom, StaysReadable}
 use Rattle.broker_database.specs.Ends.{Applies, IsAsBefore, AddsNoCrashState, CommitsAtMostOnce, LeavesNoTransaction}
 use Rattle.broker_database.specs.Handed.{left_by, verdict}
 use Rattle.broker_database.specs.Headline.{RecordsExactly}
 use Rattle.broker_database.specs.Migration.{StoresFormer, HoldsFormerState, KeepsFormerRoom, MigratesOrRefuses, IsFormer, OnlyIfNotMigrated}
-use Rattle.broker_database.specs.Opening.{Refuses, MakesNew, RefusesNew, IsUnchangedUnlessStore, OpensOrRefuses, Judged, IsFresh, TellsNothing, OnlyIfUntold, OnlyIfStoreFailed}
+use Rattle.broker_database.specs.Opening.{TablesMade, TablesFound, Refuses, IsUnchangedUnlessStore, Judged, IsFresh, TellsNothing}
 use Rattle.broker_database.specs.Stored.{Stores, HoldsState}
 use Rattle.broker_database.specs.declared.opening.Refused.{Refused}
 use Rattle.broker_database.specs.declared.opening.OpenFault.{OpenFault}
@@ -82,56 +81,23 @@ module _ {X : Type 0} (shown : Held X → State) where
 
   -- What the making of a broker leaves of a connection, and what it hands back. Its office's token has this digest.
   pub record Created (old : Held X) (office : Text) (given : Result (BrokerView X) (Refused X)) : Type 0 where
-    -- on a database without tables: a new broker's database
-    pub made : IfOk given (λ b. MakesNew office (shown old) (shown b.connection))
-    -- or a failure: there are no tables, and after Store a crash may leave the new broker's
-    pub refuses : IfErr given (λ r. RefusesNew office (shown old) (shown r.connection) r.fault)
-    -- Store: on a connection as it is opened and a database without tables, the store failed, or COMMIT was refused for
-    -- want of memory; no statement that makes a table or an index is refused
-    pub calm : OnlyIfStoreFailed shown IsBlank (opening office) old (left_by given) (verdict given ≡ Err fault.Store)
-    -- NotEmpty: there is a table, an index or a view
-    pub not_empty : IsErrAnd given (λ r. r.fault ≡ fault.NotEmpty) ↔ (¬ ((shown old).now.schema ≡ no_schema))
-    -- and the connection is handed back as it was
-    pub same : IfErr given (λ r. r.fault ≡ fault.NotEmpty → r.connection ≡ old)
-    -- whatever the database is: where no broker is made, it is as it was, or after Store the last commit is the old one
-    pub unchanged : IfErr given (λ r. HasCleanDisk (shown r.connection)
-        → IsUnchangedUnlessStore (shown old) (shown r.connection) r.fault)
+    -- a new broker's tables are made, or it is told why not; of any database and any disk
+    pub tables : TablesMade shown old (left_by given) office (verdict given)
     -- a new broker isn't stopped
     pub runs : IfOk given (λ b. b.is_stopped ≡ false)
-    -- whatever is handed back, no transaction is left open
-    pub over : LeavesNoTransaction (shown old) (shown (left_by given))
-    -- on a disk that fails, and when the program is stopped in the call: a crash leaves one more database at most
-    pub survives : CommitsAtMostOnce (shown old) (shown (left_by given))
 
   -- What the opening of a broker leaves of a connection, and what it hands back.
   pub record Opened (old : Held X) (given : Result (BrokerView X) (Refused X)) : Type 0 where
-    -- a failure aside: the database is of today's format, or it is told what it is instead
-    pub judges : HasCleanDisk (shown (left_by given)) → OpensOrRefuses format (shown old).now (verdict given)
-    -- of a database without tables: NotABroker, or a failure
-    pub blank : HasCleanDisk (shown (left_by given)) → HoldsDurably IsBlank (shown old)
-        → Judged format None (verdict given)
-    -- Store: on a connection as it is opened, the store failed, or meta has no number as its format
-    pub calm : OnlyIfUntold (shown old) (shown (left_by given)) (verdict given ≡ Err fault.Store)
-    -- of one that is marked with a format: whether that is today's, or a failure
-    pub marked : HasCleanDisk (shown (left_by given)) → (n : ℕ) (office : List ℕ)
-        → HoldsDurably (IsMarked n office) (shown old) → Judged format (Some n) (verdict given)
-    -- the database is as it was
-    pub kept : IfOk given (λ b. HasCleanDisk (shown b.connection) → IsAsBefore (shown old) (shown b.connection))
-    -- so that the broker holds the state that was held
+    -- a broker's tables are found, or it is told what is there instead; of any database and any disk
+    pub tables : TablesFound shown old (left_by given) (verdict given)
+    -- the database is as it was, so that the broker holds the state that was held
     pub holds : IfOk given (λ b. HasCleanDisk (shown b.connection) → (s : Broker) → HoldsState s (shown old)
         → HoldsState s (shown b.connection))
     -- and its tables have numbers for as many rows more as they had
     pub room : IfOk given (λ b. HasCleanDisk (shown b.connection) → (n : ℕ) → HoldsDurably (HasRoomFor n) (shown old)
         → HoldsDurably (HasRoomFor n) (shown b.connection))
-    -- where no broker is opened, the database is as it was too, or after Store the last commit is the old one
-    pub unchanged : IfErr given (λ r. HasCleanDisk (shown r.connection)
-        → IsUnchangedUnlessStore (shown old) (shown r.connection) r.fault)
     -- an opened broker isn't stopped
     pub runs : IfOk given (λ b. b.is_stopped ≡ false)
-    -- whatever is handed back, no transaction is left open
-    pub over : LeavesNoTransaction (shown old) (shown (left_by given))
-    -- on a disk that fails, and when the program is stopped in the call: what a crash leaves, it left before
-    pub survives : Survives (shown old) (shown (left_by given)) (λ _. ⊥)
 
   -- What a migration leaves of a connection, and what it answers.
   pub record Migrated (old new : Held X) (given : Result (Unit {0}) OpenFault) : Type 0 where

@@ -71,7 +71,7 @@ module _ {D : Type 0} {g : Ghosts D} where
 
   pub works_since : (work : Work) (conn : Held (FileStore D g)) (end : BrokerView (FileStore D g)) → Works work conn end → IsBefore conn end.connection
   works_since work conn end it =
-      let opens = it.opened.survives in
+      let opens = it.opened.tables.survives in
       let more = peers_since work conn end it in
       record { clean = omega (arith, opens.clean, more.clean); counts = omega (arith, opens.counts, more.counts); shield = λ tested. more.shield (opens.shield tested) }
 

@@ -89,7 +89,7 @@ module _ {D : Type 0} (g : Ghosts D) (stays : (file : D) → g.may_leave file (g
         → ∥ Keeps old (periods_of it.works ++ (Serving [] ∷ [])) image ∥₁
     finding_none_leads fault store it clean image may =
         let ends = it.left.ends clean in
-        let early : HasCleanDisk (file_state it.connection) = omega (arith, ends.0, it.fails.survives.clean) in
+        let early : HasCleanDisk (file_state it.connection) = omega (arith, ends.0, it.fails.tables.survives.clean) in
         adds_period old (periods_of it.works) (Serving []) it.connection it.end (left.Store store) image (starts_after old held it.works it.connection are it.starts early)
         (Err (record { fault = fault; connection = it.end }), it.fails, (refl, refl)) ends.0 ends.1 may
 

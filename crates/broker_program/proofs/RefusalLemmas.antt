@@ -30,7 +30,7 @@ module _ {D : Type 0} {g : Ghosts D} where
   -- no broker was opened
   pub opens_none : (held : Image) (old : Held (FileStore D g)) (fault : OpenFault) (store : FileStore D g) → OpensOn held old → GivesUpUnopened old fault store
       → IsOfDatabase held OpensNone (run_fault.Open fault) (GivenUp store)
-  opens_none held old fault store opens it = fails_there held OpensNone old it.0 fault (run_fault.Open fault) (GivenUp store) opens it.1.survives.clean it.1 refl it.2
+  opens_none held old fault store opens it = fails_there held OpensNone old it.0 fault (run_fault.Open fault) (GivenUp store) opens it.1.tables.survives.clean it.1 refl it.2
 
   -- what was done in the database of a file that couldn't be closed
   pub ends_unclosed : (held : Image) (Does : Held (FileStore D g) → Held (FileStore D g) → Type 0) (end : Held (FileStore D g)) (fault : RunFault) (store : FileStore D g)

@@ -110,7 +110,7 @@ module _ {D : Type 0} {g : Ghosts D} where
   opened_runs work conn end it s opened fresh clean works held readable stopped =
       let since = peers_since work conn end it in
       let early : HasCleanDisk (file_state it.broker.connection) = omega (arith, clean, since.clean) in
-      let opens = it.opened.survives in
+      let opens = it.opened.tables.survives in
       let first : ¬ MoreFaults (file_state conn).faults (file_state it.broker.connection).faults = λ more. works (omega (arith, more, since.counts)) in
       calls_calm work.calls s it.broker end (work_runs work conn end it) (record {
         runs = it.opened.runs;

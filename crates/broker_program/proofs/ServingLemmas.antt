@@ -176,7 +176,7 @@ module _ {D : Type 0} {g : Ghosts D} where
   pub unserved : (held : Image) (broker : BrokerView (FileStore D g)) (store : FileStore D g) → OpensBroker held broker
       → HasCleanDisk (file_state broker.connection) × IsGivenBack g broker.connection store → IsLeftUnserved held store
   unserved held broker store opens given =
-      let early : HasCleanDisk (file_state opens.0) = omega (arith, given.0, opens.2.survives.clean) in
+      let early : HasCleanDisk (file_state opens.0) = omega (arith, given.0, opens.2.tables.survives.clean) in
       record { connection = opens.0; broker = broker; starts = opens.1 early; opened = opens.2; clean = given.0; left = given.1 }
 
 none≢some : {T : Type 0} (x : T) → None ≢ Some x

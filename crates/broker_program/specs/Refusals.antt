@@ -57,7 +57,7 @@ module _ {D : Type 0} {g : Ghosts D} where
 
   -- ---- the calls that fail, from a connection to what they leave of it
 
-  -- no broker is opened: `judges` of `Opened` says of which database each fault is told
+  -- no broker is opened: `judges` of `TablesFound` says of which database each fault is told
   abbrev pub OpensNone : Held (FileStore D g) → Held (FileStore D g) → OpenFault → Type 0
   OpensNone old new fault = Opened file_state old (Err (record { fault = fault; connection = new }))
 
@@ -65,7 +65,7 @@ module _ {D : Type 0} {g : Ghosts D} where
   abbrev pub GivesUpUnopened : Held (FileStore D g) → OpenFault → FileStore D g → Type 0
   GivesUpUnopened conn fault store = (end : Held (FileStore D g)) × OpensNone conn end fault × GivesUpAs end store
 
-  -- none is made whose office has this token: `not_empty` and `refuses` of `Created`
+  -- none is made whose office has this token: `not_empty` and `refuses` of `TablesMade`
   abbrev pub MakesNone : Text → Held (FileStore D g) → Held (FileStore D g) → OpenFault → Type 0
   MakesNone office old new fault =
       Created file_state old (broker_primitives.digest_of office) (Err (record { fault = fault; connection = new }))

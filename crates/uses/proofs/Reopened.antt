@@ -70,18 +70,18 @@ module _ {D : Type 0} (g : Ghosts D) where
   module _ (files : Files D) (conn : Held (FileStore D g)) (found : HasCleanDisk (file_state {D = D} {g = g} conn) → IsOpened conn × Finds files conn) where
     pub over : (b : BrokerView (FileStore D g)) → Opened (file_state {D = D} {g = g}) conn (Ok b) → HasCleanDisk (file_state {D = D} {g = g} b.connection) → IsOpenedOver files b
     over b opened clean =
-        let was : HasCleanDisk (file_state {D = D} {g = g} conn) = omega (arith, opened.survives.clean, clean) in
+        let was : HasCleanDisk (file_state {D = D} {g = g} conn) = omega (arith, opened.tables.survives.clean, clean) in
         let it = found was in
-        record { conn = conn; opened = it.0; finds = it.1; same = opened.kept clean; holds = opened.holds clean }
+        record { conn = conn; opened = it.0; finds = it.1; same = opened.tables.kept clean; holds = opened.holds clean }
 
     pub refused : (s : Broker) (r : Refused (FileStore D g)) → Opened (file_state {D = D} {g = g}) conn (Err r) → (AreClean g files.log files.db → KeepState g s files)
         → HasCleanDisk (file_state {D = D} {g = g} r.connection) → KeepsOverCrash s (file_state {D = D} {g = g} r.connection).may_leave × IsOfDatabase r.fault
     refused s r opened keep clean =
-        let was : HasCleanDisk (file_state {D = D} {g = g} conn) = omega (arith, opened.survives.clean, clean) in
+        let was : HasCleanDisk (file_state {D = D} {g = g} conn) = omega (arith, opened.tables.survives.clean, clean) in
         let it = found was in
         let held = (keep it.1.honest).found conn it.0 it.1 in (
-          λ trees may. held.left trees (elim (opened.survives.crash clean trees may) [ inl old ↦ old | inr none ↦ absurd none ]),
-          failed r.fault (opened.marked clean format s.office (marked s (file_state {D = D} {g = g} conn) held)),
+          λ trees may. held.left trees (elim (opened.tables.survives.crash clean trees may) [ inl old ↦ old | inr none ↦ absurd none ]),
+          failed r.fault (opened.tables.marked clean format s.office (marked s (file_state {D = D} {g = g} conn) held)),
         )
 
   module _ (old : BrokerView (FileStore D g)) (files : Files D) (closed : AreClean g files.log files.db → AreClosed old files) where

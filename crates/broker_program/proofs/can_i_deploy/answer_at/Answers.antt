@@ -10,7 +10,7 @@ returns-clause-ok g c clean =
     let applied = c.apply-answer.ensures in
     let early : HasCleanDisk (file_state broker.connection) = omega (arith, given.0, applied.survives.1.clean) in
     let from = c.in_ok-broker.ensures.opened in
-    let first : HasCleanDisk (file_state from.0) = omega (arith, early, from.2.survives.clean) in
+    let first : HasCleanDisk (file_state from.0) = omega (arith, early, from.2.tables.survives.clean) in
     record {
       connection = from.0;
       broker = broker;
@@ -18,7 +18,7 @@ returns-clause-ok g c clean =
       starts = from.1 first;
       opened = from.2;
       applied = rw c.as_str.ensures at applied;
-      unchanged = λ held undone. still_as_before _ _ _ (from.2.kept early) (applied.unchanged given.0 c.in_ok-broker.ensures.runs held undone);
+      unchanged = λ held undone. still_as_before _ _ _ (from.2.tables.kept early) (applied.unchanged given.0 c.in_ok-broker.ensures.runs held undone);
       clean = given.0;
       left = given.1;
     }

@@ -18,15 +18,15 @@ pub returns-in-Err-create-clause-fails : goal.returns-in-Err-create-clause-fails
 unfolding doubt
 returns-in-Err-create-clause-fails c =
     let empty = c.in-Ok.ensures.empty in
-    unmade _ _ _ _ (c.in-Err-create.ensures.refuses refl (memory_is_blank c.in-Ok.connection empty) empty.2)
+    unmade _ _ _ _ (c.in-Err-create.ensures.tables.refuses refl (memory_is_blank c.in-Ok.connection empty) empty.2)
 
 pub returns-in-Ok-create-clause-holds : goal.returns-in-Ok-create-clause-holds
 unfolding doubt
 returns-in-Ok-create-clause-holds c =
-    (c.in-Ok-create.ensures.runs, (c.in-Ok-create.ensures.made refl (memory_is_blank c.in-Ok.connection c.in-Ok.ensures.empty)).0)
+    (c.in-Ok-create.ensures.runs, (c.in-Ok-create.ensures.tables.made refl (memory_is_blank c.in-Ok.connection c.in-Ok.ensures.empty)).0)
 
 pub returns-in-Ok-create-clause-unlimited : goal.returns-in-Ok-create-clause-unlimited
-returns-in-Ok-create-clause-unlimited c = c.in-Ok-create.ensures.survives.1.limit ∙ c.in-Ok.ensures.fresh.unlimited
+returns-in-Ok-create-clause-unlimited c = c.in-Ok-create.ensures.tables.survives.1.limit ∙ c.in-Ok.ensures.fresh.unlimited
 
 pub returns-in-Ok-create-clause-readable : goal.returns-in-Ok-create-clause-readable
 returns-in-Ok-create-clause-readable c = c.readable_stays.ensures.reached c.args.office.now [] [] (opening (broker_primitives.digest_of c.args.office.now)) tt refl
