@@ -40,6 +40,18 @@ stepped answers.Pattern is = cc
 stepped answers.Stopped is = cc
 stepped _ is = refl
 
+-- a command to be done among the later ones is one among all
+stops_later : (s t : Broker) (r : Request) (exit : Exit) (calls : List (Request × Exit)) → CallLeaves broker_primitives s r exit t → StopsAtChange t calls → StopsAtChange s ((r, exit) ∷ calls)
+stops_later s t r exit calls leaves stop = record {
+  before = (r, exit) ∷ stop.before;
+  request = stop.request;
+  after = stop.after;
+  split = ap (λ (cs : List (Request × Exit)). (r, exit) ∷ cs) stop.split;
+  state = stop.state;
+  leads = (t, leaves, stop.leads);
+  done = stop.done;
+}
+
 module _ {D : Type 0} {g : Ghosts D} where
   -- a broker that runs, on an open connection, in a state that can be read back
   pub record RunsIn (s : Broker) (b : BrokerView (FileStore D g)) : Type 0 where
@@ -90,16 +102,8 @@ module _ {D : Type 0} {g : Ghosts D} where
         | inr runs ↦ elim rest [
           | inl on ↦
               let later = still_runs s r given b next applied it now first runs in
-              let stop = calls_calm calls later.0 next end on.1 later.2 clean (λ more. works (omega (arith, more, applied.survives.1.counts))) stopped in
-              record {
-                before = (r, exit) ∷ stop.before;
-                request = stop.request;
-                after = stop.after;
-                split = ap (λ (cs : List (Request × Exit)). (r, exit) ∷ cs) stop.split;
-                state = stop.state;
-                leads = (later.0, subst (λ (e : Exit). CallLeaves broker_primitives s r e later.0) (sym on.0) later.1, stop.leads);
-                done = stop.done;
-              }
+              stops_later s later.0 r exit calls (subst (λ (e : Exit). CallLeaves broker_primitives s r e later.0) (sym on.0) later.1)
+              (calls_calm calls later.0 next end on.1 later.2 clean (λ more. works (omega (arith, more, applied.survives.1.counts))) stopped)
           | inr cut ↦ let bad : true ≡ false = sym stopped ∙ ap (λ (t : BrokerView (FileStore D g)). t.is_stopped) cut.3 ∙ runs in cc
         ]
       ]
