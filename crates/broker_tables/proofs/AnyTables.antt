@@ -1,11 +1,16 @@
 -- A schema that has the broker's tables consists of them, with whatever else tables have; and what a text asks of it.
-use Rattle.std.{specs.List.{AllZip}, proofs.Common.{◌≡◌, ◌∙◌, ◌≤◌, ℕ, zero, suc, List, [], ◌∷◌, IsTrue, None, refl, sym, subst, arith}}
+use Rattle.std.specs.{List.{AllZip}, Prelude.{is_some, ◌↔◌}}
+use Rattle.std.proofs.Common.{◌≡◌, ◌∙◌, ◌≤◌, ℕ, zero, suc, List, [], ◌∷◌, Bool, true, false, IsTrue, Option, None, Some, slice_get, refl, sym, subst, arith}
+use Rattle.std.proofs.lemmas.List.Sorted.{Contains-permutation}
 use Rattle.sqlite.specs.{Table.{Table}, Schema.{Schema}, Order.{Row}, Query.{Query}, Command.TheVariants.{Select}, State.{State, Shown, IsUnchanged, HasCause}}
-use Rattle.sqlite.specs.Effect.{Database, Answers}
+use Rattle.sqlite.specs.{Effect.{Database, Answers}, Term.{Term}}
+use Rattle.sqlite_rules.specs.Lists.{Has}
+use Rattle.sqlite_value.specs.declared.keys.Key.{Key}
 use Rattle.sqlite_trees.specs.{declared.error.StoreError.{StoreError}, declared.error.StoreError.TheVariants.{OutOfMemory, Broken, Unstorable}}
 use Rattle.sqlite_schema.specs.declared.schema.Column.{Column}
-use Rattle.table_access.{specs.{declared.StoreFault.{StoreFault}, Calls.{HasFailed}, Reading.{IsRefusedAs}}, proofs.Answered.{Runs, refusal_ends}}
-use Rattle.table_access.proofs.Steps.{Means, shown_answers, shown_unchanged}
+use Rattle.table_access.specs.{declared.StoreFault.{StoreFault}, Calls.{HasFailed}, Reading.{IsRefusedAs}, Statements.{from_table, keeps, shows}}
+use Rattle.table_access.proofs.{Answered.{Runs, refusal_ends, shown_of, first_has}, Members.{has_map, has_filter, has_contains, contains_has}}
+use Rattle.table_access.proofs.Steps.{Means, selects, shown_answers, shown_unchanged}
 use Rattle.broker_tables.specs.{Schema.{environments, numbers}, Asking.{IsColumnLike, HasColumns, HasBrokerTables, CanBeAsked}}
 
 -- ---- the tables
@@ -64,6 +69,33 @@ module _ {sql : List ℕ} {params : Row} {query : Query} (old new : State) (asks
   -- it is refused only as the store fails
   pub refused_ends : old.step_limit ≡ None → (fault : StoreFault) → IsRefusedAs sql params old new fault → HasFailed old new fault
   refused_ends unlimited fault = refusal_ends sql params old new query asks.names asks.means asks.runs unlimited fault
+
+-- ---- the rows of one table that are shown
+
+pub nothing_in : (xs : List Row) → slice_get xs 0 ≡ None → (x : Row) → Has xs x → ⊥
+nothing_in [] none x has = has
+nothing_in (y ∷ xs) none x has = absurd cc
+
+module _ {sql : List ℕ} {params : Row} {t : ℕ} {terms project : List Term} {order : List (Term × Key)} (old new : State) (asks : AsksOf old.now.schema sql params (from_table t terms project order))
+    (rows : List Row) (shown : Shown sql params old new rows) where
+  -- the first one is what is shown of a row that WHERE keeps
+  pub first_kept : (row : Row) → slice_get rows 0 ≡ Some row → (r : Row) × Has (old.now.trees t) r × (keeps terms params r ≡ true) × (row ≡ shows project params r)
+  first_kept row head = shown_of sql params old new t terms project order asks.names asks.means rows row shown (first_has rows row head)
+
+  -- and if there is none, WHERE keeps no row
+  pub none_kept : slice_get rows 0 ≡ None → (r : Row) → Has (old.now.trees t) r → keeps terms params r ≡ true → ⊥
+  none_kept none r has kept =
+      let here = has_map (shows project params) _ r (has_filter (keeps terms params) (old.now.trees t) r has kept) in
+      nothing_in rows none _ (contains_has rows _ (Contains-permutation _ rows _ (selects sql params old new t terms project order asks.names asks.means rows shown) (has_contains _ _ here)))
+
+  -- so one is shown just where WHERE keeps a row
+  pub any_kept : (b : Bool) → b ≡ is_some (slice_get rows 0) → IsTrue b ↔ ((r : Row) × Has (old.now.trees t) r × (keeps terms params r ≡ true))
+  any_kept b is = go b (slice_get rows 0) refl is
+    where
+      go : (b : Bool) (o : Option Row) → slice_get rows 0 ≡ o → b ≡ is_some o → IsTrue b ↔ ((r : Row) × Has (old.now.trees t) r × (keeps terms params r ≡ true))
+      go true (Some row) head is = (λ t. let it = first_kept row head in (it.0, it.1, it.2), λ m. refl)
+      go false None head is = (λ t. absurd cc, λ m. absurd (none_kept head m.0 m.1 m.2))
+      go _ _ head is = absurd cc
 
 -- ---- one query after another
 

@@ -6,7 +6,7 @@ use Rattle.sqlite.specs.Tree.{IsAscending}
 use Rattle.sqlite_schema.specs.Rules.{references_fit}
 use Rattle.table_access.specs.{declared.StoreFault.{StoreFault}, Calls.{HasFailed, FailsToRun, fault_of}, Sound.{IsNumbered}}
 use Rattle.table_access.{specs.Statements.{ChangesOnly, from_table, keeps}, proofs.{Answered.{Runs}, Deleted.{IsLeaf, delete_fails}, Edits.{IsAlone}}}
-use Rattle.table_access.proofs.{SoundLemmas.{has_place}, Steps.{Means, deletes, deletes_counted}}
+use Rattle.table_access.proofs.{SoundLemmas.{has_place}, Steps.{Means, deletes}}
 use Rattle.broker_core.specs.State.{State as Broker}
 use Rattle.broker_tables.{specs.{Schema.{broker_schema}, Holds.{IsBroker, Holds, HoldsAfter}}, proofs.Frames.{Frame, frame_of, meant, runs_here}}
 use Rattle.broker_tables.proofs.{Inserted.{apart}, Placed.{Placed, calm, numbered_in, plain_there, plainly}, RoomLemmas.{Grows, after_one, grows_kept}}
@@ -29,10 +29,8 @@ module _ {t : Table} {at : Placed t} {sql : List ℕ} {params : Row} {terms : Li
   -- where it is done, these rows are gone, the count says how many they were, and no other table changes
   pub taken_from : (count : ℕ) → Executes sql params old new (Ok count) → ChangesOnly t.tree old new × (new.now.trees t.tree ≡ filter (λ r. not (keeps terms params r)) (old.now.trees t.tree))
       × (count ≡ length (filter (keeps terms params) (old.now.trees t.tree)))
-  taken_from count h =
-      let means = meant old.now broker sql takes.means in
-      let it = deletes t.name t.tree t.columns t.key t.primary t.uniques t.orders t.checks t.references sql params old new at.place found terms means (calm old.now broker) numbered count h in
-      (it.0, it.1, deletes_counted t.name t.tree t.columns t.key t.primary t.uniques t.orders t.checks t.references sql params old new at.place found terms means count h)
+  taken_from = deletes t.name t.tree t.columns t.key t.primary t.uniques t.orders t.checks t.references sql params old new at.place found terms
+      (meant old.now broker sql takes.means) (calm old.now broker) numbered
 
   -- so the state is held that the rows tell then
   pub held_taken : {taken : ℕ} → 1 ≤ taken → {next : Broker} (count : ℕ) → Executes sql params old new (Ok count)

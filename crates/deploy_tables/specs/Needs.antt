@@ -1,6 +1,6 @@
 -- What a version needs in an environment, from the parts that are read. The clauses of `faults` and `needs` cite
 -- `ListsFaults` and `ListsNeeds`, which say it in the machine's words; all else is for private clauses.
-use Rattle.std.specs.Prelude.{Contains, ◌≡◌, ◌≢◌, ◌⊎◌, ◌&&◌, ◌||◌, not, List, [], ℕ, Bool, true, false, Option, Some, None, is_some, if◌then◌else◌, IsTrue, MatchOption}
+use Rattle.std.specs.Prelude.{Contains, ◌≡◌, ◌≢◌, ◌⊎◌, ◌&&◌, ◌||◌, not, List, [], ℕ, Bool, true, false, Option, Some, None, is_some, if◌then◌else◌, IsTrue}
 use Rattle.std.specs.declared.cmp.Ordering.{Ordering}
 use Rattle.std.specs.Ordering.{ordering_then}
 use Rattle.std.specs.Option.{option_map_or, option_cmp}
@@ -28,10 +28,9 @@ use Rattle.deploy_tables.specs.declared.contracts_there.NumberedContract.{Number
 abbrev pub AreFaults : State → Version → Text → Bool → List PairFault → Type 0
 AreFaults s v e strict faults = is_strict s e ≡ strict → Lists fault_cmp (IsFault s v e) faults
 
--- none where v isn't there
-abbrev pub ListsFaults : State → Version → Text → Bool → List PairFault → Type 0
-ListsFaults s v e strict faults =
-    MatchOption (number_of s.versions v) (faults ≡ []) (λ _. AreFaults s v e strict faults)
+-- the same of v, if it has this number
+abbrev pub ListsFaults : State → ℕ → Version → Text → Bool → List PairFault → Type 0
+ListsFaults s number v e strict faults = number_of s.versions v ≡ Some number → AreFaults s v e strict faults
 
 -- ---- the needs
 

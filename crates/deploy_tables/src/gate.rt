@@ -1,20 +1,25 @@
 //! What the gate lacks of a version in an environment.
-ghost use Rattle.std.specs.Prelude.{◌≡◌, Some};
-ghost use Rattle.broker_tables.specs.Numbers.{number_of as number_known};
 ghost use Rattle.broker_tables.specs.Calm.{CalmQueries};
-ghost use Rattle.deploy_tables.specs.Needs.{AreFaults, ListsFaults};
+ghost use Rattle.deploy_tables.specs.Needs.{ListsFaults};
 
 use crate::wanted_needs::{Wanted, wanted_needs};
 use broker_core::command::Version;
 use broker_core::gate::decide;
 use broker_core::need::PairFault;
-use registry_tables::version_of;
 use sqlite::{Alter, Connection};
 use std::alloc::Global;
 use table_access::StoreFault;
 
-/// The faults of the version of this number in the environment.
-fn faults_numbered<S: Alter>(
+/// The faults of the version, which has this number, in the environment, which is strict or not: of its contracts with
+/// each version of their providers that is there, or with none, and of the contracts that versions of other pacticipants
+/// which are there have with its pacticipant. Each fault is there once, in the order of faults. Nothing is said if the
+/// version has another number, or if the environment is strict where it should not be: a caller has asked for both.
+/// Names are looked up only for what is told.
+///
+/// # Errors
+/// `StoreFault::Memory` if the database is out of memory, or there is none for the answer; `StoreFault::Store` if it
+/// refused a query, or if a row doesn't read.
+pub fn faults<S: Alter>(
     alloc: Global,
     conn: &mut Connection<S>,
     number: u32,
@@ -23,37 +28,12 @@ fn faults_numbered<S: Alter>(
     strict: bool,
 ) -> Result<Vec<PairFault>, StoreFault>
     ensures { CalmQueries S.Store conn.old conn.new result
-        (λ found s. number_known s.versions version.now ≡ Some number →
-        AreFaults s version.now environment.now strict found.items) }
+        (λ found s. ListsFaults s number version.now environment.now strict found.items) }
 {
     let wanted = Wanted::Open { strict };
     let needs = done!(wanted_needs(alloc, conn, number, version, environment, wanted));
     match decide(alloc, &needs, strict) {
         Ok(faults) => Ok(faults),
         Err(_) => Err(StoreFault::Memory),
-    }
-}
-
-/// The faults of the version in the environment, which is strict or not: of its contracts with each version of their
-/// providers that is there, or with none, and of the contracts that versions of other pacticipants which are there have
-/// with its pacticipant. Each fault is there once, in the order of faults. The list is empty if there is no such
-/// version. Names are looked up only for what is told.
-///
-/// # Errors
-/// `StoreFault::Memory` if the database is out of memory, or there is none for the answer; `StoreFault::Store` if it
-/// refused a query, or if a row doesn't read.
-pub fn faults<S: Alter>(
-    alloc: Global,
-    conn: &mut Connection<S>,
-    version: &Version,
-    environment: &str,
-    strict: bool,
-) -> Result<Vec<PairFault>, StoreFault>
-    ensures { CalmQueries S.Store conn.old conn.new result
-        (λ found s. ListsFaults s version.now environment.now strict found.items) }
-{
-    match done!(version_of(conn, version.pacticipant.as_str(), version.name.as_str())) {
-        Some(number) => faults_numbered(alloc, conn, number, version, environment, strict),
-        None => Ok(Vec::new(alloc)),
     }
 }

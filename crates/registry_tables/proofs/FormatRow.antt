@@ -6,8 +6,8 @@ use Rattle.std.specs.List.{AllByRecursion}
 use Rattle.std.proofs.Common.{◌≡◌, ◌≤◌, ◌^◌, ℕ, ℤ, pos, codes, List, [], ◌∷◌, length, map, not, inl, inr, filter, refl, sym, ap, subst, ◌∙◌, slice_get, Option, Some, None, Ok, Err}
 use Rattle.sqlite.specs.{Tree.{rowid}, Cast.{cast_row}, declared.types.Value.TheVariants.{Null, Int, Text}, Order.{Row, column}}
 use Rattle.sqlite.specs.{Edit.{id_in, without_all, edit_of}, Term.{Term, col, lit}, Command.{Command}, Command.TheVariants.{Update}, Schema.{Schema}}
-use Rattle.sqlite.specs.{Effect.{Answers}, State.{State, Executes, Fails, IsMisplaced, mode_of}, Listing.{understood}, Rowids.TheVariants.{Given}}
-use Rattle.sqlite.specs.{declared.error.Error.{Error}, Rows.{Written, Task, Queried, Updates}, Does.{AtPlace, OnRows, Does}}
+use Rattle.sqlite.specs.{Effect.{Answers}, State.{State, Executes, Fails, mode_of}, Listing.{understood}, Rowids.TheVariants.{Given}}
+use Rattle.sqlite.specs.{declared.error.Error.{Error}, Rows.{Written, Task, Updates}, Does.{Does}}
 use Rattle.sqlite_schema.specs.{declared.program.Program.{Program}, declared.schema.Keys.TheVariants.{Enforced}, declared.schema.Among.TheVariants.{All}}
 use Rattle.sqlite_schema.specs.Rules.{Refers}
 use Rattle.sqlite_rules.{specs.{Lists.{Has}, Calls.{ids_of}}, proofs.TableLemmas.{int_is}}
@@ -15,7 +15,7 @@ use Rattle.sqlite_keyed.proofs.ListLemmas.{IsPermutation-same}
 use Rattle.sqlite_tied.specs.Compute.{everything}
 use Rattle.table_access.{specs.{Columns.{text, whole_at}, Sound.{IsNumbered}, Statements.{from_table, keeps, shows, IsCalm}}, proofs.Creation.{all_front}}
 use Rattle.table_access.proofs.{Steps.{Means, updates, went, same_value, shown_one}, SoundLemmas.{at_has, text_at, has_place}, Removal.{left}}
-use Rattle.table_access.proofs.{Answered.{Runs, never_refused}, Edits.{Suits, goes, refers}, Refused.{stopped, change_fails, caused_by}}
+use Rattle.table_access.proofs.{Answered.{Runs, never_stopped}, Edits.{Suits, goes, refers}, Refused.{stopped, on_rows, in_place, change_fails, caused_by}}
 use Rattle.broker_core.specs.State.{State as Broker}
 use Rattle.registry_tables.{specs.Format.{KeepsFormerRows}, proofs.{MetaRow.{alone, row_of, as_cast}, MetaFails.{TakesMeta, suits}}}
 
@@ -110,13 +110,9 @@ module _ (old new : State) (s : Broker) (held : HoldsUnmarked former_format adde
         (subst (λ x. Suits ⊥ old.now.schema Enforced old.now.trees (record { table = meta; gone = gone; news = x ∷ [] })) (sym (as_cast format s.office))
         (suits format s.office old.now gone (is.2 (id_in number)) held.kept none short))
 
-    queried : (stop : Option Error) → Queried task.limit old.now query [] (Err stop) → ⊥
-    queried None h = h
-    queried (Some e) h = never_refused [] old.now query.body is.1.typed refl old.step_limit unlimited e h
-
     updated : (stop : Option Error) → Updates task query [] old.now.trees (Err stop) → ⊥
     updated stop h = elim (stopped stop h) [
-      | inl asked ↦ queried stop asked
+      | inl asked ↦ never_stopped [] old.now query.body is.1.typed refl old.step_limit unlimited stop asked
       | inr given ↦ elim (stopped stop given.2) [ inl edited ↦ (goes ⊥ old.now.schema Enforced old.now.trees _ (edits given.0 given.1) stop edited).1 | inr done ↦ absurd (let h = done.2 in cc) ]
     ]
 
@@ -126,25 +122,12 @@ module _ (old new : State) (s : Broker) (held : HoldsUnmarked former_format adde
         let edited = went given.2 in
         subst (λ trees. Refers All old.now.schema trees) (sym (ap (λ (it : Written). it.trees) (same_value edited.2))) (refers ⊥ old.now.schema Enforced old.now.trees _ (edits given.0 given.1) edited.0 edited.1)
 
-    rows_done : (stop : Option Error) → OnRows task (mode_of old) None command old.now.trees (Err stop) → ⊥
-    rows_done stop h = elim (stopped stop h) [
-      | inl written ↦ updated stop written
-      | inr written ↦ elim (stopped stop written.2) [
-        | inl tested ↦ tested.0 (left_sound written.0 written.1)
-        | inr passed ↦ elim (stopped stop passed.2) [ inl shown ↦ absurd (let h = shown in cc) | inr last ↦ absurd (let h = last.2 in cc) ]
-      ]
-    ]
-
     does : (stop : Option Error) → Does old.step_limit (mode_of old) [] old.now set_sql None command (Err stop) → ⊥
-    does stop h = rows_done stop (subst (λ o. AtPlace (λ table. OnRows (record task { table = table }) (mode_of old) None command old.now.trees) o (Err stop)) there h)
-
-    placed : (e : Error) → ¬ IsMisplaced old command e
-    placed e (inl (why, inl begins)) = let k = begins.0 in cc
-    placed e (inl (why, inr (inl commits, outside))) = let k = commits in cc
-    placed e (inl (why, inr (inr rolls, outside))) = let k = rolls in cc
-    placed e (inr (why, name, inl releases, none)) = let k = releases in cc
-    placed e (inr (why, name, inr back, none)) = let k = back in cc
+    does stop h = elim (on_rows (codes "meta") 0 meta.columns (Some 0) (0 ∷ []) meta.uniques meta.orders meta.checks [] [] old 0 there command stop h) [
+      | inl written ↦ updated stop written
+      | inr stray ↦ stray.2 (left_sound stray.0 stray.1)
+    ]
 
     -- only as the store fails
     pub format_fails : (e : Error) → Executes set_sql [] old new (Err e) → Fails old new ⊥ e
-    format_fails e h = elim (change_fails set_sql [] old new command (λ e. ⊥) is.0 is.1.whole refl refl (λ e misplaced same. placed e misplaced) (λ e writes. does (Some e)) e h) [ inl fails ↦ caused_by old new e (does None) fails | inr never ↦ absurd never ]
+    format_fails e h = elim (change_fails set_sql [] old new command (λ e. ⊥) is.0 is.1.whole refl refl (λ e misplaced same. in_place old command refl e misplaced) (λ e writes. does (Some e)) e h) [ inl fails ↦ caused_by old new e (does None) fails | inr never ↦ absurd never ]

@@ -3,7 +3,7 @@
 use Rattle.std.specs.List.{AllZip}
 use Rattle.std.proofs.Common.{◌≡◌, inl, inr, ◌^◌, arith, codes, List, [], ◌∷◌, filter, find, refl, sym, ap, subst, ◌∙◌, Bool, true, false, nat_le, ◌==◌, IsTrue, Some, None, Ok, Err}
 use Rattle.std.proofs.lemmas.Bool.{lt-leb}
-use Rattle.sqlite.specs.{Table.{Table}, Effect.{Database, IsDatabase}, State.{State, IsLive, FailsToQuery, IsNotRun}, Listing.{understood}}
+use Rattle.sqlite.specs.{Table.{Table}, Effect.{Database, IsDatabase}, State.{State, IsLive, FailsToQuery, IsNotRun}}
 use Rattle.sqlite_trees.specs.Objects.{catalog_tree}
 use Rattle.sqlite_catalog.specs.Listing.{IsTableRow, is_table_row}
 use Rattle.sqlite_resolve.specs.declared.error.CompileError.TheVariants.{Mismatch}
@@ -12,9 +12,8 @@ use Rattle.sqlite_typing.specs.Types.{accepts_program}
 use Rattle.table_access.{specs.{declared.StoreFault.{StoreFault}, Calls.{fault_of}, Reading.{IsRefusedAs}}, proofs.Answered.{is_whole, refusal_ends}}
 use Rattle.table_access.proofs.SoundLemmas.{has_place}
 use Rattle.broker_tables.specs.Schema.{meta}
-use Rattle.registry_tables.specs.Format.{IsMetaTable, FailsToFind, table_of}
-use Rattle.registry_tables.proofs.FormatText.{format_sql, format_query, compiled_of, read_if, format_understood, format_means}
-use Rattle.registry_tables.proofs.FoundFormat.{as_like, as_meta, placed}
+use Rattle.registry_tables.{specs.Format.{IsMetaTable, FailsToFind, table_of}, proofs.FormatText.{format_sql, format_query, compiled_of}}
+use Rattle.registry_tables.proofs.FoundFormat.{as_like, placed, reads, means}
 
 -- ---- the tree of a table
 
@@ -44,25 +43,16 @@ module _ (old new : State) (t : Table) (there : table_of meta.name old.now.schem
       let cs = as_like t.columns is.0 in
       rw (is_low old.now (live is_open).0 t (has_place old.now.schema.tables at.0 t at.2), first, cs.3) refl
 
-  read : (ok : Bool) → accepts ≡ ok → understood old.now.schema format_sql ≡ read_if ok t.tree
-  read ok is_ok =
-      let at = placed old.now.schema meta.name t there in
-      let cs = as_like t.columns is.0 in
-      format_understood old.now.schema at.0 t cs.0 cs.1 cs.2 at.1 (at.2 ∙ ap Some (as_meta t is)) ok is_ok
-
   pub format_refused : (fault : StoreFault) → IsRefusedAs format_sql [] old new fault → FailsToFind old new fault
   unfolding FailsToQuery IsNotRun
   format_refused fault (e, told, h) = go accepts refl h
     where
       go : (ok : Bool) → accepts ≡ ok → FailsToQuery format_sql [] old new e → FailsToFind old new fault
       go true taken h =
-          let at = placed old.now.schema meta.name t there in
-          let cs = as_like t.columns is.0 in
-          let so = read true taken in
-          let means = format_means old.now.schema at.0 t cs.0 cs.1 cs.2 at.1 (at.2 ∙ ap Some (as_meta t is)) (compiled_of t.tree) so in
-          inl (refusal_ends format_sql [] old new (format_query t.tree) (codes "format" ∷ []) means (record { whole = ap (is_whole format_sql 0) so; typed = taken; sumless = refl }) unlimited fault (e, told, h))
+          let so = reads old.now.schema t there is true taken in
+          inl (refusal_ends format_sql [] old new (format_query t.tree) (codes "format" ∷ []) (means old.now.schema t there is (compiled_of t.tree) so) (record { whole = ap (is_whole format_sql 0) so; typed = taken; sumless = refl }) unlimited fault (e, told, h))
       go false refused (inl (inl (inl none, same))) =
           inr (told ∙ ap fault_of none.2, inr (t, there, is, λ first. (let clash : true ≡ false = sym (accepted same.0.was_open first) ∙ refused in cc)))
-      go false refused (inl (inl (inr (c, so, why), same))) = absurd (let clash : Err Mismatch ≡ Ok c = sym (read false refused) ∙ so in cc)
+      go false refused (inl (inl (inr (c, so, why), same))) = absurd (let clash : Err Mismatch ≡ Ok c = sym (reads old.now.schema t there is false refused) ∙ so in cc)
       go false refused (inl (inr it)) = inl (record { cause = it.0; fault_is = told ∙ ap fault_of it.1; has = it.2; over = it.3.autocommit; blamed = it.4 })
-      go false refused (inr it) = absurd (let clash : Err Mismatch ≡ Ok it.0 = sym (read false refused) ∙ it.1.is in cc)
+      go false refused (inr it) = absurd (let clash : Err Mismatch ≡ Ok it.0 = sym (reads old.now.schema t there is false refused) ∙ it.1.is in cc)

@@ -1,16 +1,17 @@
 -- The format that a query on meta finds.
 use Rattle.std.specs.{Prelude.{MatchOption, option_and_then}, List.Sorted.{IsPermutation}}
-use Rattle.std.proofs.Common.{◌≡◌, ◌≢◌, arith, ℕ, pos, codes, List, [], ◌∷◌, map, filter, length, refl, sym, ap, subst, ◌∙◌, slice_get, Some, None, Option, Ok}
+use Rattle.std.proofs.Common.{◌≡◌, ◌≢◌, arith, ℕ, pos, codes, List, [], ◌∷◌, map, filter, length, refl, sym, ap, subst, ◌∙◌, slice_get, Some, None, Option, Ok, Bool}
 use Rattle.std.proofs.{lemmas.List.{length-map}, lemmas.List.Sorted.{length_permutation}}
 use Rattle.sqlite.specs.{Schema.{Schema}, Table.{Table}, Effect.{Database}, declared.types.Value.TheVariants.{Int}, Order.{Row, column}, Term.{col}}
 use Rattle.sqlite.{specs.{State.{State, Shown}, Listing.{understood}}, proofs.Callers.{one_permutation}}
 use Rattle.sqlite_schema.specs.{declared.schema.Column.{Column}, Names.{table_named}}
 use Rattle.sqlite_catalog.proofs.ListFacts.{filter_all}
 use Rattle.sqlite_resolve.specs.declared.compiled.Compiled.{Compiled}
+use Rattle.sqlite_typing.specs.Types.{accepts_program}
 use Rattle.table_access.{specs.{Reading.{IsNumberRow}, Statements.{keeps, shows}}, proofs.Steps.{Means, selects, shown_unchanged}}
 use Rattle.broker_tables.specs.Schema.{meta, numbers, texts, in_meta}
 use Rattle.registry_tables.specs.Format.{IsLike, AreLike, IsMetaTable, Finds, HasNoFormat, table_of}
-use Rattle.registry_tables.proofs.FormatText.{format_sql, like, like_meta, format_command, format_means}
+use Rattle.registry_tables.proofs.FormatText.{format_sql, format_query, like, like_meta, read_if, format_command, format_understood, format_means}
 
 -- ---- the query
 
@@ -37,11 +38,19 @@ placed s name t e = go (table_named s name) refl e
     go None is e = absurd cc
     go (Some at) is e = (at, is, e)
 
-means : (s : Schema) (t : Table) → table_of meta.name s ≡ Some t → IsMetaTable t → (it : Compiled) → understood s format_sql ≡ Ok it → Means s format_sql (format_command t.tree)
-means s t there is it read =
-    let place = placed s meta.name t there in
-    let cs = as_like t.columns is.0 in
-    format_means s place.0 t cs.0 cs.1 cs.2 place.1 (place.2 ∙ ap Some (as_meta t is)) it read
+-- what the text means there, if its types are accepted, and wherever it is read
+module _ (s : Schema) (t : Table) (there : table_of meta.name s ≡ Some t) (is : IsMetaTable t) where
+  pub reads : (ok : Bool) → accepts_program s [] (format_query t.tree) [] ≡ ok → understood s format_sql ≡ read_if ok t.tree
+  reads =
+      let place = placed s meta.name t there in
+      let cs = as_like t.columns is.0 in
+      format_understood s place.0 t cs.0 cs.1 cs.2 place.1 (place.2 ∙ ap Some (as_meta t is))
+
+  pub means : (it : Compiled) → understood s format_sql ≡ Ok it → Means s format_sql (format_command t.tree)
+  means =
+      let place = placed s meta.name t there in
+      let cs = as_like t.columns is.0 in
+      format_means s place.0 t cs.0 cs.1 cs.2 place.1 (place.2 ∙ ap Some (as_meta t is))
 
 -- ---- its answer
 

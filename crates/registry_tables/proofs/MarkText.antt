@@ -1,18 +1,15 @@
 -- What the query for an environment's mark shows wherever the broker's tables are there, with any CHECKs.
-use Rattle.std.specs.{Prelude.{option_map, ◌<◌, ◌≤◌}, List.{AllZip}, Cmp.{eq_by_cmp_equiv}, Cmp.Lexicographic.{nat_list_cmp_total}}
+use Rattle.std.specs.{Prelude.{option_map, ◌≤◌}, List.{AllZip}, Cmp.{eq_by_cmp_equiv}, Cmp.Lexicographic.{nat_list_cmp_total}}
 use Rattle.std.proofs.Common.{◌≡◌, ℕ, pos, codes, List, [], ◌∷◌, if◌then◌else◌, ◌==◌, refl, sym, ap, subst, ◌∙◌, slice_get, Some, None, Option, Bool, true, false, arith, ◌&&◌}
-use Rattle.std.proofs.lemmas.List.Sorted.{Contains-permutation}
-use Rattle.sqlite.specs.{declared.types.Value.TheVariants.{Int, Text}, Order.{Row, column}, Table.{Table}, Schema.{Schema}, Query.{Query}, Command.{Command}}
-use Rattle.sqlite.specs.{Command.TheVariants.{Select}, State.{State, Shown}, Collation.TheVariants.{Binary}, Term.{Term, col, op2}, Listing.{understood}}
+use Rattle.sqlite.specs.{declared.types.Value.TheVariants.{Int, Text}, Order.{Row, column}, Table.{Table}, Schema.{Schema}, Query.{Query}, State.{State, Shown}}
+use Rattle.sqlite.specs.{Collation.TheVariants.{Binary}, Term.{Term, col, op2}, Listing.{understood}}
 use Rattle.sqlite_sql.specs.{Ops.{binary, is_true}, declared.ops.BinaryOp.TheVariants.{Compare}, declared.ops.CompareOp.TheVariants.{Eq}}
 use Rattle.sqlite_schema.specs.declared.schema.Column.{Column}
-use Rattle.sqlite_rules.specs.Lists.{Has}
 use Rattle.sqlite_tied.specs.Compute.{everything}
 use Rattle.sqlite_keyed.proofs.RuleLemmas.{first_of_both}
-use Rattle.table_access.{specs.Statements.{from_table, keeps, shows}, proofs.Answered.{Runs, shown_of, first_has}}
-use Rattle.table_access.proofs.{Members.{has_map, has_filter, has_contains, contains_has}, Steps.{Means, selects}, Values.{same_texts, equal_text}}
+use Rattle.table_access.{specs.Statements.{from_table, keeps}, proofs.Values.{same_texts, equal_text}}
 use Rattle.broker_tables.specs.{Schema.{in_environments, broker_schema, environments}, Rows.{mark_of, IsTruthAt}, Asking.{HasColumns, HasBrokerTables}}
-use Rattle.broker_tables.proofs.AnyTables.{laid_out, lays, sets_out}
+use Rattle.broker_tables.proofs.AnyTables.{laid_out, lays, sets_out, AsksOf, first_kept, none_kept}
 use Rattle.registry_tables.specs.Marks.{IsMarkIn, HasNoMark, IsEnvironmentRow}
 use Rattle.sqlite.specs.Kind.TheVariants as kind
 
@@ -21,11 +18,11 @@ use Rattle.sqlite.specs.Kind.TheVariants as kind
 abbrev pub gated_sql : List ℕ
 gated_sql = codes "SELECT gated FROM environments WHERE name = ?1"
 
-abbrev pub gated_query : Query
-gated_query = from_table in_environments.tree (op2 (Compare Eq Binary) (col 1 in_environments.name) (col 0 0) ∷ []) (col 1 in_environments.gated ∷ []) []
+abbrev by_name : List Term
+by_name = op2 (Compare Eq Binary) (col 1 in_environments.name) (col 0 0) ∷ []
 
-abbrev pub gated_command : Command
-gated_command = Select (record { lets = []; body = gated_query }) (codes "gated" ∷ [])
+abbrev pub gated_query : Query
+gated_query = from_table in_environments.tree by_name (col 1 in_environments.gated ∷ []) []
 
 -- ---- the schema
 
@@ -42,13 +39,13 @@ declared s given a b x y = with_marks s given (record (given 5) { columns = mark
 
 -- the text asks its query there, and can be run
 abbrev Asks : Schema → Type 0
-Asks s = Means s gated_sql gated_command × ((e : List ℕ) → Runs s gated_sql (Text e ∷ []) gated_query)
+Asks s = (e : List ℕ) → AsksOf s gated_sql (Text e ∷ []) gated_query
 
 asks_declared : (s : Schema) (given : ℕ → Table) (a b : Column) (x y : Bool) → Asks (declared s given a b x y)
 unfolding understood everything
-asks_declared s given a b true true = (record { is = refl; plain = (refl, refl); unlisted = refl }, λ e. record { whole = refl; typed = refl; sumless = refl })
-asks_declared s given a b false true = (record { is = refl; plain = (refl, refl); unlisted = refl }, λ e. record { whole = refl; typed = refl; sumless = refl })
-asks_declared s given a b _ _ = (record { is = refl; plain = (refl, refl); unlisted = refl }, λ e. record { whole = refl; typed = refl; sumless = refl })
+asks_declared s given a b true true e = record { names = _; means = record { is = refl; plain = (refl, refl); unlisted = refl }; runs = record { whole = refl; typed = refl; sumless = refl } }
+asks_declared s given a b false true e = record { names = _; means = record { is = refl; plain = (refl, refl); unlisted = refl }; runs = record { whole = refl; typed = refl; sumless = refl } }
+asks_declared s given a b _ _ e = record { names = _; means = record { is = refl; plain = (refl, refl); unlisted = refl }; runs = record { whole = refl; typed = refl; sumless = refl } }
 
 -- ---- a schema that has the tables is such a one
 
@@ -67,9 +64,6 @@ mark_asks s h = let it = is_declared s h in subst Asks (sym it.3) (asks_declared
 
 -- ---- the rows
 
-abbrev by_name : List Term
-by_name = op2 (Compare Eq Binary) (col 1 in_environments.name) (col 0 0) ∷ []
-
 kept_name : (r : Row) (e : List ℕ) → keeps by_name (Text e ∷ []) r ≡ true → column r in_environments.name ≡ Text e
 kept_name r e h = equal_text (column r in_environments.name) e (first_of_both _ true h)
 
@@ -77,25 +71,14 @@ name_kept : (r : Row) (e : List ℕ) → column r in_environments.name ≡ Text 
 name_kept r e is = subst (λ v. (is_true (binary (Compare Eq Binary) v (Text e)) && true) ≡ true) (sym is) (ap (λ b. b && true) (same_texts e e ∙ (eq_by_cmp_equiv nat_list_cmp_total).refl e))
 
 module _ (e : List ℕ) (old new : State) (h : HasBrokerTables old.now.schema) (rows : List Row) (shown : Shown gated_sql (Text e ∷ []) old new rows) where
-  abbrev means : Means old.now.schema gated_sql gated_command
-  means = (mark_asks old.now.schema h).0
-
   -- a row that is shown has the mark of a row of the environment
   shown_mark : (row : Row) → slice_get rows 0 ≡ Some row → (r : Row) × IsEnvironmentRow e old.now r × (row ≡ column r in_environments.gated ∷ [])
   shown_mark row head =
-      let it = shown_of gated_sql (Text e ∷ []) old new in_environments.tree by_name _ _ _ means rows row shown (first_has rows row head) in
+      let it = first_kept old new (mark_asks old.now.schema h e) rows shown row head in
       (it.0, (it.1, kept_name it.0 e it.2), it.3)
 
   none_shown : slice_get rows 0 ≡ None → (r : Row) → ¬ IsEnvironmentRow e old.now r
-  none_shown none r is =
-      let kept : keeps by_name (Text e ∷ []) r ≡ true = name_kept r e is.1 in
-      let has = has_map (shows (col 1 in_environments.gated ∷ []) (Text e ∷ [])) _ r (has_filter (keeps by_name (Text e ∷ [])) (old.now.trees in_environments.tree) r is.0 kept) in
-      let there = contains_has rows _ (Contains-permutation _ rows _ (selects gated_sql (Text e ∷ []) old new in_environments.tree by_name _ _ _ means rows shown) (has_contains _ _ has)) in
-      nothing rows none _ there
-    where
-      nothing : (xs : List Row) → slice_get xs 0 ≡ None → (x : Row) → Has xs x → ⊥
-      nothing [] none x has = has
-      nothing (y ∷ xs) none x has = absurd cc
+  none_shown none r is = none_kept old new (mark_asks old.now.schema h e) rows shown none r is.0 (name_kept r e is.1)
 
   pub mark_found : (gated : Option Bool) → option_map (λ g. Int (pos (mark_of g))) gated ≡ option_map (λ row. column row 0) (slice_get rows 0) → IsMarkIn e old.now gated
   mark_found gated read = go gated (slice_get rows 0) refl read
@@ -111,7 +94,4 @@ module _ (e : List ℕ) (old new : State) (h : HasBrokerTables old.now.schema) (
   pub mark_lost : (row : Row) → slice_get rows 0 ≡ Some row → ¬ IsTruthAt 0 row → HasNoMark e old.now
   mark_lost row head none =
       let it = shown_mark row head in
-      (it.0, it.1, λ n is. high n (λ low. none (subst (IsTruthAt 0) (sym it.2) (omega arith, (n, is, low)))))
-    where
-      high : (n : ℕ) → ¬ (n ≤ 1) → 1 < n
-      high n not_low = omega (arith, not_low)
+      (it.0, it.1, λ n is. let high : ¬ (n ≤ 1) = (λ low. none (subst (IsTruthAt 0) (sym it.2) (omega arith, (n, is, low)))) in omega (arith, high))

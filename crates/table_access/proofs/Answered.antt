@@ -4,7 +4,7 @@ use Rattle.std.proofs.Common.{◌≡◌, ◌⊎◌, inl, inr, ℕ, take, List, [
 use Rattle.std.proofs.{lemmas.Bool.{leb-true, eqb-true}, lemmas.List.Sorted.{Contains-permutation, IsPermutation-sym}, lemmas.List.{take-append-drop}}
 use Rattle.sqlite_keyed.proofs.RuleLemmas.{first_of_both, second_of_both}
 use Rattle.sqlite.specs.{Order.{Row}, Tree.{Trees}, Schema.{Schema}, Command.TheVariants.{Select}, Term.{Term, Env, eval_all}, declared.error.Error.{Error}}
-use Rattle.sqlite.specs.{Effect.{Database, Answers, RefusesQuery, RefusesToRead}, Listing.{understood, IsSourceOf}}
+use Rattle.sqlite.specs.{Effect.{Database, Answers, RefusesQuery, RefusesToRead}, Listing.{understood, IsSourceOf}, Rows.{Queried}}
 use Rattle.sqlite.{specs.State.{State, Shown, FailsToQuery, IsNotRun, IsNoStatement, Fails}, proofs.Callers.{IsPlain, command_of}}
 use Rattle.sqlite_sql.specs.{Query.{Query, Join, end, inner, left, counted, made, folded, first, has_no_fold, FoldOverflows}, Program.{QueryOverflows}}
 use Rattle.sqlite_sql.specs.Group.{Grouping, Overflows}
@@ -72,6 +72,11 @@ pub never_refused : (params : Row) (db : Database) (q : Query) → accepts_progr
 never_refused params db q typed sumless limit unlimited e (inl kind) = let clash : true ≡ false = sym typed ∙ kind.1 in cc
 never_refused params db q typed sumless limit unlimited e (inr (inl sum)) = no_sum _ params q sumless sum.1
 never_refused params db q typed sumless limit unlimited e (inr (inr stopped)) = let some = rw unlimited at stopped.1 in cc
+
+-- nor stopped
+pub never_stopped : (params : Row) (db : Database) (q : Query) → accepts_program db.schema [] q params ≡ true → sums_nothing q ≡ true → (limit : Option ℕ) → limit ≡ None → (stop : Option Error) → ¬ Queried limit db (record { lets = []; body = q }) params (Err stop)
+never_stopped params db q typed sumless limit unlimited None h = h
+never_stopped params db q typed sumless limit unlimited (Some e) h = never_refused params db q typed sumless limit unlimited e h
 
 module _ (sql : List ℕ) (params : Row) (old new : State) (q : Query) (names : List (List ℕ)) (means : Means old.now.schema sql (Select (record { lets = []; body = q }) names)) (runs : Runs old.now.schema sql params q)
     (unlimited : old.step_limit ≡ None) where

@@ -6,11 +6,10 @@ use Rattle.sqlite.specs.State.{State, HasCleanDisk, Survives, Shows, Shown, Show
 use Rattle.sqlite.proofs.StateLemmas.{survives_then}
 use Rattle.sqlite_schema.specs.declared.command.Returning.{Returning}
 use Rattle.sqlite_resolve.specs.declared.compiled.Compiled.{Compiled}
-use Rattle.sqlite_trees.specs.declared.error.StoreError.{StoreError}
-use Rattle.sqlite_trees.specs.declared.error.StoreError.TheVariants.{OutOfMemory, Io, Corrupt, Full, Broken, Unstorable}
+use Rattle.sqlite_trees.specs.{declared.error.StoreError.{StoreError}, declared.error.StoreError.TheVariants.{OutOfMemory, Broken, Unstorable}}
 use Rattle.table_access.specs.{Unit.{IsLeft}, declared.StoreFault.{StoreFault}, declared.StoreFault.TheVariants.{Memory, Store}}
 use Rattle.table_access.specs.Calls.{KeepsLastCommit, CallsBetween, CallsTablesBetween, CallsStoreBetween, GoesOn, EndsBy, IsEnded, FailsAs, TellsMemoryUnless, fault_of}
-use Rattle.table_access.proofs.{Refusals.{read_told}, Texts.{IsRefused, caused, no_statement_told, command_told}}
+use Rattle.table_access.proofs.{Refusals.{read_told}, Texts.{IsRefused, caused_more, no_statement_told, command_told}}
 
 -- where nothing changed, or the transaction was rolled back, nothing is committed
 pub left_commit : (a b : State) → IsLeft a b → KeepsLastCommit a b
@@ -31,13 +30,13 @@ shown_inside sql params old new rows h inside = rows_inside old new sql h.0 _ ro
 fails_by : (old new : State) (sql : List ℕ) (c : Compiled) (params : Row) (e : Error) (returning : Option Returning) → FailsToShow old new sql c params e returning → IsRefused old new e
 fails_by old new sql c params e None h = inl (h.3, read_told old.step_limit c.command h.0 params e h.2)
 fails_by old new sql c params e (Some what) (inl same) = inl (same.1, command_told old c _ params e same.0)
-fails_by old new sql c params e (Some what) (inr fails) = inr (fails.0, fails.1, caused old new _ fails.0 fails.2, fails.3, fails.4)
+fails_by old new sql c params e (Some what) (inr fails) = inr (fails.0, fails.1, caused_more old new fails.0 (λ big. tt) fails.2, fails.3, fails.4)
 
 -- a query that fails is refused: it changed nothing and is told as Store, or the store failed
 pub query_by : (sql : List ℕ) (params : Row) (old new : State) (e : Error) → FailsToQuery sql params old new e → IsRefused old new e
 unfolding FailsToQuery IsNotRun
 query_by sql params old new e (inl (inl h)) = inl (h.1, no_statement_told old sql params e h.0)
-query_by sql params old new e (inl (inr h)) = inr (h.0, h.1, caused old new _ h.0 h.2, h.3, h.4)
+query_by sql params old new e (inl (inr h)) = inr (h.0, h.1, caused_more old new h.0 (λ big. tt) h.2, h.3, h.4)
 query_by sql params old new e (inr h) = fails_by old new sql h.0 _ e h.0.returning h.2
 
 refused_left : (old new : State) (e : Error) → IsRefused old new e → IsLeft old new
@@ -129,15 +128,6 @@ has_since TooBig a b c _ stays up h = omega (arith, up, h)
 
 pub ended_since : {TooBig : Type 0} (a b c : State) (e : StoreFault) → GoesOn a b → a.faults ≤ b.faults → EndsBy TooBig b c e → EndsBy TooBig a c e
 ended_since {TooBig} a b c e on up ended = record { cause = ended.cause; fault_is = ended.fault_is; has = has_since TooBig a b c ended.cause on.1 up ended.has; over = ended.over; blamed = ended.blamed }
-
--- what is so where a row was too big is so of more
-pub caused_more : {A B : Type 0} (a b : State) (cause : StoreError) → (A → B) → HasCause a b A cause → HasCause a b B cause
-caused_more a b OutOfMemory more h = tt
-caused_more a b Io more h = h
-caused_more a b Corrupt more h = h
-caused_more a b Full more h = h
-caused_more a b Broken more h = h
-caused_more a b Unstorable more h = more h
 
 pub ended_with : {A B : Type 0} (a b : State) (e : StoreFault) → (A → B) → EndsBy A a b e → EndsBy B a b e
 ended_with {A} {B} a b e more ended = record { cause = ended.cause; fault_is = ended.fault_is; has = caused_more a b ended.cause more ended.has; over = ended.over; blamed = ended.blamed }

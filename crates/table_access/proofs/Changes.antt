@@ -16,9 +16,6 @@ apart_or_same P (z ∷ zs) x y up (inl ex) (inr hy) = inr (inl (subst (λ w. P w
 apart_or_same P (z ∷ zs) x y up (inr hx) (inl ey) = inr (inr (subst (λ w. P w x) (sym ey) (at_has _ zs x up.0 hx)))
 apart_or_same P (z ∷ zs) x y up (inr hx) (inr hy) = apart_or_same P zs x y up.1 hx hy
 
-not_equal : (x : Ordering) → x ≡ Less → (is_eq x ≡ false) × (is_eq (ordering_reverse x) ≡ false)
-not_equal x less = (ap is_eq less, ap (λ y. is_eq (ordering_reverse y)) less)
-
 module _ {K V : Type 0} {R : K → K → Ordering} (o : IsTotalOrder R) (exact : IsAntisymmetric R) (key : Row → K) (value : Row → V) where
   none_has : (k : K) (rows : List Row) → ((r : Row) → Has rows r → eq_by_cmp R k (key r) ≡ false) → find R k (entries o exact key value rows) ≡ None
   none_has k [] none = refl
@@ -43,8 +40,8 @@ module _ {K V : Type 0} {R : K → K → Ordering} (o : IsTotalOrder R) (exact :
       both same = subst (λ y. is_eq (value_cmp (rowid y) (rowid r)) ≡ eq_by_cmp R k (key y)) (sym same) (ap is_eq (tied_itself value_cmp_total (rowid r)) ∙ sym hit)
 
       other : (value_cmp (rowid x) (rowid r) ≡ Less) ⊎ (value_cmp (rowid r) (rowid x) ≡ Less) → is_eq (value_cmp (rowid x) (rowid r)) ≡ false
-      other (inl less) = (not_equal _ less).0
-      other (inr less) = ap is_eq (value_cmp_total.antisymm (rowid x) (rowid r)) ∙ (not_equal _ less).1
+      other (inl less) = ap is_eq less
+      other (inr less) = ap is_eq (value_cmp_total.antisymm (rowid x) (rowid r)) ∙ ap (λ y. is_eq (ordering_reverse y)) less
 
   -- The row `it` was put in, or it replaces the row that has its key: `made` is what that row became. So its key has the new value, and each other key keeps its own.
   pub upserts_at : (target : Option (List ℕ)) (indexes : List Index) (table : Table) (old new : List Row) (it put : Row) (made : Row → Row) (k : K) (v : V) → AreKeys o exact key value old → IsTable old

@@ -1,16 +1,13 @@
 -- What a count of rows says.
-use Rattle.std.{specs.List.{list_any}, proofs.Common.{◌≡◌, inl, inr, suc, List, [], ◌∷◌, length, filter, Bool, true, false, cond, ◌||◌, nat_lt, refl, arith}}
+use Rattle.std.{specs.List.{list_any}, proofs.Common.{◌≡◌, inl, inr, List, [], ◌∷◌, length, filter, Bool, true, false, cond, ◌||◌, nat_lt, refl, arith}}
 use Rattle.std.proofs.lemmas.Bool.Decides.{nat_tests}
 use Rattle.sqlite_rules.specs.Lists.{Has}
-
-more_than_none : {X : Type 0} (xs : List X) → nat_lt 0 (suc (length xs)) ≡ true
-more_than_none xs = grind (arith, nat_tests)
 
 -- more than none pass a test just where one does
 pub some_counted : {X : Type 0} (p : X → Bool) (xs : List X) → nat_lt 0 (length (filter p xs)) ≡ list_any p xs
 some_counted p [] = refl
 some_counted p (x ∷ xs) = elim (p x) as (λ b. nat_lt 0 (length (cond b (x ∷ filter p xs) (filter p xs))) ≡ (b || list_any p xs)) [
-  | true ↦ more_than_none (filter p xs)
+  | true ↦ grind (arith, nat_tests)
   | false ↦ some_counted p xs
 ]
 

@@ -2,14 +2,14 @@
 use Rattle.std.proofs.Common.{◌≡◌, inl, inr, ℕ, ℤ, List, [], ◌∷◌, length, slice_get, Bool, true, false, not, nat_lt, Some, None, Option, Ok, Err, refl, sym, ap, subst}
 use Rattle.std.proofs.{lemmas.Bool.{or_right}, Math.Bool.{and-false}}
 use Rattle.sqlite.specs.{Order.{Row}, Tree.{Trees, IsTable, IsAscending}, Schema.{Schema}, Table.{Table}, Term.{Term, col}, Command.TheVariants.{Delete}}
-use Rattle.sqlite.specs.{Rowids.TheVariants.{Given}, declared.error.Error.{Error}, Rows.{Written, Task, Edited, Deletes}, Does.{Does}}
+use Rattle.sqlite.specs.{Rowids.TheVariants.{Given}, declared.error.Error.{Error}, Rows.{Written, Task, Deletes}, Does.{Does}}
 use Rattle.sqlite.specs.State.{State, Executes, Fails, mode_of}
 use Rattle.sqlite_schema.specs.{declared.schema.Keys.{Keys}, declared.schema.Column.{Column}, declared.schema.Reference.{Reference}}
 use Rattle.sqlite_schema.specs.{declared.schema.Among.TheVariants.{All}, declared.schema.Constraint.{Constraint}, declared.program.Program.{Program}}
 use Rattle.sqlite_schema.specs.Rules.{Refers, Keeps, references_fit, guards}
 use Rattle.sqlite_value.specs.declared.keys.Order.{Order}
 use Rattle.sqlite_rules.{specs.{Lists.{Has}, Calls.{ids_of}, Edit.{Edit, edit_of, is_off}}, proofs.ListLemmas.{test_from}}
-use Rattle.table_access.{specs.Statements.{plain_table, from_table, IsCalm}, proofs.{Edits.{IsAlone, Suits, goes, refers}, Answered.{Runs, never_refused}}}
+use Rattle.table_access.{specs.Statements.{plain_table, from_table, IsCalm}, proofs.{Edits.{IsAlone, Suits, goes, refers}, Answered.{Runs, never_stopped}}}
 use Rattle.table_access.proofs.{Refused.{stopped, in_place, on_rows, change_fails, caused_by}, Steps.{Means, went, same_value}}
 
 module _ (name : List ℕ) (tree : ℕ) (columns : List Column) (key : Option ℕ) (primary : List ℕ) (uniques : List (List ℕ)) (orders : List Order) (checks : List Term) (references : List Reference) where
@@ -60,17 +60,10 @@ module _ (name : List ℕ) (tree : ℕ) (columns : List Column) (key : Option �
     suits : (ids : List ℤ) → Suits ⊥ old.now.schema (mode_of old).keys old.now.trees (taking old.now.trees ids)
     suits ids = fine old.now.schema leaf listed (mode_of old).keys old.now.trees ids ordered rules
 
-    goes_on : (ids : List ℤ) (stop : Option Error) → Edited old.now.schema (mode_of old).keys old.now.trees (taking old.now.trees ids) (Err stop) → ⊥
-    goes_on ids stop edited = (goes ⊥ old.now.schema (mode_of old).keys old.now.trees (taking old.now.trees ids) (suits ids) stop edited).1
-
     deleted : (stop : Option Error) → Deletes task query old.now.trees (Err stop) → ⊥
-    deleted None h = elim (stopped None h) [
-      | inl queried ↦ queried
-      | inr ids ↦ elim (stopped None ids.2) [ inl edited ↦ goes_on (ids_of ids.0) None edited | inr done ↦ let e = done.2 in cc ]
-    ]
-    deleted (Some e) h = elim (stopped (Some e) h) [
-      | inl queried ↦ never_refused params old.now query.body runs.typed runs.sumless old.step_limit unlimited e queried
-      | inr ids ↦ elim (stopped (Some e) ids.2) [ inl edited ↦ goes_on (ids_of ids.0) (Some e) edited | inr done ↦ let e = done.2 in cc ]
+    deleted stop h = elim (stopped stop h) [
+      | inl queried ↦ never_stopped params old.now query.body runs.typed runs.sumless old.step_limit unlimited stop queried
+      | inr ids ↦ elim (stopped stop ids.2) [ inl edited ↦ (goes ⊥ old.now.schema (mode_of old).keys old.now.trees (taking old.now.trees (ids_of ids.0)) (suits (ids_of ids.0)) stop edited).1 | inr done ↦ let e = done.2 in cc ]
     ]
 
     left_sound : (w : Written) → Deletes task query old.now.trees (Ok w) → Refers All old.now.schema w.trees

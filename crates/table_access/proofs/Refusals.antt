@@ -13,9 +13,9 @@ use Rattle.sqlite_rules.specs.{Edit.{Edit, edit_of}, Calls.{ids_of}, declared.er
 use Rattle.sqlite_rules.specs.declared.error.Refusal.TheVariants.{Violates}
 use Rattle.sqlite_catalog.specs.{Change.{without_index, without_view, without_table}, Calls.{RefusesToDropIndex}}
 use Rattle.sqlite.specs.{declared.error.Error.{Error}, declared.error.Error.TheVariants.{SqliteFailure, InvalidQuery}, declared.run.Mode.{Mode}}
-use Rattle.sqlite.specs.Effect.{Database, RefusesQuery, RefusesSource, RefusesToRead, RefusesToAlter, IsNoText, edit_error, alter_error}
+use Rattle.sqlite.specs.Effect.{Database, RefusesQuery, RefusesToRead, RefusesToAlter, IsNoText, edit_error, alter_error}
 use Rattle.sqlite.specs.Rows.{Part, Gives, Refuses, Then, Queried, Sourced, Edited, Written, Task, CounterIn, Counter, CountsIn, Counts, Updates, Deletes, Inserts, Puts, Clears, Resolves, Meets, Upserts, Judged, Tries, TriesEach, InsertsOr, sequence, counting}
-use Rattle.sqlite.specs.Does.{Tally, no_rows, AtPlace, MakesTable, MakesSequence, MakesIndex, MakesView, Leaves, Counted, Defines, Tested, Shows, Returns, Concludes, WritesRows, OnRows, Empties, UncountsIn, HoldWithout, Drops, OnTable, Redefines, Does}
+use Rattle.sqlite.specs.Does.{Tally, no_rows, AtPlace, MakesTable, MakesSequence, MakesIndex, MakesView, Leaves, Counted, Defines, Tested, Shows, Returns, Concludes, WritesRows, OnRows, Empties, UncountsIn, HoldWithout, Drops, OnTable, IsKeptAside, Redefines, Does}
 use Rattle.table_access.specs.{Calls.{fault_of}, declared.StoreFault.TheVariants.{Store}}
 use Rattle.sqlite_schema.specs.declared.command.Source.TheVariants as source
 use Rattle.sqlite_catalog.specs.declared.error.Refusal as alter
@@ -32,12 +32,13 @@ calm_gives a = record { told = λ e h. absurd (let is = h in cc) }
 calm_refuses : {A : Type 0} (reason : Error) → fault_of reason ≡ Store → Calm (Refuses {A = A} reason)
 calm_refuses reason is_told = record { told = λ e h. let same : e ≡ reason = (let is = h in cc) in ap fault_of same ∙ is_told }
 
-stops : {A B : Type 0} (First : Part A) (Next : A → Part B) → Calm First → ((a : A) → Calm (Next a)) → (e : Error) → Then First Next (Err (Some e)) → fault_of e ≡ Store
-stops First Next one two e (inl h) = let same : h.0 ≡ Some e = (let is = h.2 in cc) in one.told e (subst (λ stop. First (Err stop)) same h.1)
-stops First Next one two e (inr h) = (two h.0).told e h.2
-
 calm_then : {A B : Type 0} (First : Part A) (Next : A → Part B) → Calm First → ((a : A) → Calm (Next a)) → Calm (Then First Next)
-calm_then First Next one two = record { told = stops First Next one two }
+calm_then First Next one two = record {
+  told = λ e h. elim h [
+    | inl stops ↦ let same : stops.0 ≡ Some e = (let is = stops.2 in cc) in one.told e (subst (λ stop. First (Err stop)) same stops.1)
+    | inr goes ↦ (two goes.0).told e goes.2
+  ];
+}
 
 calm_either : {A : Type 0} (b : Bool) (P Q : Part A) → Calm P → Calm Q → Calm (λ out. MatchBool b (P out) (Q out))
 calm_either true P Q p q = record { told = p.told }
@@ -57,13 +58,9 @@ query_told limit db p params e (inr (inr h)) = ap fault_of h.0
 calm_queried : (limit : Option ℕ) (db : Database) (p : Program) (params : Row) → Calm (Queried limit db p params)
 calm_queried limit db p params = record { told = query_told limit db p params }
 
-calm_source : (limit : Option ℕ) (db : Database) (params : Row) (from : Source) (e : Error) → RefusesSource limit db params from e → fault_of e ≡ Store
-calm_source limit db params (source.Values terms width) e (inl h) = ap fault_of h.0
-calm_source limit db params (source.Values terms width) e (inr h) = ap fault_of h.0
-calm_source limit db params (source.Query q) e h = query_told limit db q params e h
-
 calm_sourced : (limit : Option ℕ) (db : Database) (params : Row) (from : Source) → Calm (Sourced limit db params from)
-calm_sourced limit db params from = record { told = calm_source limit db params from }
+calm_sourced limit db params (source.Values terms width) = record { told = λ e h. elim h [ inl kind ↦ ap fault_of kind.0 | inr stopped ↦ ap fault_of stopped.0 ] }
+calm_sourced limit db params (source.Query q) = record { told = query_told limit db q params }
 
 -- a statement that shows rows
 pub read_told : (limit : Option ℕ) (command : Command) (db : Database) (params : Row) (e : Error) → RefusesToRead limit command db params e → fault_of e ≡ Store
@@ -83,9 +80,6 @@ edit_stop (Some reason) e is = let same : e ≡ edit_error reason = (let h = is 
 
 calm_edited : (schema : Schema) (keys : Keys) (db : Trees) (edit : Edit) → Calm (Edited schema keys db edit)
 calm_edited schema keys db edit = record { told = λ e h. edit_stop h.0 e h.2 }
-
-calm_leaves : (left : Schema) (db : Trees) (Refused : Error → Type 0) → ((e : Error) → Refused e → fault_of e ≡ Store) → Calm (Leaves left db Refused)
-calm_leaves left db Refused is_told = record { told = is_told }
 
 module _ (task : Task) where
   open task use {limit, keys, schema, table, params}
@@ -139,12 +133,13 @@ module _ (task : Task) where
   calm_judged way clauses new db None = calm_upserts way new db clauses
   calm_judged way clauses new db (Some reason) = calm_either _ _ _ (calm_gives _) (calm_refuses (edit_error reason) (edit_told reason))
 
-  tries_told : (way : Conflict) (clauses : List Upsert) (new : Row) (db : Trees) (e : Error) → Tries task way clauses new db (Err (Some e)) → fault_of e ≡ Store
-  tries_told way clauses new db e (inl h) = let same : e ≡ SqliteFailure code.NoRowid = (let is = h.1 in cc) in ap fault_of same
-  tries_told way clauses new db e (inr h) = (calm_judged way clauses new db h.0).told e h.2
-
   calm_tries : (way : Conflict) (clauses : List Upsert) (new : Row) (db : Trees) → Calm (Tries task way clauses new db)
-  calm_tries way clauses new db = record { told = tries_told way clauses new db }
+  calm_tries way clauses new db = record {
+    told = λ e h. elim h [
+      | inl full ↦ let same : e ≡ SqliteFailure code.NoRowid = (let is = full.1 in cc) in ap fault_of same
+      | inr judged ↦ (calm_judged way clauses new db judged.0).told e judged.2
+    ];
+  }
 
   calm_tries_each : (way : Conflict) (clauses : List Upsert) (rows : List Row) (top : ℤ) (done : Written) → Calm (TriesEach task way clauses rows top done)
   calm_tries_each way clauses [] top done = calm_gives _
@@ -182,7 +177,7 @@ module _ (task : Task) where
 
   calm_drops : (mode : Mode) (db : Trees) → Calm (Drops task mode db)
   calm_drops mode db = calm_then _ _ (calm_empties db) (λ emptied. calm_then _ _ (calm_uncounts_in emptied _) (λ now. calm_then _ _ (calm_tested mode (HoldWithout task now)) (λ in_doubt.
-      calm_then _ _ (calm_leaves (without_table schema table.tree) now (λ _. ⊥) (λ e h. absurd h)) (λ after. calm_gives _))))
+      calm_then (Leaves (without_table schema table.tree) now (λ _. ⊥)) _ (record { told = λ e none. absurd none }) (λ after. calm_gives _))))
 
 -- ---- the schema
 
@@ -198,16 +193,10 @@ text_told text Refuses e (inl h) = ap fault_of h.1
 text_told text Refuses e (inr h) = calm_alters Refuses e h
 
 calm_makes_table : (text : List ℕ) (db : Database) → Calm (MakesTable text db)
-calm_makes_table text db = record { told = λ e h. text_told text _ e h }
+calm_makes_table text db = record { told = text_told text _ }
 
 calm_makes_sequence : (db : Database) → Calm (MakesSequence db)
 calm_makes_sequence db = calm_either _ _ _ (calm_makes_table _ db) (calm_gives db)
-
-calm_makes_index : (text : List ℕ) (db : Database) (table : Table) → Calm (MakesIndex text db table)
-calm_makes_index text db table = record { told = λ e h. text_told text _ e h }
-
-calm_makes_view : (text : List ℕ) (db : Database) → Calm (MakesView text db)
-calm_makes_view text db = record { told = λ e h. text_told text _ e h }
 
 calm_defines : (mode : Mode) (Makes : Part Database) → Calm Makes → Calm (Defines mode Makes)
 calm_defines mode Makes makes = calm_then Makes (λ after. Gives (no_rows mode.in_doubt, after)) makes (λ after. calm_gives (no_rows mode.in_doubt, after))
@@ -230,19 +219,16 @@ module _ (limit : Option ℕ) (mode : Mode) (params : Row) (db : Database) where
 
   calm_redefines : (text : List ℕ) (command : Command) → Calm (Redefines limit mode params db text command)
   calm_redefines text CreateTable = calm_defines mode _ (calm_then _ _ (calm_makes_table text db) calm_makes_sequence)
-  calm_redefines text (CreateIndex at) = calm_on_table at _ (λ task. calm_defines mode _ (calm_makes_index text db task.table))
-  calm_redefines text CreateView = calm_defines mode _ (calm_makes_view text db)
+  calm_redefines text (CreateIndex at) = calm_on_table at _ (λ task. calm_defines mode (MakesIndex text db task.table) (record { told = λ e h. text_told text _ e h }))
+  calm_redefines text CreateView = calm_defines mode (MakesView text db) (record { told = λ e h. text_told text _ e h })
   calm_redefines text (DropTable at) = calm_on_table at _ (λ task. calm_drops task mode db.trees)
-  calm_redefines text (DropIndex at) = calm_place _ (slice_get db.schema.indexes at) (λ index. calm_defines mode _ (calm_leaves (without_index db.schema index.tree) db.trees _ (λ e h. calm_alters (RefusesToDropIndex index) e h)))
-  calm_redefines text (DropView at) = calm_place _ (slice_get db.schema.views at) (λ view. calm_defines mode _ (calm_leaves (without_view db.schema view.tree) db.trees _ (λ e h. ap fault_of h.1)))
+  calm_redefines text (DropIndex at) = calm_place _ (slice_get db.schema.indexes at) (λ index. calm_defines mode (Leaves (without_index db.schema index.tree) db.trees (RefusesToAlter (RefusesToDropIndex index))) (record { told = calm_alters (RefusesToDropIndex index) }))
+  calm_redefines text (DropView at) = calm_place _ (slice_get db.schema.views at) (λ view. calm_defines mode (Leaves (without_view db.schema view.tree) db.trees (IsKeptAside view)) (record { told = λ e h. ap fault_of h.1 }))
   calm_redefines text _ = calm_refuses InvalidQuery refl
-
-  calm_defined : (text : List ℕ) (returning : Option Returning) (command : Command) → Calm (λ out. MatchBool (is_some returning) (Refuses InvalidQuery out) (Redefines limit mode params db text command out))
-  calm_defined text returning command = calm_either (is_some returning) (Refuses InvalidQuery) (Redefines limit mode params db text command) (calm_refuses InvalidQuery refl) (calm_redefines text command)
 
   pub does_told : (text : List ℕ) (returning : Option Returning) (command : Command) (e : Error) → Does limit mode params db text returning command (Err (Some e)) → fault_of e ≡ Store
   does_told text returning (Insert at from) e h = (calm_on_rows at returning (Insert at from)).told e h
   does_told text returning (InsertOr at way from clauses) e h = (calm_on_rows at returning (InsertOr at way from clauses)).told e h
   does_told text returning (Update at q) e h = (calm_on_rows at returning (Update at q)).told e h
   does_told text returning (Delete at q) e h = (calm_on_rows at returning (Delete at q)).told e h
-  does_told text returning command e h = (calm_defined text returning command).told e h
+  does_told text returning command e h = (calm_either (is_some returning) _ _ (calm_refuses InvalidQuery refl) (calm_redefines text command)).told e h

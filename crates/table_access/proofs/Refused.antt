@@ -3,7 +3,7 @@
 use Rattle.std.specs.Prelude.{IsSome, is_some}
 use Rattle.std.proofs.Common.{◌≡◌, ◌⊎◌, inl, inr, ℕ, List, [], length, slice_get, Bool, true, false, not, ◌&&◌, ◌||◌, Some, None, Option, Ok, Err, Result, refl, sym, ap, subst, subst₂, ◌∙◌, append-nil, ◌/◌}
 use Rattle.std.proofs.lemmas.Bool.{cases_Bool}
-use Rattle.sqlite.specs.{Order.{Row}, Table.{Table}, Command.{Command}, Command.TheVariants.{Insert, InsertOr, Delete, CreateTable, CreateIndex}}
+use Rattle.sqlite.specs.{Order.{Row}, Table.{Table}, Command.{Command}, Command.TheVariants.{Insert, InsertOr, Update, Delete, CreateTable, CreateIndex}}
 use Rattle.sqlite.specs.{Source.TheVariants.{Values}, Term.{Term}, Rowids.TheVariants.{Chosen}, Edit.{Edit, edit_of}, declared.error.Error.{Error}}
 use Rattle.sqlite.specs.{Effect.{Database, value_rows, is_query}, Rows.{Written, Task, Edited, Inserts, Sourced, stamped}}
 use Rattle.sqlite.specs.{Does.{OnRows, OnTable, AtPlace, WritesRows, Does, due}, Listing.{understood}}
@@ -13,7 +13,7 @@ use Rattle.sqlite_schema.specs.{declared.schema.Column.{Column}, declared.schema
 use Rattle.sqlite_value.specs.declared.keys.Order.{Order}
 use Rattle.sqlite_typing.specs.Types.{accepts_terms}
 use Rattle.sqlite_resolve.specs.declared.compiled.Compiled.{Compiled}
-use Rattle.table_access.{specs.Statements.{plain_table}, proofs.{Answered.{is_whole, is_statement}, CallLemmas.{caused_more}, Steps.{Means}}}
+use Rattle.table_access.{specs.Statements.{plain_table}, proofs.{Answered.{is_whole, is_statement}, Texts.{caused_more}, Steps.{Means}}}
 
 -- ---- a statement that changes rows
 
@@ -29,6 +29,7 @@ none_shown a b quiet plain h = let e : false ≡ true = subst₂ (λ x y. (x || 
 abbrev pub is_anywhere : Command → Bool
 is_anywhere (Insert at from) = true
 is_anywhere (InsertOr at way from clauses) = true
+is_anywhere (Update at q) = true
 is_anywhere (Delete at q) = true
 is_anywhere CreateTable = true
 is_anywhere (CreateIndex at) = true

@@ -21,14 +21,14 @@ shifted : (from at : ℕ) → from + suc at ≡ from + 1 + at
 shifted from at = omega arith
 
 -- a row that lacks the last columns reads as NULL there
-short : (key : Option ℕ) (from : ℕ) (cs : List Column) (at : ℕ) (c : Column) → is_of c.kind (slice_index_or [] at Null) ≡ true
-short key from cs zero c = refl
-short key from cs (suc at) c = refl
+lacking : (at : ℕ) → slice_index_or [] at Null ≡ Null
+lacking zero = refl
+lacking (suc at) = refl
 
 typed_at : (key : Option ℕ) (from : ℕ) (cs : List Column) (vs : Row) (at : ℕ) (c : Column) → are_typed key from cs vs ≡ true → slice_get cs at ≡ Some c → is_key key (from + at) ≡ false → c.is_strict ≡ true
     → is_of c.kind (slice_index_or vs at Null) ≡ true
 typed_at key from [] vs at c typed there free strict = absurd cc
-typed_at key from (d ∷ cs) [] at c typed there free strict = short key from cs at c
+typed_at key from (d ∷ cs) [] at c typed there free strict = ap (is_of c.kind) (lacking at)
 typed_at key from (d ∷ cs) (v ∷ vs) zero c typed there free strict =
     let same : d ≡ c = cc in
     let here : is_key key from ≡ false = subst (λ n. is_key key n ≡ false) (omega arith) free in
@@ -51,11 +51,7 @@ present_at key from (d ∷ cs) row (suc at) c present there free needed =
     subst (λ n. is_null (column row (n + 1)) ≡ false) (sym (shifted from at)) (present_at key (from + 1) cs row at c (second_of_both _ _ present) there (subst (λ n. is_key key n ≡ false) (shifted from at) free) needed)
 
 dropped : (row : Row) (at : ℕ) → slice_index_or (drop 1 row) at Null ≡ column row (at + 1)
-dropped [] at = none at ∙ sym (none (at + 1))
-  where
-    none : (n : ℕ) → slice_index_or [] n Null ≡ Null
-    none zero = refl
-    none (suc n) = refl
+dropped [] at = lacking at ∙ sym (lacking (at + 1))
 dropped (v ∷ vs) at = ap (λ n. slice_index_or (v ∷ vs) n Null) (sym (add-one at))
 
 text_is : (v : Value) → is_of kind.Text v ≡ true → is_null v ≡ false → v ≡ Text (text_in v)

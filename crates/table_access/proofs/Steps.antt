@@ -203,9 +203,10 @@ module _ (name : List ℕ) (tree : ℕ) (columns : List Column) (key : Option �
         let edit = subst (Added tree (old.now.trees tree) made old.now.schema old.now.trees) now (put_one Chosen old.now.schema (mode_of old).keys old.now.trees done.0.trees row made cast (subst (λ rows. Edited old.now.schema (mode_of old).keys old.now.trees (edit_of old.now.trees here [] Chosen 0 rows) (Ok done.0.trees)) one put)) in
         (changes_only old new tree command (statement_of sql (understood old.now.schema sql)) params count w (ap (λ (d : Database). d.schema) done.2) edit.1 edit.2, edit.0)
 
-    -- where no foreign key acts, a DELETE takes out the rows that WHERE keeps, and changes no other table
+    -- where no foreign key acts, a DELETE takes out the rows that WHERE keeps and counts them, and changes no other table
     pub deletes : (terms : List Term) → Means old.now.schema sql (Delete at (record { lets = []; body = from_table tree terms (col 1 0 ∷ []) [] })) → IsCalm old.now.schema.tables → IsNumbered (old.now.trees tree) → (count : ℕ) → Executes sql params old new (Ok count)
         → ChangesOnly tree old new × (new.now.trees tree ≡ filter (λ r. not (keeps terms params r)) (old.now.trees tree))
+        × (count ≡ length (filter (keeps terms params) (old.now.trees tree)))
     deletes terms means calm numbered count h =
         let q : Program = record { lets = []; body = from_table tree terms (col 1 0 ∷ []) [] } in
         let command = Delete at q in
@@ -216,26 +217,15 @@ module _ (name : List ℕ) (tree : ℕ) (columns : List Column) (key : Option �
         let edit = edit_of old.now.trees here (ids_of ids.0) Given 0 [] in
         let one = one_step old.now.schema (mode_of old).keys old.now.trees gone.0 edit (calm_works old.now.schema (mode_of old).keys 0 tree (taken_by old.now.trees edit) [] calm) gone.1 in
         let now : gone.0 ≡ new.now.trees = sym (ap (λ (d : Database). d.trees) done.2 ∙ ap (λ (it : Written). it.trees) (same_value gone.2)) in
-        let rest : gone.0 tree ≡ filter (λ r. not (keeps terms params r)) (old.now.trees tree) =
-        one.rows ∙ left (old.now.trees tree) numbered (keeps terms params) ids.0 (answered old.now params tree terms (col 1 0 ∷ []) [] ids.0 ids.1) in (
+        let shown = answered old.now params tree terms (col 1 0 ∷ []) [] ids.0 ids.1 in
+        let rest : gone.0 tree ≡ filter (λ r. not (keeps terms params r)) (old.now.trees tree) = one.rows ∙ left (old.now.trees tree) numbered (keeps terms params) ids.0 shown in (
           changes_only old new tree command (statement_of sql (understood old.now.schema sql)) params count w (ap (λ (d : Database). d.schema) done.2)
               (λ was. subst (λ (next : Trees). IsNumbered (next tree)) now (subst IsNumbered (sym rest) (numbered_filter (λ r. not (keeps terms params r)) (old.now.trees tree) was)))
               (subst (λ next. AllByRecursion (λ t. t.tree ≢ tree → next t.tree ≡ old.now.trees t.tree) old.now.schema.tables) now one.tables),
           ap (λ (next : Trees). next tree) (sym now) ∙ rest,
+          w.counted ∙ ap (λ o. unwrap_or o 0) done.3 ∙ ap (λ (it : Written). length it.rows) (same_value gone.2) ∙ length-map (ids_of ids.0) _ ∙ length-map ids.0 _
+              ∙ length_permutation _ ids.0 shown ∙ length-map (filter (keeps terms params) (old.now.trees tree)) _,
         )
-
-    -- and counts them
-    pub deletes_counted : (terms : List Term) → Means old.now.schema sql (Delete at (record { lets = []; body = from_table tree terms (col 1 0 ∷ []) [] })) → (count : ℕ) → Executes sql params old new (Ok count)
-        → count ≡ length (filter (keeps terms params) (old.now.trees tree))
-    deletes_counted terms means count h =
-        let q : Program = record { lets = []; body = from_table tree terms (col 1 0 ∷ []) [] } in
-        let command = Delete at q in
-        let w = runs_as sql params old new old.now.schema refl command means.is means.plain count h in
-        let done = concludes task (mode_of old) command old.now.trees w.tally new.now (on_table command w.tally w.changed) in
-        let ids = went done.1 in
-        let gone = went ids.2 in
-        w.counted ∙ ap (λ o. unwrap_or o 0) done.3 ∙ ap (λ (it : Written). length it.rows) (same_value gone.2) ∙ length-map (ids_of ids.0) _ ∙ length-map ids.0 _
-        ∙ length_permutation _ ids.0 (answered old.now params tree terms (col 1 0 ∷ []) [] ids.0 ids.1) ∙ length-map (filter (keeps terms params) (old.now.trees tree)) _
 
     -- an UPDATE of one row takes it out and puts in what SET makes of it
     pub updates : (terms project : List Term) → Means old.now.schema sql (Update at (record { lets = []; body = from_table tree terms (col 1 0 ∷ project) [] })) → IsCalm old.now.schema.tables → IsNumbered (old.now.trees tree)

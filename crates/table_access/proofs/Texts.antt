@@ -7,7 +7,7 @@ use Rattle.sqlite.specs.State.{State, Executes, ExecutesIn, CommitsBy, MayWrite,
 use Rattle.sqlite.proofs.Callers.{IsPlain, command_of}
 use Rattle.sqlite_tied.specs.Compute.{everything}
 use Rattle.sqlite_resolve.specs.declared.compiled.Compiled.{Compiled}
-use Rattle.sqlite_trees.specs.{declared.error.StoreError.{StoreError}, declared.error.StoreError.TheVariants.{OutOfMemory, Unstorable}}
+use Rattle.sqlite_trees.specs.{declared.error.StoreError.{StoreError}, declared.error.StoreError.TheVariants.{Unstorable}}
 use Rattle.table_access.{specs.{Unit.{IsLeft}, Calls.{fault_of}, declared.StoreFault.TheVariants.{Store}}, proofs.{Refusals.{does_told}, Steps.{Means}}}
 use Rattle.table_access.proofs.Answered.{is_whole}
 
@@ -39,19 +39,18 @@ pub command_told : (old : State) (c : Compiled) (text : List ℕ) (params : Row)
 command_told old c text params e (inl h) = misplaced_told old c.command e h
 command_told old c text params e (inr h) = does_told old.step_limit (mode_of old) params old.now text c.returning c.command e h.1
 
--- any cause, whatever a value that is too big is for the statement
-pub caused : (old new : State) (too_big : Type 0) (cause : StoreError) → HasCause old new too_big cause → HasCause old new ⊤ cause
-caused old new too_big OutOfMemory h = tt
-caused old new too_big Unstorable h = tt
-caused old new too_big _ h = h
+-- what is so where a row was too big is so of more
+pub caused_more : {A B : Type 0} (a b : State) (cause : StoreError) → (A → B) → HasCause a b A cause → HasCause a b B cause
+caused_more a b Unstorable more h = more h
+caused_more a b _ more h = h
 
 pub refused_by : (sql : List ℕ) (params : Row) (old new : State) (e : Error) → Executes sql params old new (Err e) → IsRefused old new e
 unfolding ExecutesIn IsNotRun
 refused_by sql params old new e (inl (inl h)) = inl (h.1, no_statement_told old sql params e h.0)
-refused_by sql params old new e (inl (inr h)) = inr (h.0, h.1, caused old new _ h.0 h.2, h.3, h.4)
+refused_by sql params old new e (inl (inr h)) = inr (h.0, h.1, caused_more old new h.0 (λ big. tt) h.2, h.3, h.4)
 refused_by sql params old new e (inr h) = elim (cases_Bool (shows_rows false h.0)) [
   | inl shows ↦ let it = (rw shows at h.2) in let same : e ≡ ExecuteReturnedResults = (let is = it.0 in cc) in inl (it.1, ap fault_of same)
-  | inr runs ↦ elim (rw runs at h.2) [ inl same ↦ inl (same.1, command_told old h.0 _ _ e same.0) | inr fails ↦ inr (fails.0, fails.1, caused old new _ fails.0 fails.2, fails.3, fails.4) ]
+  | inr runs ↦ elim (rw runs at h.2) [ inl same ↦ inl (same.1, command_told old h.0 _ _ e same.0) | inr fails ↦ inr (fails.0, fails.1, caused_more old new fails.0 (λ big. tt) fails.2, fails.3, fails.4) ]
 ]
 
 -- A statement that is refused changes nothing, or rolls back.

@@ -1,13 +1,12 @@
 -- What INSERT .. ON CONFLICT DO UPDATE leaves, of one row.
 use Rattle.std.specs.{List.{AllByRecursion}, Ordering.{is_eq, ordering_reverse}, Cmp.{tied_itself}}
-use Rattle.std.proofs.Common.{◌≡◌, ◌≢◌, ◌⊎◌, inl, inr, ℕ, ℤ, List, [], ◌∷◌, ◌++◌, filter, length, true, false, not, ◌/◌, Some, None, Option, Ok, refl, sym, ap, subst, subst₂, ◌∙◌, append-nil, Ordering, Less, slice_get}
+use Rattle.std.proofs.Common.{◌≡◌, ◌≢◌, ◌⊎◌, inl, inr, ℕ, ℤ, List, [], ◌∷◌, ◌++◌, filter, length, true, false, not, ◌/◌, Some, None, Option, Ok, refl, sym, ap, subst, subst₂, ◌∙◌, append-nil, slice_get}
 use Rattle.std.proofs.Math.Bool.{and-true}
 use Rattle.sqlite.specs.{Order.{Row, column, value_cmp}, Term.{Term, col, op2}, Tree.{Trees, rowid, IsTable}, Schema.{Schema}, Source.TheVariants.{Values}}
 use Rattle.sqlite.specs.{Edit.{with_rowid, id_in}, View.{is_int}, declared.types.Value.{Value}, Collation.TheVariants.{Binary}, Command.TheVariants.{InsertOr}}
 use Rattle.sqlite.specs.{State.{State, Executes, mode_of}, Does.{AtPlace, OnRows}, Effect.{Database, value_rows}, Listing.{understood}, Cast.{cast_row}}
-use Rattle.sqlite.specs.Rowids.TheVariants.{Chosen, Given}
-use Rattle.sqlite.specs.{Rows.{Written, Task, InsertsOr, Tries, TriesEach, Upserts, Puts, Updates, shown, nothing, count_of}, Table.{Table}, Query.{Query}}
-use Rattle.sqlite.proofs.Callers.{runs_as, statement_of}
+use Rattle.sqlite.specs.{Rowids.TheVariants.{Chosen, Given}, Rows.{Written, Task, InsertsOr, Tries, TriesEach, Puts, Updates, shown, nothing, count_of}}
+use Rattle.sqlite.{specs.{Table.{Table}, Query.{Query}}, proofs.Callers.{runs_as, statement_of}}
 use Rattle.sqlite_schema.specs.{declared.schema.Column.{Column}, declared.schema.Reference.{Reference}, declared.schema.Keys.{Keys}}
 use Rattle.sqlite_schema.specs.{declared.program.Program.{Program}, declared.command.Upsert.{Upsert}, declared.command.Conflict.TheVariants.{Abort}}
 use Rattle.sqlite_value.{specs.declared.keys.Order.{Order}, proofs.OrderLemmas.{value_cmp_total, value_cmp-Int}}
@@ -43,18 +42,12 @@ module _ (name : List ℕ) (tree : ℕ) (columns : List Column) (key : Option �
         (AreConflicts (Some target) schema.indexes here (db tree) new [] × Puts task new db (Ok w))
         ⊎ ((there : Row) × (more : List Row) × AreConflicts (Some target) schema.indexes here (db tree) new (there ∷ more) × Updates task q (params ++ rowid there ∷ shown here new) db (Ok w))
 
-    decides : (new : Row) (db : Trees) (w : Written) → Upserts task Abort new db (clause ∷ []) (Ok w) → Either new db w
-    decides new db w ([], none, otherwise) = inl (none, puts otherwise)
-      where
-        puts : Upserts task Abort new db [] (Ok w) → Puts task new db (Ok w)
-        puts ([], other, it) = it
-        puts (x ∷ more, other, it) = it
-    decides new db w (there ∷ more, some, it) = inr (there, more, some, it)
-
     tried : (new : Row) (db : Trees) (w : Written) → Tries task Abort (clause ∷ []) new db (Ok w) → Either new db w
     tried new db w (inl refused) = absurd (let e = refused.1 in cc)
-    tried new db w (inr (None, judged, it)) = decides new db w it
     tried new db w (inr (Some why, judged, it)) = absurd (let e = it in cc)
+    tried new db w (inr (None, judged, ([], none, ([], other, it)))) = inl (none, it)
+    tried new db w (inr (None, judged, ([], none, (x ∷ more, other, it)))) = inl (none, it)
+    tried new db w (inr (None, judged, (there ∷ more, some, it))) = inr (there, more, some, it)
 
     pub upserts : (terms : List Term) (width : ℕ) (row : Row) (db : Trees) (w : Written) → value_rows params width (length terms / width) terms ≡ row ∷ [] → InsertsOr task Abort (clause ∷ []) (Values terms width) db (Ok w)
         → (done : Written) × (w.trees ≡ done.trees) × Either (with_rowid Chosen (db tree) (cast_row here row)) db done
@@ -75,16 +68,13 @@ module _ (name : List ℕ) (tree : ℕ) (columns : List Column) (key : Option �
         subst (Added tree (db tree) made schema db) (sym (ap (λ (it : Written). it.trees) (same_value edit.2)))
         (put_one name tree columns key primary uniques orders checks references Given schema keys db edit.0 new made cast edit.1)
 
-not_eq : (o : Ordering) → o ≡ Less → is_eq (ordering_reverse o) ≡ false
-not_eq o less = ap (λ x. is_eq (ordering_reverse x)) less
-
 -- WHERE the rowid is that of a row that is there
 filter_one : (rows : List Row) → IsTable rows → (r : Row) → Has rows r → filter (λ x. is_eq (value_cmp (rowid x) (rowid r))) rows ≡ r ∷ []
 filter_one [] up r has = absurd has
 filter_one (y ∷ ys) up r (inl same) =
     let here_is : is_eq (value_cmp (rowid y) (rowid r)) ≡ true = ap (λ x. is_eq (value_cmp (rowid y) (rowid x))) same ∙ ap is_eq (tied_itself value_cmp_total (rowid y)) in
     let later : AllByRecursion (λ x. is_eq (value_cmp (rowid x) (rowid r)) ≡ false) ys =
-    all_of _ ys (λ x has. ap (λ z. is_eq (value_cmp (rowid x) (rowid z))) same ∙ ap is_eq (value_cmp_total.antisymm (rowid x) (rowid y)) ∙ not_eq _ (at_has _ ys x up.0 has)) in
+    all_of _ ys (λ x has. ap (λ z. is_eq (value_cmp (rowid x) (rowid z))) same ∙ ap is_eq (value_cmp_total.antisymm (rowid x) (rowid y)) ∙ ap (λ o. is_eq (ordering_reverse o)) (at_has _ ys x up.0 has)) in
     rw (here_is, filter_none _ ys later) (ap (λ x. x ∷ []) (sym same))
 filter_one (y ∷ ys) up r (inr has) =
     let below : is_eq (value_cmp (rowid y) (rowid r)) ≡ false = ap is_eq (at_has _ ys r up.0 has) in

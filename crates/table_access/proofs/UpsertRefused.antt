@@ -22,7 +22,7 @@ use Rattle.sqlite_rules.specs.{Edit.{Edit, IsOversized, edit_of, is_off}, declar
 use Rattle.sqlite_rules.specs.declared.error.Refusal.TheVariants.{Violates, Mismatch}
 use Rattle.sqlite_rules.proofs.{ListLemmas.{some_has, some_from, test_has, has_filtered, has_kept}, RuleLemmas.{keeps_at}, KeyLemmas.{agree_back, agree_chain}}
 use Rattle.sqlite_rules.proofs.{TableLemmas.{int_is}, PlaceLemmas.{next_is_free}}
-use Rattle.table_access.{specs.{Sound.{IsNumbered}, Statements.{plain_table, shows, IsCalm}}, proofs.Answered.{is_whole, never_refused}}
+use Rattle.table_access.{specs.{Sound.{IsNumbered}, Statements.{plain_table, shows, IsCalm}}, proofs.Answered.{is_whole, never_stopped}}
 use Rattle.table_access.proofs.{Edits.{Suits, IsAlone, goes, refers, one_unique, differ_is}, Members.{has_map, map_has}}
 use Rattle.table_access.proofs.{Refused.{stopped, sourced, on_rows, change_fails, caused_by, in_place}, SoundLemmas.{at_has}}
 use Rattle.table_access.proofs.{Steps.{Means, went, same_value, shown_one}, Upsert.{by_rowid, setting, Either, upserts, meets}, Values.{cast_null, cast_kept}}
@@ -207,11 +207,10 @@ module _ (name : List ℕ) (tree : ℕ) (columns : List Column) (key : Option �
           (sym (one ∙ ap (λ v. shows (col 1 0 ∷ project) (params ++ v ∷ shown here it) hit.0 ∷ []) hit.3)) (change_suits hit.0 hit.1 hit.2)
 
       queried : (there : Row) (more : List Row) → AreConflicts (Some target) old.now.schema.indexes here rows it (there ∷ more) → (stop : Option Error) → Queried task.limit old.now update (params ++ rowid there ∷ shown here it) (Err stop) → ⊥
-      queried there more some None h = h
-      queried there more some (Some e) h =
+      queried there more some stop h =
           let there_is = some.sound there (inl refl) in
           let number : rowid there ≡ Int (id_in (rowid there_is.0)) = ap rowid there_is.3 ∙ numbered_by there_is.0 there_is.1 in
-          never_refused (params ++ rowid there ∷ shown here it) old.now (setting tree n project) (ap (λ v. accepts_program old.now.schema [] (setting tree n project) (params ++ v ∷ shown here it)) number ∙ takes.typed _) refl old.step_limit unlimited e h
+          never_stopped (params ++ rowid there ∷ shown here it) old.now (setting tree n project) (ap (λ v. accepts_program old.now.schema [] (setting tree n project) (params ++ v ∷ shown here it)) number ∙ takes.typed _) refl old.step_limit unlimited stop h
 
       updates : (there : Row) (more : List Row) → AreConflicts (Some target) old.now.schema.indexes here rows it (there ∷ more) → (stop : Option Error) → Updates task update (params ++ rowid there ∷ shown here it) old.now.trees (Err stop) → Stops stop
       updates there more some stop h = elim (stopped stop h) [

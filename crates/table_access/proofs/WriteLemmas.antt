@@ -43,12 +43,9 @@ then_yields : {A B : Type 0} (r : Checked A) (f : A → Checked B) (P : A → Ty
 then_yields (Ok a) f P Q h go = go a h
 then_yields (Err e) f P Q h go = tt
 
-any : {A : Type 0} (r : Checked A) → Yields (λ _. Unit {0}) r
-any (Ok a) = tt
-any (Err e) = tt
-
 on_any : {A B : Type 0} (r : Checked A) (f : A → Checked B) (Q : B → Type 0) → ((a : A) → Yields Q (f a)) → Yields Q (and_then r f)
-on_any r f Q go = then_yields r f (λ _. Unit {0}) Q (any r) (λ a _. go a)
+on_any (Ok a) f Q go = go a
+on_any (Err e) f Q go = tt
 
 on_table_ends : (schema : Schema) (name : Name) (f : ℕ → Table → Checked Command) → ((at : ℕ) (table : Table) → Yields EndsNothing (f at table)) → Yields EndsNothing (on_table schema name f)
 on_table_ends schema name f go = on_any (target schema name) (λ at. and_then (table_at schema at) (f at)) EndsNothing (λ at. on_any (table_at schema at) (f at) EndsNothing (go at))

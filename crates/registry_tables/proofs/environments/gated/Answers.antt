@@ -1,7 +1,8 @@
 use Rattle.std.{specs.Prelude.{option_map}, proofs.{Common.{◌∙◌, ap, pos, inl, inr}, lemmas.Result.{IfOk-weaker, IfErr-weaker, MatchResult-from_both}}}
 use Rattle.sqlite.specs.{Held.{state}, declared.types.Value.TheVariants.{Int}}
-use Rattle.table_access.proofs.Answered.{refusal_ends, first_has}
-use Rattle.broker_tables.proofs.{Asked.{is_answer, still, why_number}, QueryLemmas.{read_result, read_err}, TruthLemmas.{mark_in_column}}
+use Rattle.table_access.proofs.Answered.{first_has}
+use Rattle.broker_tables.proofs.{AnyTables.{refused_ends}, Asked.{is_answer, still, why_number}, QueryLemmas.{read_result, read_err}}
+use Rattle.broker_tables.proofs.TruthLemmas.{mark_in_column}
 use Rattle.registry_tables.proofs.{EnvironmentRows.{gated, gated_found, gated_reads, no_mark, mark_is_number}, MarkText.{mark_asks, mark_found, mark_lost}}
 use Rattle.registry_tables.proofs.environments.gated.Goals as goal
 
@@ -40,8 +41,7 @@ pub returns-in-Err-clause-mark : goal.returns-in-Err-clause-mark
 returns-in-Err-clause-mark g c clean asked =
     let old = state g.S.Store c.args.conn.now in
     let new = state g.S.Store c.number_of.new.conn in
-    let asks = mark_asks old.now.schema asked.1 in
     elim ((rw c.params-to_sql.ensures at c.in-Err.ensures.cause) clean) [
-      | inl refused ↦ inl (refusal_ends _ _ old new _ _ asks.0 (asks.1 c.args.environment.now) asked.0 c.in-Err.fault refused)
+      | inl refused ↦ inl (refused_ends old new (mark_asks old.now.schema asked.1 c.args.environment.now) asked.0 c.in-Err.fault refused)
       | inr told ↦ inr (told.4.0, mark_lost c.args.environment.now old new asked.1 told.0 told.1 told.2 told.3 (λ stands. told.4.1 (mark_is_number told.2 stands)))
     ]
