@@ -50,10 +50,9 @@ fn body_of(alloc: Global, outcome: &Outcome) -> Result<BodyText, AllocError>
         Outcome::NotPermitted(faults) => {
             Ok(BodyText::Made(faults_text(alloc, faults.as_slice())?))
         }
-        Outcome::Pattern => Ok(BodyText::Constant(fixed_text(outcome))),
-        Outcome::Memory => Ok(BodyText::Constant(fixed_text(outcome))),
-        Outcome::Store => Ok(BodyText::Constant(fixed_text(outcome))),
-        Outcome::Stopped => Ok(BodyText::Constant(fixed_text(outcome))),
+        Outcome::Pattern | Outcome::Memory | Outcome::Store | Outcome::Stopped => {
+            Ok(BodyText::Constant(fixed_text(outcome)))
+        }
     }
 }
 

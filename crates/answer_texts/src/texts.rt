@@ -107,10 +107,8 @@ pub(crate) fn form_text(alloc: Global, fault: &FormFault) -> Result<BodyText, Al
         FormFault::UnknownReply => {
             Ok(BodyText::Constant("{\"answer\":\"bad form\",\"fault\":\"check 1\"}"))
         }
-        FormFault::Field(_) => Ok(BodyText::Made(named_fault_text(alloc, fault)?)),
-        FormFault::Query(_) => Ok(BodyText::Made(named_fault_text(alloc, fault)?)),
-        FormFault::Pact(_) => Ok(BodyText::Made(named_fault_text(alloc, fault)?)),
-        FormFault::Replies(_) => Ok(BodyText::Made(named_fault_text(alloc, fault)?)),
+        FormFault::Field(_) | FormFault::Query(_) | FormFault::Pact(_) | FormFault::Replies(_) =>
+            Ok(BodyText::Made(named_fault_text(alloc, fault)?)),
     }
 }
 

@@ -1,5 +1,5 @@
 -- What a head says: the checks on it, and how long its body is.
-use Rattle.std.specs.Prelude.{◌≡◌, ℕ, ◌+◌, ◌≤◌, ◌⊎◌, ◌==◌, ◌&&◌, Bool, true, false, not, List, [], ◌∷◌, length, map, bytes_eq, codes, nat_lt, is_some, slice_index, if◌then◌else◌, Option, Some, None, Result, Ok, Err}
+use Rattle.std.specs.Prelude.{◌≡◌, ℕ, ◌+◌, ◌≤◌, ◌⊎◌, ◌==◌, ◌||◌, Bool, true, false, not, List, [], ◌∷◌, length, map, bytes_eq, codes, nat_lt, nat_le, is_some, slice_index, if◌then◌else◌, Option, Some, None, Result, Ok, Err}
 use Rattle.std.specs.List.{list_any}
 use Rattle.std.specs.Result.{result_unwrap_or}
 use Rattle.std.specs.Str.Parse.{digits_value}
@@ -22,25 +22,46 @@ served_methods = codes "DELETE" ∷ codes "GET" ∷ codes "POST" ∷ codes "PUT"
 unfoldable pub served_method : List ℕ → Option (List ℕ)
 served_method method = if is_among served_methods method then Some method else None
 
--- the length of the body by the values of content-length
-unfoldable pub body_length : List (List ℕ) → Result ℕ Refusal
-body_length [] = Ok 0
-body_length (value ∷ []) =
-    if is_short_number value
-    then (if nat_lt body_limit (digits_value 10 value) then Err BodyTooLarge else Ok (digits_value 10 value))
-    else Err BadRequest
-body_length (value ∷ other ∷ values) = Err BadRequest
+-- a check, and the refusal where it fails
+abbrev pub Check : Type 0
+Check = Bool × Refusal
 
--- The length of the body, or the first check that fails: the target, the host, the method, the transfer
--- coding, the length.
+-- this where all checks hold, or the refusal of the first that fails
+abbrev pub first_failing : {A : Type 0} → List Check → A → Result A Refusal
+first_failing [] found = Ok found
+first_failing (check ∷ checks) found = if check.0 then first_failing checks found else Err check.1
+
+-- no content-length, or one that is 1 to 10 digits
+abbrev pub is_absent_or_number : List (List ℕ) → Bool
+is_absent_or_number [] = true
+is_absent_or_number (value ∷ []) = is_short_number value
+is_absent_or_number (value ∷ other ∷ values) = false
+
+-- the number of the first content-length: none is 0
+unfoldable pub body_length : List (List ℕ) → ℕ
+body_length [] = 0
+body_length (value ∷ values) = digits_value 10 value
+
+abbrev pub length_checks : (lengths : List (List ℕ)) → List Check
+length_checks lengths =
+    (is_absent_or_number lengths, BadRequest)
+    ∷ (nat_le (body_length lengths) body_limit, BodyTooLarge)
+    ∷ []
+
+-- the checks on a head in order: the target, the host, the method, the transfer coding, the length
+abbrev pub checks : (method target : List ℕ) (minor : ℕ) (hosts codings lengths : List (List ℕ)) → List Check
+checks method target minor hosts codings lengths =
+    (slice_index target 0 == 47, BadRequest)
+    ∷ (not (minor == 1) || (length hosts == 1), BadRequest)
+    ∷ (is_some (served_method method), NotImplemented)
+    ∷ (length codings == 0, NotImplemented)
+    ∷ length_checks lengths
+
+-- the length of the body, or the refusal of the first check that fails
 unfoldable pub judge : (method target : List ℕ) (minor : ℕ) (hosts codings lengths : List (List ℕ))
     → Result ℕ Refusal
 judge method target minor hosts codings lengths =
-    if not (slice_index target 0 == 47) then Err BadRequest
-    else (if (minor == 1) && not (length hosts == 1) then Err BadRequest
-    else (if not (is_some (served_method method)) then Err NotImplemented
-    else (if not (length codings == 0) then Err NotImplemented
-    else body_length lengths)))
+    first_failing (checks method target minor hosts codings lengths) (body_length lengths)
 
 -- the checks on a head of these fields come to this
 abbrev pub AreChecked : (method target : List ℕ) (minor : ℕ) (host coding length : Field) → Result ℕ Refusal → Type 0

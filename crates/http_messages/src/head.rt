@@ -3,7 +3,7 @@ ghost use Rattle.std.specs.Prelude.{All, bytes_eq, codes, ◌≡◌, ℕ, ◌≤
 ghost use Rattle.httparse.specs.Grammar.{RequestHead};
 ghost use Rattle.httparse.specs.Spans.{IsHeaderWithin, header_bytes, IsRequestAt, IsRequestWithin};
 ghost use Rattle.http_messages.specs.Fields.{IsField, values_named};
-ghost use Rattle.http_messages.specs.Heads.{served_method, body_length, AreChecked, IsHeadText, is_too_large, is_last, unread};
+ghost use Rattle.http_messages.specs.Heads.{served_method, body_length, first_failing, length_checks, AreChecked, IsHeadText, is_too_large, is_last, unread};
 ghost use Rattle.http_messages.specs.Limits.{body_limit};
 ghost use Rattle.http_messages.specs.Views.{judgement_of, length_found, IsHeadRead, announced};
 
@@ -61,7 +61,7 @@ pub fn served_method(method: &[u8]) -> Option<Method>
 /// The length of the body by its content-length.
 #[tactic(auto, unfolding(crate::specs::Heads::body_length))]
 fn body_length(field: Field<'_>) -> Result<usize, Refusal>
-    ensures length { (values : List (List ℕ)) → IsField values field.entry → result ≡ body_length values }
+    ensures length { (values : List (List ℕ)) → IsField values field.entry → result ≡ first_failing (length_checks values) (body_length values) }
     ensures small { IfOk result (λ n. n ≤ body_limit) }
 {
     match field {

@@ -101,7 +101,7 @@ body_read : IsObject deployment_body (Some body_fields)
 unfolding serde_json_on_literals
 body_read = (Some body_fields, (in_ascii deployment_body refl, refl), refl)
 
-version_named : IsVersionFields (Some body_fields) (Ok (version (codes "shop") (codes "1")))
+version_named : IsVersionFields body_fields (Ok (version (codes "shop") (codes "1")))
 unfolding is_name
 version_named =
     let shop = named (codes "shop") refl refl in

@@ -1,13 +1,12 @@
 -- Names in a query, which is read as a form (the URL standard's application/x-www-form-urlencoded).
-use Rattle.std.specs.Prelude.{◌≡◌, ℕ, ◌≤◌, List, [], ◌∷◌, length, map, filter, bytes_eq, Option, None, Result}
+use Rattle.std.specs.Prelude.{◌≡◌, ℕ, ◌≤◌, List, [], ◌∷◌, length, map, filter, bytes_eq, Option, None, ok_or}
 use Rattle.std.specs.String.{string_bytes}
 use Rattle.std.specs.Str.Lossy.{utf8_lossy}
 use Rattle.form_urlencoded.specs.Form.{raw_pairs, decode}
 use Rattle.broker_names.specs.Name.{IsName}
 use Rattle.broker_core.specs.Text.{Text}
-use Rattle.broker_core.specs.declared.command.FormFault.{FormFault}
 use Rattle.broker_core.specs.declared.command.FormFault.TheVariants as fault
-use Rattle.http_requests.specs.Names.{IsNamed, name_or}
+use Rattle.http_requests.specs.Names.{CommandPart, IsNamed}
 use Rattle.http_requests.specs.declared.queries.Values.{Values}
 use Rattle.http_requests.specs.declared.queries.Values.TheVariants.{Absent, Once, Repeated}
 
@@ -36,6 +35,6 @@ abbrev pub IsOneName : List (List ℕ) → Type 0
 IsOneName values = (value : List ℕ) × (values ≡ value ∷ []) × IsName value
 
 -- the name under a key, which must be there exactly once
-abbrev pub IsQueryName : Text → Text → Result Text FormFault → Type 0
+abbrev pub IsQueryName : Text → Text → CommandPart Text
 IsQueryName key query r =
-    (name : Option Text) × IsOnce (values_at key (raw_pairs query)) name × (r ≡ name_or (fault.Query key) name)
+    (name : Option Text) × IsOnce (values_at key (raw_pairs query)) name × (r ≡ ok_or name (fault.Query key))

@@ -1,13 +1,10 @@
 //! The fields of a body.
-ghost use Rattle.std.specs.Prelude.{◌≡◌, ◌≢◌, ◌↔◌, ◌<◌, length, IsUtf8, IsOk, IfOk, IfErr, codes, string_bytes, Option, Some, None, Ok, Err, option_and_then};
-ghost use Rattle.std.specs.Option.{option_map};
-ghost use Rattle.serde_json.specs.Data.{Data};
-ghost use Rattle.serde_json.specs.Find.{get, as_str, as_bool};
+ghost use Rattle.std.specs.Prelude.{◌≡◌, ◌↔◌, ◌<◌, length, IsUtf8, IsOk, IfOk, IfErr, codes, Option, None, Ok, Err, ok_or, option_map};
 ghost use Rattle.serde_json.specs.Errors.{IsMemory};
 ghost use Rattle.serde_json.specs.View.{view};
-ghost use Rattle.broker_names.specs.Name.{IsToken};
-ghost use Rattle.http_requests.specs.Views.{object_in};
-ghost use Rattle.http_requests.specs.Bodies.{IsData, IsObject, IsTextNamed, HasName, IsNameField, IsGivenName, IsOptionalName, IsTokenText, IsTokenField, non_null, given_truth, optional_truth, or_empty, truth_field, truth_or};
+ghost use Rattle.http_requests.specs.Views.{object_in, IsObjectRead};
+ghost use Rattle.http_requests.specs.Bodies.{IsData, IsTextNamed, HasName, IsNameField, IsGivenName, IsOptionalName, IsTokenText, IsTokenField};
+ghost use Rattle.http_requests.specs.Bodies.{IsTruthField, IsGivenTruth, IsOptionalTruth, non_null, or_empty};
 
 use crate::names::{Parsed, name_of};
 use broker_core::command::FormFault;
@@ -15,10 +12,10 @@ use broker_names::name::{Name, Text, Token, TokenFault};
 use serde_json::{Error, Value};
 use std::alloc::{AllocError, Global};
 
-/// The fields of a body: none if the body is no object of JSON.
+/// The fields of a body that is an object of JSON.
 #[derive(Drop)]
 pub(crate) struct Fields {
-    object: Option<Value>,
+    object: Value,
 }
 
 /// Whether it was a fault of the text that ended its reading. An `Err` means that it was want of memory, and nothing else.
@@ -76,7 +73,7 @@ fn text_named(alloc: Global, text: Option<&str>) -> Result<Option<Name>, AllocEr
 
 /// The truth value that is found, or the fault of the field, which alone takes memory.
 fn truth_or(alloc: Global, key: &str, truth: Option<bool>) -> Parsed<bool>
-    ensures truth { IfOk result (λ r. r ≡ truth_or (FormFault.Field key.now) truth) }
+    ensures truth { IfOk result (λ r. r ≡ ok_or truth (FormFault.Field key.now)) }
     ensures memory { IfErr result (λ _. truth ≡ None) }
 {
     match truth {
@@ -126,9 +123,9 @@ fn given_name(alloc: Global, value: Option<&Value>, key: &str) -> Parsed<Option<
 
 /// The truth value in a value that is given, or the fault of the field, which alone takes memory.
 fn given_truth(alloc: Global, value: Option<&Value>, key: &str) -> Parsed<bool>
-    ensures truth { IfOk result (λ r. r ≡ given_truth key.now (option_map (λ v. view v.now) value.entry)) }
+    ensures truth { IfOk result (IsGivenTruth key.now (option_map (λ v. view v.now) value.entry)) }
     ensures memory { IfErr result
-        (λ _. given_truth key.now (option_map (λ v. view v.now) value.entry) ≡ Err (FormFault.Field key.now)) }
+        (λ _. IsGivenTruth key.now (option_map (λ v. view v.now) value.entry) (Err (FormFault.Field key.now))) }
 {
     let Some(value) = value else {
         return Ok(Ok(false));
@@ -138,76 +135,56 @@ fn given_truth(alloc: Global, value: Option<&Value>, key: &str) -> Parsed<bool>
 
 impl Fields {
     /// Reads the fields of a body. That it is empty or not UTF-8 takes no memory to say.
-    pub(crate) fn read(alloc: Global, body: &[u8]) -> Result<Fields, AllocError>
-        ensures object { IfOk result (λ f. IsObject body.now (object_in f)) }
+    pub(crate) fn read(alloc: Global, body: &[u8]) -> Parsed<Fields>
+        ensures object { IfOk result (IsObjectRead body.now) }
         ensures memory { IfErr result (λ _. IsUtf8 body.now × (0 < length body.now)) }
     {
-        let object = match read_value(alloc, body)? {
-            Some(value) if value.is_object() => Some(value),
-            _ => None,
-        };
-        Ok(Fields { object })
+        match read_value(alloc, body)? {
+            Some(object) if object.is_object() => Ok(Ok(Fields { object })),
+            _ => Ok(Err(FormFault::Json)),
+        }
     }
 
-    /// A name that must be there. That the body is no object takes no memory to say.
+    /// A name that must be there.
     pub(crate) fn name(&self, alloc: Global, key: &str) -> Parsed<Name>
-        ensures named { IfOk result (IsNameField key.now (object_in self.now)) }
-        ensures memory { IfErr result (λ _. object_in self.now ≢ None) }
+        ensures { IfOk result (IsNameField key.now (object_in self.now)) }
     {
-        let Some(object) = &self.object else {
-            return Ok(Err(FormFault::Json));
-        };
-        match text_named(alloc, object.get(key).and_then(Value::as_str))? {
+        match text_named(alloc, self.object.get(key).and_then(Value::as_str))? {
             Some(name) => Ok(Ok(name)),
             None => Ok(Err(field_fault(alloc, key)?)),
         }
     }
 
-    /// A name that may be absent. Neither that it is nor that the body is no object takes memory to say.
+    /// A name that may be absent. That it is takes no memory to say.
     pub(crate) fn optional_name(&self, alloc: Global, key: &str) -> Parsed<Option<Name>>
         ensures named { IfOk result (IsOptionalName key.now (object_in self.now)) }
-        ensures memory { IfErr result (λ _. object_in self.now ≢ None) }
         ensures absent { IfErr result (λ _. ¬ (IsOptionalName key.now (object_in self.now) (Ok None))) }
     {
-        let Some(object) = &self.object else {
-            return Ok(Err(FormFault::Json));
-        };
-        given_name(alloc, non_null(object.get(key)), key)
+        given_name(alloc, non_null(self.object.get(key)), key)
     }
 
-    /// The token. Neither that it has a wrong form nor that the body is no object takes memory to say.
+    /// The token. That it has a wrong form takes no memory to say.
     pub(crate) fn token(&self, alloc: Global) -> Parsed<Token>
         ensures token { IfOk result (IsTokenField (object_in self.now)) }
-        ensures memory { IfErr result (λ _. object_in self.now ≢ None) }
         ensures form { IfErr result (λ _. ¬ (IsTokenField (object_in self.now) (Err FormFault.Token))) }
     {
-        let Some(object) = &self.object else {
-            return Ok(Err(FormFault::Json));
-        };
-        body_token(alloc, object.get("token").and_then(Value::as_str))
+        body_token(alloc, self.object.get("token").and_then(Value::as_str))
     }
 
     /// A truth value that must be there. Only the fault of the field takes memory.
     pub(crate) fn truth(&self, alloc: Global, key: &str) -> Parsed<bool>
-        ensures truth { IfOk result (λ r. r ≡ truth_field key.now (object_in self.now)) }
-        ensures memory { IfErr result
-            (λ _. truth_field key.now (object_in self.now) ≡ Err (FormFault.Field key.now)) }
+        ensures truth { IfOk result (IsTruthField key.now (object_in self.now)) }
+        ensures memory { IfErr result (λ _. IsTruthField key.now (object_in self.now) (Err (FormFault.Field key.now))) }
     {
-        let Some(object) = &self.object else {
-            return Ok(Err(FormFault::Json));
-        };
-        truth_or(alloc, key, object.get(key).and_then(Value::as_bool))
+        truth_or(alloc, key, self.object.get(key).and_then(Value::as_bool))
     }
 
     /// A truth value that may be absent, which counts as false. Only the fault of the field takes memory.
     pub(crate) fn optional_truth(&self, alloc: Global, key: &str) -> Parsed<bool>
-        ensures truth { IfOk result (λ r. r ≡ optional_truth key.now (object_in self.now)) }
+        ensures truth { IfOk result (IsOptionalTruth key.now (object_in self.now)) }
         ensures memory { IfErr result
-            (λ _. optional_truth key.now (object_in self.now) ≡ Err (FormFault.Field key.now)) }
+            (λ _. IsOptionalTruth key.now (object_in self.now) (Err (FormFault.Field key.now))) }
     {
-        let Some(object) = &self.object else {
-            return Ok(Err(FormFault::Json));
-        };
-        given_truth(alloc, non_null(object.get(key)), key)
+        given_truth(alloc, non_null(self.object.get(key)), key)
     }
 }

@@ -1,13 +1,11 @@
 //! The command that a message asks.
-ghost use Rattle.std.specs.Prelude.{◌≡◌, IfOk, codes, if◌then◌else◌, Option};
+ghost use Rattle.std.specs.Prelude.{◌≡◌, [], IfOk, codes, if◌then◌else◌, Option};
 ghost use Rattle.serde_json.specs.Data.{Data};
 ghost use Rattle.http_requests.specs.Views.{object_in, IsBeside};
 ghost use Rattle.http_requests.specs.Bodies.{IsNameField, IsOptionalName, IsTokenField, or_empty};
 ghost use Rattle.http_requests.specs.Commands.{WithFields, IsTwoNames, IsPactNames, IsPactPath, IsVersionFields, IsVersionQuery};
-ghost use Rattle.http_requests.specs.Commands.{IsMarksFields, IsResultFields, IsReportFields, IsMoveFields, IsParsed, IsCommand, or_malformed};
-ghost use Rattle.http_requests.specs.Commands.{IsPutTeam, IsPutPacticipant, IsPutEnvironment, IsGrant, IsPutVersion};
-ghost use Rattle.http_requests.specs.Commands.{IsPutPact, IsGetPact, IsGetBranchPact, IsPostResult, IsPostReplies};
-ghost use Rattle.http_requests.specs.Commands.{IsMove, IsSupport, IsGetEnvironment, IsCanIDeploy, IsGetMatrix};
+ghost use Rattle.http_requests.specs.Commands.{IsMarksFields, IsResultFields, IsReportFields, IsMoveFields, IsGrant, IsMove, IsSupport};
+ghost use Rattle.http_requests.specs.Commands.{IsParsed, IsCommand, or_malformed};
 
 use crate::bodies::{Fields, or_empty};
 use crate::names::{Parsed, path_name};
@@ -75,21 +73,21 @@ fn version_query(alloc: Global, query: &[u8]) -> Parsed<Version>
 fn name_in(alloc: Global, body: &[u8], key: &str) -> Parsed<Name>
     ensures { IfOk result (WithFields body.now (IsNameField key.now)) }
 {
-    let fields = Fields::read(alloc, body)?;
+    let fields = part!(Fields::read(alloc, body));
     fields.name(alloc, key)
 }
 
 fn optional_name_in(alloc: Global, body: &[u8], key: &str) -> Parsed<Option<Name>>
     ensures { IfOk result (WithFields body.now (IsOptionalName key.now)) }
 {
-    let fields = Fields::read(alloc, body)?;
+    let fields = part!(Fields::read(alloc, body));
     fields.optional_name(alloc, key)
 }
 
 fn token_in(alloc: Global, body: &[u8]) -> Parsed<Token>
     ensures { IfOk result (WithFields body.now IsTokenField) }
 {
-    let fields = Fields::read(alloc, body)?;
+    let fields = part!(Fields::read(alloc, body));
     fields.token(alloc)
 }
 
@@ -104,19 +102,19 @@ fn marks_fields(alloc: Global, fields: &Fields) -> Parsed<Marks>
 fn marks_in(alloc: Global, body: &[u8]) -> Parsed<Marks>
     ensures { IfOk result (WithFields body.now IsMarksFields) }
 {
-    let fields = Fields::read(alloc, body)?;
+    let fields = part!(Fields::read(alloc, body));
     marks_fields(alloc, &fields)
 }
 
 fn version_in(alloc: Global, body: &[u8]) -> Parsed<Version>
     ensures { IfOk result (WithFields body.now IsVersionFields) }
 {
-    let fields = Fields::read(alloc, body)?;
+    let fields = part!(Fields::read(alloc, body));
     version_fields(alloc, &fields)
 }
 
 fn put_team(alloc: Global, path: &[u8], body: &[u8]) -> Parsed<Command>
-    ensures { IfOk result (IsPutTeam path.now body.now) }
+    ensures { IfOk result (IsParsed Operation.PutTeam path.now [] body.now) }
 {
     let team = part!(path_name(alloc, path, places::OWN_NAME));
     let token = part!(token_in(alloc, body));
@@ -124,7 +122,7 @@ fn put_team(alloc: Global, path: &[u8], body: &[u8]) -> Parsed<Command>
 }
 
 fn put_pacticipant(alloc: Global, path: &[u8], body: &[u8]) -> Parsed<Command>
-    ensures { IfOk result (IsPutPacticipant path.now body.now) }
+    ensures { IfOk result (IsParsed Operation.PutPacticipant path.now [] body.now) }
 {
     let pacticipant = part!(path_name(alloc, path, places::OWN_NAME));
     let team = part!(name_in(alloc, body, "team"));
@@ -132,7 +130,7 @@ fn put_pacticipant(alloc: Global, path: &[u8], body: &[u8]) -> Parsed<Command>
 }
 
 fn put_environment(alloc: Global, path: &[u8], body: &[u8]) -> Parsed<Command>
-    ensures { IfOk result (IsPutEnvironment path.now body.now) }
+    ensures { IfOk result (IsParsed Operation.PutEnvironment path.now [] body.now) }
 {
     let environment = part!(path_name(alloc, path, places::OWN_NAME));
     let marks = part!(marks_in(alloc, body));
@@ -157,7 +155,7 @@ fn grant(alloc: Global, path: &[u8], gives: bool) -> Parsed<Command>
 }
 
 fn put_version(alloc: Global, path: &[u8], body: &[u8]) -> Parsed<Command>
-    ensures { IfOk result (IsPutVersion path.now body.now) }
+    ensures { IfOk result (IsParsed Operation.PutVersion path.now [] body.now) }
 {
     let (pacticipant, name) = part!(two_names(alloc, path, places::OWN_NAME, places::VERSION));
     let branch = part!(optional_name_in(alloc, or_empty(body), "branch"));
@@ -168,7 +166,7 @@ fn put_version(alloc: Global, path: &[u8], body: &[u8]) -> Parsed<Command>
 }
 
 fn put_pact(alloc: Global, path: &[u8], body: &[u8]) -> Parsed<Command>
-    ensures { IfOk result (IsPutPact path.now body.now) }
+    ensures { IfOk result (IsParsed Operation.PutPact path.now [] body.now) }
 {
     let path = part!(pact_path(alloc, path));
     let file = Body::new(Vec::from_slice(alloc, body)?);
@@ -176,14 +174,14 @@ fn put_pact(alloc: Global, path: &[u8], body: &[u8]) -> Parsed<Command>
 }
 
 fn get_pact(alloc: Global, path: &[u8]) -> Parsed<Command>
-    ensures { IfOk result (IsGetPact path.now) }
+    ensures { IfOk result (IsParsed Operation.GetPact path.now [] []) }
 {
     let path = part!(pact_path(alloc, path));
     Ok(Ok(Command::GetPact { path }))
 }
 
 fn get_branch_pact(alloc: Global, path: &[u8]) -> Parsed<Command>
-    ensures { IfOk result (IsGetBranchPact path.now) }
+    ensures { IfOk result (IsParsed Operation.GetBranchPact path.now [] []) }
 {
     let (provider, consumer, branch) = part!(pact_names(alloc, path, places::PACT_BRANCH));
     Ok(Ok(Command::GetBranchPact {
@@ -211,7 +209,7 @@ fn result_fields(alloc: Global, fields: &Fields) -> Parsed<(Report, bool)>
 fn result_in(alloc: Global, body: &[u8]) -> Parsed<(Report, bool)>
     ensures { IfOk result (WithFields body.now IsResultFields) }
 {
-    let fields = Fields::read(alloc, body)?;
+    let fields = part!(Fields::read(alloc, body));
     result_fields(alloc, &fields)
 }
 
@@ -229,7 +227,7 @@ fn report_fields(alloc: Global, fields: &Fields) -> Parsed<Report>
 fn report_in(alloc: Global, body: &[u8]) -> Parsed<Report>
     ensures { IfOk result (WithFields body.now IsReportFields) }
 {
-    let fields = Fields::read(alloc, body)?;
+    let fields = part!(Fields::read(alloc, body));
     report_fields(alloc, &fields)
 }
 
@@ -243,7 +241,7 @@ fn replies_in(alloc: Global, body: &[u8]) -> Parsed<(Report, Body)>
 }
 
 fn post_result(alloc: Global, path: &[u8], body: &[u8]) -> Parsed<Command>
-    ensures { IfOk result (IsPostResult path.now body.now) }
+    ensures { IfOk result (IsParsed Operation.PostResult path.now [] body.now) }
 {
     let path = part!(pact_path(alloc, path));
     let (report, success) = part!(result_in(alloc, body));
@@ -255,7 +253,7 @@ fn post_result(alloc: Global, path: &[u8], body: &[u8]) -> Parsed<Command>
 }
 
 fn post_replies(alloc: Global, path: &[u8], body: &[u8]) -> Parsed<Command>
-    ensures { IfOk result (IsPostReplies path.now body.now) }
+    ensures { IfOk result (IsParsed Operation.PostReplies path.now [] body.now) }
 {
     let path = part!(pact_path(alloc, path));
     let (report, replies) = part!(replies_in(alloc, body));
@@ -278,7 +276,7 @@ fn move_fields(alloc: Global, fields: &Fields) -> Parsed<(Version, Option<Name>)
 fn move_in(alloc: Global, body: &[u8]) -> Parsed<(Version, Option<Name>)>
     ensures { IfOk result (WithFields body.now IsMoveFields) }
 {
-    let fields = Fields::read(alloc, body)?;
+    let fields = part!(Fields::read(alloc, body));
     move_fields(alloc, &fields)
 }
 
@@ -323,14 +321,14 @@ fn support(alloc: Global, path: &[u8], body: &[u8], releases: bool) -> Parsed<Co
 }
 
 fn get_environment(alloc: Global, path: &[u8]) -> Parsed<Command>
-    ensures { IfOk result (IsGetEnvironment path.now) }
+    ensures { IfOk result (IsParsed Operation.GetEnvironment path.now [] []) }
 {
     let environment = part!(path_name(alloc, path, places::OWN_NAME));
     Ok(Ok(Command::GetEnvironment { environment }))
 }
 
 fn can_i_deploy(alloc: Global, query: &[u8]) -> Parsed<Command>
-    ensures { IfOk result (IsCanIDeploy query.now) }
+    ensures { IfOk result (IsParsed Operation.CanIDeploy [] query.now []) }
 {
     let version = part!(version_query(alloc, query));
     let environment = part!(query_name(alloc, query, "environment"));
@@ -341,7 +339,7 @@ fn can_i_deploy(alloc: Global, query: &[u8]) -> Parsed<Command>
 }
 
 fn get_matrix(alloc: Global, query: &[u8]) -> Parsed<Command>
-    ensures { IfOk result (IsGetMatrix query.now) }
+    ensures { IfOk result (IsParsed Operation.GetMatrix [] query.now []) }
 {
     let version = part!(version_query(alloc, query));
     Ok(Ok(Command::GetMatrix { version }))
