@@ -4,11 +4,11 @@ use Rattle.std.proofs.Common.{◌≡◌, ℕ, List, [], ◌∷◌, codes, map, i
 use Rattle.std.proofs.lemmas.Option.{same_Some}
 use Rattle.serde_json.{specs.{Data.{Data, null, object}, Find.{get, as_str, as_array, as_object}, View.{items_of}}, proofs.OnLiterals.{serde_json_on_literals}}
 use Rattle.pact_file.specs.Pact.{State, Interaction, params_data, state_data, interaction_data}
-use Rattle.pact_file.specs.Parts.{unless_null, optional_at, text_at, if_object, object_at, listed, all_of, state_in, one_state, states_from, states_in, status_in}
+use Rattle.pact_file.specs.Parts.{optional_at, text_at, if_object, object_at, listed, all_of, state_in, one_state, states_from, states_in, status_in}
 use Rattle.pact_file.specs.{Interactions.{at, parts_at}, Headers.{HeadersRead}, Normal.{InteractionRead}, Rules.{rules_or_fault, RulesRead}}
 use Rattle.pact_file.{specs.declared.fault.Part.TheVariants.{Headers, Whole, Description, States, Request, Response, Status}, proofs.ReadLemmas.{read_ok}}
 use Rattle.pact_file.proofs.Steps.{bind_ok, found_ok, ok_same, map_some, then_some}
-use Rattle.pact_rules.specs.{Rules.{Rules as Table}, declared.rule_fault.RuleFault.{RuleFault}, Outcome.{guard}, Reading.{just}}
+use Rattle.pact_rules.specs.{Rules.{Rules as Table}, declared.rule_fault.RuleFault.{RuleFault}, Outcome.{guard}, Reading.{just}, RuleReading.{unless_null}}
 
 -- ---- states: parameters that are there aren't null
 

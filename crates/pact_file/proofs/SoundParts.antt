@@ -5,8 +5,9 @@ use Rattle.std.proofs.lemmas.Option.{same_Some}
 use Rattle.json.proofs.Printed.Utf8.{IsUtf8-are_ascii}
 use Rattle.serde_json.specs.Data.{Data, null, string, array, object, Items, no_items, item, Members, no_members, member}
 use Rattle.serde_json.{specs.{Find.{get, get_member, as_str, as_array}, View.{items_of}}, proofs.OnLiterals.{serde_json_on_literals}}
+use Rattle.pact_rules.specs.RuleReading.{unless_null}
 use Rattle.pact_file.specs.Pact.{State, Interaction, Pact, params_data, state_data, states_data, interaction_data, pact_data}
-use Rattle.pact_file.specs.Parts.{unless_null, optional_at, text_at, if_object, object_at, listed, all_of, state_in, one_state, states_from, states_in}
+use Rattle.pact_file.specs.Parts.{optional_at, text_at, if_object, object_at, listed, all_of, state_in, one_state, states_from, states_in}
 use Rattle.pact_file.{specs.Sound.{IsSound, AreSound, MembersAreSound}, proofs.Steps.{map_some, then_some}}
 
 choice : (n : ℕ) (o : Ordering) (a : Option Data) (b d : Data) → IsSound n b → (a ≡ Some d → IsSound n d) → match_ordering o a (Some b) a ≡ Some d → IsSound n d

@@ -1,6 +1,6 @@
 -- The strings among the tokens of a text that is UTF-8 are UTF-8, and so are those of the value that it is.
 use Rattle.std.specs.{Prelude.{⊤}, Str.{IsUtf8}}
-use Rattle.std.proofs.Common.{◌≡◌, ℕ, zero, suc, ◌<◌, List, [], ◌∷◌, ◌++◌, length, Bool, true, false, cond, ◌==◌, Option, Some, None, option_and_then, refl, sym, subst, arith, append_assoc}
+use Rattle.std.proofs.Common.{◌≡◌, ℕ, zero, suc, ◌<◌, List, [], ◌∷◌, ◌++◌, length, Bool, true, false, cond, ◌==◌, Option, Some, None, option_and_then, IfSome, refl, sym, subst, arith, append_assoc}
 use Rattle.std.proofs.lemmas.Bool.Decides.{nat_tests}
 use Rattle.json.specs.Token.{Token, begin_object, end_object, begin_array, end_array, key, string, number, boolean, null, bad}
 use Rattle.json.specs.Lex.{Lexeme, token, comma, colon, Class, quote, backslash, operator, space, other, class, operator_lexeme, string_token, Mode, between, in_word, in_string, in_escape, lex_byte, lex, Place, fresh, after_value, after_comma, after_key, begins_colon, may_begin, may_close, if_allowed, place_token, punctuate, tokens}
@@ -130,8 +130,7 @@ abbrev mutual
 
 -- what is read, where something is, and what is left
 abbrev Read : {A : Type 0} → (A → Type 0) → Option (A × List Token) → Type 0
-Read P None = ⊤
-Read P (Some x) = P x.0 × AreTexts x.1
+Read P o = IfSome o (λ x. P x.0 × AreTexts x.1)
 
 abbrev Reads : {A : Type 0} → (A → Type 0) → json.Parse A → Type 0
 Reads P parse = (ts : List Token) → AreTexts ts → Read P (parse ts)
@@ -145,17 +144,12 @@ reads_then : {A B : Type 0} (P : A → Type 0) (Q : B → Type 0) (f : A × List
 reads_then P Q f g None h = tt
 reads_then P Q f g (Some x) h = g x h.0 h.1
 
-abbrev IfTexts : Option (List Token) → Type 0
-IfTexts None = ⊤
-IfTexts (Some ts) = AreTexts ts
-
-closed : (ts : List Token) → AreTexts ts → IfTexts (json.after_end_array ts)
+closed : (ts : List Token) → AreTexts ts → IfSome (json.after_end_array ts) AreTexts
 closed (end_array ∷ ts) h = h.1
 closed ts h = tt
 
 abbrev IfText : Option (List ℕ) → Type 0
-IfText None = ⊤
-IfText (Some s) = IsUtf8 s
+IfText o = IfSome o IsUtf8
 
 key_text : Reads IfText json.read_key
 key_text (end_object ∷ ts) h = (tt, h.1)
@@ -163,7 +157,7 @@ key_text (key s ∷ ts) h = (h.0, h.1)
 key_text ts h = tt
 
 module _ (value : json.Parse json.Json) (reads : Reads HasTexts value) where
-  item_turn : (more : json.Parse json.Items) → Reads ItemsHaveTexts more → (ts : List Token) (o : Option (List Token)) → AreTexts ts → IfTexts o → Read ItemsHaveTexts (json.items_step value more ts o)
+  item_turn : (more : json.Parse json.Items) → Reads ItemsHaveTexts more → (ts : List Token) (o : Option (List Token)) → AreTexts ts → IfSome o AreTexts → Read ItemsHaveTexts (json.items_step value more ts o)
   item_turn more h ts (Some rest) t r = (tt, r)
   item_turn more h ts None t r =
       reads_then HasTexts ItemsHaveTexts _ (λ x j rest. reads_mapped ItemsHaveTexts ItemsHaveTexts (json.item x.0) (λ js k. (j, k)) (more x.1) (h x.1 rest)) (value ts) (reads ts t)

@@ -52,17 +52,7 @@ from_stored (inr (inr (inr (inr (inr (inr k)))))) = member k
 
 pub from_stored-to_stored : (p : Part) → from_stored (to_stored p) ≡ p
 from_stored-to_stored null = refl
-from_stored-to_stored (boolean b) = refl
-from_stored-to_stored (unsigned n) = refl
-from_stored-to_stored (negative z) = refl
-from_stored-to_stored (float x) = refl
-from_stored-to_stored (string s) = refl
-from_stored-to_stored array = refl
-from_stored-to_stored object = refl
-from_stored-to_stored no_items = refl
-from_stored-to_stored item = refl
-from_stored-to_stored no_members = refl
-from_stored-to_stored (member k) = refl
+from_stored-to_stored p = refl
 
 abbrev part_code : Coded Part
 part_code =
@@ -139,17 +129,14 @@ first made = json.null
 
 number_back : (n : json.Num) (rest : List Part) (made : List Made) → assembled (number_part n ∷ rest) made ≡ assembled rest (whole (json.number n) ∷ made)
 number_back (json.unsigned n) rest made = refl
-number_back (json.negative z) rest made = refl
-number_back (json.float x) rest made = refl
+number_back n rest made = refl
 
 mutual
   back : (d : json.Data) (rest : List Part) (made : List Made) → assembled (parts d rest) made ≡ assembled rest (whole d ∷ made)
-  back json.null rest made = refl
-  back (json.boolean b) rest made = refl
   back (json.number n) rest made = number_back n rest made
-  back (json.string s) rest made = refl
   back (json.array ds) rest made = items_back ds (array ∷ rest) made
   back (json.object ms) rest made = members_back ms (object ∷ rest) made
+  back d rest made = refl
 
   items_back : (ds : json.Items) (rest : List Part) (made : List Made) → assembled (items_parts ds rest) made ≡ assembled rest (items ds ∷ made)
   items_back json.no_items rest made = refl

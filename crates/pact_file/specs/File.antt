@@ -3,7 +3,7 @@ use Rattle.std.specs.Prelude.{ℕ, ◌||◌, ◌==◌, List, length, Bool, true,
 use Rattle.std.specs.List.{starts_with}
 use Rattle.std.specs.Option.{ok_or, option_or}
 use Rattle.std.specs.Str.{bytes_eq}
-use Rattle.serde_json.specs.Data.{Data, Num, null, boolean, number, string, array, object, unsigned, negative, float}
+use Rattle.serde_json.specs.Data.{Data, Num, null, number, string, array, unsigned}
 use Rattle.serde_json.specs.Events.{items_len}
 use Rattle.serde_json.specs.Find.{get}
 use Rattle.broker_names.specs.Name.{is_name}
@@ -42,17 +42,13 @@ file_of bytes = do
 
 abbrev pub number_is_3 : Num → Bool
 number_is_3 (unsigned n) = n == 3
-number_is_3 (negative z) = false
-number_is_3 (float x) = false
+number_is_3 m = false
 
 -- whether the text of a version, if it is a text or a number, has 3 before its first point
 abbrev pub is_3 : Data → Option Bool
-is_3 null = None
-is_3 (boolean b) = None
 is_3 (number n) = Some (number_is_3 n)
 is_3 (string s) = Some (bytes_eq s (codes "3") || starts_with nat_eq s (codes "3."))
-is_3 (array ds) = None
-is_3 (object ms) = None
+is_3 d = None
 
 abbrev pub version_under : List ℕ → Data → Option Bool
 version_under key file =
@@ -68,11 +64,8 @@ is_version_3 file =
 
 abbrev pub holds_nothing : Data → Bool
 holds_nothing null = true
-holds_nothing (boolean b) = false
-holds_nothing (number n) = false
-holds_nothing (string s) = false
 holds_nothing (array ds) = items_len ds == 0
-holds_nothing (object ms) = false
+holds_nothing d = false
 
 -- message pacts are another kind of contract
 unfoldable pub has_no_messages : Data → Bool

@@ -11,6 +11,11 @@ use Rattle.pact_rules.specs.Outcome.{◌>>=◌, guard}
 use Rattle.pact_file.specs.declared.object.FileFault.{FileFault}
 use Rattle.pact_file.specs.declared.object.FileFault.TheVariants.{NotJson, Tree, NotObject}
 
+-- the same answer, with another fault for each
+abbrev pub with_fault : {A F G : Type 0} → (F → G) → Result A F → Result A G
+with_fault convert (Ok x) = Ok x
+with_fault convert (Err e) = Err (convert e)
+
 -- a text in UTF-8, and not the empty one: only for such bytes memory is taken
 abbrev pub IsSomeText : List ℕ → Type 0
 IsSomeText bytes = IsUtf8 bytes × (0 < length bytes)
@@ -20,8 +25,7 @@ unfoldable pub json_of : List ℕ → Result Data FileFault
 json_of bytes = if is_utf8 bytes then ok_or (read bytes) NotJson else Err NotJson
 
 abbrev pub tree_or_fault : Result ⊤ TreeFault → Result ⊤ FileFault
-tree_or_fault (Ok x) = Ok x
-tree_or_fault (Err e) = Err (Tree e)
+tree_or_fault r = with_fault (λ fault. Tree fault) r
 
 -- an object without fractions that nests not too deep
 unfoldable pub object_of : List ℕ → Result Data FileFault
@@ -30,8 +34,3 @@ object_of bytes = do
   tree ← tree_or_fault (checked_tree whole)
   is ← guard (is_some (as_object whole)) NotObject
   Ok whole
-
--- the same answer, with another fault for each
-abbrev pub with_fault : {A F G : Type 0} → (F → G) → Result A F → Result A G
-with_fault convert (Ok x) = Ok x
-with_fault convert (Err e) = Err (convert e)

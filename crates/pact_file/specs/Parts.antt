@@ -1,20 +1,12 @@
 -- The parts of an interaction, as they stand in JSON data (Pact Specification, version 3). A part that isn't as it
 -- must be is none.
 use Rattle.std.specs.Prelude.{ℕ, ◌&&◌, List, [], ◌∷◌, ◌++◌, Option, Some, None, option_map, option_and_then, nat_le, codes, if◌then◌else◌}
-use Rattle.std.specs.Option.{option_or}
+use Rattle.std.specs.Option.{option_or, option_map_or}
 use Rattle.std.specs.Str.{str_to_ascii_lowercase}
-use Rattle.serde_json.specs.Data.{Data, null, boolean, number, string, array, object, Items, no_items, item, Members, no_members, member}
+use Rattle.serde_json.specs.Data.{Data, object, Items, no_items, item, Members, no_members, member}
 use Rattle.serde_json.specs.Find.{get, as_str, as_array, as_object, as_number, as_u64}
-use Rattle.serde_json.specs.Data.{Data}
+use Rattle.pact_rules.specs.RuleReading.{unless_null}
 use Rattle.pact_file.specs.Pact.{State, Header}
-
-abbrev pub unless_null : Data → Option Data
-unless_null null = None
-unless_null (boolean b) = Some (boolean b)
-unless_null (number n) = Some (number n)
-unless_null (string s) = Some (string s)
-unless_null (array ds) = Some (array ds)
-unless_null (object ms) = Some (object ms)
 
 -- an optional member: null counts as absent
 abbrev pub optional_at : List ℕ → Data → Option Data
@@ -25,12 +17,8 @@ abbrev pub text_at : List ℕ → Data → Option (List ℕ)
 text_at key d = option_and_then as_str (get key d)
 
 abbrev pub if_object : Data → Option Data
-if_object null = None
-if_object (boolean b) = None
-if_object (number n) = None
-if_object (string s) = None
-if_object (array ds) = None
 if_object (object ms) = Some (object ms)
+if_object d = None
 
 -- a member that is an object
 abbrev pub object_at : List ℕ → Data → Option Data
@@ -77,19 +65,14 @@ states_in d = states_from (optional_at (codes "providerStates") d) (optional_at 
 -- ---- the response
 
 -- a whole number from 100 to 999
-abbrev pub in_range : ℕ → Option ℕ
-in_range n = if nat_le 100 n && nat_le n 999 then Some n else None
-
 abbrev pub status_at : Data → Option ℕ
-status_at d = option_and_then in_range (option_and_then as_u64 (as_number d))
-
-abbrev pub status_from : Option Data → Option ℕ
-status_from None = Some 200
-status_from (Some d) = status_at d
+status_at d =
+    option_and_then (λ n. if nat_le 100 n && nat_le n 999 then Some n else None)
+    (option_and_then as_u64 (as_number d))
 
 -- the status, 200 where it is absent
 unfoldable pub status_in : Data → Option ℕ
-status_in response = status_from (optional_at (codes "status") response)
+status_in response = option_map_or status_at (optional_at (codes "status") response) (Some 200)
 
 -- the value under `body`
 abbrev pub body_in : Data → Option Data
@@ -114,10 +97,8 @@ header_value d =
 abbrev pub header_in : List ℕ × Data → Option Header
 header_in m = option_map (λ value. record { name = str_to_ascii_lowercase m.0; value = value }) (header_value m.1)
 
-abbrev pub headers_from : Option Data → Option (List Header)
-headers_from None = Some []
-headers_from (Some d) = option_and_then (λ ms. all_of header_in (members_listed ms)) (as_object d)
-
 -- the headers in the order of the file, none where they are absent
 unfoldable pub headers_found : Data → Option (List Header)
-headers_found response = headers_from (optional_at (codes "headers") response)
+headers_found response =
+    option_map_or (λ d. option_and_then (λ ms. all_of header_in (members_listed ms)) (as_object d))
+    (optional_at (codes "headers") response) (Some [])

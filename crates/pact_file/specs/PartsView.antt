@@ -14,12 +14,5 @@ parts_view p = interaction_with (string_bytes p.description) p.states.items (vie
 
 -- no memory is the whole call's own fault
 abbrev pub as_pact_fault : ℕ → RuleFault → PactFault
-as_pact_fault i rule_fault.Form = Rules i rule_fault.Form
-as_pact_fault i rule_fault.OldRules = Rules i rule_fault.OldRules
-as_pact_fault i rule_fault.BadPath = Rules i rule_fault.BadPath
-as_pact_fault i rule_fault.SamePathTwice = Rules i rule_fault.SamePathTwice
-as_pact_fault i (rule_fault.Unsupported name) = Rules i (rule_fault.Unsupported name)
-as_pact_fault i rule_fault.BadBound = Rules i rule_fault.BadBound
-as_pact_fault i rule_fault.Pattern = Rules i rule_fault.Pattern
-as_pact_fault i rule_fault.BadCombine = Rules i rule_fault.BadCombine
 as_pact_fault i rule_fault.Memory = Memory
+as_pact_fault i fault = Rules i fault

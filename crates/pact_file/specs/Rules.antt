@@ -1,12 +1,12 @@
 -- The rules of a response, read by `pact_rules`. Whether a pattern is refused is open there, so this is a relation.
-use Rattle.std.specs.Prelude.{◌≡◌, ℕ, Option, Some, None, Result, Ok, Err, codes}
-use Rattle.serde_json.specs.Data.{Data}
+use Rattle.std.specs.Prelude.{◌≡◌, ℕ, Option, Some, None, Result, Ok, codes}
 use Rattle.serde_json.specs.Data.{Data}
 use Rattle.pact_rules.specs.Rules.{Rules as Table, no_rules}
 use Rattle.pact_rules.specs.RuleReading.{IsReading}
 use Rattle.pact_rules.specs.declared.rule_fault.RuleFault.{RuleFault}
 use Rattle.pact_file.specs.declared.fault.PactFault.{PactFault}
 use Rattle.pact_file.specs.declared.fault.PactFault.TheVariants.{Rules}
+use Rattle.pact_file.specs.Objects.{with_fault}
 use Rattle.pact_file.specs.Parts.{optional_at}
 
 -- no rules where they are absent
@@ -15,8 +15,7 @@ TableRead None answer = answer ≡ Ok no_rules
 TableRead (Some d) answer = IsReading d answer
 
 abbrev pub rules_or_fault : ℕ → Result Table RuleFault → Result Table PactFault
-rules_or_fault i (Ok table) = Ok table
-rules_or_fault i (Err fault) = Err (Rules i fault)
+rules_or_fault i r = with_fault (λ fault. Rules i fault) r
 
 -- of the response of the interaction i
 unfoldable pub RulesRead : ℕ → Data → Result Table PactFault → Type 0

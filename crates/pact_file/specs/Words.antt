@@ -47,15 +47,8 @@ rule_number rule_fault.Memory = codes "9"
 
 -- the name of what isn't supported, behind a space
 abbrev pub rule_name : RuleFault → List ℕ
-rule_name rule_fault.Form = []
-rule_name rule_fault.OldRules = []
-rule_name rule_fault.BadPath = []
-rule_name rule_fault.SamePathTwice = []
 rule_name (rule_fault.Unsupported name) = codes " " ++ name
-rule_name rule_fault.BadBound = []
-rule_name rule_fault.Pattern = []
-rule_name rule_fault.BadCombine = []
-rule_name rule_fault.Memory = []
+rule_name fault = []
 
 -- the fault's number, and what follows it
 abbrev pub number_text : PactFault → List ℕ
@@ -74,14 +67,5 @@ number_text Memory = codes "11"
 
 -- `pact 3 interactions[0].status`, `pact 7.5 interactions[0] decimal`; out of memory is `memory`
 abbrev pub fault_text : PactFault → List ℕ
-fault_text TooLong = codes "pact " ++ number_text TooLong
-fault_text NotJson = codes "pact " ++ number_text NotJson
-fault_text (Shape place) = codes "pact " ++ number_text (Shape place)
-fault_text Version = codes "pact " ++ number_text Version
-fault_text Messages = codes "pact " ++ number_text Messages
-fault_text (Tree fault) = codes "pact " ++ number_text (Tree fault)
-fault_text (Rules i fault) = codes "pact " ++ number_text (Rules i fault)
-fault_text SameInteraction = codes "pact " ++ number_text SameInteraction
-fault_text TooMany = codes "pact " ++ number_text TooMany
-fault_text SelfContract = codes "pact " ++ number_text SelfContract
 fault_text Memory = codes "memory"
+fault_text fault = codes "pact " ++ number_text fault

@@ -1,10 +1,10 @@
 -- Each text has one reading, and `path_in` computes it.
 use Rattle.std.specs.List.{flat_map}
 use Rattle.std.proofs.Common.{◌≡◌, ◌≢◌, ◌⊎◌, inl, inr, ℕ, zero, suc, ◌+◌, ◌-◌, ◌<◌, ◌≤◌, Bool, true, false, List, [], ◌∷◌, ◌++◌, length, take, Option, Some, None, Result, Ok, Err, refl, sym, ap, ap₂, ◌∙◌, subst, arith, true≢false, length-append, append_assoc, append-nil, ne_eqb, take_at, IfOk}
-use Rattle.std.proofs.{lemmas.Option.{none-some, some_pair_parts}, lemmas.List.{nil_from_length}}
-use Rattle.pact_paths.specs.{PathReading.{Read, behind, token_in, tokens_in, first_of_more, with_front, with_all, from_root, path_in}, Paths.{Token}}
-use Rattle.pact_paths.specs.{Spelling.{IsSpelled, AreSpelled, IsPath, token_text, path_text}, Outcome.{Gives, GivesChecked, checked}}
-use Rattle.pact_paths.specs.{Readings.{IsFront, IsLongestFront, StopsAt, IsReading, IsTheReading}, declared.path_reader.PathFault.{PathFault}}
+use Rattle.std.proofs.{Math.Path.{fun_ext}, lemmas.Option.{none-some, same_Some, some_pair_parts}, lemmas.List.{nil_from_length}}
+use Rattle.pact_paths.specs.PathReading.{Read, behind, token_in, tokens_in, first_of_more, with_front, with_all, from_root, path_in, computed_path, path_or_none}
+use Rattle.pact_paths.specs.{Paths.{Token}, Spelling.{IsSpelled, AreSpelled, IsPathText, IsPath, token_text, path_text}, Outcome.{Gives, GivesChecked, checked}}
+use Rattle.pact_paths.specs.{Readings.{IsFront, IsLongestFront, StopsAt, IsReading, IsTheReading, ReadsPaths}, declared.path_reader.PathFault.{PathFault}}
 use Rattle.pact_paths.specs.declared.path_reader.PathFault.TheVariants.{NoRoot, BadToken, TooManyTokens, Memory}
 use Rattle.pact_paths.proofs.Spellings.{ends_names, spelled_reads, next_ends, are_spelled_end, behind_some, found_takes, spelled_are_tokens, canonical_are_spelled}
 use Rattle.pact_paths.proofs.{Checked.{fault_of, no_fault}, PathLemmas.{tokens_end, tokens_more, with_no_front}}
@@ -110,10 +110,9 @@ at_first limit t none some = record {
 
 abbrev IsRead : ℕ → ℕ → List ℕ → Result (List Token) PathFault → Type 0
 IsRead total limit t (Ok ts) = AreSpelled t ts × (length ts ≤ limit)
-IsRead total limit t (Err NoRoot) = ⊥
 IsRead total limit t (Err (BadToken offset)) = (ts : List Token) × (s : Stuck limit t ts) × (length ts < limit) × (offset ≡ total - length s.rest)
 IsRead total limit t (Err TooManyTokens) = (ts : List Token) × (s : Stuck limit t ts) × (length ts ≡ limit)
-IsRead total limit t (Err Memory) = ⊥
+IsRead total limit t (Err e) = ⊥
 
 abbrev more_stuck : (limit : ℕ) (t f rest : List ℕ) (x : Token) (ts : List Token) → token_in t ≡ Some (x, rest) → t ≡ f ++ rest → IsSpelled f x → Stuck limit rest ts → Stuck (suc limit) t (x ∷ ts)
 more_stuck limit t f rest x ts found split s k = record {
@@ -125,10 +124,9 @@ more_stuck limit t f rest x ts found split s k = record {
 
 front_read : (total limit : ℕ) (t f rest : List ℕ) (x : Token) → token_in t ≡ Some (x, rest) → t ≡ f ++ rest → IsSpelled f x → (r : Result (List Token) PathFault) → IsRead total limit rest r → IsRead total (suc limit) t (with_front x r)
 front_read total limit t f rest x found split s (Ok ts) h = ((f, rest, split, s, h.0), omega (arith, h.1))
-front_read total limit t f rest x found split s (Err NoRoot) h = h
 front_read total limit t f rest x found split s (Err (BadToken offset)) h = (x ∷ h.0, more_stuck limit t f rest x h.0 found split s h.1, omega (arith, h.2), h.3)
 front_read total limit t f rest x found split s (Err TooManyTokens) h = (x ∷ h.0, more_stuck limit t f rest x h.0 found split s h.1, omega (arith, h.2))
-front_read total limit t f rest x found split s (Err Memory) h = h
+front_read total limit t f rest x found split s (Err e) h = h
 
 first_read : (total limit : ℕ) (t : List ℕ) → ((s : List ℕ) → IsRead total limit s (tokens_in total limit s)) → t ≢ [] → (r : Read) → token_in t ≡ r
     → IsRead total (suc limit) t (first_of_more (tokens_in total limit) (BadToken (total - length t)) r)
@@ -215,21 +213,19 @@ same_tokens body f g r s ts us h k =
 bad_is : (body front rest : List ℕ) (ts : List Token) → IsLongestFront 60 body front rest ts → rest ≢ [] → length ts < 60 → (r : Result (List Token) PathFault) → IsRead (suc (length body)) 60 body r
     → Err (BadToken (1 + length front)) ≡ r
 bad_is body front rest ts best left few (Ok us) h = absurd (spelled_whole body front rest ts us best left h.0 h.1)
-bad_is body front rest ts best left few (Err NoRoot) h = absurd h
 bad_is body front rest ts best left few (Err (BadToken offset)) h =
     let long = same_length body front h.1.front rest h.1.rest ts h.0 best h.1.is_longest in
     let offset_is : 1 + length front ≡ offset = omega (arith, long, h.3, ap length h.1.is_longest.is_front.split, length-append h.1.front h.1.rest) in
     ap (λ n. Err (BadToken n)) offset_is
 bad_is body front rest ts best left few (Err TooManyTokens) h = absurd (omega (arith, few, h.2, ap length (same_tokens body front h.1.front rest h.1.rest ts h.0 best h.1.is_longest)))
-bad_is body front rest ts best left few (Err Memory) h = absurd h
+bad_is body front rest ts best left few (Err e) h = absurd h
 
 full_is : (body front rest : List ℕ) (ts : List Token) → IsLongestFront 60 body front rest ts → rest ≢ [] → length ts ≡ 60 → (r : Result (List Token) PathFault) → IsRead (suc (length body)) 60 body r
     → Err TooManyTokens ≡ r
 full_is body front rest ts best left full (Ok us) h = absurd (spelled_whole body front rest ts us best left h.0 h.1)
-full_is body front rest ts best left full (Err NoRoot) h = absurd h
 full_is body front rest ts best left full (Err (BadToken offset)) h = absurd (omega (arith, full, h.2, ap length (same_tokens body front h.1.front rest h.1.rest ts h.0 best h.1.is_longest)))
 full_is body front rest ts best left full (Err TooManyTokens) h = refl
-full_is body front rest ts best left full (Err Memory) h = absurd h
+full_is body front rest ts best left full (Err e) h = absurd h
 
 no_mark : (c : ℕ) (t : List ℕ) → ((rest : List ℕ) → t ≢ c ∷ rest) → behind c t ≡ None
 no_mark c [] h = refl
@@ -259,12 +255,28 @@ one_reading text r s h k = reading_is text s k ∙ sym (reading_is text r h)
 pub path_in_is : (text : List ℕ) → IsTheReading text (path_in text)
 path_in_is text = (path_reads text, reading_is text)
 
+-- and the path that it computes is the text's
+path_is : (text : List ℕ) (ts : List Token) (r : Result (List Token) PathFault) → IsReading text r → path_or_none r ≡ Some ts → IsPathText text ts
+path_is text ts (Ok us) h e = subst (IsPathText text) (same_Some _ _ e) h
+path_is text ts (Err fault) h e = absurd (none-some ts e)
+
+pub computed_reads : ReadsPaths computed_path
+computed_reads text ts = (path_is text ts (path_in text) (path_reads text), λ h. ap path_or_none (sym (reading_is text (Ok ts) h)))
+
+-- no other function has each text's path
+same_option : (a b : Option (List Token)) → ((ts : List Token) → a ≡ Some ts → b ≡ Some ts) → ((ts : List Token) → b ≡ Some ts → a ≡ Some ts) → a ≡ b
+same_option (Some x) b f g = sym (f x refl)
+same_option None (Some y) f g = g y refl
+same_option None None f g = refl
+
+pub one_reader : (paths : List ℕ → Option (List Token)) → ReadsPaths paths → paths ≡ computed_path
+one_reader paths h =
+    fun_ext (λ text. same_option (paths text) (computed_path text) (λ ts e. (computed_reads text ts).1 ((h text ts).0 e)) (λ ts e. (h text ts).1 ((computed_reads text ts).0 e)))
+
 pub outcome : (text : List ℕ) (r : Result (List Token) PathFault) → Gives Memory (λ p. p) r (path_in text) → (r ≡ Err Memory) ⊎ IsTheReading text r
 outcome text (Ok ts) h = inr (let P : Result (List Token) PathFault → Type 0 = IsTheReading text in subst P h (path_in_is text))
-outcome text (Err NoRoot) h = inr (let P : Result (List Token) PathFault → Type 0 = IsTheReading text in subst P (h (λ e. cc)) (path_in_is text))
-outcome text (Err (BadToken offset)) h = inr (let P : Result (List Token) PathFault → Type 0 = IsTheReading text in subst P (h (λ e. cc)) (path_in_is text))
-outcome text (Err TooManyTokens) h = inr (let P : Result (List Token) PathFault → Type 0 = IsTheReading text in subst P (h (λ e. cc)) (path_in_is text))
 outcome text (Err Memory) h = inl refl
+outcome text (Err e) h = inr (let P : Result (List Token) PathFault → Type 0 = IsTheReading text in subst P (h (λ e. cc)) (path_in_is text))
 
 -- ---- what reading promises, from what it computes
 

@@ -1,8 +1,9 @@
 -- Laws of the definitions.
-use Rattle.std.specs.Prelude.{ℕ, List}
-use Rattle.pact_paths.specs.PathReading.{path_in}
+use Rattle.std.specs.Prelude.{ℕ, List, Result}
+use Rattle.pact_paths.specs.Paths.{Token}
 use Rattle.pact_paths.specs.Readings.{IsTheReading}
+use Rattle.pact_paths.specs.declared.path_reader.PathFault.{PathFault}
 
--- what is computed from left to right is the one reading of the text
-abbrev pub ComputesReading : Type 0
-ComputesReading = (text : List ℕ) → IsTheReading text (path_in text)
+-- each text has one reading: a path, or a fault
+abbrev pub HasOneReading : Type 0
+HasOneReading = (text : List ℕ) → (r : Result (List Token) PathFault) × IsTheReading text r

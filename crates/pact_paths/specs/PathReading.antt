@@ -1,5 +1,5 @@
--- The reading of a text, computed from left to right as the code does it: each token takes what it can. The law
--- `laws::computed_reading` says that this is the one reading of `Readings`, where the meaning is stated.
+-- For private clauses: the reading of a text, computed from left to right as the code does it; each token takes what it
+-- can. It is the one reading of `Readings`, where the meaning is stated.
 use Rattle.std.specs.Prelude.{ℕ, zero, suc, ◌-◌, List, [], ◌∷◌, ◌++◌, length, take, drop, ◌==◌, nat_lt, Option, Some, None, option_map, option_and_then, Result, Ok, Err, if◌then◌else◌}
 use Rattle.std.specs.Option.{option_or}
 use Rattle.std.specs.List.{position_or_len, before_first, after_first}
@@ -87,3 +87,11 @@ from_root total (Some rest) = tokens_in total 60 rest
 
 abbrev pub path_in : List ℕ → Result (List Token) PathFault
 path_in text = from_root (length text) (behind 36 text)
+
+abbrev pub path_or_none : Result (List Token) PathFault → Option (List Token)
+path_or_none (Ok tokens) = Some tokens
+path_or_none (Err fault) = None
+
+-- the path that a text is, or none
+abbrev pub computed_path : List ℕ → Option (List Token)
+computed_path text = path_or_none (path_in text)

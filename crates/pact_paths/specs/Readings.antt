@@ -1,6 +1,6 @@
 -- What a text reads as: a path, or the first fault from left to right.
 -- That reading takes the most that can be spelled, and the three faults, are this project's own choice.
-use Rattle.std.specs.Prelude.{◌≡◌, ◌≢◌, ◌≤◌, ◌<◌, ◌+◌, ℕ, List, [], ◌++◌, length, codes, Result, Ok, Err}
+use Rattle.std.specs.Prelude.{◌≡◌, ◌≢◌, ◌↔◌, ◌≤◌, ◌<◌, ◌+◌, ℕ, List, [], ◌++◌, length, codes, Option, Some, Result, Ok, Err}
 use Rattle.pact_paths.specs.Paths.{Token}
 use Rattle.pact_paths.specs.Spelling.{AreSpelled, IsPathText}
 use Rattle.pact_paths.specs.declared.path_reader.PathFault.{PathFault}
@@ -41,3 +41,7 @@ IsReading text (Err Memory) = ⊥
 -- the one reading of the text
 abbrev pub IsTheReading : List ℕ → Result (List Token) PathFault → Type 0
 IsTheReading text r = IsReading text r × ((s : Result (List Token) PathFault) → IsReading text s → s ≡ r)
+
+-- each text's path, and none of a text that is no path
+abbrev pub ReadsPaths : (List ℕ → Option (List Token)) → Type 0
+ReadsPaths paths = (text : List ℕ) (tokens : List Token) → (paths text ≡ Some tokens) ↔ IsPathText text tokens

@@ -8,8 +8,8 @@ ghost use Rattle.pact_paths.specs.Spelling.{is_special, is_index};
 ghost use Rattle.pact_paths.specs.PathReading.{token_in, dotted as dotted_in, bracketed as bracketed_in};
 ghost use Rattle.pact_paths.specs.PathReading.{plain as plain_in, quoted as quoted_in, index as index_in};
 ghost use Rattle.pact_paths.specs.PathReading.{behind as behind_of, cut as cut_of, closed_star as closed_star_in};
-ghost use Rattle.pact_paths.specs.PathReading.{tokens_in, path_in, with_all};
-ghost use Rattle.pact_paths.specs.Outcome.{Gives, GivesChecked, checked};
+ghost use Rattle.pact_paths.specs.PathReading.{tokens_in, with_all};
+ghost use Rattle.pact_paths.specs.Outcome.{Gives, checked};
 ghost use Rattle.pact_paths.specs.Readings.{IsReading, IsTheReading};
 ghost use Rattle.pact_paths.specs.Paths.{named, indexed, any};
 ghost use Rattle.pact_paths.specs.declared.path_reader.PathFault.{PathFault as PathFaultModel};
@@ -68,9 +68,6 @@ impl Path {
 
         // A fault is found before any memory is taken.
         ensures faults { (e : PathFaultModel) → IsReading text.now (Err e) → result ≡ Err e }
-
-        // Both, computed.
-        ensures computed { GivesChecked Memory (λ p. p) result (path_in text.now) }
     {
         let Some(rest) = behind(text, '$') else {
             return Err(PathFault::NoRoot);

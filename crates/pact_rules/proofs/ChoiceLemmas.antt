@@ -1,6 +1,6 @@
 -- The best rule, and how a loop from the last index finds it.
 use Rattle.std.specs.{Ordering.{is_lt}, Cmp.Lexicographic.{slice_cmp}, List.{AllByRecursion}}
-use Rattle.std.proofs.Common.{◌≡◌, ◌≢◌, ◌⊎◌, ℕ, zero, suc, ◌+◌, ◌<◌, ◌≤◌, Bool, true, false, cond, ◌||◌, ◌&&◌, eqb, ltb, List, [], ◌∷◌, map, length, get_or, drop, Option, Some, None, option_map, Ordering, Less, Equal, Greater, nat_cmp, add-one, refl, sym, ap, ◌∙◌, subst, inl, inr, ⊎_elim, true≢false, arith, ltb-true, ltb-false, MatchOption, IfSome, slice_get}
+use Rattle.std.proofs.Common.{◌≡◌, ◌≢◌, ◌⊎◌, ℕ, zero, suc, ◌+◌, ◌<◌, ◌≤◌, Bool, true, false, cond, ◌||◌, ◌&&◌, eqb, ltb, List, [], ◌∷◌, map, length, get_or, drop, Option, Some, None, option_map, Ordering, Less, nat_cmp, add-one, refl, sym, ap, ◌∙◌, subst, inl, inr, ⊎_elim, true≢false, arith, ltb-true, ltb-false, MatchOption, IfSome, slice_get}
 use Rattle.std.proofs.{lemmas.Bool.{cases_eq}, lemmas.Bool.Decides.{nat_tests}, lemmas.Cmp.{nat_list_cmp_total}}
 use Rattle.std.proofs.{lemmas.Option.{same_Some, slice_get-map, slice_get-get_or, slice_get_within}, lemmas.List.{drop-map, drop_more, length-map}}
 use Rattle.pact_rules.specs.{declared.table.Candidate.{Candidate}, RuleViews.{rule_view}, Rules.{BodyRule, IsBefore, IsInOrder}}
@@ -33,8 +33,7 @@ tests_true v w l m t h = grind (arith, nat_tests)
 
 is_less : (o : Ordering) → is_lt o ≡ true → o ≡ Less
 is_less Less h = refl
-is_less Equal h = absurd (true≢false (sym h))
-is_less Greater h = absurd (true≢false (sym h))
+is_less o h = absurd (true≢false (sym h))
 
 is_beaten : (at : Location) (b r : BodyRule) → beats at b r ≡ true → Beats at b r
 is_beaten at b r h =
@@ -227,6 +226,5 @@ choice_only rules at (Some j) h i k = ap (λ n. Some n) (chosen_unique rules at 
 -- there is one choice
 pub choice_unique : (rules : List BodyRule) (at : Location) (o p : Option ℕ) → IsChoice rules at o → IsChoice rules at p → o ≡ p
 choice_unique rules at None None h k = refl
-choice_unique rules at None (Some i) h k = choice_only rules at None h i k
+choice_unique rules at o (Some i) h k = choice_only rules at o h i k
 choice_unique rules at (Some j) None h k = sym (choice_only rules at None k j h)
-choice_unique rules at (Some j) (Some i) h k = choice_only rules at (Some j) h i k

@@ -5,7 +5,7 @@ use Rattle.pact_rules.specs.declared.rule_fault.RuleFault.TheVariants.{OldRules,
 use Rattle.pact_rules.specs.{Rules.{equality, same_type, regex, include, integer, is_null, Entry, BodyRule, HeaderRule, has_regex}, Choice.{chosen}}
 use Rattle.pact_rules.specs.{Matching.{holds, entry_holds, has_keys_of}, Tables.{header_entry}, RuleReading.{found_in, table_in, no_pattern}, Walks.{own_place}}
 use Rattle.serde_json.specs.Data.{Data, unsigned, negative, null, boolean, number, string, array, object, Items, no_items, item, Members, no_members, member}
-use Rattle.pact_paths.specs.{Paths.{Token, named, indexed, any, key, Location}, PathReading.{tokens_in}}
+use Rattle.pact_paths.specs.{Paths.{Token, named, indexed, any, key, Location}, PathReading.{tokens_in, computed_path}}
 use Rattle.pact_paths.specs.Paths as paths
 
 -- ---- the choice
@@ -171,60 +171,60 @@ by_type = item (match (codes "type") no_members) no_items
 abbrev at_root : Items → Data
 at_root matchers = category (codes "body") (member (codes "$") (entry matchers) no_members)
 
-old_rules : found_in no_pattern (object (member (codes "$.id") (match (codes "type") no_members) no_members)) ≡ Err OldRules
+old_rules : found_in computed_path no_pattern (object (member (codes "$.id") (match (codes "type") no_members) no_members)) ≡ Err OldRules
 old_rules = refl
 
-same_path : found_in no_pattern (category (codes "body") (member (codes "$.a") (entry no_items) (member (codes "$['a']") (entry no_items) no_members))) ≡ Err SamePathTwice
+same_path : found_in computed_path no_pattern (category (codes "body") (member (codes "$.a") (entry no_items) (member (codes "$['a']") (entry no_items) no_members))) ≡ Err SamePathTwice
 unfolding tokens_in
 same_path = refl
 
-same_name : found_in no_pattern (category (codes "header") (member (codes "A") (entry no_items) (member (codes "a") (entry no_items) no_members))) ≡ Err SamePathTwice
+same_name : found_in computed_path no_pattern (category (codes "header") (member (codes "A") (entry no_items) (member (codes "a") (entry no_items) no_members))) ≡ Err SamePathTwice
 same_name = refl
 
-bad_path : found_in no_pattern (category (codes "body") (member (codes "item") null no_members)) ≡ Err BadPath
+bad_path : found_in computed_path no_pattern (category (codes "body") (member (codes "item") null no_members)) ≡ Err BadPath
 bad_path = refl
 
 -- combine is looked at before the matchers
-combine_first : found_in no_pattern (category (codes "body") (member (codes "$") (object (member (codes "combine") (string (codes "XOR")) (member (codes "matchers") (array (item (match (codes "date") no_members) no_items)) no_members))) no_members)) ≡ Err BadCombine
+combine_first : found_in computed_path no_pattern (category (codes "body") (member (codes "$") (object (member (codes "combine") (string (codes "XOR")) (member (codes "matchers") (array (item (match (codes "date") no_members) no_items)) no_members))) no_members)) ≡ Err BadCombine
 unfolding tokens_in
 combine_first = refl
 
 -- another category is a fault before its form is one
-unknown_category : found_in no_pattern (object (member (codes "cookies") null no_members)) ≡ Err (Unsupported (codes "cookies"))
+unknown_category : found_in computed_path no_pattern (object (member (codes "cookies") null no_members)) ≡ Err (Unsupported (codes "cookies"))
 unknown_category = refl
 
-null_category : found_in no_pattern (object (member (codes "body") null no_members)) ≡ Ok (record { body = []; headers = [] })
+null_category : found_in computed_path no_pattern (object (member (codes "body") null no_members)) ≡ Ok (record { body = []; headers = [] })
 null_category = refl
 
-number_in_header : found_in no_pattern (category (codes "header") (member (codes "x") (entry (item (match (codes "number") no_members) no_items)) no_members)) ≡ Err (Unsupported (codes "number"))
+number_in_header : found_in computed_path no_pattern (category (codes "header") (member (codes "x") (entry (item (match (codes "number") no_members) no_items)) no_members)) ≡ Err (Unsupported (codes "number"))
 number_in_header = refl
 
-nameless : found_in no_pattern (at_root (item (object no_members) no_items)) ≡ Err (Unsupported (codes "?"))
+nameless : found_in computed_path no_pattern (at_root (item (object no_members) no_items)) ≡ Err (Unsupported (codes "?"))
 unfolding tokens_in
 nameless = refl
 
-least_over_most : found_in no_pattern (at_root (item (match (codes "type") (member (codes "max") (number (unsigned 1)) (member (codes "min") (number (unsigned 2)) no_members))) no_items)) ≡ Err BadBound
+least_over_most : found_in computed_path no_pattern (at_root (item (match (codes "type") (member (codes "max") (number (unsigned 1)) (member (codes "min") (number (unsigned 2)) no_members))) no_items)) ≡ Err BadBound
 unfolding tokens_in
 least_over_most = refl
 
 -- bounds beside another name are further keys
-further_bounds : found_in no_pattern (at_root (item (match (codes "integer") (member (codes "min") (number (negative (negsuc 0))) no_members)) no_items))
+further_bounds : found_in computed_path no_pattern (at_root (item (match (codes "integer") (member (codes "min") (number (negative (negsuc 0))) no_members)) no_items))
     ≡ Ok (record { body = record { path = []; entry = record { any = false; matchers = integer ∷ [] } } ∷ []; headers = [] })
 unfolding tokens_in
 further_bounds = refl
 
-refused_pattern : found_in no_pattern (at_root (item (match (codes "regex") (member (codes "regex") (string (codes "a")) no_members)) no_items)) ≡ Err Pattern
+refused_pattern : found_in computed_path no_pattern (at_root (item (match (codes "regex") (member (codes "regex") (string (codes "a")) no_members)) no_items)) ≡ Err Pattern
 unfolding tokens_in
 refused_pattern = refl
 
 -- an entry without matchers is read, and isn't in the table
-without_effect : table_in no_pattern (object (member (codes "body") (object (member (codes "$") (entry no_items) no_members)) (member (codes "path") (number (unsigned 5)) no_members)))
+without_effect : table_in computed_path no_pattern (object (member (codes "body") (object (member (codes "$") (entry no_items) no_members)) (member (codes "path") (number (unsigned 5)) no_members)))
     ≡ Ok (record { body = []; headers = [] })
 unfolding tokens_in
 without_effect = refl
 
 -- the entries are in the order of the paths' texts, here $.a and $.b, which isn't that of the keys
-in_text_order : table_in no_pattern (category (codes "body") (member (codes "$.b") (entry by_type) (member (codes "$['a']") (entry by_type) no_members)))
+in_text_order : table_in computed_path no_pattern (category (codes "body") (member (codes "$.b") (entry by_type) (member (codes "$['a']") (entry by_type) no_members)))
     ≡ Ok (record { body = rule (named (codes "a") ∷ []) ∷ rule (named (codes "b") ∷ []) ∷ []; headers = [] })
 unfolding tokens_in
 in_text_order = refl
@@ -254,10 +254,10 @@ by_pattern = object (member (codes "match") (string (codes "regex")) (member (co
 
 -- the entry of a header in a table that is read, and whether one has a pattern
 abbrev header_in : Data → List ℕ → Result (Option Entry) RuleFault
-header_in tree name = table_in every_pattern tree >>= (λ rules. Ok (header_entry rules.headers name))
+header_in tree name = table_in computed_path every_pattern tree >>= (λ rules. Ok (header_entry rules.headers name))
 
 abbrev has_regex_in : Data → Result Bool RuleFault
-has_regex_in tree = table_in every_pattern tree >>= (λ rules. Ok (has_regex rules))
+has_regex_in tree = table_in computed_path every_pattern tree >>= (λ rules. Ok (has_regex rules))
 
 abbrev one_of_one : Data
 one_of_one = category (codes "header") (member (codes "Content-Type") (object (member (codes "combine") (string (codes "OR")) (member (codes "matchers") (array (item by_pattern no_items)) no_members))) no_members)

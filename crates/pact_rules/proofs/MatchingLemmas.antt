@@ -1,6 +1,6 @@
 -- Looking into values, and finding patterns.
 use Rattle.std.specs.{Str.Iter.{HasSubslice}, Str.Pattern.{HasMatch, FindsText}}
-use Rattle.std.proofs.Common.{rules, eqb, vec_len, Vec, MatchBool, ◌&&◌, ◌≡◌, ◌↔◌, take, drop, length, ◌++◌, ⊎_elim, ℕ, Bool, true, List, [], ◌∷◌, Option, Some, None, option_map, is_some, String, Global, string_bytes, refl, sym, ap, ◌∙◌, arith}
+use Rattle.std.proofs.Common.{eqb, vec_len, Vec, MatchBool, ◌&&◌, ◌≡◌, ◌↔◌, take, drop, length, ◌++◌, ⊎_elim, ℕ, Bool, true, List, [], ◌∷◌, Option, Some, None, option_map, is_some, String, Global, string_bytes, refl, sym, ap, ◌∙◌, arith}
 use Rattle.std.proofs.{lemmas.Slice.Eq.{bytes_eq-Decides}, lemmas.Bool.{or_cases, or_right}, lemmas.Bool.Decides.{same_from_decides}}
 use Rattle.std.proofs.{lemmas.List.{take_at, take-append-drop}, lemmas.Str.Pattern.{contains_text}}
 use Rattle.pact_rules.specs.{Matching.{begins, contains, are_alike, within, at_least, at_most, holds, passes, text_form}, RuleViews.{matcher_view}}

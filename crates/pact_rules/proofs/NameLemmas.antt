@@ -20,14 +20,12 @@ pub shorter : (xs ys more : List ℕ) (y : ℕ) → xs ≡ [] → ys ≡ y ∷ m
 shorter xs ys more y h k = ap (λ zs. lower_cmp zs ys) h ∙ ap (lower_cmp []) k
 
 decided : (o rest : Ordering) → is_ne o ≡ true → ordering_then o rest ≡ o
-decided Less rest h = refl
 decided Equal rest h = absurd (true≢false (sym h))
-decided Greater rest h = refl
+decided o rest h = refl
 
 undecided : (o rest : Ordering) → is_ne o ≡ false → ordering_then o rest ≡ rest
-undecided Less rest h = absurd (true≢false h)
 undecided Equal rest h = refl
-undecided Greater rest h = absurd (true≢false h)
+undecided o rest h = absurd (true≢false h)
 
 parts : (xs ys left right : List ℕ) (x y : ℕ) → xs ≡ x ∷ left → ys ≡ y ∷ right → lower_cmp xs ys ≡ ordering_then (nat_cmp (to_ascii_lowercase x) (to_ascii_lowercase y)) (lower_cmp left right)
 parts xs ys left right x y h k = ap (λ zs. lower_cmp zs ys) h ∙ ap (lower_cmp (x ∷ left)) k

@@ -25,8 +25,7 @@ module _ {X A : Type 0} (view : X → A) (text : A → List ℕ) where
       → map (λ (e : String Global × X). view e.1) (match_ordering o ((k, v) ∷ e ∷ es) ((e.0, v) ∷ es) (e ∷ more))
       ≡ match_ordering o (view v ∷ view e.1 ∷ map (λ (e : String Global × X). view e.1) es) (view v ∷ map (λ (e : String Global × X). view e.1) es) (view e.1 ∷ map (λ (e : String Global × X). view e.1) more)
   put_by Less k v e es more = refl
-  put_by Equal k v e es more = refl
-  put_by Greater k v e es more = refl
+  put_by o k v e es more = refl
 
   pub put_in_map : (es : List (String Global × X)) (k : String Global) (v : X) → IsKeyedBy view text es → string_bytes k ≡ text (view v)
       → map (λ (e : String Global × X). view e.1) (insert_entry string_cmp es k v) ≡ put text (view v) (map (λ (e : String Global × X). view e.1) es)

@@ -125,13 +125,11 @@ sorted_unmap f lt xs up = λ k d low high.
 
 as_lt : (o : Ordering) → ltb (ordering_index o) 1 ≡ is_lt o
 as_lt Less = refl
-as_lt Equal = refl
-as_lt Greater = refl
+as_lt o = refl
 
 as_le : (o : Ordering) → leb (ordering_index o) 1 ≡ is_le o
 as_le Less = refl
-as_le Equal = refl
-as_le Greater = refl
+as_le o = refl
 
 module _ (asks : ℕ × ℕ → Option Step) (w : Option Step) (xs : List Survivor) where
   abbrev order_of : Survivor → Ordering

@@ -71,12 +71,10 @@ within min max _ _ = true
 
 -- a text is itself, a whole number or truth value its JSON text; other values have none
 abbrev pub text_form : Data → Option (List ℕ)
-text_form null = None
 text_form (boolean b) = Some (if b then codes "true" else codes "false")
 text_form (number n) = option_map signed_decimal (as_integer n)
 text_form (string s) = Some s
-text_form (array ds) = None
-text_form (object ms) = None
+text_form d = None
 
 abbrev pub begins : List ℕ → List ℕ → Bool
 begins part bs = bytes_eq part (take (length part) bs)

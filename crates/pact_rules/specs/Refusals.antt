@@ -1,9 +1,9 @@
 -- Why the crate `regex` builds no pattern of a text, and which fault that is.
 use Rattle.std.specs.Prelude.{◌≡◌, ◌⊎◌, ◌<◌, ℕ, true, List, length}
 use Rattle.regex.specs.declared.error.Error.{Error}
-use Rattle.regex.specs.declared.error.Error.TheVariants.{Syntax, CompiledTooBig, Internal, OutOfMemory}
+use Rattle.regex.specs.declared.error.Error.TheVariants.{OutOfMemory}
 use Rattle.pact_patterns.specs.Patterns.{IsCause, is_pattern}
-use Rattle.pact_rules.specs.Rules.{Matcher, equality, same_type, regex, include, integer, is_null}
+use Rattle.pact_rules.specs.Rules.{Matcher, regex, include}
 use Rattle.pact_rules.specs.declared.rule_fault.RuleFault.{RuleFault}
 use Rattle.pact_rules.specs.declared.rule_fault.RuleFault.TheVariants as rule_fault
 use Rattle.pact_rules.specs.declared.matching.MatchFault.{MatchFault}
@@ -12,16 +12,12 @@ use Rattle.pact_rules.specs.declared.matching.MatchFault.TheVariants as match_fa
 -- no memory is Memory, and each other cause is Pattern: where a table is read,
 abbrev pub as_rule_fault : Error → RuleFault
 as_rule_fault OutOfMemory = rule_fault.Memory
-as_rule_fault (Syntax e) = rule_fault.Pattern
-as_rule_fault CompiledTooBig = rule_fault.Pattern
-as_rule_fault Internal = rule_fault.Pattern
+as_rule_fault e = rule_fault.Pattern
 
 -- and where a matcher is compared with a value
 abbrev pub as_match_fault : Error → MatchFault
 as_match_fault OutOfMemory = match_fault.Memory
-as_match_fault (Syntax e) = match_fault.Pattern
-as_match_fault CompiledTooBig = match_fault.Pattern
-as_match_fault Internal = match_fault.Pattern
+as_match_fault e = match_fault.Pattern
 
 -- the fault comes of an error that the crate may answer for the text
 abbrev pub HasCause : {F : Type 0} → (Error → F) → List ℕ → F → Type 0
@@ -42,7 +38,4 @@ IsRefused source fault = HasCause as_rule_fault source fault
 abbrev pub CanFail : Matcher → MatchFault → Type 0
 CanFail (regex source) fault = HasCause as_match_fault source fault
 CanFail (include part) fault = fault ≡ match_fault.Memory
-CanFail equality fault = ⊥
-CanFail (same_type min max) fault = ⊥
-CanFail integer fault = ⊥
-CanFail is_null fault = ⊥
+CanFail m fault = ⊥

@@ -3,16 +3,18 @@
 -- turn; of a matcher its form, its name, its bounds and its pattern. A table is the entries with an effect: those of
 -- the body in the order of their paths' canonical text, those of headers in the order of their names without ASCII
 -- case. The names are those of the Pact Specification, version 3.
-use Rattle.std.specs.Prelude.{◌≡◌, ◌⊎◌, ℕ, Bool, true, false, ◌&&◌, ◌||◌, not, List, [], ◌∷◌, codes, Option, Some, None, option_map, option_and_then, Result, Ok, Err, bytes_eq, is_some, nat_le, nat_eq, if◌then◌else◌}
+use Rattle.std.specs.Prelude.{◌≡◌, ℕ, Bool, true, false, ◌&&◌, ◌||◌, not, List, [], ◌∷◌, codes, Option, Some, None, option_map, option_and_then, Result, Ok, Err, bytes_eq, is_some, nat_le, nat_eq, if◌then◌else◌}
 use Rattle.std.specs.List.{list_any}
 use Rattle.std.specs.Option.{ok_or}
 use Rattle.std.specs.Str.{str_eq_ignore_ascii_case}
 use Rattle.pact_paths.specs.Paths.{Token}
 use Rattle.pact_paths.specs.Spelling.{path_text}
-use Rattle.pact_paths.specs.PathReading.{path_in}
+use Rattle.pact_paths.specs.PathReading.{computed_path}
 use Rattle.pact_paths.specs.declared.path_reader.PathFault.{PathFault}
+use Rattle.pact_paths.specs.declared.path_reader.PathFault.TheVariants as read_fault
+use Rattle.pact_paths.specs.Readings.{ReadsPaths}
 use Rattle.pact_rules.specs.Outcome.{◌>>=◌, guard}
-use Rattle.serde_json.specs.Data.{Data, Items, no_items, item, Members, no_members, member}
+use Rattle.serde_json.specs.Data.{Data, null, Items, no_items, item, Members, no_members, member}
 use Rattle.pact_rules.specs.Matching.{kind, begins, is_pattern}
 use Rattle.pact_rules.specs.declared.rule_fault.RuleFault.{RuleFault}
 use Rattle.pact_rules.specs.declared.rule_fault.RuleFault.TheVariants.{Form, OldRules, BadPath, SamePathTwice, Unsupported, BadBound, Pattern, BadCombine, Memory}
@@ -21,12 +23,12 @@ use Rattle.pact_rules.specs.Tables.{effective}
 use Rattle.serde_json.specs.Find.{get_member, as_str, as_array, as_object, as_number, as_u64}
 
 -- an optional member: null counts as absent
-abbrev pub unless_null : Option Data → Option Data
-unless_null None = None
-unless_null (Some n) = if nat_eq (kind n) 0 then None else Some n
+abbrev pub unless_null : Data → Option Data
+unless_null null = None
+unless_null n = Some n
 
 abbrev pub optional_at : Members → List ℕ → Option Data
-optional_at fs name = unless_null (get_member name fs)
+optional_at fs name = option_and_then unless_null (get_member name fs)
 
 abbrev pub as_text : Option Data → Option (List ℕ)
 as_text o = option_and_then as_str o
@@ -50,15 +52,6 @@ is_null_node n = nat_eq (kind n) 0
 abbrev pub has_old_key : Members → Bool
 has_old_key no_members = false
 has_old_key (member k n fs) = begins (codes "$") k || has_old_key fs
-
--- any fault of a path expression is this one; a path is read as `pact_paths` computes it, which is the one reading of
--- the text (its law `computed_reading`)
-abbrev pub path_or_fault : Result (List Token) PathFault → Result (List Token) RuleFault
-path_or_fault (Ok path) = Ok path
-path_or_fault (Err fault) = Err BadPath
-
-abbrev pub path_at : List ℕ → Result (List Token) RuleFault
-path_at k = path_or_fault (path_in k)
 
 abbrev pub include_at : Members → Result Matcher RuleFault
 include_at fs = ok_or (as_text (optional_at fs (codes "value"))) Form >>= (λ part. Ok (include part))
@@ -96,13 +89,12 @@ module _ (accepts : List ℕ → Bool) where
       else if not in_header && bytes_eq name (codes "null") then Ok is_null
       else Err (Unsupported name)
 
-  abbrev pub bounds_alone : Members → Result Matcher RuleFault
-  bounds_alone fs =
-      if is_some (optional_at fs (codes "min")) || is_some (optional_at fs (codes "max")) then same_type_at fs
-      else Err (Unsupported (codes "?"))
-
+  -- without one by the members that are there
   abbrev pub nameless_matcher : Members → Result Matcher RuleFault
-  nameless_matcher fs = if is_some (optional_at fs (codes "regex")) then pattern_at fs else bounds_alone fs
+  nameless_matcher fs =
+      if is_some (optional_at fs (codes "regex")) then pattern_at fs
+      else if is_some (optional_at fs (codes "min")) || is_some (optional_at fs (codes "max")) then same_type_at fs
+      else Err (Unsupported (codes "?"))
 
   abbrev pub matcher_by : Bool → Members → Option Data → Result Matcher RuleFault
   matcher_by in_header fs None = nameless_matcher fs
@@ -130,17 +122,6 @@ module _ (accepts : List ℕ → Bool) where
     ms ← matchers_at in_header ns
     Ok (record { any = any; matchers = ms })
 
-  -- a body entry, beside those that were read before it
-  abbrev pub body_rule_at : List BodyRule → List ℕ → Data → Result BodyRule RuleFault
-  body_rule_at before k n = do
-    path ← path_at k
-    guarded ← guard (not (list_any (λ r. bytes_eq (path_text path) (rule_text r)) before)) SamePathTwice
-    entry ← entry_at false n
-    Ok (record { path = path; entry = entry })
-
-  abbrev pub body_at : List BodyRule → Members → Result (List BodyRule) RuleFault
-  body_at before fs = entries_at rule_text body_rule_at before fs
-
   -- a header entry: two names are one where they differ in ASCII case alone
   abbrev pub header_rule_at : List HeaderRule → List ℕ → Data → Result HeaderRule RuleFault
   header_rule_at before k n = do
@@ -148,27 +129,34 @@ module _ (accepts : List ℕ → Bool) where
     entry ← entry_at true n
     Ok (record { name = k; entry = entry })
 
-  abbrev pub headers_at : List HeaderRule → Members → Result (List HeaderRule) RuleFault
-  headers_at before fs = entries_at name_key header_rule_at before fs
+  abbrev pub headers_in : Rules → Data → Result Rules RuleFault
+  headers_in before n = do
+    fs ← ok_or (as_object n) Form
+    headers ← entries_at name_key header_rule_at before.headers fs
+    Ok (record { body = before.body; headers = headers })
+
+-- and by the path that each text is
+module _ (paths : List ℕ → Option (List Token)) (accepts : List ℕ → Bool) where
+  -- a body entry, beside those that were read before it
+  abbrev pub body_rule_at : List BodyRule → List ℕ → Data → Result BodyRule RuleFault
+  body_rule_at before k n = do
+    path ← ok_or (paths k) BadPath
+    guarded ← guard (not (list_any (λ r. bytes_eq (path_text path) (rule_text r)) before)) SamePathTwice
+    entry ← entry_at accepts false n
+    Ok (record { path = path; entry = entry })
 
   abbrev pub body_in : Rules → Data → Result Rules RuleFault
   body_in before n = do
     fs ← ok_or (as_object n) Form
-    body ← body_at before.body fs
+    body ← entries_at rule_text body_rule_at before.body fs
     Ok (record { body = body; headers = before.headers })
-
-  abbrev pub headers_in : Rules → Data → Result Rules RuleFault
-  headers_in before n = do
-    fs ← ok_or (as_object n) Form
-    headers ← headers_at before.headers fs
-    Ok (record { body = before.body; headers = headers })
 
   -- the rules of paths and queries are kept as data; another category is a fault before its form is one; null counts
   -- as absent
   abbrev pub category_at : Rules → List ℕ → Data → Result Rules RuleFault
   category_at before k n =
       if bytes_eq k (codes "body") then (if is_null_node n then Ok before else body_in before n)
-      else if bytes_eq k (codes "header") then (if is_null_node n then Ok before else headers_in before n)
+      else if bytes_eq k (codes "header") then (if is_null_node n then Ok before else headers_in accepts before n)
       else if bytes_eq k (codes "path") || bytes_eq k (codes "query") then Ok before
       else Err (Unsupported k)
 
@@ -201,15 +189,33 @@ matchers_in tree = do
   ns ← ok_or (as_list (optional_at fs (codes "matchers"))) Form
   Ok ns
 
+-- What reading a table may give: by each text's path, and by some of the patterns that the grammar reads, it is the
+-- table or the first fault.
+abbrev pub IsReading : Data → Result Rules RuleFault → Type 0
+IsReading tree answer =
+    (paths : List ℕ → Option (List Token)) × (accepts : List ℕ → Bool) × ReadsPaths paths
+    × ((source : List ℕ) → accepts source ≡ true → is_pattern source ≡ true) × (table_in paths accepts tree ≡ answer)
+
+-- ---- for private clauses
+
+-- each fault of a path is one fault, and no memory is the whole call's own
+abbrev pub path_fault : PathFault → RuleFault
+path_fault read_fault.Memory = Memory
+path_fault fault = BadPath
+
+-- the path of an entry, as it is computed
+abbrev pub path_at : List ℕ → Result (List Token) RuleFault
+path_at k = ok_or (computed_path k) BadPath
+
+abbrev pub body_at : (List ℕ → Bool) → List BodyRule → Members → Result (List BodyRule) RuleFault
+body_at accepts before fs = entries_at rule_text (body_rule_at computed_path accepts) before fs
+
+abbrev pub headers_at : (List ℕ → Bool) → List HeaderRule → Members → Result (List HeaderRule) RuleFault
+headers_at accepts before fs = entries_at name_key (header_rule_at accepts) before fs
+
 -- no pattern is accepted
 abbrev pub no_pattern : List ℕ → Bool
 no_pattern source = false
-
--- What reading a table may give: the table, or the first fault, where each pattern that the grammar reads is accepted.
--- Beside it, a pattern may be refused: then one is met before any other fault.
-abbrev pub IsReading : Data → Result Rules RuleFault → Type 0
-IsReading tree answer =
-    (table_in is_pattern tree ≡ answer) ⊎ ((answer ≡ Err Pattern) × (table_in no_pattern tree ≡ Err Pattern))
 
 -- What a function returned, seen by view, is what reading gives, unless memory ran out or a pattern was refused.
 abbrev pub FailsAs : {Y : Type 0} → RuleFault → ((List ℕ → Bool) → Result Y RuleFault) → Type 0

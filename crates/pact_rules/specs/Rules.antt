@@ -67,12 +67,8 @@ abbrev pub has_effect : Entry → Bool
 has_effect e = not (length e.matchers == 0)
 
 abbrev pub is_regex : Matcher → Bool
-is_regex equality = false
-is_regex (same_type min max) = false
 is_regex (regex p) = true
-is_regex (include t) = false
-is_regex integer = false
-is_regex is_null = false
+is_regex m = false
 
 abbrev pub IsRegex : Matcher → Type 0
 IsRegex m = is_regex m ≡ true

@@ -2,17 +2,13 @@
 use Rattle.std.specs.Prelude.{◌≡◌, ℕ, true, List, Option, option_map}
 use Rattle.std.specs.List.{AllByRecursion, filter, find}
 use Rattle.std.specs.Str.{str_eq_ignore_ascii_case}
-use Rattle.pact_rules.specs.Rules.{Matcher, equality, same_type, regex, include, integer, is_null, Entry, HeaderRule, Rules, IsOrderedBy, IsInOrder, name_key, has_effect}
+use Rattle.pact_rules.specs.Rules.{Matcher, regex, Entry, HeaderRule, Rules, IsOrderedBy, IsInOrder, name_key, has_effect}
 use Rattle.pact_rules.specs.Matching.{is_pattern}
 
 -- the grammar of patterns reads its pattern, where it has one
 abbrev pub HasValidPattern : Matcher → Type 0
-HasValidPattern equality = Unit {0}
-HasValidPattern (same_type min max) = Unit {0}
 HasValidPattern (regex source) = is_pattern source ≡ true
-HasValidPattern (include part) = Unit {0}
-HasValidPattern integer = Unit {0}
-HasValidPattern is_null = Unit {0}
+HasValidPattern m = Unit {0}
 
 -- an entry of a table has matchers, and each pattern of theirs is valid
 abbrev pub IsEffective : Entry → Type 0

@@ -5,9 +5,10 @@ ghost use Rattle.std.specs.List.{filter, list_any};
 ghost use Rattle.serde_json.specs.View.{view, members_view};
 ghost use Rattle.pact_rules.specs.Rules.{rule_text, name_key, has_effect, no_rules};
 ghost use Rattle.pact_rules.specs.RuleViews.{rule_view, header_view, body_rules, header_rules, IsKeyedBy};
-ghost use Rattle.pact_rules.specs.RuleReading.{IsReading, Reads, path_at, body_rule_at, header_rule_at, body_at};
-ghost use Rattle.pact_rules.specs.RuleReading.{headers_at, body_in, headers_in, category_at, categories_at};
+ghost use Rattle.pact_rules.specs.RuleReading.{IsReading, Reads, path_fault, path_at, body_rule_at, header_rule_at};
+ghost use Rattle.pact_rules.specs.RuleReading.{body_at, headers_at, body_in, headers_in, category_at, categories_at};
 ghost use Rattle.pact_rules.specs.RuleReading.{found_in as found_of, has_old_key as has_old_key_of, members_in};
+ghost use Rattle.pact_paths.specs.PathReading.{computed_path};
 ghost use Rattle.pact_rules.specs.declared.rule_fault.RuleFault.{RuleFault as RuleFaultModel};
 ghost use Rattle.pact_rules.specs.declared.rule_fault.RuleFault.TheVariants.{Memory};
 
@@ -21,6 +22,16 @@ use std::alloc::{AllocError, Global};
 use std::collections::BTreeMap;
 use std::marker::Model;
 
+/// Any fault of a path's text is one fault of a table.
+fn as_rule_fault(fault: PathFault) -> RuleFault
+    ensures { result ≡ path_fault fault }
+{
+    match fault {
+        PathFault::Memory => RuleFault::Memory,
+        PathFault::NoRoot | PathFault::BadToken(_) | PathFault::TooManyTokens => RuleFault::BadPath,
+    }
+}
+
 /// A body rule's path. A text that is none is found so before memory is taken.
 fn path_of(alloc: Global, key: &str) -> Result<Path, RuleFault>
     ensures reading { Reads (λ p. p) result (λ accepts. path_at key.now) }
@@ -28,10 +39,7 @@ fn path_of(alloc: Global, key: &str) -> Result<Path, RuleFault>
 {
     match Path::read(alloc, key) {
         Ok(path) => Ok(path),
-        Err(PathFault::Memory) => Err(RuleFault::Memory),
-        Err(PathFault::NoRoot | PathFault::BadToken(_) | PathFault::TooManyTokens) => Err(
-            RuleFault::BadPath,
-        ),
+        Err(fault) => Err(as_rule_fault(fault)),
     }
 }
 
@@ -54,7 +62,7 @@ fn body_rule(
 ) -> Result<(String, BodyRule), RuleFault>
     requires { IsKeyedBy rule_view rule_text before.now.entries }
     ensures value { Reads (λ p. rule_view p.1) result
-        (λ accepts. body_rule_at accepts (body_rules before.now.entries) key.now (view value.now)) }
+        (λ accepts. body_rule_at computed_path accepts (body_rules before.now.entries) key.now (view value.now)) }
     ensures text { IfOk result (λ p. string_bytes p.0 ≡ rule_text (rule_view p.1)) }
     ensures path { (e : RuleFaultModel) → path_at key.now ≡ Err e → result ≡ Err e }
 {
@@ -175,7 +183,7 @@ impl Found {
         value: &Value,
     ) -> Result<Found, RuleFault>
         ensures { Reads (λ f. f) result
-            (λ accepts. body_in accepts self (view value.now)) }
+            (λ accepts. body_in computed_path accepts self (view value.now)) }
     {
         let Found { body, headers } = self;
         let Some(members) = value.as_object() else {
@@ -211,7 +219,7 @@ impl Found {
         value: &Value,
     ) -> Result<Found, RuleFault>
         ensures { Reads (λ f. f) result
-            (λ accepts. category_at accepts self name.now (view value.now)) }
+            (λ accepts. category_at computed_path accepts self name.now (view value.now)) }
     {
         if name == "body" {
             if is_null(value) {
@@ -252,7 +260,7 @@ fn categories(
     members: &Map<String, Value>,
 ) -> Result<Found, RuleFault>
     ensures { Reads (λ f. f) result
-        (λ accepts. categories_at accepts no_rules (members_view members.now.entries)) }
+        (λ accepts. categories_at computed_path accepts no_rules (members_view members.now.entries)) }
 {
     let mut found = Found {
         body: BTreeMap::new(alloc),
@@ -265,7 +273,7 @@ fn categories(
 }
 
 fn found_in(alloc: Global, patterns: &mut Patterns, value: &Value) -> Result<Found, RuleFault>
-    ensures reading { Reads (λ f. f) result (λ accepts. found_of accepts (view value.now)) }
+    ensures reading { Reads (λ f. f) result (λ accepts. found_of computed_path accepts (view value.now)) }
     ensures first { (e : RuleFaultModel) → members_in (view value.now) ≡ Err e → result ≡ Err e }
 {
     let Some(members) = value.as_object() else {

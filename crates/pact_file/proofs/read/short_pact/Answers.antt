@@ -1,4 +1,4 @@
-use Rattle.std.proofs.Common.{true, false, string_bytes, ℕ}
+use Rattle.std.proofs.Common.{true, false, string_bytes}
 use Rattle.pact_file.proofs.ReadLemmas.{short_is}
 use Rattle.pact_file.proofs.read.short_pact.Goals as goal
 

@@ -1,7 +1,7 @@
 use Rattle.std.proofs.Common.{◌≡◌, ◌∙◌, string_bytes, sym, ap, subst}
 use Rattle.pact_rules.specs.{Matching.{is_pattern}, Rules.{put, name_key}, RuleViews.{header_view, header_rules, IsKeyedBy}, Outcome.{◌>>=◌}}
 use Rattle.pact_rules.{specs.RuleReading.{no_pattern, header_rule_at, headers_at}, proofs.OrderLemmas.{put_in_map, still_keyed}}
-use Rattle.pact_rules.proofs.PatternLemmas.{HeaderJoins, HeaderRegex, stops_on, header_rule_goes}
+use Rattle.pact_rules.proofs.PatternLemmas.{HeaderJoins, HeaderRegex, stops_on, none_accepted, header_rule_goes}
 use Rattle.serde_json.specs.View.{view, members_view}
 use Rattle.pact_rules.proofs.table_reader.read_headers.Goals as goal
 
@@ -23,6 +23,6 @@ loop-key-preserved c =
           ∙ sym (ap (λ x. x >>= (λ r. headers_at is_pattern (put name_key r (header_rules es)) left)) read)
           ∙ sym (ap (headers_at is_pattern (header_rules es)) step) ∙ h.value;
       stops = λ stop. h.stops (ap (headers_at no_pattern (header_rules es)) step
-          ∙ stops_on (HeaderJoins (header_rules es)) HeaderRegex (header_rule_at is_pattern (header_rules es) k n) (header_rule_at no_pattern (header_rules es) k n) (λ r. headers_at no_pattern (put name_key r (header_rules es)) left) r (header_rule_goes (header_rules es) k n) read
+          ∙ stops_on (HeaderJoins (header_rules es)) HeaderRegex (header_rule_at is_pattern (header_rules es) k n) (header_rule_at no_pattern (header_rules es) k n) (λ r. headers_at no_pattern (put name_key r (header_rules es)) left) r (header_rule_goes no_pattern none_accepted (header_rules es) k n) read
           (ap (λ b. headers_at no_pattern b left) (sym next) ∙ stop));
     }

@@ -10,40 +10,28 @@ invariant_of-result c =
     tokens_are_path total rest (map token_view c.in_ok-tokens.tokens.items)
     (sym (with_no_front (tokens_in total 60 rest)) ∙ ap (λ ts. with_all (map token_view ts) (tokens_in total 60 rest)) (sym c.new.ensures.items) ∙ c.in_ok-tokens.ensures)
 
-pub returns-in_err-check_tokens-clause-computed : goal.returns-in_err-check_tokens-clause-computed
-returns-in_err-check_tokens-clause-computed c =
+pub returns-in_err-check_tokens : goal.returns-in_err-check_tokens
+returns-in_err-check_tokens c =
     let text = c.args.text.now in
     let root : behind 36 c.args.text.now ≡ Some c.in-Some.rest.now = search rules in
-    let p = err_from_is_err_and c.from_residual.result c.from_residual.ensures.1 in
-    computes_fault text c.in_err-check_tokens.field-0.0 c.from_residual.result (p.1 ∙ ap Err p.2) (refused text c.in-Some.rest.now c.in_err-check_tokens.field-0.0 root c.in_err-check_tokens.ensures)
+    let r = c.from_residual.result in
+    let p = err_from_is_err_and r c.from_residual.ensures.1 in
+    let h = computes_fault text c.in_err-check_tokens.field-0.0 r (p.1 ∙ ap Err p.2) (refused text c.in-Some.rest.now c.in_err-check_tokens.field-0.0 root c.in_err-check_tokens.ensures) in
+    record { reading = outcome text r h.0; faults = each_fault text r h }
 
-pub returns-in_err-check_tokens-clause-reading : goal.returns-in_err-check_tokens-clause-reading
-returns-in_err-check_tokens-clause-reading c = outcome c.args.text.now c.from_residual.result (returns-in_err-check_tokens-clause-computed c).0
-
-pub returns-in_err-check_tokens-clause-faults : goal.returns-in_err-check_tokens-clause-faults
-returns-in_err-check_tokens-clause-faults c = each_fault c.args.text.now c.from_residual.result (returns-in_err-check_tokens-clause-computed c)
-
-pub returns-in_err-tokens-clause-computed : goal.returns-in_err-tokens-clause-computed
-returns-in_err-tokens-clause-computed c =
+pub returns-in_err-tokens : goal.returns-in_err-tokens
+returns-in_err-tokens c =
     let text = c.args.text.now in
     let root : behind 36 c.args.text.now ≡ Some c.in-Some.rest.now = search rules in
-    let p = err_from_is_err_and c.from_residual-in_err-tokens.result c.from_residual-in_err-tokens.ensures.1 in
-    computes_none text c.in-Some.rest.now _ root (ap (map token_view) c.new.ensures.items) c.in_err-tokens.field-0.0 c.from_residual-in_err-tokens.result (p.1 ∙ ap Err p.2) c.in_ok-check_tokens.ensures c.in_err-tokens.ensures
+    let r = c.from_residual-in_err-tokens.result in
+    let p = err_from_is_err_and r c.from_residual-in_err-tokens.ensures.1 in
+    let h = computes_none text c.in-Some.rest.now _ root (ap (map token_view) c.new.ensures.items) c.in_err-tokens.field-0.0 r (p.1 ∙ ap Err p.2) c.in_ok-check_tokens.ensures c.in_err-tokens.ensures in
+    record { reading = outcome text r h.0; faults = each_fault text r h }
 
-pub returns-in_err-tokens-clause-reading : goal.returns-in_err-tokens-clause-reading
-returns-in_err-tokens-clause-reading c = outcome c.args.text.now c.from_residual-in_err-tokens.result (returns-in_err-tokens-clause-computed c).0
-
-pub returns-in_err-tokens-clause-faults : goal.returns-in_err-tokens-clause-faults
-returns-in_err-tokens-clause-faults c = each_fault c.args.text.now c.from_residual-in_err-tokens.result (returns-in_err-tokens-clause-computed c)
-
-pub returns-clause-computed : goal.returns-clause-computed
-returns-clause-computed c =
+pub returns : goal.returns
+returns c =
     let text = c.args.text.now in
     let root : behind 36 c.args.text.now ≡ Some c.in-Some.rest.now = search rules in
-    computes_tokens text c.in-Some.rest.now _ root (ap (map token_view) c.new.ensures.items) (map token_view c.in_ok-tokens.tokens.items) c.in_ok-tokens.ensures
-
-pub returns-clause-reading : goal.returns-clause-reading
-returns-clause-reading c = outcome c.args.text.now (Ok (map token_view c.in_ok-tokens.tokens.items)) (returns-clause-computed c).0
-
-pub returns-clause-faults : goal.returns-clause-faults
-returns-clause-faults c = each_fault c.args.text.now (Ok (map token_view c.in_ok-tokens.tokens.items)) (returns-clause-computed c)
+    let tokens = map token_view c.in_ok-tokens.tokens.items in
+    let h = computes_tokens text c.in-Some.rest.now _ root (ap (map token_view) c.new.ensures.items) tokens c.in_ok-tokens.ensures in
+    record { reading = outcome text (Ok tokens) h.0; faults = each_fault text (Ok tokens) h }
