@@ -197,3 +197,8 @@ by_step parts s c P told_it acted token out step = elim (way_of parts s token c 
 -- the one form of each step
 pub effect_of : (parts : Primitives) (s : State) (token : Option Text) (c : Command) (out : Transition) → Step parts s token c out → Effect parts s c out
 effect_of parts s token c out step = by_step parts s c (Effect parts s c) told (acts parts s c) token out step
+
+-- what is so of the state, and of what each change of it leaves, is so after a step
+pub after_step : (parts : Primitives) (s : State) (c : Command) (P : State → Type 0) → P s → ((t : State) → Change parts s c t → P t) → (token : Option Text) (out : Transition) → Step parts s token c out → P out.state
+after_step parts s c P here left token out step =
+    elim (effect_of parts s token c out step) as (λ o _. P o.state) [ told answer is ↦ here | changed t detail change ↦ left t change ]
