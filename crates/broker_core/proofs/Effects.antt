@@ -1,16 +1,16 @@
 -- what a step does: it is answered and changes nothing, or it is answered Done and makes one change, that of its command
-use Rattle.std.specs.{Prelude.{Option, Some, None, MatchOption, is_some}, Option.{option_map_or}, List.{list_any}}
+use Rattle.std.specs.{Prelude.{Option, Some, None, is_some}, Option.{option_map_or}, List.{list_any}}
 use Rattle.std.proofs.Common.{◌≡◌, ◌∷◌, [], ◌++◌, ℕ, List, refl, sym, ◌∙◌, ap, subst, Bool, true, false, ◌&&◌, ◌||◌, if◌then◌else◌}
 use Rattle.broker_core.specs.declared.command.Command.TheVariants.{PutTeam, PutPacticipant, PutEnvironment, PutGrant, DeleteGrant, PutVersion, PutPact, GetPact, GetBranchPact, PostResult, PostReplies, Deploy, Undeploy, Release, EndSupport, GetEnvironment, CanIDeploy, GetMatrix, Malformed}
-use Rattle.broker_core.specs.Request.{refusal, refused, first_missing, is_allowed, is_known, consumer_version}
+use Rattle.broker_core.specs.Request.{asks, refused, first_missing, is_allowed, is_known, consumer_version}
 use Rattle.broker_core.specs.Change.{Transition, unchanged_with, repeated, named, joined, stored, is_stored, can_name, on_branch, is_text, text_of, content_number, result_of_run, says_same, report, instance_of}
-use Rattle.broker_core.specs.Machine.{Primitives, HasDigest, IsCallerOfDigest, Step, StepOfCaller, TakesEffect, report_replies, is_step, is_empty}
-use Rattle.broker_core.specs.{Machine.Reading.{IsPact}, declared.policy.Caller.{Caller}, declared.policy.Rule.TheVariants.{A1}}
-use Rattle.broker_core.specs.{declared.command.Command.{Command}, declared.command.Marks.{Marks}, declared.command.PactPath.{PactPath}}
-use Rattle.broker_core.specs.{declared.command.Report.{Report}, declared.command.Version.{Version}, declared.command.FormFault.{FormFault}}
-use Rattle.broker_core.specs.{declared.answer.Answer.{Answer}, declared.answer.Answer.TheVariants.{Denied, BadForm, Done}, declared.answer.Detail.{Detail}}
+use Rattle.broker_core.specs.{Machine.{Primitives, HasDigest, IsCallerOfDigest, Step, TakesEffect, report_replies, is_step, is_empty}, Machine.Reading.{IsPact}}
+use Rattle.broker_core.specs.{declared.policy.Caller.{Caller}, declared.command.Command.{Command}, declared.command.Marks.{Marks}}
+use Rattle.broker_core.specs.{declared.command.PactPath.{PactPath}, declared.command.Report.{Report}, declared.command.Version.{Version}}
+use Rattle.broker_core.specs.{declared.answer.Answer.{Answer}, declared.answer.Answer.TheVariants.{Denied, Unknown, Done}, declared.answer.Detail.{Detail}}
 use Rattle.broker_core.specs.{declared.answer.Missing.{Missing}, Text.{Text, same_text, same_version, same_pair, same_place, put_at, version}}
-use Rattle.broker_core.specs.{State.{State, Verification, claimed_result, checked_result}, Limit.{has_room}}
+use Rattle.broker_core.{specs.{State.{State, Verification, claimed_result, checked_result}, Limit.{has_room}}, proofs.{Lists.{some_is}, Ways.{way_of}}}
+use Rattle.broker_core.proofs.Ways.Way.{nobody, misformed, refused as refused_way, acting}
 
 -- ---- the tables afterwards
 
@@ -34,12 +34,12 @@ with_contract s v provider text = record s {
 abbrev pub with_result : State → Verification → State
 with_result s r = record s { versions = versions_with s r.version; results = s.results ++ r ∷ [] }
 
-named_is : (s : State) (v : Version) → named s v ≡ record s { versions = versions_with s v }
+pub named_is : (s : State) (v : Version) → named s v ≡ record s { versions = versions_with s v }
 named_is s v =
     let more : State = record s { versions = s.versions ++ v ∷ [] } in
     elim (is_known s v) as (λ b. (if b then s else more) ≡ record s { versions = if b then s.versions else more.versions }) [ true ↦ refl | false ↦ refl ]
 
-stored_is : (s : State) (text : Text) → stored s text ≡ record s { contents = contents_with s.contents text }
+pub stored_is : (s : State) (text : Text) → stored s text ≡ record s { contents = contents_with s.contents text }
 stored_is s text =
     let more : State = record s { contents = s.contents ++ text ∷ [] } in
     elim (is_stored s text) as (λ b. (if b then s else more) ≡ record s { contents = if b then s.contents else more.contents }) [ true ↦ refl | false ↦ refl ]
@@ -179,28 +179,26 @@ module _ (parts : Primitives) (s : State) where
 
 -- ---- a step, by how far the command comes
 
-module _ (parts : Primitives) (s : State) (c : Command) (P : Transition → Type 0) (told_it : (answer : Answer) → is_step answer ≡ true → P (unchanged_with s answer)) (acted : (out : Transition) → TakesEffect parts s c out → P out) where
-  told_by : (out : Transition) (answer : Answer) → is_step answer ≡ true → out ≡ unchanged_with s answer → P out
-  told_by out answer step is = subst P (sym is) (told_it answer step)
+refusal_told : (c : Command) (m : Option Missing) (b : Bool) (answer : Answer) → refused c m b ≡ Some answer → is_step answer ≡ true
+refusal_told c (Some what) b answer is = ap is_step (sym (some_is (Unknown what) answer is))
+refusal_told c None true answer is = absurd (cc)
+refusal_told c None false answer is = ap is_step (sym (some_is (Denied (asks c).rule) answer is))
 
-  after_refusal : (out : Transition) (m : Option Missing) (b : Bool) → MatchOption (refused c m b) (TakesEffect parts s c out) (λ answer. out ≡ unchanged_with s answer) → P out
-  after_refusal out (Some what) b is = told_by out _ refl is
-  after_refusal out None true h = acted out h
-  after_refusal out None false is = told_by out _ refl is
-
-  after_form : (caller : Caller) (out : Transition) (found : Option FormFault)
-      → MatchOption found (MatchOption (refusal s caller c) (TakesEffect parts s c out) (λ answer. out ≡ unchanged_with s answer)) (λ fault. out ≡ unchanged_with s (BadForm fault)) → P out
-  after_form caller out None h = after_refusal out (first_missing s c) (is_allowed s caller c) h
-  after_form caller out (Some fault) is = told_by out (BadForm fault) refl is
-
-  after_who : (out : Transition) (who : Option Caller) → MatchOption who (out ≡ unchanged_with s (Denied A1)) (λ caller. StepOfCaller parts s caller c out) → P out
-  after_who out None is = told_by out (Denied A1) refl is
-  after_who out (Some caller) h = after_form caller out h.0 h.2
-
-  -- what is so of each answer that changes nothing, and of what the command does once it is let through, is so of a step
-  pub by_step : (token : Option Text) (out : Transition) → Step parts s token c out → P out
-  by_step token out step = after_who out step.0 step.2
+-- what is so of each answer that changes nothing, and of what the command does once it is let through, is so of a step
+pub by_step : (parts : Primitives) (s : State) (c : Command) (P : Transition → Type 0) → ((answer : Answer) → is_step answer ≡ true → P (unchanged_with s answer))
+    → ((out : Transition) → TakesEffect parts s c out → P out) → (token : Option Text) (out : Transition) → Step parts s token c out → P out
+by_step parts s c P told_it acted token out step = elim (way_of parts s token c out step) as (λ o _. P o) [
+  | nobody calls ↦ told_it _ refl
+  | misformed caller calls f form ↦ told_it _ refl
+  | refused_way caller calls form answer is ↦ told_it answer (refusal_told c (first_missing s c) (is_allowed s caller c) answer is)
+  | acting caller calls form o is it ↦ acted o it
+]
 
 -- the one form of each step
 pub effect_of : (parts : Primitives) (s : State) (token : Option Text) (c : Command) (out : Transition) → Step parts s token c out → Effect parts s c out
 effect_of parts s token c out step = by_step parts s c (Effect parts s c) told (acts parts s c) token out step
+
+-- what is so of the state, and of what each change of it leaves, is so after a step
+pub after_step : (parts : Primitives) (s : State) (c : Command) (P : State → Type 0) → P s → ((t : State) → Change parts s c t → P t) → (token : Option Text) (out : Transition) → Step parts s token c out → P out.state
+after_step parts s c P here left token out step =
+    elim (effect_of parts s token c out step) as (λ o _. P o.state) [ told answer is ↦ here | changed t detail change ↦ left t change ]

@@ -1,9 +1,8 @@
 -- a deployment, and a release, is recorded exactly where it may be
-use Rattle.std.specs.Prelude.{Option, Some, None, MatchOption, IsTrue, IsSomeAnd, Contains, is_some, filter_map, option_and_then}
-use Rattle.std.specs.List.{list_any, cons_option}
+use Rattle.std.specs.{Prelude.{Option, Some, None, IsTrue, IsSomeAnd, Contains, is_some, filter_map, option_and_then}, List.{list_any, cons_option}}
 use Rattle.std.proofs.Common.{◌≡◌, ◌≢◌, ◌⊎◌, List, [], ◌∷◌, refl, sym, ◌∙◌, ap, subst, inl, inr, Bool, true, false, ◌&&◌, ◌||◌, if◌then◌else◌}
 use Rattle.std.proofs.lemmas.Map.Views.{Contains-from_any}
-use Rattle.broker_core.specs.declared.answer.Answer.TheVariants.{Done, Already, NotPermitted, BadForm, Denied, Unknown}
+use Rattle.broker_core.specs.declared.answer.Answer.TheVariants.{Done, Already, NotPermitted, Denied, Unknown}
 use Rattle.broker_core.specs.Gate.{Stands, consumer_of, NeedsStanding, NeedsAbsent, NeedsAsProvider, IsNeed, IsGood, IsPermitted, Judges}
 use Rattle.broker_core.specs.Request.{asks, refusal, refused, unless, is_known, has_grant}
 use Rattle.broker_core.specs.Change.{Transition, unchanged_with, already, done, deploy, release, instance_of, is_text}
@@ -12,39 +11,29 @@ use Rattle.broker_core.specs.{declared.policy.Caller.{Caller}, declared.policy.C
 use Rattle.broker_core.specs.{declared.command.Command.TheVariants.{Deploy, Release}, declared.command.Version.{Version}}
 use Rattle.broker_core.specs.{declared.command.FormFault.{FormFault}, declared.need.Need.{Need}, declared.need.Latest.{Latest}}
 use Rattle.broker_core.specs.{declared.need.PairFault.{PairFault}, declared.answer.Answer.{Answer}, declared.answer.Detail.TheVariants.{Plain}}
-use Rattle.broker_core.specs.{declared.answer.Missing.{Missing}, declared.policy.Rule.{Rule}, declared.policy.Rule.TheVariants.{A1, A7}}
+use Rattle.broker_core.specs.{declared.answer.Missing.{Missing}, declared.policy.Rule.TheVariants.{A1, A7}}
 use Rattle.broker_core.specs.{Text.{Text, same_text, same_version, same_pair, same_place, put_at, version}, State.{State, latest, is_gated, is_strict}}
-use Rattle.broker_core.specs.{Policy.{allows}, Machine.{Primitives, IsCallerOfToken, StepOfCaller, FindsFault, Step, TakesEffect}, Laws.{TeamsDiffer}}
-use Rattle.broker_core.proofs.{Lists.{some_is, any_true}, Judgement.{text_is, text_refl, and_both, version_is, version_refl}, Locality.{calls_same}}
+use Rattle.broker_core.specs.{Policy.{allows}, Machine.{Primitives, IsCallerOfToken, FindsFault, Step, TakesEffect}, Laws.{TeamsDiffer}}
+use Rattle.broker_core.proofs.{Lists.{some_is, none_some, any_true}, Judgement.{text_is, text_refl, and_both, version_is, version_refl}, Once.{one_caller}}
+use Rattle.broker_core.proofs.{Ways.{After, Way, way_of}, Ways.Way.{nobody, misformed, refused as refused_way, acting}}
 use Rattle.broker_core.proofs.Retry.{put_at-same, place-refl, mark-refl}
 use Rattle.broker_core.specs.declared.answer.Missing.TheVariants as missing
 
--- the row stands, and the answer says so
-Recorded : State → Text → Version → Text → Bool → Type 0
-Recorded s e v instance b =
-    let next = record s { deployed = put_at same_place s.deployed (e, v.pacticipant, instance) (Some v.name) } in
-    let out = if b then already s else done next in
-    (out.state.deployed (e, v.pacticipant, instance) ≡ Some v.name) × ((out.answer ≡ Done Plain) ⊎ (out.answer ≡ Already Plain))
+text_found : (text : Text) (o : Option Text) → is_text text o ≡ true → o ≡ Some text
+text_found text None is = absurd (cc)
+text_found text (Some old) is = ap Some (text_is old text is)
 
 -- after a deployment that is let through the row stands
 deployed_stands : (s : State) (e : Text) (v : Version) (instance : Text)
     → ((deploy s e v instance).state.deployed (e, v.pacticipant, instance) ≡ Some v.name) × (((deploy s e v instance).answer ≡ Done Plain) ⊎ ((deploy s e v instance).answer ≡ Already Plain))
-unfolding Recorded
-deployed_stands s e v instance = by_old (s.deployed (e, v.pacticipant, instance)) refl
+deployed_stands s e v instance = by_old (is_text v.name (s.deployed (e, v.pacticipant, instance))) refl
   where
-    recorded : Recorded s e v instance false
-    recorded = (put_at-same same_place s.deployed (e, v.pacticipant, instance) (Some v.name) (place-refl (e, v.pacticipant, instance)), inl refl)
-
-    stood : (old : Text) → s.deployed (e, v.pacticipant, instance) ≡ Some old → same_text old v.name ≡ true → Recorded s e v instance true
-    stood old is same = (is ∙ ap Some (text_is old v.name same), inr refl)
-
-    by_old : (o : Option Text) → s.deployed (e, v.pacticipant, instance) ≡ o → Recorded s e v instance (is_text v.name (s.deployed (e, v.pacticipant, instance)))
-    by_old None is = subst (Recorded s e v instance) (sym (ap (is_text v.name) is)) recorded
-    by_old (Some old) is = subst (Recorded s e v instance) (sym (ap (is_text v.name) is)) (by_name (same_text old v.name) refl)
-      where
-        by_name : (b : Bool) → same_text old v.name ≡ b → Recorded s e v instance b
-        by_name true same = stood old is same
-        by_name false other = recorded
+    by_old : (b : Bool) → is_text v.name (s.deployed (e, v.pacticipant, instance)) ≡ b
+        → let next = record s { deployed = put_at same_place s.deployed (e, v.pacticipant, instance) (Some v.name) } in
+        let out = if b then already s else done next in
+        (out.state.deployed (e, v.pacticipant, instance) ≡ Some v.name) × ((out.answer ≡ Done Plain) ⊎ (out.answer ≡ Already Plain))
+    by_old true is = (text_found v.name _ is, inr refl)
+    by_old false is = (put_at-same same_place s.deployed (e, v.pacticipant, instance) (Some v.name) (place-refl (e, v.pacticipant, instance)), inl refl)
 
 -- after a release that is let through the row stands
 released_stands : (s : State) (e : Text) (v : Version)
@@ -58,17 +47,15 @@ released_stands s e v = by_old (s.released (e, v)) refl
     by_old true is = (is, inr refl)
     by_old false is = (put_at-same (same_pair same_text same_version) s.released (e, v) true (mark-refl (e, v)), inl refl)
 
--- what is told of a missing name, or of who may not
-told : Option Missing → Bool → Option Answer
-told (Some what) allowed = Some (Unknown what)
-told None true = None
-told None false = Some (Denied A7)
+-- the answers that say that the row stands
+abbrev says_recorded : Answer → Bool
+says_recorded (Done detail) = true
+says_recorded (Already detail) = true
+says_recorded _ = false
 
-told_of : (c : Command) → (asks c).rule ≡ A7 → (m : Option Missing) (b : Bool) → refused c m b ≡ told m b
-unfolding told
-told_of c rule (Some what) b = refl
-told_of c rule None true = refl
-told_of c rule None false = ap (λ r. Some (Denied r)) rule
+differs : (answer : Answer) → says_recorded answer ≡ false → ¬ ((answer ≡ Done Plain) ⊎ (answer ≡ Already Plain))
+differs answer other (inl is) = let wrong : false ≡ true = sym other ∙ ap says_recorded is in cc
+differs answer other (inr is) = let wrong : false ≡ true = sym other ∙ ap says_recorded is in cc
 
 -- what the owner's rule asks of the caller
 owns : State → Text → Version → Caller → Bool
@@ -88,9 +75,6 @@ module _ (parts : Primitives) (s : State) (token : Option Text) (e : Text) (v : 
     recorded = (λ h. absurd (told.4 (subst (λ (o : Transition). (o.answer ≡ Done Plain) ⊎ (o.answer ≡ Already Plain)) told.1 h.0)), λ may. absurd (told.3 may));
     refused = λ _. (subst (IsRefusal parts s token e v) (sym (ap (λ o. o.answer) told.1)) told.2, ap (λ o. o.state) told.1);
   }
-
-  one_caller : (a b : Option Caller) → IsCallerOfToken parts s token a → IsCallerOfToken parts s token b → a ≡ b
-  one_caller a b x y = calls_same parts s s token one (λ digest c. (λ k. k, λ k. k)) a b x y
 
   -- who is let through is granted
   granted_of : (caller : Caller) → IsCallerOfToken parts s token (Some caller) → owns s e v caller ≡ true → IsGranted parts s token e v
@@ -112,7 +96,7 @@ module _ (parts : Primitives) (s : State) (token : Option Text) (e : Text) (v : 
   lets_granted : (caller : Caller) → IsCallerOfToken parts s token (Some caller) → IsGranted parts s token e v → owns s e v caller ≡ true
   unfolding owns
   lets_granted caller called g =
-      let is = some_is caller (Team g.team) (one_caller (Some caller) (Some (Team g.team)) called g.caller) in
+      let is = some_is caller (Team g.team) (one_caller parts s token one (Some caller) (Some (Team g.team)) called g.caller) in
       ap (owns s e v) is
       ∙ ap (λ o. list_any (same_text g.team) (cons_option o []) && s.grants (g.team, e)) g.owner
       ∙ ap (λ b. (b || false) && s.grants (g.team, e)) (text_refl g.team) ∙ g.grant
@@ -121,14 +105,6 @@ module _ (parts : Primitives) (s : State) (token : Option Text) (e : Text) (v : 
       → ¬ ((answer ≡ Done Plain) ⊎ (answer ≡ Already Plain)) → Ends IsRecorded out
   unfolding Ends
   refuses IsRecorded out answer is case bars other = inr (answer, is, case, bars, other)
-
-  denied_differs : (rule : Rule) → ¬ ((Denied rule ≡ Done Plain) ⊎ (Denied rule ≡ Already Plain))
-  denied_differs rule (inl h) = cc
-  denied_differs rule (inr h) = cc
-
-  unknown_differs : (what : Missing) → ¬ ((Unknown what ≡ Done Plain) ⊎ (Unknown what ≡ Already Plain))
-  unknown_differs what (inl h) = cc
-  unknown_differs what (inr h) = cc
 
   -- what the gate makes of one who is granted
   judged : (IsRecorded : State → Type 0) (next out : Transition) → IsRecorded next.state → (next.answer ≡ Done Plain) ⊎ (next.answer ≡ Already Plain)
@@ -144,20 +120,16 @@ module _ (parts : Primitives) (s : State) (token : Option Text) (e : Text) (v : 
       )
   judged IsRecorded next out stands answered names granted false faults judges is =
       let bars : ¬ (IsPermitted s v e) = λ allowed. let wrong : false ≡ true = judges.verdict.1 allowed in absurd (cc) in
-      refuses IsRecorded out (NotPermitted faults) is (names, granted, bars, judges.faults_are) (λ may. bars may.permitted) differs
-    where
-      differs : ¬ ((NotPermitted faults ≡ Done Plain) ⊎ (NotPermitted faults ≡ Already Plain))
-      differs (inl h) = cc
-      differs (inr h) = cc
+      refuses IsRecorded out (NotPermitted faults) is (names, granted, bars, judges.faults_are) (λ may. bars may.permitted) (differs _ refl)
+
+  -- the first name that isn't there
+  abbrev absent : Option Missing
+  absent = unless (is_some (s.environments e)) missing.Environment (unless (is_some (s.pacticipants v.pacticipant)) missing.Pacticipant (unless (is_known s v) missing.Version None))
 
   -- a known caller's command, name by name, then the policy, then what the gate makes of it
-  by_caller : (IsRecorded : State → Type 0) (out : Transition) (Effect : Type 0) (caller : Caller) → IsCallerOfToken parts s token (Some caller)
-      → (NamesExist s e v → IsGranted parts s token e v → Effect → Ends IsRecorded out)
-      → MatchOption (told (unless (is_some (s.environments e)) missing.Environment (unless (is_some (s.pacticipants v.pacticipant)) missing.Pacticipant (unless (is_known s v) missing.Version None))) (owns s e v caller))
-      Effect (λ answer. out ≡ unchanged_with s answer)
-      → Ends IsRecorded out
-  unfolding told
-  by_caller IsRecorded out Effect caller called acts h = by_names (is_some (s.environments e)) (is_some (s.pacticipants v.pacticipant)) (is_known s v) (owns s e v caller) refl refl refl refl h
+  by_caller : (IsRecorded : State → Type 0) (out : Transition) (c : Command) → (asks c).rule ≡ A7 → (caller : Caller) → IsCallerOfToken parts s token (Some caller)
+      → (NamesExist s e v → IsGranted parts s token e v → TakesEffect parts s c out → Ends IsRecorded out) → After parts s c out (refused c absent (owns s e v caller)) → Ends IsRecorded out
+  by_caller IsRecorded out c rule caller called acts h = by_names (is_some (s.environments e)) (is_some (s.pacticipants v.pacticipant)) (is_known s v) (owns s e v caller) refl refl refl refl h
     where
       known : HasCaller parts s token e v
       known = (caller, called)
@@ -166,45 +138,43 @@ module _ (parts : Primitives) (s : State) (token : Option Text) (e : Text) (v : 
       clash b off on = let wrong : false ≡ true = sym off ∙ on in cc
 
       by_names : (env pac ver own : Bool) → is_some (s.environments e) ≡ env → is_some (s.pacticipants v.pacticipant) ≡ pac → is_known s v ≡ ver → owns s e v caller ≡ own
-          → MatchOption (told (unless env missing.Environment (unless pac missing.Pacticipant (unless ver missing.Version None))) own) Effect (λ answer. out ≡ unchanged_with s answer)
+          → After parts s c out (refused c (unless env missing.Environment (unless pac missing.Pacticipant (unless ver missing.Version None))) own)
           → Ends IsRecorded out
-      by_names false pac ver own a b c d is =
-          refuses IsRecorded out (Unknown missing.Environment) is (known, a) (λ may. clash _ a may.names.environment) (unknown_differs missing.Environment)
-      by_names true false ver own a b c d is =
-          refuses IsRecorded out (Unknown missing.Pacticipant) is (known, (a, b)) (λ may. clash _ b may.names.pacticipant) (unknown_differs missing.Pacticipant)
-      by_names true true false own a b c d is =
-          let bars : ¬ (Contains s.versions v) = λ there. clash _ c (any_true (same_version v) s.versions v there (version_refl v)) in
-          refuses IsRecorded out (Unknown missing.Version) is (known, (a, b, bars)) (λ may. bars may.names.version) (unknown_differs missing.Version)
-      by_names true true true own a b c d is =
-          let names : NamesExist s e v = record { environment = a; pacticipant = b; version = Contains-from_any version_is v s.versions c } in
+      by_names false pac ver own a b k d is =
+          refuses IsRecorded out (Unknown missing.Environment) is (known, a) (λ may. clash _ a may.names.environment) (differs _ refl)
+      by_names true false ver own a b k d is =
+          refuses IsRecorded out (Unknown missing.Pacticipant) is (known, (a, b)) (λ may. clash _ b may.names.pacticipant) (differs _ refl)
+      by_names true true false own a b k d is =
+          let bars : ¬ (Contains s.versions v) = λ there. clash _ k (any_true (same_version v) s.versions v there (version_refl v)) in
+          refuses IsRecorded out (Unknown missing.Version) is (known, (a, b, bars)) (λ may. bars may.names.version) (differs _ refl)
+      by_names true true true own a b k d is =
+          let names : NamesExist s e v = record { environment = a; pacticipant = b; version = Contains-from_any version_is v s.versions k } in
           by_owner own d names is
         where
-          by_owner : (own : Bool) → owns s e v caller ≡ own → NamesExist s e v → MatchOption (told None own) Effect (λ answer. out ≡ unchanged_with s answer) → Ends IsRecorded out
+          by_owner : (own : Bool) → owns s e v caller ≡ own → NamesExist s e v → After parts s c out (refused c None own) → Ends IsRecorded out
           by_owner true d names is = acts names (granted_of caller called d) is
           by_owner false d names is =
               let bars : ¬ (IsGranted parts s token e v) = λ g. clash _ d (lets_granted caller called g) in
-              refuses IsRecorded out (Denied A7) is (known, names, bars) (λ may. bars may.granted) (denied_differs A7)
+              refuses IsRecorded out (Denied A7) (is ∙ ap (λ r. unchanged_with s (Denied r)) rule) (known, names, bars) (λ may. bars may.granted) (differs _ refl)
 
   -- the whole step
   by_step : (IsRecorded : State → Type 0) (out : Transition) (c : Command) → (asks c).rule ≡ A7 → ((f : Option FormFault) → FindsFault parts c f → f ≡ None)
-      → ((caller : Caller) → refusal s caller c ≡ refused c (unless (is_some (s.environments e)) missing.Environment (unless (is_some (s.pacticipants v.pacticipant)) missing.Pacticipant (unless (is_known s v) missing.Version None))) (owns s e v caller))
+      → ((caller : Caller) → refusal s caller c ≡ refused c absent (owns s e v caller))
       → (NamesExist s e v → IsGranted parts s token e v → TakesEffect parts s c out → Ends IsRecorded out)
       → Step parts s token c out → Ends IsRecorded out
-  by_step IsRecorded out c rule formed asked acts step = by_who step.0 step.1 step.2
+  by_step IsRecorded out c rule formed asked acts step = by_way out (way_of parts s token c out step) acts
     where
-      by_found : (caller : Caller) → IsCallerOfToken parts s token (Some caller) → (f : Option FormFault) → f ≡ None
-          → MatchOption f (MatchOption (refusal s caller c) (TakesEffect parts s c out) (λ answer. out ≡ unchanged_with s answer)) (λ fault. out ≡ unchanged_with s (BadForm fault)) → Ends IsRecorded out
-      by_found caller called None _ h =
-          by_caller IsRecorded out (TakesEffect parts s c out) caller called acts
-          (subst (λ r. MatchOption r (TakesEffect parts s c out) (λ answer. out ≡ unchanged_with s answer)) (asked caller ∙ told_of c rule _ _) h)
-      by_found caller called (Some fault) is h = absurd (cc)
+      as_asked : (caller : Caller) (r : Option Answer) (o : Transition) → refusal s caller c ≡ r → After parts s c o r → After parts s c o (refused c absent (owns s e v caller))
+      as_asked caller r o is = subst (After parts s c o) (sym is ∙ asked caller)
 
-      nobody : IsCallerOfToken parts s token None → ¬ (MayBeRecorded parts s token e v)
-      nobody called may = let wrong = one_caller None (Some (Team may.granted.team)) called may.granted.caller in cc
+      no_one : IsCallerOfToken parts s token None → ¬ (MayBeRecorded parts s token e v)
+      no_one called may = let wrong = one_caller parts s token one None (Some (Team may.granted.team)) called may.granted.caller in cc
 
-      by_who : (who : Option Caller) → IsCallerOfToken parts s token who → MatchOption who (out ≡ unchanged_with s (Denied A1)) (λ caller. StepOfCaller parts s caller c out) → Ends IsRecorded out
-      by_who None called is = refuses IsRecorded out (Denied A1) is called (nobody called) (denied_differs A1)
-      by_who (Some caller) called h = by_found caller called h.0 (formed h.0 h.1) h.2
+      by_way : (o : Transition) → Way parts s token c o → (NamesExist s e v → IsGranted parts s token e v → TakesEffect parts s c o → Ends IsRecorded o) → Ends IsRecorded o
+      by_way _ (nobody called) acts = refuses IsRecorded _ (Denied A1) refl called (no_one called) (differs _ refl)
+      by_way _ (misformed caller called f form) acts = absurd (none_some f (sym (formed (Some f) form)))
+      by_way _ (refused_way caller called form answer is) acts = by_caller IsRecorded _ c rule caller called acts (as_asked caller (Some answer) _ is refl)
+      by_way _ (acting caller called form o is it) acts = by_caller IsRecorded o c rule caller called acts (as_asked caller None o is it)
 
 pub deploys_exactly : (parts : Primitives) → DeploysExactly parts
 unfolding owns

@@ -28,3 +28,4 @@ pub mod Matrix
 pub mod Exists
 pub mod StepLemmas
 pub mod SoundNames
+pub mod Ways

@@ -1,16 +1,17 @@
 -- a step has one outcome, a refused pattern aside
 use Rattle.std.specs.{Cmp.Lexicographic.{nat_list_cmp_total, options_total}, Prelude.{Option, Some, None, MatchOption, is_some, IsTrue, Bool}}
-use Rattle.std.{specs.Cmp.{IsTotalOrder, on_total, then_total}, proofs.Common.{◌≡◌, ◌⊎◌, refl, sym, ◌∙◌, ap, subst, inl, inr, if◌then◌else◌}}
+use Rattle.std.{specs.Cmp.{IsTotalOrder, on_total, then_total}, proofs.Common.{◌≡◌, ◌⊎◌, List, true, false, refl, sym, ◌∙◌, ap, subst, inl, inr, if◌then◌else◌}}
 use Rattle.broker_core.specs.declared.command.Command.TheVariants.{PutTeam, PutPact, GetPact, GetBranchPact, PostResult, PostReplies, Deploy, Release, GetEnvironment, CanIDeploy, GetMatrix, Malformed}
 use Rattle.broker_core.specs.Change.{Transition, unchanged_with, put_team, put_pact, report, deploy, release, instance_of, text_of}
 use Rattle.broker_core.specs.declared.answer.Detail.TheVariants.{Result}
-use Rattle.broker_core.specs.Machine.{Primitives, StepOfCaller, Reading, pact_text, Step, FindsFault, TakesEffect, deployed_cmp, version_cmp, matrix_cmp, verified_version, report_replies, fault_of_reading}
+use Rattle.broker_core.specs.Machine.{Primitives, IsCallerOfDigest, IsCallerOfToken, StepOfCaller, Reading, pact_text, Step, FindsFault, TakesEffect, deployed_cmp, version_cmp, matrix_cmp, verified_version, report_replies, fault_of_reading}
+use Rattle.broker_core.specs.{Gate.{Judges}, declared.need.PairFault.{PairFault}, declared.policy.Caller.TheVariants.{Office, Team}}
 use Rattle.broker_core.specs.{declared.policy.Caller.{Caller}, declared.policy.Rule.TheVariants.{A1}, declared.command.Command.{Command}}
 use Rattle.broker_core.specs.{declared.command.Version.{Version}, declared.command.FormFault.{FormFault}, declared.answer.Answer.{Answer}}
 use Rattle.broker_core.specs.{declared.answer.Answer.TheVariants.{Denied, BadForm, NotPermitted, Shown}, declared.answer.DeployedItem.{DeployedItem}}
 use Rattle.broker_core.specs.{declared.answer.MatrixRow.{MatrixRow}, Text.{Text, version}, State.{State, claimed_result}, Request.{refusal, consumer_version}}
 use Rattle.broker_core.specs.{Machine.Reading.{IsPact, IsRefused}, Laws.{TeamsDiffer, ReadsRefusal, IsReadOnce, AnswersRefusal, StepOnce}}
-use Rattle.broker_core.proofs.{Lists.{some_is}, Listing.{Lists-unique}, Locality.{AgreeHere, same_verdict, same_faults, same_who, calls_same}}
+use Rattle.broker_core.proofs.{Lists.{some_is}, Listing.{Lists-unique}, Order.{fault_cmp_total}}
 use Rattle.broker_core.specs.declared.answer.Shown.TheVariants as shown
 
 pub deployed_cmp_total : IsTotalOrder deployed_cmp
@@ -29,8 +30,35 @@ matrix_cmp_total = then_total (on_total (λ (x : MatrixRow). x.consumer) nat_lis
 found_is : {A : Type 0} (o : Option A) (x y : A) → o ≡ Some x → o ≡ Some y → x ≡ y
 found_is o x y e d = some_is x y (sym e ∙ d)
 
-itself : (s : State) (v : Version) (e : Text) → AgreeHere s s v e
-itself s v e = record { environment = refl; deployed = λ p i. refl; released = λ w. refl; contracts = λ w p c. refl; results = λ w p content c is u. refl }
+same_truth : (p q : Bool) → (IsTrue p → IsTrue q) → (IsTrue q → IsTrue p) → p ≡ q
+same_truth true true f g = refl
+same_truth true false f g = let wrong : false ≡ true = f refl in absurd (cc)
+same_truth false true f g = let wrong : false ≡ true = g refl in absurd (cc)
+same_truth false false f g = refl
+
+module _ {s : State} {v : Version} {e : Text} {p q : Bool} {fs gs : List PairFault} (j : Judges s v e p fs) (k : Judges s v e q gs) where
+  same_verdict : p ≡ q
+  same_verdict = same_truth p q (λ h. k.verdict.1 (j.verdict.0 h)) (λ h. j.verdict.1 (k.verdict.0 h))
+
+  same_faults : fs ≡ gs
+  same_faults = Lists-unique fault_cmp_total fs gs j.faults_are k.faults_are
+
+-- where no two teams have tokens with one digest, a digest has one caller, and so has a token
+one_holder : (s : State) (digest : Text) → TeamsDiffer s → (a b : Option Caller) → IsCallerOfDigest s digest a → IsCallerOfDigest s digest b → a ≡ b
+one_holder s digest one None None x y = refl
+one_holder s digest one None (Some Office) x y = absurd (x Office y)
+one_holder s digest one None (Some (Team b)) x y = absurd (x (Team b) y.1)
+one_holder s digest one (Some Office) None x y = absurd (y Office x)
+one_holder s digest one (Some (Team a)) None x y = absurd (y (Team a) x.1)
+one_holder s digest one (Some Office) (Some Office) x y = refl
+one_holder s digest one (Some Office) (Some (Team b)) x y = absurd (y.0 x)
+one_holder s digest one (Some (Team a)) (Some Office) x y = absurd (x.0 y)
+one_holder s digest one (Some (Team a)) (Some (Team b)) x y = ap (λ team. Some (Team team)) (one digest a b x.1 y.1)
+
+pub one_caller : (parts : Primitives) (s : State) (token : Option Text) → TeamsDiffer s → (a b : Option Caller)
+    → IsCallerOfToken parts s token a → IsCallerOfToken parts s token b → a ≡ b
+one_caller parts s None one a b x y = x ∙ sym y
+one_caller parts s (Some secret) one a b x y = one_holder s (parts.digest_of secret) one a b x y
 
 text_of_pact : (c p x y : Text) → IsPact c p x ≡ IsPact c p y → x ≡ y
 text_of_pact c p x y e = cc
@@ -49,7 +77,7 @@ module _ (parts : Primitives) (is_refusal : FormFault → Bool) (s : State) (one
 
   acts_once : (c : Command) → IsReadOnce parts is_refusal c → (a b : Transition) → TakesEffect parts s c a → TakesEffect parts s c b → a ≡ b
   acts_once (PutTeam team token) are a b x y =
-      x.2 ∙ (λ i. put_team s team (parts.digest_of token) (is_some (same_who s s (parts.digest_of token) one (λ caller. (λ k. k, λ k. k)) x.0 y.0 x.1 y.1 i))) ∙ sym y.2
+      x.2 ∙ (λ i. put_team s team (parts.digest_of token) (is_some (one_holder s (parts.digest_of token) one x.0 y.0 x.1 y.1 i))) ∙ sym y.2
   acts_once (PutPact path file) are a b x y =
       x.2 ∙ ap (put_pact s (consumer_version path) path.provider) (one_text is_refusal path.consumer path.provider x.0 y.0 (are _ _ x.1 y.1)) ∙ sym y.2
   acts_once (GetPact path) are a b x y = x.2 ∙ ap (λ text. unchanged_with s (Shown (shown.Pact text))) (found_is _ x.0 y.0 x.1 y.1) ∙ sym y.2
@@ -65,9 +93,9 @@ module _ (parts : Primitives) (is_refusal : FormFault → Bool) (s : State) (one
       let failing = are.1 y.2.0 x.2.2.0 y.2.2.0 (subst (λ t. parts.Fails t replies x.2.2.0) text x.2.2.1) y.2.2.1 in
       x.2.2.2 ∙ (λ i. report_replies s (content i) (version path.provider r.provider_version) r.run (failing i)) ∙ sym y.2.2.2
   acts_once (Deploy e v instance) are a b x y =
-      x.3 ∙ (λ i. if same_verdict (itself s v e) x.2 y.2 i then deploy s e v (instance_of instance) else unchanged_with s (NotPermitted (same_faults (itself s v e) x.2 y.2 i))) ∙ sym y.3
+      x.3 ∙ (λ i. if same_verdict x.2 y.2 i then deploy s e v (instance_of instance) else unchanged_with s (NotPermitted (same_faults x.2 y.2 i))) ∙ sym y.3
   acts_once (Release e v) are a b x y =
-      x.3 ∙ (λ i. if same_verdict (itself s v e) x.2 y.2 i then release s e v else unchanged_with s (NotPermitted (same_faults (itself s v e) x.2 y.2 i))) ∙ sym y.3
+      x.3 ∙ (λ i. if same_verdict x.2 y.2 i then release s e v else unchanged_with s (NotPermitted (same_faults x.2 y.2 i))) ∙ sym y.3
   acts_once (GetEnvironment e) are a b x y =
       let marks = found_is _ x.0 y.0 x.1 y.1 in
       let items = Lists-unique deployed_cmp_total x.2.0 y.2.0 x.2.1 y.2.1 in
@@ -75,7 +103,7 @@ module _ (parts : Primitives) (is_refusal : FormFault → Bool) (s : State) (one
       x.2.2.2 ∙ (λ i. unchanged_with s (Shown (shown.Environment e (marks i) (items i) (versions i)))) ∙ sym y.2.2.2
   acts_once (CanIDeploy v e) are a b x y =
       let marks = found_is _ x.0 y.0 x.1 y.1 in
-      x.2.3 ∙ (λ i. unchanged_with s (Shown (shown.Gate e (marks i) (same_verdict (itself s v e) x.2.2 y.2.2 i) (same_faults (itself s v e) x.2.2 y.2.2 i)))) ∙ sym y.2.3
+      x.2.3 ∙ (λ i. unchanged_with s (Shown (shown.Gate e (marks i) (same_verdict x.2.2 y.2.2 i) (same_faults x.2.2 y.2.2 i)))) ∙ sym y.2.3
   acts_once (GetMatrix v) are a b x y = x.2 ∙ ap (λ rows. unchanged_with s (Shown (shown.Matrix rows))) (Lists-unique matrix_cmp_total x.0 y.0 x.1 y.1) ∙ sym y.2
   acts_once (Malformed fault) are a b x y = absurd x
   acts_once _ are a b x y = x ∙ sym y
@@ -140,7 +168,7 @@ module _ (parts : Primitives) (is_refusal : FormFault → Bool) (s : State) (one
   one_step : (token : Option Text) (c : Command) → IsReadOnce parts is_refusal c → (a b : Transition) → Step parts s token c a → Step parts s token c b → Same a b
   unfolding Rest
   one_step token c are a b x y =
-      after_who c are a b y.0 (subst (Rest c a) (calls_same parts s s token one (λ digest caller. (λ k. k, λ k. k)) x.0 y.0 x.1 y.1) x.2) y.2
+      after_who c are a b y.0 (subst (Rest c a) (one_caller parts s token one x.0 y.0 x.1 y.1) x.2) y.2
 
 -- the law
 pub step_once : (parts : Primitives) → StepOnce parts

@@ -6,8 +6,7 @@ use Rattle.broker_core.specs.{Laws.{OpeningIsSound, ContentsStay}, declared.comm
 use Rattle.broker_core.specs.{Text.{Text, same_text, same_version, same_pair}, State.{State, Verification}, Request.{consumer_version}, Change.{content_number}}
 use Rattle.broker_core.specs.{Machine.{Primitives}, Machine.Reading.{IsPact}, Contents.{IsContentOf, HasSoundContents, ReadsAgain}}
 use Rattle.broker_core.proofs.{Lists.{contains_none, some_is}, Judgement.{text_is, text_refl, contract_is, at_key}}
-use Rattle.broker_core.proofs.{Effects.{Change, effect_of, contents_with, with_contract, with_result}, Effects.Change.{contract, claim, check}}
-use Rattle.broker_core.proofs.Effects.Effect.{told, changed}
+use Rattle.broker_core.proofs.{Effects.{Change, after_step, contents_with, with_contract, with_result}, Effects.Change.{contract, claim, check}}
 
 -- ---- texts and their numbers
 
@@ -165,11 +164,7 @@ module _ (parts : Primitives) (again : ReadsAgain parts) (s : State) (sound : Ha
 
 -- sound contents stay sound, whatever is asked
 pub contents_stay : (parts : Primitives) → ReadsAgain parts → ContentsStay parts
-contents_stay parts again s token c out sound step =
-    elim (effect_of parts s token c out step) as (λ o _. HasSoundContents parts o.state) [
-      | told answer is ↦ sound
-      | changed t detail change ↦ change_sound parts again s sound c t change
-    ]
+contents_stay parts again s token c out sound step = after_step parts s c (HasSoundContents parts) sound (λ t change. change_sound parts again s sound c t change) token out step
 
 -- the contents of the first state are sound
 pub opening_is_sound : (parts : Primitives) → OpeningIsSound parts

@@ -8,7 +8,7 @@ use Rattle.broker_core.specs.{Text.{Text, same_text, same_pair, same_place}, Sta
 use Rattle.broker_core.specs.{Change.{content_number, instance_of}, Machine.{Primitives}}
 use Rattle.broker_core.proofs.Effects.Change.{team, pacticipant, environment, grant, end_of_grant, named_version, contract, claim, check, deployment, end_of_deployment, release, end_of_support}
 use Rattle.broker_core.proofs.{Lists.{some_is, none_some, contains_none}, Judgement.{and_both, text_is, contract_is, mark_is, place_is, at_key}}
-use Rattle.broker_core.proofs.{Effects.{Change, effect_of, versions_with, branches_with, contents_with, with_result}, Effects.Effect.{told, changed}}
+use Rattle.broker_core.proofs.Effects.{Change, after_step, versions_with, branches_with, contents_with, with_result}
 use Rattle.broker_names.specs.Name.{IsName}
 
 pair_is : (x y : Text × Text) → same_pair same_text same_text x y ≡ true → x ≡ y
@@ -163,11 +163,7 @@ names_begin office is = record {
 }
 
 pub names_stay : (parts : Primitives) → GivesDigests parts → NamesStay parts
-names_stay parts gives s token c out are n step =
-    elim (effect_of parts s token c out step) as (λ o _. HasSoundNames o.state) [
-      | told answer is ↦ n
-      | changed t detail change ↦ change_sound parts gives s n c t are change
-    ]
+names_stay parts gives s token c out are n step = after_step parts s c HasSoundNames n (λ t change. change_sound parts gives s n c t are change) token out step
 
 pub names_stay_in_runs : (parts : Primitives) → GivesDigests parts → NamesStayInRuns parts
 names_stay_in_runs parts gives s last [] [] all n run = subst HasSoundNames (sym run) n

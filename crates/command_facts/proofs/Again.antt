@@ -2,9 +2,8 @@
 use Rattle.std.specs.List.{AllByRecursion}
 use Rattle.std.proofs.Common.{◌≡◌, ◌⊎◌, ◌↔◌, ◌<◌, inl, inr, ⊎_elim, ℕ, ◌+◌, List, [], ◌∷◌, Option, Some, None, Result, Ok, Err, refl, sym, ap, ◌∙◌, subst, arith}
 use Rattle.serde_json.specs.Data.{Data}
-use Rattle.broker_core.specs.declared.command.Command.TheVariants.{PutTeam, PutPacticipant, PutEnvironment, PutGrant, DeleteGrant, PutVersion, PutPact, GetPact, GetBranchPact, PostResult, PostReplies, Deploy, Undeploy, Release, EndSupport, GetEnvironment, CanIDeploy, GetMatrix, Malformed}
-use Rattle.broker_core.specs.{declared.command.FormFault.{FormFault}, Text.{Text}, Contents.{ReadsAgain}, Laws.{ReadsRefusal}, Machine.{Reading}}
-use Rattle.broker_core.specs.Machine.Reading.{IsPact, IsRefused}
+use Rattle.broker_core.specs.{declared.command.Command.TheVariants.{PutPact, PostReplies}, declared.command.FormFault.{FormFault}, Text.{Text}}
+use Rattle.broker_core.specs.{Contents.{ReadsAgain}, Laws.{ReadsRefusal}, Machine.{Reading}, Machine.Reading.{IsPact, IsRefused}}
 use Rattle.command_facts.specs.{Readings.{reading_of, Reads, is_refusal, replies_fault, ReadsReplies, Compares, Fails}, Laws.{AreReadOnce}}
 use Rattle.command_facts.specs.Primitives.{broker_primitives}
 use Rattle.pact_rules.specs.{Lists.{IsIn}, Reading.{just, Follows, ◌>>=◌, EachRead}, declared.rule_fault.RuleFault.TheVariants.{Pattern}}
@@ -131,22 +130,6 @@ fails_once body text a b (rs, read_rs, (p, normal_p, h)) (qs, read_qs, (q, norma
     compared_one p.interactions rs a b h (subst (λ (z : Pact). Compares z.interactions rs b) pact (subst (λ zs. Compares q.interactions zs b) replies k))
 
 pub read_once : AreReadOnce
-read_once (PutTeam team token) = tt
-read_once (PutPacticipant p team) = tt
-read_once (PutEnvironment e marks) = tt
-read_once (PutGrant team e) = tt
-read_once (DeleteGrant team e) = tt
-read_once (PutVersion v branch) = tt
 read_once (PutPact path file) = file_once file
-read_once (GetPact path) = tt
-read_once (GetBranchPact provider consumer branch) = tt
-read_once (PostResult path report success) = tt
 read_once (PostReplies path report replies) = (body_once replies, fails_once replies)
-read_once (Deploy e v instance) = tt
-read_once (Undeploy e v instance) = tt
-read_once (Release e v) = tt
-read_once (EndSupport e v) = tt
-read_once (GetEnvironment e) = tt
-read_once (CanIDeploy v e) = tt
-read_once (GetMatrix v) = tt
-read_once (Malformed fault) = tt
+read_once _ = tt

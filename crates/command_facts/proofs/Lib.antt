@@ -1,4 +1,4 @@
-pub mod Refusals
+pub mod PatternRefusals
 pub mod Again
 pub mod Digests
 mod DigestExamples

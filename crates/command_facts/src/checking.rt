@@ -55,7 +55,7 @@ fn is_refusal(fault: &PactFault) -> bool
 }
 
 /// What is reported of a text that wasn't read.
-#[tactic(auto, using(crate::proofs::Refusals::no_pact))]
+#[tactic(auto, using(crate::proofs::PatternRefusals::no_pact))]
 fn unread(fault: &PactFault) -> Result<Comparison, AllocError>
     ensures other { IfOk result (λ _. ¬ (fault.now ≡ PactFault.Memory)) }
     ensures memory { IfErr result (λ _. fault.now ≡ PactFault.Memory) }

@@ -1,6 +1,6 @@
 use Rattle.std.proofs.Common.{Err, subst}
 use Rattle.pact_file.specs.Normal.{Normal}
-use Rattle.command_facts.proofs.Refusals.{ok_both}
+use Rattle.command_facts.proofs.PatternRefusals.{ok_both}
 use Rattle.command_facts.proofs.checking.compare.Goals as goal
 
 pub returns-in-Err : goal.returns-in-Err

@@ -1,4 +1,4 @@
-use Rattle.command_facts.proofs.Refusals.{not_all_known, pattern_used}
+use Rattle.command_facts.proofs.PatternRefusals.{not_all_known, pattern_used}
 use Rattle.command_facts.proofs.checking.compare_pact.Goals as goal
 
 pub returns-in-Err-UnknownInteraction : goal.returns-in-Err-UnknownInteraction

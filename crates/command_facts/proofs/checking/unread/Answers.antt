@@ -1,4 +1,4 @@
-use Rattle.command_facts.proofs.Refusals.{told_pattern}
+use Rattle.command_facts.proofs.PatternRefusals.{told_pattern}
 use Rattle.command_facts.proofs.checking.unread.Goals as goal
 
 pub returns-then-is_refusal-clause-told : goal.returns-then-is_refusal-clause-told
