@@ -8,7 +8,7 @@ use Rattle.table_access.specs.declared.StoreFault.TheVariants as faults
 use Rattle.broker_core.specs.Change.{instance_of}
 use Rattle.broker_core.specs.Laws.{IsDone}
 use Rattle.broker_core.specs.Machine.{is_step}
-use Rattle.broker_core.specs.State.{State as Broker, opening}
+use Rattle.broker_core.specs.State.{State as Broker}
 use Rattle.broker_core.specs.Text.{Text}
 use Rattle.broker_core.specs.declared.answer.Answer.{Answer}
 use Rattle.broker_core.specs.declared.answer.Answer.TheVariants as answers
@@ -16,7 +16,6 @@ use Rattle.broker_core.specs.declared.command.Command.{Command}
 use Rattle.broker_core.specs.declared.command.Command.TheVariants.{Deploy, Release}
 use Rattle.broker_core.specs.declared.command.Version.{Version}
 use Rattle.broker_tables.specs.Former.{former_format}
-use Rattle.broker_tables.specs.Holds.{format}
 use Rattle.broker_tables.specs.Making.{IsBlank, IsMarked}
 use Rattle.broker_tables.specs.Room.{HasRoomFor}
 use Rattle.broker_database.specs.BrokerView.{BrokerView}

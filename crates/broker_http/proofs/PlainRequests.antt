@@ -37,7 +37,7 @@ pub path_name : (n : ℕ) (path text : Text) → percent_decode (segment n path)
 path_name n path text is low name = (Some text, subst (λ t. IsNamed t (Some text)) (sym is) (plain_name text low name), refl)
 
 -- the name of a body's field
-pub field_name : (key : Text) (fields : Data) (text : Text) → option_and_then as_str (get key fields) ≡ Some text → is_ascii text ≡ true → IsName text → IsNameField key (Some fields) (Ok text)
+pub field_name : (key : Text) (fields : Data) (text : Text) → option_and_then as_str (get key fields) ≡ Some text → is_ascii text ≡ true → IsName text → IsNameField key fields (Ok text)
 field_name key fields text is low name = (Some text, subst (λ (t : Option Text). IsTextNamed t (Some text)) (sym is) (plain_name text low name), refl)
 
 -- ---- a request

@@ -4,7 +4,7 @@ use Rattle.std.proofs.Common.{Bool, true, false, refl, sym, subst, inl, inr, ◌
 use Rattle.std.proofs.lemmas.Result.{IfErr-weaker}
 use Rattle.sqlite.specs.State.{State, HasCleanDisk}
 use Rattle.table_access.specs.{declared.StoreFault.{StoreFault}, declared.StoreFault.TheVariants.{Memory, Store}, Calls.{CallsBetween, GoesOn, EndsBy}}
-use Rattle.table_access.proofs.CallLemmas.{call_with, then_result, then_stop, then_err, seq, may_take, ended_since}
+use Rattle.table_access.proofs.CallLemmas.{call_with, then_result, then_err, seq, may_take, ended_since}
 use Rattle.broker_core.specs.State.{State as Broker}
 use Rattle.broker_tables.specs.{Holds.{Holds, IsRead, QueriesBetween}, Calm.{Serves, FailsOnlyBy, HasFailedTaking, CalmQueriesBetween}}
 
@@ -88,10 +88,6 @@ query_with old new r P Q more it = record { call = call_with old new r _ _ more 
 
 pub query_err : {A B : Type 0} {takes : Bool} (old new : State) (e : StoreFault) (P : A → Broker → Type 0) (Q : B → Broker → Type 0) → CalmQueriesBetween takes old new (Err e) P → CalmQueriesBetween takes old new (Err e) Q
 query_err old new e P Q it = record { call = then_err old new e _ _ it.call; calm = it.calm }
-
--- a growth that is refused, after a query
-pub query_stop : {A B : Type 0} {any : Bool} (old new : State) (a : A) (e : StoreFault) (P : A → Broker → Type 0) (Q : B → Broker → Type 0) → e ≡ Memory → CalmQueriesBetween any old new (Ok a) P → CalmQueriesBetween true old new (Err e) Q
-query_stop old new a e P Q room it = record { call = then_stop old new a e _ _ it.call; calm = λ clean s here. inr room }
 
 -- one after another
 pub query_seq : {A B : Type 0} {any takes : Bool} (old mid new : State) (a : A) (r : Result B StoreFault) (P : A → Broker → Type 0) (Q R : B → Broker → Type 0) → (IsRead old mid P a → (b : B) → IsRead mid new Q b → IsRead old new R b)

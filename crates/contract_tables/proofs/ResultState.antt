@@ -4,8 +4,7 @@ use Rattle.std.proofs.Common.{◌≡◌, ◌==◌, inl, inr, ℕ, ℤ, pos, ◌+
 use Rattle.std.proofs.{lemmas.Bool.{ne_eqb, and_right}, lemmas.List.{map-append, length-map}, Math.Bool.{and-true, or-false}}
 use Rattle.sqlite.specs.{Tree.{rowid}, declared.types.Value.TheVariants.{Int, Null}, Order.{Row}, State.{State}, Effect.{Database}}
 use Rattle.sqlite_rules.{specs.Lists.{Has}, proofs.TableLemmas.{int_is}}
-use Rattle.table_access.{specs.{Columns.{whole_at, by_both}, Sound.{IsNumbered}, Statements.{IsAdded}}, proofs.SoundLemmas.{at_has, all_of}}
-use Rattle.table_access.proofs.Members.{has_right}
+use Rattle.table_access.{specs.{Columns.{whole_at, by_both}, Sound.{IsNumbered}, Statements.{IsAdded}}, proofs.{SoundLemmas.{at_has}, Members.{has_right}}}
 use Rattle.broker_core.specs.{State.{State as Broker, Verification, latest_result}, Text.{same_version}, declared.command.Version.{Version}}
 use Rattle.broker_tables.specs.Schema.{in_results, in_latest, in_checked_results}
 use Rattle.broker_tables.specs.Holds.{Holds, HoldsAfter, IsBroker, AreResults, AreLatest, ResultRow, result_in, result_of}
@@ -147,13 +146,6 @@ is_marked checked number old new is put = (
   λ k.
       stands_put int_cmp (whole_at 0) (old.now.trees in_checked_results.tree) (new.now.trees in_checked_results.tree) (Int (pos number) ∷ Null ∷ []) put.1 k
       ∙ sym (ap (λ b. (b && eq_by_cmp int_cmp k (pos number)) || stands_at int_cmp (whole_at 0) (old.now.trees in_checked_results.tree) k) is),
-)
-
--- no mark, where it wasn't
-pub not_marked : (checked : Bool) (number : ℕ) (c : State) → checked ≡ false → Marks checked number c c
-not_marked checked number c is = (
-  record { schema = refl; kept = λ kept. kept; others = all_of _ c.now.schema.tables (λ t has other. refl); inside = λ inside. (inside, refl); marks = refl },
-  λ k. sym (ap (λ b. (b && eq_by_cmp int_cmp k (pos number)) || stands_at int_cmp (whole_at 0) (c.now.trees in_checked_results.tree) k) is),
 )
 
 pub marked_broker : (checked : Bool) (number : ℕ) (old new : State) → IsBroker old.now → Marks checked number old new → IsBroker new.now

@@ -1,20 +1,14 @@
 -- Reading paths, token by token.
-use Rattle.std.specs.{List.{list_all, position_or_len, before_first, after_first}, Char.{is_ascii_digit}, Str.{all_ascii_digits}}
-use Rattle.std.proofs.Common.{◌≡◌, ◌≢◌, ℕ, zero, suc, ◌-◌, ◌<◌, eqb, List, [], ◌∷◌, ◌++◌, length, Option, Some, None, option_map, Result, Ok, Err, MatchOption, Bor, eq-eqb, ne_eqb, refl, sym, ap, ◌∙◌, arith, le-ltb, lt-ltb, append_assoc, Bool, true, false, not, ◌&&◌, cond, ltb, ltb-false, ◌≤◌, unwrap_or}
+use Rattle.std.specs.{List.{list_all, position_or_len}, Char.{is_ascii_digit}, Str.{all_ascii_digits}}
+use Rattle.std.proofs.Common.{◌≡◌, ◌≢◌, ℕ, zero, suc, ◌-◌, ◌<◌, List, [], ◌∷◌, ◌++◌, length, Option, Some, None, option_map, Result, Ok, Err, MatchOption, Bor, eq-eqb, ne_eqb, refl, sym, ap, ◌∙◌, arith, append_assoc, Bool, true, false, not, ◌&&◌, cond, ltb, ltb-false, ◌≤◌, unwrap_or}
 use Rattle.std.proofs.{lemmas.List.Sums.{prefix_len-le-length}, lemmas.List.{append-nil}}
-use Rattle.pact_paths.specs.{Paths.{Token}, Outcome.{checked}, PathReading.{behind, cut, token_in, tokens_in, first_of_more, with_front, with_all}}
+use Rattle.pact_paths.specs.{Paths.{Token}, Outcome.{checked}, PathReading.{behind, token_in, tokens_in, first_of_more, with_front, with_all}}
 use Rattle.pact_paths.specs.{declared.path_reader.PathFault.{PathFault}, declared.path_reader.PathFault.TheVariants.{BadToken, TooManyTokens}}
 
 pub behind_is : (c : ℕ) (bs : List ℕ) (r : Option (Bor (List ℕ))) → MatchOption r ((rest : List ℕ) → bs ≢ c ∷ rest) (λ x. bs ≡ c ∷ x.now) → option_map (λ (x : Bor (List ℕ)). x.now) r ≡ behind c bs
 behind_is c bs (Some x) h = sym (ap (behind c) h ∙ rw (eq-eqb c c refl) refl)
 behind_is c [] None h = refl
 behind_is c (b ∷ bs) None h = sym (rw (ne_eqb b c (λ e. h bs (ap (λ a. a ∷ bs) e))) refl)
-
-pub cut_is : (c : ℕ) (bs : List ℕ) (r : Option (Bor (List ℕ) × Bor (List ℕ))) → MatchOption r (position_or_len (λ b. eqb b c) bs ≡ length bs)
-    (λ x. (position_or_len (λ b. eqb b c) bs < length bs) × (x.0.now ≡ before_first (λ b. eqb b c) bs) × (x.1.now ≡ after_first (λ b. eqb b c) bs))
-    → option_map (λ (x : Bor (List ℕ) × Bor (List ℕ)). (x.0.now, x.1.now)) r ≡ cut c bs
-cut_is c bs None h = sym (rw (le-ltb (position_or_len (λ b. eqb b c) bs) (length bs) (omega (arith, h))) refl)
-cut_is c bs (Some x) h = sym (rw (lt-ltb (position_or_len (λ b. eqb b c) bs) (length bs) h.0) (ap (λ (p : List ℕ × List ℕ). Some p) (rw (h.1, h.2) refl)))
 
 pub tokens_end : (total n : ℕ) (t : List ℕ) → length t ≡ 0 → tokens_in total n t ≡ Ok []
 unfolding tokens_in

@@ -1,19 +1,11 @@
 -- The product of a weight, token by token.
-use Rattle.std.proofs.Common.{◌≡◌, ℕ, suc, ◌+◌, ◌*◌, ◌^◌, ◌<◌, ◌≤◌, List, ◌∷◌, map, length, get_or, slice_get, option_map, Some, drop, add-one, lit<, refl, sym, ap, ◌∙◌, arith}
-use Rattle.std.proofs.{lemmas.Option.{slice_get-map, slice_get_read}, Math.Nat.{mul-le-mul_left, pow-le-pow_right}, Math.Seq.{drop-cons}}
-use Rattle.std.proofs.lemmas.List.{length-map}
+use Rattle.std.proofs.Common.{◌≡◌, ℕ, ◌+◌, ◌*◌, ◌^◌, ◌<◌, ◌≤◌, List, map, length, get_or, slice_get, option_map, Some, add-one, lit<, refl, sym, ap, ◌∙◌, arith}
+use Rattle.std.proofs.{lemmas.Option.{slice_get-map, slice_get_read}, Math.Nat.{mul-le-mul_left, pow-le-pow_right}, lemmas.List.{length-map}}
 use Rattle.pact_paths.specs.{Paths.{Token as PathToken, Step as PathStep}, Weights.{token_weight, product_over}, Locations.{step_view}, TokenView.{token_view}}
 use Rattle.pact_paths.specs.{declared.path.Step.{Step}, declared.path.Token.{Token}}
 
 abbrev pub of_parts : List Token → List Step → ℕ
 of_parts ts ls = product_over (map token_view ts) (map step_view ls)
-
-take_front : {A : Type 0} (xs : List A) (i : ℕ) (x : A) → i < length xs → x ≡ get_or xs i x → drop i xs ≡ x ∷ drop (i + 1) xs
-take_front xs i x p e = rw add-one (drop-cons xs i x p ∙ ap (λ y. y ∷ drop (suc i) xs) (sym e))
-
-pub parts_more : (ts : List Token) (ls : List Step) (i : ℕ) (t : Token) (s : Step) → i < length ts → i < length ls → t ≡ get_or ts i t → s ≡ get_or ls i s
-    → of_parts (drop i ts) (drop i ls) ≡ token_weight (token_view t) (step_view s) * of_parts (drop (i + 1) ts) (drop (i + 1) ls)
-parts_more ts ls i t s p q et es = rw (take_front ts i t p et, take_front ls i s q es) refl
 
 pub doubled : (p w k : ℕ) → p ≤ 2 ^ k → w ≤ 2 → p * w ≤ 2 ^ (k + 1)
 doubled p w k a b =

@@ -187,6 +187,7 @@ fn bracketed(text: &str) -> Option<(Seen<'_>, &str)>
 }
 
 /// What is after a mark at the front.
+#[tactic(auto, using(std::proofs::lemmas::Str::Pattern::strip_prefix_char, crate::proofs::PathLemmas::behind_is))]
 fn behind(text: &str, mark: char) -> Option<&str>
     requires { mark < 128 }
     ensures value { option_map (λ r. r.now) result ≡ behind_of mark text.now }

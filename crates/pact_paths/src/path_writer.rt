@@ -58,6 +58,7 @@ fn push_name(text: &mut String, name: &str) -> Result<(), AllocError>
     }
 }
 
+#[tactic(auto, using(crate::proofs::Spellings::is_plain_by_position))]
 fn is_plain_name(name: &str) -> bool
     ensures { result ≡ is_plain name.now }
 {

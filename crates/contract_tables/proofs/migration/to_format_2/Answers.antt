@@ -11,6 +11,3 @@ returns-clause-makes g c =
     call_with _ _ c.make_checked_results.result _ _
     (λ _ makes s held. let made = makes held.schema in (checked_made former_format _ _ s held made, subst (λ (it : Schema). KeepsRows it.tables old.now.trees new.now.trees) held.schema made.others))
     c.make_checked_results.ensures.makes
-
-pub returns-clause-calm : goal.returns-clause-calm
-returns-clause-calm g c clean inside unlimited it = c.make_checked_results.ensures.calm clean inside unlimited it.1.schema

@@ -1,9 +1,6 @@
-use Rattle.std.proofs.Common.{◌∙◌, sym}
-use Rattle.contract_tables.proofs.Rising.{searched, found_in}
+use Rattle.std.proofs.Common.{◌∙◌}
+use Rattle.contract_tables.proofs.Rising.{searched}
 use Rattle.contract_tables.proofs.version_results.is_among.Goals as goal
 
 pub returns-clause-answers : goal.returns-clause-answers
 returns-clause-answers c up = c.is_ok.ensures.value ∙ searched (λ n. n) c.args.number c.args.numbers.now c.binary_search.result c.binary_search.ensures.bound c.binary_search.ensures.position up
-
-pub returns-clause-found : goal.returns-clause-found
-returns-clause-found c found = found_in c.args.number c.args.numbers.now c.binary_search.result c.binary_search.ensures.bound c.binary_search.ensures.position (sym c.is_ok.ensures.value ∙ found)

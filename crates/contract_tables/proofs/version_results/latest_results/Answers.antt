@@ -1,10 +1,9 @@
-use Rattle.std.specs.{Prelude.{Contains, option_map, IsSorted}, List.Sorted.{IsStrictlySortedBy}, Ordering.{nat_cmp}}
-use Rattle.std.proofs.Common.{refl, sym, subst, inl, inr, ℕ, ◌≡◌, ◌∙◌, ap, [], arith, Some, Ok, map, true}
+use Rattle.std.{specs.{Prelude.{Contains, option_map, IsSorted}, Ordering.{nat_cmp}}, proofs.Common.{subst, ℕ, ◌≡◌, arith, Some, Ok, map, true}}
 use Rattle.sqlite.specs.{Held.{state}, State.{HasCleanDisk}, Effect.{Database}}
 use Rattle.broker_core.specs.{declared.command.Version.{Version}, Listing.{Lists}, State.{latest_result}}
-use Rattle.broker_tables.{specs.{Numbers.{number_of}, Holds.{Holds}}, proofs.{QueryLemmas.{query_stop, query_failed, calm_then}, AnyTables.{still_asked}}}
-use Rattle.contract_tables.{specs.{VersionResults.{pass_cmp, IsPassOf, marked}, LatestRows.{IsCheckedFor}}, proofs.Rising.{sorted}}
-use Rattle.contract_tables.proofs.{QueryLemmas.{calm_computed}, AnyLatest.{mapped, latest_found, listed_since}, VersionResults.{latest_listed}}
+use Rattle.broker_tables.{specs.Numbers.{number_of}, proofs.{QueryLemmas.{query_failed, calm_then}, AnyTables.{still_asked}}}
+use Rattle.contract_tables.{specs.{VersionResults.{pass_cmp, IsPassOf, marked}, LatestRows.{IsCheckedFor}}, proofs.QueryLemmas.{calm_computed}}
+use Rattle.contract_tables.proofs.{AnyLatest.{mapped, latest_found, listed_since}, VersionResults.{latest_listed}}
 use Rattle.contract_tables.proofs.version_results.latest_results.Goals as goal
 
 pub returns-in-Ok-with_marks-clause-answers : goal.returns-in-Ok-with_marks-clause-answers
@@ -21,21 +20,6 @@ returns-in-Ok-with_marks-clause-answers g c =
     (mapped checked.items passes.items found.items (rw (c.deref.ensures.value, c.deref-2.ensures.value) at c.in-Ok-with_marks.ensures)) tt
     (calm_then _ _ _ passes _ _ _ _ (λ s one marks two. (one, two)) c.in-Ok.ensures.answers c.in-Ok-checked_of.ensures.answers)
 
-pub returns-clause-answers : goal.returns-clause-answers
-returns-clause-answers g c =
-    query_stop _ _ c.in-Ok-checked_of.value _ _ _ refl
-    (calm_then _ _ _ c.in-Ok.value _ _ _ _ (λ s one marks two. two) c.in-Ok.ensures.answers c.in-Ok-checked_of.ensures.answers)
-
-pub returns-in-Ok-with_marks-clause-unknown : goal.returns-in-Ok-with_marks-clause-unknown
-unfolding IsStrictlySortedBy
-returns-in-Ok-with_marks-clause-unknown g c clean s held none =
-    let mid_clean : HasCleanDisk (state g.S.Store c.passes_of.new.conn) = omega (arith, c.in-Ok-checked_of.ensures.answers.call.survives.clean, clean) in
-    let passes : c.in-Ok.value.items ≡ [] = c.in-Ok.ensures.unknown mid_clean s held none in
-    let kept = subst (λ d. Holds d s) (sym (c.in-Ok.ensures.answers.call.ok mid_clean s held).1) held in
-    let checked : c.in-Ok-checked_of.value.items ≡ [] = c.in-Ok-checked_of.ensures.unknown clean s kept none in
-    mapped [] c.in-Ok.value.items c.in-Ok-with_marks.found.items (rw (c.deref.ensures.value, c.deref-2.ensures.value, checked) at c.in-Ok-with_marks.ensures) (sorted (λ n. n) [] tt)
-    ∙ ap (map (marked [])) passes
-
 pub returns-in-Err-checked_of-clause-answers : goal.returns-in-Err-checked_of-clause-answers
 returns-in-Err-checked_of-clause-answers g c =
     query_failed _ _ _ c.in-Ok.value c.in-Err-checked_of.fault _ _ _ c.in-Ok.ensures.answers c.in-Err-checked_of.ensures.answers
@@ -51,9 +35,6 @@ returns-in-Ok-with_marks-clause-mark g c clean asked =
     latest_found n old.now c.in-Ok.value.items c.in-Ok-checked_of.value.items c.in-Ok-with_marks.found.items (rw (c.deref.ensures.value, c.deref-2.ensures.value) at c.in-Ok-with_marks.ensures)
     (c.in-Ok.ensures.mark mid_clean asked)
     (subst (λ (db : Database). (k : ℕ) → Contains c.in-Ok-checked_of.value.items k → IsCheckedFor n db k) same.0.now_is marks)
-
-pub returns-clause-mark : goal.returns-clause-mark
-returns-clause-mark g c clean asked = inl (inr refl)
 
 pub returns-in-Err-checked_of-clause-mark : goal.returns-in-Err-checked_of-clause-mark
 returns-in-Err-checked_of-clause-mark g c clean asked =
