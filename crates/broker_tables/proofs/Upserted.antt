@@ -1,8 +1,8 @@
 -- INSERT .. ON CONFLICT DO UPDATE of one row into a table of the broker to which no other refers: what it leaves, and why
 -- it fails. If the row suits its table, only as the store fails.
-use Rattle.std.specs.{List.{AllByRecursion}, Ordering.{is_eq}}
-use Rattle.std.proofs.Common.{◌≡◌, ◌⊎◌, inl, inr, ℕ, ℤ, ◌<◌, ◌≤◌, ◌^◌, List, [], ◌∷◌, ◌++◌, map, filter, length, slice_get, true, false, not, refl, sym, ap, subst, ◌∙◌, ◌/◌, arith, bytes_eq, Some, Ok}
-use Rattle.std.proofs.lemmas.Bool.{lt-ltb}
+use Rattle.std.specs.{List.{AllByRecursion}, Ordering.{is_eq, eq_by_cmp}, Cmp.{eq_by_cmp_equiv, Equal-is}}
+use Rattle.std.proofs.Common.{◌≡◌, ◌⊎◌, inl, inr, ℕ, ℤ, ◌<◌, ◌≤◌, ◌^◌, List, [], ◌∷◌, ◌++◌, map, filter, length, slice_get, true, false, not, ◌||◌, cond, Ordering, refl, sym, ap, subst, ◌∙◌, ◌/◌, arith, bytes_eq, Some, Ok}
+use Rattle.std.proofs.{lemmas.Bool.{lt-ltb}, Math.Bool.{or-false}}
 use Rattle.sqlite.specs.{declared.types.Value.{Value}, declared.types.Value.TheVariants.{Null, Int}, Cast.{cast_row, cast_all}, Command.TheVariants.{InsertOr}}
 use Rattle.sqlite.specs.{Source.TheVariants.{Values}, Rowids.TheVariants.{Chosen}, Edit.{next_rowid, with_rowid, id_in}, Effect.{value_rows}}
 use Rattle.sqlite.specs.{Listing.{understood}, Order.{Row, column, value_cmp}, Rows.{shown}, Schema.{Schema}, State.{State, Executes}, Table.{Table}}
@@ -14,10 +14,10 @@ use Rattle.sqlite_schema.specs.{declared.command.Conflict.TheVariants.{Abort}, R
 use Rattle.sqlite_rules.specs.{Keys.{AreConflicts, conflicts}, Lists.{Has}, Steps.{PassAlone}}
 use Rattle.table_access.{specs.{Calls.{fault_of}, Sound.{IsNumbered, IsShortValue}, Statements.{ChangesOnly, IsAdded, shows}}, proofs.Answered.{is_whole}}
 use Rattle.table_access.proofs.{Edits.{IsAlone}, SoundLemmas.{has_place, at_has}, Steps.{Means}, Upsert.{setting, Upserted, upsert_leaves}}
-use Rattle.table_access.proofs.{UpsertRefused.{Takes, key_of, upsert_fails}, Values.{cast_null, cast_kept}}
-use Rattle.broker_tables.{specs.{Schema.{broker_schema}, Holds.{IsBroker}, Refusals.{AreShort}, Room.{LeavesAbove, LeaveNumbers}}, proofs.Frames.{meant}}
-use Rattle.broker_tables.proofs.{Inserted.{apart, storable, EndsOnly}, Placed.{Placed, calm, numbered_in, plain_there, plainly}}
-use Rattle.broker_tables.proofs.RoomLemmas.{Grows, grows_added, grows_changed, number_for}
+use Rattle.table_access.proofs.{Changes.{upserts_at}, Keys.{agrees, cells_at}, UpsertRefused.{Takes, key_of, upsert_fails}, Values.{cast_null, cast_kept}}
+use Rattle.broker_tables.specs.{Schema.{broker_schema}, Holds.{IsBroker}, Refusals.{AreShort}, Room.{LeavesAbove, LeaveNumbers}, Rows.{value_at}}
+use Rattle.broker_tables.proofs.{Frames.{meant}, Keyed.{Keyed, keys_of}, Inserted.{apart, storable, EndsOnly}}
+use Rattle.broker_tables.proofs.{Placed.{Placed, calm, numbered_in, plain_there, plainly}, RoomLemmas.{Grows, grows_added, grows_changed, number_for}}
 
 -- The text, with these parameters, puts one row into the table, or sets columns of the one that has its key.
 -- The row has these columns beside its number, and its key is the one of the table. `refl` finds each field, under
@@ -32,6 +32,7 @@ pub record PutsOver {t : Table} (at : Placed t) (sql : List ℕ) (params : Row) 
   pub placed : (v : Value) (more : Row) → column (params ++ v ∷ more) n ≡ v
   pub typed : (z next : ℤ) → accepts_program broker_schema [] (setting t.tree n project) (params ++ Int z ∷ shown (plainly t) (Int next ∷ rest)) ≡ true
   pub keys : map key_of (filter (λ i. guards i (plainly t)) broker_schema.indexes) ≡ (plain, target) ∷ []
+  pub met : (made r : Row) → conflicts (Some target) broker_schema.indexes (plainly t) made r ≡ (agree plain target r target made || false)
   pub no_rowid : bytes_eq target (0 ∷ []) ≡ false
   pub no_first : (v w : Value) (r : Row) → agree plain target r target (v ∷ rest) ≡ agree plain target r target (w ∷ rest)
   pub alone : IsAlone broker_schema t.tree
@@ -119,3 +120,47 @@ module _ {t : Table} {at : Placed t} {sql : List ℕ} {params : Row} {target : L
         } in
         let it = upsert_fails t.name t.tree t.columns t.key t.primary t.uniques t.orders t.checks t.references sql params old new at.place target n project puts.terms puts.width rest (¬ AreShort texts) takes unlimited error h in
         record { cause = it.0; fault_is = is ∙ ap fault_of it.1; has = it.2; over = it.3.autocommit; blamed = it.4 }
+
+-- ---- by the key of a table
+
+-- The row has this key, and SET leaves all columns of the key as they were: `refl` finds each field.
+pub record PutsAt {K V : Type 0} {R : K → K → Ordering} {key : Row → K} (t : Keyed R key) (value : Row → V) (params : Row) (n : ℕ) (project : List Term) (rest : Row) (k : K) (v : V) : Type 0 where
+  pub keyed : (id : Value) → key (id ∷ rest) ≡ k
+  pub valued : (id : Value) → value (id ∷ rest) ≡ v
+  pub cells : (id : Value) → cells_at t.places (id ∷ rest) ≡ t.columns.of.cells k
+  pub last : Row
+  pub whole : rest ≡ t.columns.of.cells k ++ last
+  pub sets : (z : ℤ) (r : Row) → shows project (params ++ rowid r ∷ shown (plainly t.table) (Int z ∷ rest)) r ≡ rowid r ∷ (cells_at t.places r ++ last)
+
+module _ {K V : Type 0} {R : K → K → Ordering} {key : Row → K} (t : Keyed R key) {value : Row → V} {sql : List ℕ} {params rest : Row} {n : ℕ} {project : List Term} {k : K} {v : V}
+    (puts : PutsOver t.at sql params t.places n project rest) (at : PutsAt t value params n project rest k v) (old new : State) (broker : IsBroker old.now) where
+  abbrev there : List Row
+  there = old.now.trees t.table.tree
+
+  abbrev row : Row
+  row = Int (next_rowid there) ∷ rest
+
+  -- a row is met just where it has the key
+  meets : (r : Row) → Has there r → conflicts (Some t.places) old.now.schema.indexes (plainly t.table) row r ≡ eq_by_cmp R k (key r)
+  meets r has =
+      ap (λ (s : Schema). conflicts (Some t.places) s.indexes (plainly t.table) row r) broker.schema ∙ puts.met row r ∙ or-false (agree plain t.places r t.places row)
+      ∙ agrees t.columns.of r row (t.columns.typed old.now broker r has) (at.cells _ ∙ ap t.columns.of.cells (sym (at.keyed _)))
+      ∙ ap (eq_by_cmp R (key r)) (at.keyed _) ∙ (eq_by_cmp_equiv t.columns.of.total).symm (key r) k
+
+  -- and SET makes it the same row, under its own number
+  pub set_at : (r : Row) → Has there r → conflicts (Some t.places) old.now.schema.indexes (plainly t.table) row r ≡ true → shows project (params ++ rowid r ∷ shown (plainly t.table) row) r ≡ rowid r ∷ rest
+  set_at r has met =
+      let same : k ≡ key r = t.columns.of.exact k (key r) ((Equal-is (R k (key r))).0 (sym (meets r has) ∙ met)) in
+      at.sets _ r ∙ ap (λ cells. rowid r ∷ (cells ++ at.last)) (t.columns.typed old.now broker r has ∙ ap t.columns.of.cells (sym same))
+      ∙ ap (λ xs. rowid r ∷ xs) (sym at.whole)
+
+  -- where it is done, the key has the value, each other key has what it had, and no other table changes
+  pub put_at : (count : ℕ) → Executes sql params old new (Ok count) → ChangesOnly t.table.tree old new × Grows there (new.now.trees t.table.tree)
+      × ((q : K) → value_at R key value (new.now.trees t.table.tree) q ≡ cond (eq_by_cmp R q k) (Some v) (value_at R key value there q))
+  put_at count h =
+      let done = upserted puts old new broker set_at count h in (
+        done.0,
+        upsert_grows puts old new broker set_at done.1,
+        upserts_at t.columns.of.total t.columns.of.exact key value (Some t.places) old.now.schema.indexes (plainly t.table) there (new.now.trees t.table.tree) row row (λ r. rowid r ∷ rest) k v
+            (keys_of t old.now broker) (numbered_in t.at old.now broker).0 meets (at.keyed _, at.valued _) (λ r has hit. (at.keyed _, at.valued _)) done.1,
+      )

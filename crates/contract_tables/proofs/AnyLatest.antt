@@ -2,23 +2,21 @@
 -- is read of them.
 use Rattle.std.specs.{Prelude.{Contains, IsSorted, option_map, is_some, ◌↔◌}, Ordering.{nat_cmp}}
 use Rattle.std.proofs.Common.{◌≡◌, ◌≤◌, ◌∙◌, inl, inr, ℕ, zero, suc, pos, List, [], ◌∷◌, Bool, true, false, IsTrue, Option, Some, None, Result, IfOk, Ok, Err, slice_get, map, refl, sym, ap, subst, arith}
-use Rattle.std.proofs.lemmas.List.Sorted.{Contains-permutation}
 use Rattle.sqlite.specs.{declared.types.Value.{Value}, declared.types.Value.TheVariants.{Int}, Order.{Row, column}, Term.{Term, Env, col, eval, eval_all}}
 use Rattle.sqlite.specs.{Collation.TheVariants.{Binary}, Effect.{Database}, State.{State, Shown, IsUnchanged}}
 use Rattle.sqlite_sql.specs.{declared.ops.BinaryOp.TheVariants.{Compare}, declared.ops.CompareOp.TheVariants.{Eq}, declared.ops.UnaryOp.TheVariants.{ToNumeric}}
 use Rattle.sqlite_sql.specs.Ops.{binary, unary, is_true}
 use Rattle.sqlite_rules.specs.Lists.{Has}
-use Rattle.table_access.specs.{declared.StoreFault.{StoreFault}, Reading.{AreRead, IsNumberAt, IsNumberRow, TellsNumber, FailsToRead}}
-use Rattle.table_access.{specs.Statements.{keeps, keeps_both, shows}, proofs.{Answered.{first_has, shown_of, pair_shown}, Steps.{selects}}}
-use Rattle.table_access.proofs.Members.{has_pair, has_map, has_filter, has_contains, contains_has}
+use Rattle.table_access.specs.{declared.StoreFault.{StoreFault}, Reading.{AreRead, IsNumberAt, IsNumberRow, TellsNumber, FailsToRead}, Statements.{keeps_both}}
+use Rattle.table_access.proofs.{Answered.{first_has, pair_shown}, Members.{has_pair, has_contains, contains_has}}
 use Rattle.broker_tables.specs.{Schema.{in_results, in_latest, in_checked_results}, Rows.{truth, truth_in, mark_of, IsTruthAt}}
-use Rattle.broker_tables.{specs.Asking.{HasBrokerTables, CanBeAsked}, proofs.AnyTables.{is_answer_of, refused_ends, failed_since_query}}
+use Rattle.broker_tables.{specs.Asking.{HasBrokerTables, CanBeAsked}, proofs.AnyTables.{is_answer_of, refused_ends, failed_since_query, nothing_in, any_kept}}
 use Rattle.broker_tables.proofs.{Listed.{read_has, has_read}, VersionRows.{whole_test}}
 use Rattle.contract_tables.specs.{declared.version_results.ContentPass.{ContentPass}, declared.version_results.LatestResult.{LatestResult}}
 use Rattle.contract_tables.specs.{Verified.{PassCells, pass_cells, pass_of}, VersionResults.{IsOfItsPair, IsPassRow, ReadsAsLatest, FailsAsLatest, marked}}
 use Rattle.contract_tables.specs.LatestRows.{AreEqual, NamesFor, NamesResult, IsResultOf, IsSoundPair, IsPassIn, IsMarkedChecked, NamesChecked, IsCheckedFor, NamesPass, ArePassesIn, AreLatestIn, IsUnsoundFor, FailsAsListed, IsMarkedOf}
 use Rattle.contract_tables.proofs.{ItemLists.{and_tests, last_test}, JoinRows.{pair_shown as shows_pair}, VersionResults.{passes_project, marks_project, order}}
-use Rattle.contract_tables.proofs.AnyTexts.{given_to, pair_terms, version_terms, pair_sql, passes_sql, marks_sql, checked_sql, pair_params, one_param, pair_asks, passes_asks, marks_asks, checked_asks, checked_terms, is_strict}
+use Rattle.contract_tables.proofs.AnyTexts.{given_to, pair_terms, version_terms, pair_sql, passes_sql, marks_sql, checked_sql, pair_params, one_param, pair_asks, passes_asks, marks_asks, checked_asks, is_strict}
 
 -- ---- what ON and WHERE test
 
@@ -77,10 +75,6 @@ sound_reads params l r s = (
   ((omega arith, s.3.0.1), (omega arith, s.3.1.1), s.3.2),
 )
 
-nothing_in : (xs : List Row) → slice_get xs 0 ≡ None → (x : Row) → Has xs x → ⊥
-nothing_in [] none x has = has
-nothing_in (y ∷ xs) none x has = absurd cc
-
 -- ---- the latest result for a content and a version
 
 module _ (c n : ℕ) (old new : State) (h : HasBrokerTables old.now.schema) (rows : List Row) (shown : Shown pair_sql (pair_params c n) old new rows) where
@@ -127,25 +121,9 @@ module _ (c n : ℕ) (old new : State) (h : HasBrokerTables old.now.schema) (row
 
 module _ (n : ℕ) (old new : State) (h : HasBrokerTables old.now.schema) (rows : List Row) (shown : Shown checked_sql (one_param n) old new rows) where
   pub checked_shown : (has : Bool) → has ≡ is_some (slice_get rows 0) → IsTrue has ↔ IsMarkedChecked n old.now
-  checked_shown has is = go has (slice_get rows 0) refl is
-    where
-      marked_row : (row : Row) → slice_get rows 0 ≡ Some row → IsMarkedChecked n old.now
-      marked_row row head =
-          let asks = checked_asks old.now.schema h n in
-          let it = shown_of checked_sql (one_param n) old new in_checked_results.tree checked_terms _ _ _ asks.means rows row shown (first_has rows row head) in
-          (it.0, it.1, ((last_test (λ t. t, λ t. t)).0 it.2))
-
-      shows_mark : IsMarkedChecked n old.now → (row : Row) × Has rows row
-      shows_mark mark =
-          let asks = checked_asks old.now.schema h n in
-          let kept : keeps checked_terms (one_param n) mark.0 ≡ true = (last_test (λ t. t, λ t. t)).1 mark.2 in
-          let here = has_map (shows (col 1 0 ∷ []) (one_param n)) _ mark.0 (has_filter (keeps checked_terms (one_param n)) (old.now.trees in_checked_results.tree) mark.0 mark.1 kept) in
-          (shows (col 1 0 ∷ []) (one_param n) mark.0, contains_has rows _ (Contains-permutation _ rows _ (selects checked_sql (one_param n) old new in_checked_results.tree checked_terms _ _ _ asks.means rows shown) (has_contains _ _ here)))
-
-      go : (b : Bool) (o : Option Row) → slice_get rows 0 ≡ o → b ≡ is_some o → IsTrue b ↔ IsMarkedChecked n old.now
-      go true (Some row) head is = (λ t. marked_row row head, λ m. refl)
-      go false None head is = (λ t. absurd cc, λ m. let it = shows_mark m in absurd (nothing_in rows head it.0 it.1))
-      go _ _ head is = absurd cc
+  checked_shown has is =
+      let any = any_kept old new (checked_asks old.now.schema h n) rows shown has is in
+      (λ t. let it = any.0 t in (it.0, it.1, (last_test (λ t. t, λ t. t)).0 it.2), λ mark. any.1 (mark.0, mark.1, (last_test (λ t. t, λ t. t)).1 mark.2))
 
 -- ---- the latest results of a version
 

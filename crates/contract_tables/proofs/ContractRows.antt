@@ -21,7 +21,8 @@ use Rattle.broker_tables.proofs.{Orders.{marked_total, exact_marked, exact_texts
 use Rattle.broker_tables.proofs.{NumberLemmas.{number_ties, version_unknown}, Placed.{at_contracts, numbered_in, texts_in, wholes_in}, References.{leads}}
 use Rattle.broker_tables.proofs.{Asked.{Asked, IsShown}, Inserted.{EndsFrom, Adds, held_added, adds_ends, added, version_there, pacticipant_there}}
 use Rattle.contract_tables.specs.{Verified.{AddsContract}, declared.listings.Contract.{Contract}, Listings.{contract_cmp, IsContractRow, IsConsumerRow}}
-use Rattle.contract_tables.proofs.{ReferredRows.{number_there, has_content}, ItemLists.{and_tests, last_test, last_text, first_less, list_rows, list_pairs}}
+use Rattle.contract_tables.proofs.ReferredRows.{number_there, has_content}
+use Rattle.contract_tables.proofs.ItemLists.{and_tests, last_test, last_text, first_less, answers_of, list_rows, list_pairs}
 
 abbrev pub key : Row → ℤ × List ℕ
 key r = (whole_at in_contracts.version_number r, text in_contracts.provider r)
@@ -151,7 +152,7 @@ module _ (db : Database) (s : Broker) (held : Holds db s) (content : ℕ) (p : W
 
   pub users_listed : (rows : List Row) (items : List Version) → IsShown (users content p) db rows → AreRead IsConsumerRow rows items → Lists version_cmp IsUser items
   users_listed = list_pairs db IsConsumerRow version_cmp IsUser exact_pair (λ w. (w.pacticipant, w.name))
-      (λ x y less. less) (users content p) IsKept (contracts_numbered db held.broker) (versions_numbered db held.broker) joined (record {
+      (λ x y less. less) (answers_of (users content p) db) IsKept (contracts_numbered db held.broker) (versions_numbered db held.broker) joined (record {
         key = λ q. (text in_versions.pacticipant q.1, text in_versions.version q.1);
         sorted = λ a b one two.
             let last = last_text (column a.1 in_versions.version) (column b.1 in_versions.version) (text in_versions.version a.1) (text in_versions.version b.1)

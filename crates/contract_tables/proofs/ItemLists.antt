@@ -4,7 +4,7 @@ use Rattle.std.specs.Cmp.{Equal-is, eq_by_cmp_equiv, int_cmp_total}
 use Rattle.std.proofs.Common.{◌≡◌, ◌==◌, ℕ, ℤ, pos, List, [], ◌∷◌, Bool, true, false, true≢false, cond, nat_lt, filter, ◌&&◌, refl, sym, ap, ◌∙◌, Ordering, Less, Equal, Greater}
 use Rattle.std.proofs.lemmas.Bool.{and_from, false_from_ne_true}
 use Rattle.sqlite.specs.{Tree.{IsAscending}, declared.types.Value.{Value}, declared.types.Value.TheVariants.{Int, Text}, Order.{Row, value_cmp}}
-use Rattle.sqlite.specs.{Term.{Term, eval_all}, Effect.{Database}}
+use Rattle.sqlite.specs.{Term.{Term, eval_all}, Effect.{Database, Answers}, Query.{Query}}
 use Rattle.sqlite_value.{specs.declared.keys.Key.{Key}, proofs.OrderLemmas.{value_cmp-Int, value_cmp-Text, then-Equal}}
 use Rattle.sqlite_rules.specs.Lists.{Has}
 use Rattle.sqlite_keyed.proofs.{ListLemmas.{ascending-filter}, RuleLemmas.{first_of_both, second_of_both}}
@@ -78,11 +78,15 @@ module _ {M Y K : Type 0} {project : List Term} {order : List (Term × Key)} {re
       → reads (eval_all project (env a)) x → reads (eval_all project (env b)) y → sorts order env a b ≡ Less → R x y ≡ Less
   less R rises a b x y ha hb ra rb h = rises x y (sym (λ i. S (by.read a x ra i) (by.read b y rb i)) ∙ sym (by.sorted a b (is a ha) (is b hb)) ∙ h)
 
-module _ {Y K : Type 0} {sql : List ℕ} {params : Row} {terms project : List Term} {order : List (Term × Key)} (db : Database) (reads : Row → Y → Type 0)
+-- what is shown of a text is the answer of its query
+pub answers_of : {sql : List ℕ} {params : Row} {query : Query} (asked : Asked sql params query) (db : Database) (rows : List Row) → IsShown asked db rows → Answers db (record { lets = []; body = query }) params rows
+answers_of asked db rows h = h
+
+module _ {Y K : Type 0} {params : Row} {terms project : List Term} {order : List (Term × Key)} (db : Database) (reads : Row → Y → Type 0)
     (R : Y → Y → Ordering) (Q : Y → Type 0) {S : K → K → Ordering} (exact : IsAntisymmetric S) (key_of : Y → K)
     (rises : (x y : Y) → S (key_of x) (key_of y) ≡ Less → R x y ≡ Less) where
   -- of one table: WHERE keeps the rows that meet P
-  pub list_rows : {t : ℕ} (asked : Asked sql params (from_table t terms project order)) (P : Row → Type 0) → IsNumbered (db.trees t)
+  pub list_rows : {t : ℕ} {sql : List ℕ} (asked : Asked sql params (from_table t terms project order)) (P : Row → Type 0) → IsNumbered (db.trees t)
       → ((r : Row) → Has (db.trees t) r → (keeps terms params r ≡ true) ↔ P r)
       → ByKey project order reads Q S key_of (λ r. params ∷ r ∷ []) (λ r. Has (db.trees t) r × P r)
       → (rows : List Row) (items : List Y) → IsShown asked db rows → AreRead reads rows items → Lists R Q items
@@ -95,12 +99,12 @@ module _ {Y K : Type 0} {sql : List ℕ} {params : Row} {terms project : List Te
       (λ x q. let it = by.complete x q in (it.0, has_filter (keeps terms params) (db.trees t) it.0 it.1.0 ((tested it.0 it.1.0).1 it.1.1), it.2))
 
   -- of two: ON and WHERE keep the pairs that meet P
-  pub list_pairs : {t u : ℕ} (asked : Asked sql params (from_both t u terms project order)) (P : Row → Row → Type 0)
+  pub list_pairs : {t u : ℕ} {Shows : List Row → Type 0} (answers : (rows : List Row) → Shows rows → Answers db (record { lets = []; body = from_both t u terms project order }) params rows) (P : Row → Row → Type 0)
       → IsNumbered (db.trees t) → IsNumbered (db.trees u)
       → ((r q : Row) → Has (db.trees t) r → Has (db.trees u) q → (keeps_both terms params r q ≡ true) ↔ P r q)
       → ByKey project order reads Q S key_of (λ (q : Row × Row). params ∷ q.0 ∷ q.1 ∷ []) (λ q. Has (db.trees t) q.0 × Has (db.trees u) q.1 × P q.0 q.1)
-      → (rows : List Row) (items : List Y) → IsShown asked db rows → AreRead reads rows items → Lists R Q items
-  list_pairs {t} {u} asked P one two tested by =
+      → (rows : List Row) (items : List Y) → Shows rows → AreRead reads rows items → Lists R Q items
+  list_pairs {t} {u} answers P one two tested by rows items h =
       let kept = pairs_kept terms params (db.trees t) (db.trees u) in
       let joins = keeps_both terms params in
       let is : (q : Row × Row) → Has kept q → Has (db.trees t) q.0 × Has (db.trees u) q.1 × P q.0 q.1 = λ q has.
@@ -110,4 +114,4 @@ module _ {Y K : Type 0} {sql : List ℕ} {params : Row} {terms project : List Te
       (λ x q.
       let it = by.complete x q in
       let m : Row × Row = it.0 in
-      (m, has_pair joins (db.trees u) (db.trees t) m.0 m.1 it.1.0 it.1.1 ((tested m.0 m.1 it.1.0 it.1.1).1 it.1.2), it.2))
+      (m, has_pair joins (db.trees u) (db.trees t) m.0 m.1 it.1.0 it.1.1 ((tested m.0 m.1 it.1.0 it.1.1).1 it.1.2), it.2)) rows items (answers rows h)

@@ -20,22 +20,23 @@ use Rattle.contract_tables.proofs.ResultLookups.{numbered_rows, count, run_proje
 
 -- ---- the columns of the tables
 
-module _ (db : Database) (s : Broker) (held : Holds db s) (readable : IsReadable s) where
-  abbrev IsLowAt : ℕ → ℕ → Type 0
-  IsLowAt tree place = (r : Row) → Has (db.trees tree) r → (column r place ≡ Int (whole_at place r)) × IsLow (whole_at place r)
+-- each row of a table has a low number at a place
+abbrev pub IsLowAt : Database → ℕ → ℕ → Type 0
+IsLowAt db tree place = (r : Row) → Has (db.trees tree) r → (column r place ≡ Int (whole_at place r)) × IsLow (whole_at place r)
 
-  contract_content : IsLowAt in_contracts.tree in_contracts.content
+module _ (db : Database) (s : Broker) (held : Holds db s) (readable : IsReadable s) where
+  pub contract_content : IsLowAt db in_contracts.tree in_contracts.content
   contract_content r has = let it = contents db held.broker r has in (it, to_content_low db s held readable contracts (listed at_contracts db held.broker) 3 r has it (inr (inr (inl refl))))
 
-  result_number : IsLowAt in_results.tree 0
+  result_number : IsLowAt db in_results.tree 0
   result_number r has = (int_is (column r 0) (at_has _ (db.trees in_results.tree) r (numbered_rows db held.broker).1 has), result_low db s held readable r has)
 
-  result_content : IsLowAt in_results.tree in_results.content
+  result_content : IsLowAt db in_results.tree in_results.content
   result_content r has =
       let it : column r in_results.content ≡ Int (whole_at in_results.content r) = wholes_in at_results db held.broker in_results.content refl r has in
       (it, to_content_low db s held readable results (listed at_results db held.broker) 2 r has it (inl refl))
 
-  result_version : IsLowAt in_results.tree in_results.provider_version
+  result_version : IsLowAt db in_results.tree in_results.provider_version
   result_version r has =
       let it : column r in_results.provider_version ≡ Int (whole_at in_results.provider_version r) = wholes_in at_results db held.broker in_results.provider_version refl r has in
       (it, to_version_low db s held readable results (listed at_results db held.broker) in_results.provider_version r has it (inr (inr (inl refl))))
@@ -44,10 +45,10 @@ module _ (db : Database) (s : Broker) (held : Holds db s) (readable : IsReadable
       → (column r in_results.pass ≡ Int (whole_at in_results.pass r)) × ((n : ℕ) × (whole_at in_results.pass r ≡ pos n) × (n ≤ 1))
   result_pass r has = (wholes_in at_results db held.broker in_results.pass refl r has, pass_low db s held readable r has)
 
-  latest_content : IsLowAt in_latest.tree in_latest.content
+  latest_content : IsLowAt db in_latest.tree in_latest.content
   latest_content r has = let it = latest_contents db held.broker r has in (it, to_content_low db s held readable latest (listed at_latest db held.broker) 1 r has it (inl refl))
 
-  latest_result : IsLowAt in_latest.tree in_latest.result
+  latest_result : IsLowAt db in_latest.tree in_latest.result
   latest_result r has = let it = latest_numbers db held.broker r has in (it, to_result_low db s held readable latest (listed at_latest db held.broker) 3 r has it (inr (inr (inl refl))))
 
 -- ---- contracts

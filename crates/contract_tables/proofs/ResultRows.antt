@@ -1,23 +1,20 @@
 -- The statements on results, on those that the broker checked, and on the latest ones.
-use Rattle.std.specs.{Prelude.{if◌then◌else◌, is_some}, Ordering.{eq_by_cmp, is_eq, int_cmp}, Cmp.{eq_by_cmp_equiv, Equal-is, int_cmp_total}}
+use Rattle.std.specs.{Prelude.{if◌then◌else◌, is_some}, Ordering.{eq_by_cmp, is_eq, int_cmp}, Cmp.{eq_by_cmp_equiv, int_cmp_total}}
 use Rattle.std.proofs.Common.{◌≡◌, ◌+◌, ◌<◌, ◌^◌, arith, IsTrue, map, ℕ, ℤ, pos, codes, List, [], ◌∷◌, Bool, true, false, refl, sym, ap, subst, ◌∙◌, Some, None, Option, Ok}
-use Rattle.std.proofs.{lemmas.Bool.{false_from_ne_true, lt-ltb}, lemmas.List.{length-map}, Math.Bool.{or-false}}
-use Rattle.sqlite.specs.{Tree.{rowid}, Edit.{next_rowid, with_rowid}, Rowids.TheVariants.{Chosen}, declared.types.Value.TheVariants.{Null, Int, Text}}
-use Rattle.sqlite.specs.{Order.{Row, column, value_cmp}, Cast.{cast, cast_row}, Term.{col, lit}, Schema.{Schema}, Effect.{Database}, State.{State, Executes}}
+use Rattle.std.proofs.{lemmas.Bool.{false_from_ne_true, lt-ltb}, lemmas.List.{length-map}}
+use Rattle.sqlite.specs.{Tree.{rowid}, Edit.{with_rowid}, Rowids.TheVariants.{Chosen}, declared.types.Value.TheVariants.{Null, Int, Text}}
+use Rattle.sqlite.specs.{Order.{Row, column, value_cmp}, Cast.{cast, cast_row}, Term.{col, lit}, Effect.{Database}, State.{State, Executes}}
 use Rattle.sqlite.specs.Listing.{understood}
 use Rattle.sqlite_sql.specs.Ops.{binary}
-use Rattle.sqlite_rules.{specs.{Lists.{Has}, Steps.{PassAlone}, Edit.{is_taken}, Keys.{conflicts}}, proofs.ListLemmas.{some_has, some_from}}
-use Rattle.sqlite_rules.proofs.TableLemmas.{int_is}
+use Rattle.sqlite_rules.{specs.{Lists.{Has}, Steps.{PassAlone}, Edit.{is_taken}}, proofs.{ListLemmas.{some_has, some_from}, TableLemmas.{int_is}}}
 use Rattle.sqlite_value.{specs.Keys.{plain}, proofs.OrderLemmas.{value_cmp-Int}}
-use Rattle.sqlite_schema.specs.Rules.{agree}
 use Rattle.sqlite_tied.specs.Compute.{everything}
-use Rattle.table_access.{specs.{Columns.{whole_at, by_both}, Sound.{IsNumbered}}, proofs.{Values.{cast_null, cast_int}, Changes.{upserts_at}, Keys.{agrees}}}
-use Rattle.table_access.proofs.{SoundLemmas.{at_has}, Storable.{IsShortRow}}
+use Rattle.table_access.{specs.{Columns.{whole_at}, Sound.{IsNumbered}}, proofs.{Values.{cast_null, cast_int}, SoundLemmas.{at_has}, Storable.{IsShortRow}}}
 use Rattle.broker_tables.specs.{Schema.{in_results, in_latest, in_checked_results}, Rows.{stands_at}, Holds.{IsBroker, result_in, result_of}}
-use Rattle.broker_tables.{specs.Refusals.{AreShort}, proofs.Orders.{numbers_total, exact_numbers}}
+use Rattle.broker_tables.specs.Refusals.{AreShort}
 use Rattle.broker_tables.proofs.Placed.{results, at_results, checked_results, at_checked_results, latest, at_latest, numbered_in, wholes_in}
 use Rattle.broker_tables.proofs.{References.{leads}, Inserted.{EndsFrom, EndsOnly, Puts, inserted, insert_ends, next_counted, pacticipant_there, version_there}}
-use Rattle.broker_tables.proofs.{Keyed.{keys_of, latest_by_key}, Upserted.{PutsOver, upserted, upsert_grows, upsert_ends}}
+use Rattle.broker_tables.proofs.{Keyed.{latest_by_key}, Upserted.{PutsOver, PutsAt, put_at, set_at, upsert_ends}}
 use Rattle.contract_tables.specs.Verified.{run_value, result_row, AllowsResult, AllowsMark, AllowsPoint, PutsRow, Points, texts_of}
 use Rattle.contract_tables.proofs.{ReferredRows.{number_there, has_content, has_owner}, ResultLookups.{numbered_rows, marked_rows, run_free}}
 use Rattle.sqlite.specs.Kind.TheVariants as kind
@@ -173,6 +170,7 @@ point_puts c v n = record {
   placed = λ v more. refl;
   typed = λ z next. refl;
   keys = refl;
+  met = λ made r. refl;
   no_rowid = refl;
   no_first = λ v w r. refl;
   alone = refl;
@@ -180,41 +178,21 @@ point_puts c v n = record {
   stored = λ i. cast_int (pos c) i ∷ cast_int (pos v) i ∷ cast_int (pos n) i ∷ [];
 }
 
+pointing : (c v n : ℕ) → PutsAt latest_by_key (whole_at in_latest.result) (Int (pos c) ∷ Int (pos v) ∷ Int (pos n) ∷ []) 3 (col 1 0 ∷ col 1 in_latest.content ∷ col 1 in_latest.provider_version ∷ col 0 7 ∷ []) (Int (pos c) ∷ Int (pos v) ∷ Int (pos n) ∷ []) (pos c, pos v) (pos n)
+pointing c v n = record { keyed = λ id. refl; valued = λ id. refl; cells = λ id. refl; last = Int (pos n) ∷ []; whole = refl; sets = λ z r. refl }
+
 module _ (c v n : ℕ) (old new : State) (broker : IsBroker old.now) where
   abbrev params : Row
   params = Int (pos c) ∷ Int (pos v) ∷ Int (pos n) ∷ []
 
-  abbrev rows : List Row
-  rows = old.now.trees in_latest.tree
-
-  abbrev it : Row
-  it = Int (next_rowid rows) ∷ params
-
-  meets : (r : Row) → Has rows r → conflicts (Some (in_latest.content ∷ in_latest.provider_version ∷ [])) old.now.schema.indexes latest it r ≡ eq_by_cmp (by_both int_cmp int_cmp) (pos c, pos v) (key r)
-  meets r has =
-      ap (λ (s : Schema). conflicts (Some (in_latest.content ∷ in_latest.provider_version ∷ [])) s.indexes latest it r) broker.schema
-      ∙ or-false (agree plain (in_latest.content ∷ in_latest.provider_version ∷ []) r (in_latest.content ∷ in_latest.provider_version ∷ []) it)
-      ∙ agrees latest_by_key.columns.of r it (latest_by_key.columns.typed old.now broker r has) refl
-      ∙ (eq_by_cmp_equiv numbers_total).symm (key r) (pos c, pos v)
-
-  point_set : (r : Row) → Has rows r → conflicts (Some (in_latest.content ∷ in_latest.provider_version ∷ [])) old.now.schema.indexes latest it r ≡ true → column r 0 ∷ column r in_latest.content ∷ column r in_latest.provider_version ∷ Int (pos n) ∷ [] ≡ rowid r ∷ params
-  point_set r has met =
-      let same = exact_numbers (pos c, pos v) (key r) ((Equal-is (by_both int_cmp int_cmp (pos c, pos v) (key r))).0 (sym (meets r has) ∙ met)) in
-      λ i. rowid r ∷ (contents old.now broker r has ∙ ap (λ k. Int k.0) (sym same)) i ∷ (versions old.now broker r has ∙ ap (λ k. Int k.1) (sym same)) i ∷ Int (pos n) ∷ []
-
   pub pointed : (count : ℕ) → Executes point_sql params old new (Ok count) → Points c v n old new
   pointed count h =
-      let done = upserted (point_puts c v n) old new broker point_set count h in
-      let numbered = latest_numbered old.now broker in (
-        done.0,
-        λ d w. upserts_at numbers_total exact_numbers key (whole_at in_latest.result) (Some (in_latest.content ∷ in_latest.provider_version ∷ [])) old.now.schema.indexes latest rows (new.now.trees in_latest.tree) it it (λ r. rowid r ∷ params) (pos c, pos v) (pos n) (keys_of latest_by_key old.now broker) numbered.0
-            meets (refl, refl) (λ r has hit. (refl, refl)) done.1 (pos d, pos w),
-        upsert_grows (point_puts c v n) old new broker point_set done.1,
-      )
+      let done = put_at latest_by_key (point_puts c v n) (pointing c v n) old new broker count h in
+      (done.0, λ d w. done.2 (pos d, pos w), done.1)
 
   -- of what is there it fails only as the store fails
   pub point_ends : AllowsPoint c v n old.now → EndsOnly [] point_sql params old new
   point_ends (content, version, result, room) =
-      upsert_ends (point_puts c v n) old new broker point_set room.0 (λ id. record { typed = refl; present = refl; checked = refl }) (λ id.
+      upsert_ends (point_puts c v n) old new broker (set_at latest_by_key (point_puts c v n) (pointing c v n) old new broker) room.0 (λ id. record { typed = refl; present = refl; checked = refl }) (λ id.
       (number_there _ old.now (id ∷ params) in_latest.content c refl (leads in_latest.content).1 content, (number_there _ old.now (id ∷ params) in_latest.provider_version v refl (leads in_latest.provider_version).0 version, (number_there _ old.now (id ∷ params) in_latest.result n refl (leads in_latest.result).2 result, tt))))
       [] (λ are. (tt, (tt, (tt, tt)))) (omega arith) (omega arith)

@@ -15,7 +15,7 @@ use Rattle.broker_tables.{specs.{Schema.{in_versions, in_latest}, Rows.{value_at
 use Rattle.broker_tables.proofs.VersionRows.{whole_test, text_test, by_number, version_number, versions_numbered, owners, names, same_version, row_number, find_version, one_row}
 use Rattle.broker_tables.proofs.{Orders.{exact_texts, numbers_total, exact_numbers}, Keyed.{keys_of, latest_by_key}}
 use Rattle.contract_tables.specs.{declared.told_versions.NamedResult.{NamedResult}, ToldVersions.{named_cmp, IsNamedRow}, Verified.{latest_at}}
-use Rattle.contract_tables.proofs.{ItemLists.{and_tests, last_test, last_text, list_pairs}, ResultRows.{key, contents, versions, latest_numbered}}
+use Rattle.contract_tables.proofs.{ItemLists.{and_tests, last_test, last_text, answers_of, list_pairs}, ResultRows.{key, contents, versions, latest_numbered}}
 
 -- a result by what is told of it
 pub told_as : {A B : Type 0} (f : A → B) (o : Option A) (b : B) → option_map f o ≡ Some b → (e : A) × (o ≡ Some e) × (f e ≡ b)
@@ -78,7 +78,7 @@ module _ (db : Database) (s : Broker) (held : Holds db s) (content : ℕ) (p : W
 
   pub verifiers_listed : (rows : List Row) (items : List NamedResult) → IsShown (verifiers content p) db rows → AreRead IsNamedRow rows items → Lists named_cmp Is items
   verifiers_listed = list_pairs db IsNamedRow named_cmp Is exact_texts (λ x. x.name) (λ x y less. less)
-      (verifiers content p) IsKept (latest_numbered db held.broker) (versions_numbered db held.broker) joined (record {
+      (answers_of (verifiers content p) db) IsKept (latest_numbered db held.broker) (versions_numbered db held.broker) joined (record {
         key = λ q. text in_versions.version q.1;
         sorted = λ a b one two. last_text (column a.1 in_versions.version) (column b.1 in_versions.version) (text in_versions.version a.1) (text in_versions.version b.1)
             (names db held.broker a.1 one.1) (names db held.broker b.1 two.1);

@@ -21,7 +21,7 @@ use Rattle.broker_tables.proofs.{VersionRows.{whole_test, one_row, row_number}, 
 use Rattle.contract_tables.specs.VersionResults.{pass_cmp, latest_cmp, IsPassOf, IsLatestOf, said_of, IsPassRow, is_among, marked}
 use Rattle.contract_tables.specs.Verified.{result_with, PassCells, pass_cells, pass_of, Passed, passed_of, passed_as}
 use Rattle.contract_tables.specs.{declared.version_results.ContentPass.{ContentPass}, declared.version_results.LatestResult.{LatestResult}}
-use Rattle.contract_tables.proofs.{ItemLists.{and_tests, last_test, last_number, less_nat, list_pairs}, JoinRows.{pair_shown}}
+use Rattle.contract_tables.proofs.{ItemLists.{and_tests, last_test, last_number, less_nat, answers_of, list_pairs}, JoinRows.{pair_shown}}
 use Rattle.contract_tables.proofs.{LastRow.{latest_pair, latest_with}, Rising.{sorted as in_order}, VerifiedList.{told_as, row_tells, tells_row}}
 use Rattle.contract_tables.proofs.{ResultLookups.{numbered_rows, marked_rows, result_at}, ResultRows.{key, contents, versions, numbers, latest_numbered}}
 
@@ -135,7 +135,7 @@ module _ (db : Database) (s : Broker) (held : Holds db s) (v : Version) (n : ℕ
         → (rows : List Row) (items : List Y) → IsShown asked db rows → AreRead reads rows items → Lists (λ x y. nat_cmp (content x) (content y)) Q items
     list_results asked reads Q content read tells told =
         list_pairs db reads (λ x y. nat_cmp (content x) (content y)) Q int_cmp-IsAntisymmetric (λ x. pos (content x)) (λ x y. less_nat (content x) (content y))
-        asked IsJoined (latest_numbered db held.broker) rising joined (record {
+        (answers_of asked db) IsJoined (latest_numbered db held.broker) rising joined (record {
           key = λ q. whole_at in_latest.content q.0;
           sorted = λ a b one two. last_number (column a.0 in_latest.content) (column b.0 in_latest.content) (whole_at in_latest.content a.0) (whole_at in_latest.content b.0)
               (contents db held.broker a.0 one.0) (contents db held.broker b.0 two.0);

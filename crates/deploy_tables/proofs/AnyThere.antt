@@ -1,21 +1,20 @@
 -- What the statements for an environment ask and show wherever the broker's tables are there, whatever their CHECKs, keys
 -- and references, STRICT or not.
 use Rattle.std.specs.{Prelude.{if◌then◌else◌, is_some, ◌↔◌}, List.{AllZip}}
-use Rattle.std.proofs.Common.{◌≡◌, ◌==◌, ◌∙◌, ℕ, codes, List, [], ◌∷◌, Bool, true, false, IsTrue, Option, Some, None, slice_get, refl, sym, ap, subst, ◌&&◌}
-use Rattle.std.proofs.{lemmas.Bool.{and_from}, lemmas.List.Sorted.{Contains-permutation}}
+use Rattle.std.proofs.Common.{◌≡◌, ◌==◌, ◌∙◌, ℕ, codes, List, [], ◌∷◌, Bool, true, false, IsTrue, Some, None, slice_get, refl, sym, ap, subst, ◌&&◌}
+use Rattle.std.proofs.lemmas.Bool.{and_from}
 use Rattle.sqlite.specs.{declared.types.Value.{Value}, declared.types.Value.TheVariants.{Null, Text}, Order.{Row, column, value_cmp}, Term.{col}, Query.{Query}}
 use Rattle.sqlite.specs.{Table.{Table}, Schema.{Schema}, Collation.TheVariants.{Binary}, State.{State, Shown}, Listing.{understood}}
 use Rattle.sqlite_sql.specs.{declared.ops.BinaryOp.TheVariants.{Compare, Is}, declared.ops.CompareOp.TheVariants.{Eq}, Ops.{binary, is_true}}
 use Rattle.sqlite_schema.specs.declared.schema.Column.{Column}
-use Rattle.sqlite_rules.specs.Lists.{Has}
 use Rattle.sqlite_keyed.proofs.RuleLemmas.{first_of_both, second_of_both}
 use Rattle.sqlite_tied.specs.Compute.{everything}
-use Rattle.table_access.{specs.{Statements.{from_table, keeps, shows}, Reading.{AreRead}}, proofs.{Answered.{first_has, shown_of}, Steps.{selects}}}
-use Rattle.table_access.proofs.{Values.{equal_text}, Members.{has_map, has_filter, has_contains, contains_has}}
+use Rattle.table_access.{specs.{Statements.{from_table}, Reading.{AreRead}}, proofs.Values.{equal_text}}
 use Rattle.broker_core.specs.{declared.answer.DeployedItem.{DeployedItem}, declared.command.Version.{Version}}
 use Rattle.broker_tables.specs.Schema.{broker_schema, texts, numbers, versions, deployed, released, in_versions, in_deployed, in_released}
-use Rattle.broker_tables.{specs.Asking.{HasColumns, HasBrokerTables}, proofs.AnyTables.{laid_out, lays, named_as, set_out, sets_out, AsksOf, is_answer_of}}
-use Rattle.broker_tables.proofs.{Listed.{has_read}, VersionRows.{text_test}}
+use Rattle.broker_tables.specs.Asking.{HasColumns, HasBrokerTables}
+use Rattle.broker_tables.proofs.{AnyTables.{laid_out, lays, named_as, set_out, sets_out, AsksOf, is_answer_of, any_kept}, Listed.{has_read}}
+use Rattle.broker_tables.proofs.VersionRows.{text_test}
 use Rattle.deploy_tables.specs.{Listings.{IsDeployedRow, IsReleasedRow}, AnyThere.{HasNull, EachDeployedIsThere, EachReleasedIsThere}}
 use Rattle.deploy_tables.proofs.{LeftRows.{from_left, goes_with}, VersionRows.{on_number, in_environment}, ContractsThere.{unnumbered_terms}}
 use Rattle.deploy_tables.proofs.DeployedState as deployed_list
@@ -144,26 +143,9 @@ module _ (e : List ℕ) (old new : State) (h : HasBrokerTables old.now.schema) (
   unfolding binary value_cmp lib.Ieee.is_nan lib.Ieee.lt
   is_null = refl
 
-  null_row : Shown null_sql (Text e ∷ []) old new rows → (row : Row) → slice_get rows 0 ≡ Some row → HasNull e old.now
-  null_row shown row head =
-      let it = shown_of null_sql (Text e ∷ []) old new in_deployed.tree unnumbered_terms _ _ _ (null_asks old.now.schema h e).means rows row shown (first_has rows row head) in
-      (it.0, (it.1, equal_text (column it.0 in_deployed.environment) e (first_of_both _ _ it.2)), null_is (column it.0 in_deployed.version_number) (first_of_both _ true (second_of_both _ _ it.2)))
-
-  shows_null : Shown null_sql (Text e ∷ []) old new rows → HasNull e old.now → (row : Row) × Has rows row
-  shows_null shown null =
-      let d = null.0 in
-      let kept : keeps unnumbered_terms (Text e ∷ []) d ≡ true = and_from _ _ (in_there d null.1.1) (ap (λ b. b && true) (subst (λ v. is_true (binary (Is Binary) v Null) ≡ true) (sym null.2) is_null)) in
-      let here = has_map (shows (col 1 in_deployed.environment ∷ []) (Text e ∷ [])) _ d (has_filter (keeps unnumbered_terms (Text e ∷ [])) (old.now.trees in_deployed.tree) d null.1.0 kept) in
-      (shows (col 1 in_deployed.environment ∷ []) (Text e ∷ []) d, contains_has rows _ (Contains-permutation _ rows _ (selects null_sql (Text e ∷ []) old new in_deployed.tree unnumbered_terms _ _ _ (null_asks old.now.schema h e).means rows shown) (has_contains _ _ here)))
-
-  nothing_in : (xs : List Row) → slice_get xs 0 ≡ None → (x : Row) → Has xs x → ⊥
-  nothing_in [] none x has = has
-  nothing_in (y ∷ xs) none x has = absurd cc
-
   pub null_shown : (has : Bool) → Shown null_sql (Text e ∷ []) old new rows → has ≡ is_some (slice_get rows 0) → IsTrue has ↔ HasNull e old.now
-  null_shown has shown is = go has (slice_get rows 0) refl is
-    where
-      go : (b : Bool) (o : Option Row) → slice_get rows 0 ≡ o → b ≡ is_some o → IsTrue b ↔ HasNull e old.now
-      go true (Some row) head is = (λ t. null_row shown row head, λ m. refl)
-      go false None head is = (λ t. absurd cc, λ m. let it = shows_null shown m in absurd (nothing_in rows head it.0 it.1))
-      go _ _ head is = absurd cc
+  null_shown has shown is =
+      let any = any_kept old new (null_asks old.now.schema h e) rows shown has is in (
+        λ t. let it = any.0 t in (it.0, (it.1, equal_text (column it.0 in_deployed.environment) e (first_of_both _ _ it.2)), null_is (column it.0 in_deployed.version_number) (first_of_both _ true (second_of_both _ _ it.2))),
+        λ d. any.1 (d.0, d.1.0, and_from _ _ (in_there d.0 d.1.1) (ap (λ b. b && true) (subst (λ v. is_true (binary (Is Binary) v Null) ≡ true) (sym d.2) is_null))),
+      )

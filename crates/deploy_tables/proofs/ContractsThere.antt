@@ -1,23 +1,22 @@
 -- The contracts with a provider of the versions that stand in an environment: rows of deployed and of released, each
 -- joined with the contracts of its version.
-use Rattle.std.specs.{Prelude.{Contains, option_map, ◌↔◌}, Ordering.{int_cmp}}
+use Rattle.std.specs.Prelude.{Contains, ◌↔◌}
 use Rattle.std.proofs.Common.{◌≡◌, ◌++◌, inl, inr, ℕ, ℤ, false, pos, codes, List, [], ◌∷◌, Bool, true, refl, sym, ap, subst, ◌∙◌, Some}
 use Rattle.sqlite_rules.specs.Lists.{Has}
 use Rattle.sqlite_tied.specs.Compute.{everything}
-use Rattle.broker_tables.specs.{Schema.{in_versions, in_contracts, in_deployed, in_released}, Rows.{value_at}, Numbers.{number_of}, Holds.{Holds, IsBroker}}
-use Rattle.broker_tables.proofs.{Asked.{Asked, IsShown, EachShown, of_table}, Orders.{marked_total, exact_marked}}
-use Rattle.broker_tables.proofs.{VersionRows.{whole_test, text_test, all_three, row_number}, References.{refers_version}, Keyed.{contracts_by_key, keys_of}}
+use Rattle.broker_tables.specs.{Schema.{in_versions, in_contracts, in_deployed, in_released}, Numbers.{number_of}, Holds.{Holds, IsBroker}}
+use Rattle.broker_tables.proofs.{Asked.{Asked, IsShown, EachShown, of_table}, VersionRows.{whole_test, text_test, row_number}, References.{refers_version}}
 use Rattle.broker_tables.proofs.Placed.{contracts, at_contracts, listed}
 use Rattle.deploy_tables.specs.declared.contracts_there.NumberedContract.{NumberedContract}
 use Rattle.deploy_tables.{specs.ContractsThere.{IsDeployedIn, IsReleasedIn, TellsContracts, IsNumberedRow}, proofs.DeployedState.{deployed_in}}
 use Rattle.deploy_tables.proofs.{ReleasedRows.{released_in}, VersionRows.{same_pos, Names}, MatrixLoop.{both_ways, both_of}}
-use Rattle.contract_tables.proofs.JoinRows.{pair_of, item_of_pair}
+use Rattle.contract_tables.proofs.{ItemLists.{and_tests, last_test}, JoinRows.{pair_of, item_of_pair}}
 use Rattle.sqlite.specs.{Edit.{id_in}, declared.types.Value.{Value}, declared.types.Value.TheVariants.{Null, Int, Text}, Order.{Row, column, value_cmp}}
 use Rattle.sqlite.specs.{Term.{Term, lit, col, op2}, Collation.TheVariants.{Binary}, Effect.{Database, Answers}, Listing.{understood}}
 use Rattle.sqlite_keyed.proofs.RuleLemmas.{first_of_both, second_of_both}
 use Rattle.sqlite_sql.specs.{declared.ops.BinaryOp.TheVariants.{Compare, Is}, declared.ops.CompareOp.TheVariants.{Eq}, Ops.{binary, is_true}}
-use Rattle.table_access.specs.{Columns.{text, text_cmp, whole_at, by_both}, Statements.{from_both, from_table, keeps_both}, Reading.{AreRead}}
-use Rattle.table_access.proofs.{ReadLemmas.{same_numbers}, Maps.{find_has, has_find}, Members.{pair_has, has_pair}}
+use Rattle.table_access.specs.{Columns.{text, whole_at}, Statements.{from_both, from_table, keeps_both}, Reading.{AreRead}}
+use Rattle.table_access.proofs.Members.{pair_has, has_pair}
 use Rattle.broker_core.specs.{declared.command.Version.{Version}, Text.{Text as Words, version}, State.{State as Broker}, Gate.{Stands}}
 use Rattle.contract_tables.proofs.ContractRows as contract_rows
 use Rattle.deploy_tables.proofs.DeployedRows as deployed_rows
@@ -70,37 +69,25 @@ module _ (db : Database) (s : Broker) (held : Holds db s) (e p : Words) where
   abbrev params : Row
   params = Text e ∷ Text p ∷ []
 
-  -- the row of a contract of a version that has a number
-  contract_row : (w : Version) (n content : ℕ) → number_of s.versions w ≡ Some n → s.contracts (w, p) ≡ Some content → (c : Row) × Has (db.trees in_contracts.tree) c × (whole_at in_contracts.version_number c ≡ pos n) × (text in_contracts.provider c ≡ p) × (whole_at in_contracts.content c ≡ pos content)
-  contract_row w n content known is =
-      let d = find_has marked_total exact_marked contract_rows.key (whole_at in_contracts.content) (pos n, p) (pos content) (db.trees in_contracts.tree) (contract_rows.held_content db s w n p held known ∙ ap (option_map pos) is) in
-      (d.0, d.1, sym (ap (λ k. k.0) d.2), sym (ap (λ k. k.1) d.2), d.3)
-
-  -- and what such a row tells: its version is there
+  -- what a row of a contract tells: its version is there
   row_contract : (c : Row) → Has (db.trees in_contracts.tree) c → text in_contracts.provider c ≡ p → (w : Version) × ((n : ℕ) × (number_of s.versions w ≡ Some n) × (whole_at in_contracts.version_number c ≡ pos n) × ((content : ℕ) → whole_at in_contracts.content c ≡ pos content → s.contracts (w, p) ≡ Some content))
   row_contract c has provider =
       let v = refers_version db held.broker contracts (listed at_contracts db held.broker) in_contracts.version_number (inl refl) c has (contract_rows.numbers db held.broker c has) in
       let it = row_number db held.broker s.versions held.versions v.0 v.1 in
       let w = version (text in_versions.pacticipant v.0) (text in_versions.version v.0) in
       let number : whole_at in_contracts.version_number c ≡ pos it.0 = sym v.2 ∙ it.2 in
-      let place : (pos it.0, p) ≡ contract_rows.key c = (λ i. (sym number i, sym provider i)) in
-      let at : contract_rows.content_at (db.trees in_contracts.tree) it.0 p ≡ Some (whole_at in_contracts.content c) =
-      ap (value_at (by_both int_cmp text_cmp) contract_rows.key (whole_at in_contracts.content) (db.trees in_contracts.tree)) place ∙ has_find marked_total exact_marked contract_rows.key (whole_at in_contracts.content) (db.trees in_contracts.tree) c (keys_of contracts_by_key db held.broker) has in
-      (w, (it.0, it.1, number, λ content value. same_numbers (s.contracts (w, p)) (Some content) (sym (contract_rows.held_content db s w it.0 p held it.1) ∙ at ∙ ap Some value)))
+      (w, (it.0, it.1, number, λ content value. contract_rows.row_content db s held w it.0 it.1 c p content has number provider value))
 
   module _ (t place : ℕ) (Is : Version → Type 0) (names : Names db s t place e Is) where
     abbrev joins : Row → Row → Bool
     joins = keeps_both (terms place) params
 
     -- what ON and WHERE test
-    parts_of : (r c : Row) → Has (db.trees t) r → Has (db.trees in_contracts.tree) c → (joins r c ≡ true) ↔ ((whole_at in_contracts.version_number c ≡ whole_at place r) × (text in_deployed.environment r ≡ e) × (text in_contracts.provider c ≡ p))
+    parts_of : (r c : Row) → Has (db.trees t) r → Has (db.trees in_contracts.tree) c → (joins r c ≡ true) ↔ ((whole_at in_contracts.version_number c ≡ whole_at place r) × ((text in_deployed.environment r ≡ e) × (text in_contracts.provider c ≡ p)))
     parts_of r c hr hc =
-        let one = whole_test (column c in_contracts.version_number) (column r place) (whole_at in_contracts.version_number c) (whole_at place r) (contract_rows.numbers db held.broker c hc)
-        (names.numbers r hr) in
-        let two = text_test (column r in_deployed.environment) (Text e) (text in_deployed.environment r) e (names.environments r hr) refl in
-        let three = text_test (column c in_contracts.provider) (Text p) (text in_contracts.provider c) p (contract_rows.providers db held.broker c hc) refl in
-        let all = all_three (is_true (binary (Compare Eq Binary) (column c in_contracts.version_number) (column r place))) (is_true (binary (Compare Eq Binary) (column r in_deployed.environment) (Text e))) (is_true (binary (Compare Eq Binary) (column c in_contracts.provider) (Text p))) in
-        (λ h. let it = all.0 h in (one.0 it.0, two.0 it.1, three.0 it.2), λ h. all.1 (one.1 h.0, two.1 h.1, three.1 h.2))
+        and_tests (whole_test (column c in_contracts.version_number) (column r place) (whole_at in_contracts.version_number c) (whole_at place r) (contract_rows.numbers db held.broker c hc) (names.numbers r hr))
+        (and_tests (text_test (column r in_deployed.environment) (Text e) (text in_deployed.environment r) e (names.environments r hr) refl)
+        (last_test (text_test (column c in_contracts.provider) (Text p) (text in_contracts.provider c) p (contract_rows.providers db held.broker c hc) refl)))
 
     told : (rows : List Row) (items : List NumberedContract) → Answers db (record { lets = []; body = from_both t in_contracts.tree (terms place) project [] }) params rows → AreRead IsNumberedRow rows items → TellsContracts s p Is items
     told rows items h read x = (
@@ -109,13 +96,13 @@ module _ (db : Database) (s : Broker) (held : Holds db s) (e p : Words) where
           let it = pair_has joins (db.trees in_contracts.tree) (db.trees t) q.0 q.1 in
           let join = (parts_of q.0.0 q.0.1 it.0 it.1).0 it.2 in
           let number : whole_at in_contracts.version_number q.0.1 ≡ pos x.number = ap id_in q.2.0 in
-          let of = row_contract q.0.1 it.1 join.2 in
+          let of = row_contract q.0.1 it.1 join.1.1 in
           let known = of.1.1 ∙ ap Some (same_pos of.1.0 x.number (sym of.1.2 ∙ number)) in
-          (of.0, names.row_is q.0.0 of.0 x.number it.0 join.1 known (sym join.0 ∙ number), known, of.1.3 x.content (ap id_in q.2.1)),
+          (of.0, names.row_is q.0.0 of.0 x.number it.0 join.1.0 known (sym join.0 ∙ number), known, of.1.3 x.content (ap id_in q.2.1)),
       λ is.
           let r = names.is_row is.0 x.number is.2 is.1 in
-          let c = contract_row is.0 x.number x.content is.2 is.3 in
-          let kept = has_pair joins (db.trees in_contracts.tree) (db.trees t) r.0 c.0 r.1 c.1 ((parts_of r.0 c.0 r.1 c.1).1 (c.2 ∙ sym r.3, r.2, c.3)) in
+          let c = contract_rows.content_row db s held is.0 x.number is.2 p x.content is.3 in
+          let kept = has_pair joins (db.trees in_contracts.tree) (db.trees t) r.0 c.0 r.1 c.1 ((parts_of r.0 c.0 r.1 c.1).1 (c.2 ∙ sym r.3, (r.2, c.3))) in
           let y = item_of_pair db params (terms place) project IsNumberedRow rows items read t in_contracts.tree h (r.0, c.0) kept in
           let number : y.0.number ≡ x.number = same_pos y.0.number x.number (sym (ap id_in y.2.0) ∙ c.2) in
           let value : y.0.content ≡ x.content = same_pos y.0.content x.content (sym (ap id_in y.2.1) ∙ c.4) in

@@ -1,21 +1,20 @@
 -- The statements on what is deployed.
-use Rattle.std.specs.{Prelude.{option_map, is_some}, List.{list_any}, Option.{option_map_or}, Ordering.{eq_by_cmp, int_cmp}, Cmp.{eq_by_cmp_equiv, Equal-is}}
+use Rattle.std.specs.{Prelude.{option_map, is_some}, List.{list_any}, Option.{option_map_or}, Ordering.{eq_by_cmp, int_cmp}, Cmp.{Equal-is}}
 use Rattle.std.proofs.Common.{◌≡◌, ℕ, ℤ, pos, codes, List, [], ◌∷◌, true, false, Bool, ◌&&◌, not, filter, nat_lt, Ordering, Option, refl, sym, ap, ◌∙◌, cond, slice_get, Some, None, Ok}
-use Rattle.std.proofs.{Math.Bool.{and-true, and-false, or-true, or-false}, lemmas.List.Folds.{list_all-append}}
-use Rattle.sqlite_schema.specs.Rules.{agree}
+use Rattle.std.proofs.{Math.Bool.{and-true, and-false, or-true}, lemmas.List.Folds.{list_all-append}}
 use Rattle.sqlite_value.specs.Keys.{plain}
 use Rattle.sqlite_catalog.proofs.ListFacts.{filter_all}
 use Rattle.sqlite_tied.specs.Compute.{everything}
 use Rattle.table_access.specs.{Columns.{text, text_cmp, whole_at, by_both}, Statements.{from_table, keeps, ChangesOnly}}
-use Rattle.table_access.proofs.{Keys.{agrees, is_param, keeps_key, whole_key}, CountLemmas.{some_counted, same_any, any_never}, Maps.{has_find}}
-use Rattle.table_access.proofs.{SoundLemmas.{all_of}, Changes.{upserts_at}, Values.{cast_int}}
+use Rattle.table_access.proofs.{Keys.{is_param, keeps_key, whole_key}, CountLemmas.{some_counted, same_any, any_never}, Maps.{has_find}, SoundLemmas.{all_of}}
+use Rattle.table_access.proofs.Values.{cast_int}
 use Rattle.broker_tables.{specs.{Schema.{in_deployed}, Rows.{value_at}, Holds.{IsBroker}}, proofs.Keyed.{deployed_by_place, finds, keys_of}}
 use Rattle.broker_tables.proofs.{Asked.{Asked, IsShown}, Orders.{triples_total, exact_triple}, Standing.{stands_found, takes_at}}
-use Rattle.broker_tables.proofs.{Placed.{deployed, at_deployed, numbered_in, texts_in, wholes_in}, RoomLemmas.{Grows, grows_kept}}
-use Rattle.broker_tables.proofs.{Upserted.{PutsOver, upserted, upsert_grows}, Removed.{TakesFrom, taken_from}}
-use Rattle.sqlite.specs.{Tree.{rowid}, Edit.{next_rowid}, declared.types.Value.TheVariants.{Null, Int, Text}, Order.{Row, column}, Term.{Term, col, lit, holds}}
-use Rattle.sqlite.specs.{Schema.{Schema}, Effect.{Database}, State.{State, Executes}, Listing.{understood}}
-use Rattle.sqlite_rules.specs.{Lists.{Has}, Keys.{conflicts}}
+use Rattle.broker_tables.proofs.{Placed.{deployed, at_deployed, texts_in, wholes_in}, RoomLemmas.{Grows, grows_kept}, Upserted.{PutsOver, PutsAt}}
+use Rattle.broker_tables.proofs.Removed.{TakesFrom, taken_from}
+use Rattle.sqlite.specs.{declared.types.Value.TheVariants.{Null, Int, Text}, Order.{Row, column}, Term.{Term, col, lit, holds}, Effect.{Database}}
+use Rattle.sqlite.specs.{State.{State, Executes}, Listing.{understood}}
+use Rattle.sqlite_rules.specs.Lists.{Has}
 
 -- an environment, a pacticipant and an instance
 abbrev pub Place : Type 0
@@ -85,6 +84,7 @@ recording e p i n = record {
   placed = λ v more. refl;
   typed = λ z next. refl;
   keys = refl;
+  met = λ made r. refl;
   no_rowid = refl;
   no_first = λ v w r. refl;
   alone = refl;
@@ -92,40 +92,8 @@ recording e p i n = record {
   stored = λ j. Text e ∷ Text p ∷ Text i ∷ cast_int (pos n) j ∷ [];
 }
 
-module _ (db : Database) (broker : IsBroker db) (e p i : List ℕ) (n : ℕ) where
-  abbrev there : List Row
-  there = db.trees in_deployed.tree
-
-  abbrev it : Row
-  it = Int (next_rowid there) ∷ row_for e p i n
-
-  -- a row of the table has the key of the new row just where it has its place
-  meets : (r : Row) → Has there r
-      → conflicts (Some (in_deployed.environment ∷ in_deployed.pacticipant ∷ in_deployed.instance ∷ [])) db.schema.indexes deployed it r ≡ eq_by_cmp place_cmp (e, (p, i)) (place_of r)
-  meets r has =
-      ap (λ (s : Schema). conflicts (Some (in_deployed.environment ∷ in_deployed.pacticipant ∷ in_deployed.instance ∷ [])) s.indexes deployed it r) broker.schema ∙ or-false (agree plain (in_deployed.environment ∷ in_deployed.pacticipant ∷ in_deployed.instance ∷ []) r (in_deployed.environment ∷ in_deployed.pacticipant ∷ in_deployed.instance ∷ []) it)
-      ∙ agrees deployed_by_place.columns.of r it (deployed_by_place.columns.typed db broker r has) refl
-      ∙ (eq_by_cmp_equiv triples_total).symm (place_of r) (e, (p, i))
-
-  -- the row of its place gets the number, and keeps its own
-  pub set : (r : Row) → Has there r → conflicts (Some (in_deployed.environment ∷ in_deployed.pacticipant ∷ in_deployed.instance ∷ [])) db.schema.indexes deployed it r ≡ true → column r 0 ∷ column r in_deployed.environment ∷ column r in_deployed.pacticipant ∷ column r in_deployed.instance ∷ Int (pos n) ∷ [] ≡ rowid r ∷ row_for e p i n
-  set r has met =
-      let same = exact_triple (e, (p, i)) (place_of r) ((Equal-is (place_cmp (e, (p, i)) (place_of r))).0 (sym (meets r has) ∙ met)) in
-      λ j. rowid r ∷ (environments db broker r has ∙ ap (λ k. Text k.0) (sym same)) j ∷ (pacticipants db broker r has
-      ∙ ap (λ k. Text k.1.0) (sym same)) j ∷ (instances db broker r has ∙ ap (λ k. Text k.1.1) (sym same)) j ∷ Int (pos n) ∷ []
-
-pub recorded : (e p i : List ℕ) (n : ℕ) (old new : State) (count : ℕ) → IsBroker old.now → Executes record_sql (row_for e p i n) old new (Ok count)
-    → ChangesOnly in_deployed.tree old new × Grows (old.now.trees in_deployed.tree) (new.now.trees in_deployed.tree)
-    × ((q : Place) → number_in (new.now.trees in_deployed.tree) q ≡ cond (eq_by_cmp place_cmp q (e, (p, i))) (Some (pos n)) (number_in (old.now.trees in_deployed.tree) q))
-recorded e p i n old new count broker h =
-    let numbered = numbered_in at_deployed old.now broker in
-    let done = upserted (recording e p i n) old new broker (set old.now broker e p i n) count h in
-    let made = it old.now broker e p i n in (
-      done.0,
-      upsert_grows (recording e p i n) old new broker (set old.now broker e p i n) done.1,
-      upserts_at triples_total exact_triple place_of (whole_at in_deployed.version_number) (Some (in_deployed.environment ∷ in_deployed.pacticipant ∷ in_deployed.instance ∷ [])) old.now.schema.indexes deployed (old.now.trees in_deployed.tree) (new.now.trees in_deployed.tree) made made (λ r. rowid r ∷ row_for e p i n) (e, (p, i)) (pos n) (keys_of deployed_by_place old.now broker) numbered.0
-          (meets old.now broker e p i n) (refl, refl) (λ r has hit. (refl, refl)) done.1,
-    )
+pub deploying : (e p i : List ℕ) (n : ℕ) → PutsAt deployed_by_place (whole_at in_deployed.version_number) (row_for e p i n) 4 update_project (row_for e p i n) (e, (p, i)) (pos n)
+deploying e p i n = record { keyed = λ id. refl; valued = λ id. refl; cells = λ id. refl; last = Int (pos n) ∷ []; whole = refl; sets = λ z r. refl }
 
 -- ---- the end of a deployment
 

@@ -6,23 +6,23 @@ use Rattle.std.proofs.lemmas.Cmp.{int_cmp_total}
 use Rattle.broker_core.specs.{State.{State as Broker}, Machine.{deployed_cmp}, declared.command.Version.{Version}}
 use Rattle.broker_core.specs.{Text.{Text as Words, same_text, same_place, version}, Change.{is_text}, declared.answer.DeployedItem.{DeployedItem}}
 use Rattle.broker_core.{specs.Listing.{Lists}, proofs.{Lists.{some_is}, Judgement.{text_refl}}}
-use Rattle.contract_tables.proofs.ReferredRows.{has_owner}
+use Rattle.contract_tables.proofs.{ItemLists.{list_pairs}, ReferredRows.{has_owner}}
 use Rattle.deploy_tables.specs.Deployments.{MayBeDeployed, RecordsDeployed, IsVersionOf, TakesOutAndTells, FindsNothing, without_instance}
 use Rattle.deploy_tables.specs.{Listings.{IsDeployedRow}, ContractsThere.{IsDeployedIn}}
-use Rattle.deploy_tables.proofs.DeployedRows.{Place, place_of, place_cmp, record_sql, row_for, recording, set, recorded, end_sql, is_number, number_in, at_place, ended, environments, pacticipants, instances, numbers}
-use Rattle.deploy_tables.proofs.VersionRows.{same_pos, joined_by, on_number, in_environment, named_version, still_less, two_texts, tied_texts, Names, has_kept, is_kept, pairs_apart}
+use Rattle.deploy_tables.proofs.DeployedRows.{Place, place_of, place_cmp, record_sql, row_for, recording, deploying, end_sql, is_number, number_in, at_place, ended, environments, pacticipants, instances, numbers}
+use Rattle.deploy_tables.proofs.VersionRows.{same_pos, joined_by, on_number, in_environment, named_version, still_less, two_texts, Names, IsOf, joins}
 use Rattle.deploy_tables.proofs.LeftRows.{from_left, as_join}
 use Rattle.sqlite_typing.specs.Types.{accepts_program}
 use Rattle.broker_tables.specs.{Schema.{in_versions, in_deployed, broker_schema}, Numbers.{number_of}, Holds.{Holds, HoldsAfter}}
-use Rattle.broker_tables.proofs.{VersionRows.{false_if, find_version, row_number, numbered_as}, Listed.{lists_join}, NumberLemmas.{one_version, number_ties}}
-use Rattle.broker_tables.proofs.{Keyed.{deployed_by_place, keys_of}, Frames.{Frame, frame_of, deployed_change}}
-use Rattle.broker_tables.proofs.{Inserted.{EndsFrom, environment_there, pacticipant_there, version_there}, Placed.{deployed, at_deployed, listed}}
-use Rattle.broker_tables.proofs.{RoomLemmas.{Grows, after_one}, Upserted.{upsert_ends}, Orders.{exact_triple, triples_total}}
+use Rattle.broker_tables.proofs.VersionRows.{false_if, find_version, row_number, numbered_as, one_row, versions_numbered}
+use Rattle.broker_tables.proofs.{NumberLemmas.{one_version, number_ties}, Keyed.{deployed_by_place, keys_of}, Frames.{Frame, frame_of, deployed_change}}
+use Rattle.broker_tables.proofs.{Inserted.{EndsFrom, environment_there, pacticipant_there, version_there}, Placed.{deployed, at_deployed, listed, numbered_in}}
+use Rattle.broker_tables.proofs.{RoomLemmas.{Grows, after_one}, Upserted.{put_at, set_at, upsert_ends}, Orders.{exact_pair, exact_triple, triples_total}}
 use Rattle.broker_tables.proofs.{Ties.{two_tests, both_eq, nat_ties}, Asked.{Asked, IsShown}}
 use Rattle.sqlite_rules.specs.Lists.{Has}
 use Rattle.sqlite_tied.specs.Compute.{everything}
 use Rattle.table_access.specs.{Columns.{text, text_cmp, whole_at, by_both}, Sound.{text_in}, Statements.{from_both, ChangesOnly}, Reading.{AreRead}}
-use Rattle.table_access.proofs.Maps.{find_has, has_find}
+use Rattle.table_access.proofs.{Keys.{numbers_once}, Maps.{find_has, has_find}}
 use Rattle.sqlite.specs.{declared.types.Value.TheVariants.{Int, Text}, State.{State, Executes}, Order.{Row}, Term.{Term, col}, Collation.TheVariants.{Binary}}
 use Rattle.sqlite.specs.{Effect.{Database, Answers}, Query.{Query}, Listing.{understood}}
 use Rattle.sqlite_value.specs.{declared.keys.Key.{Key}, Keys.{ascending}}
@@ -74,7 +74,7 @@ place_ties e p i f q j =
 -- the version is deployed there now, in place of what was there
 pub now_deployed : (e p i : Words) (n : ℕ) (old new : State) (s : Broker) → Holds old.now s → (t : Broker) → RecordsDeployed e p i n s t → (count : ℕ) → Executes record_sql (row_for e p i n) old new (Ok count) → HoldsAfter 2 old new t
 now_deployed e p i n old new s held t (v, numbered, owner, next) count h =
-    let it = recorded e p i n old new count held.broker h in
+    let it = put_at deployed_by_place (recording e p i n) (deploying e p i n) old new held.broker count h in
     let frame = frame_of (codes "deployed" ∷ []) in_deployed.tree refl old new held.broker it.0 in
     after_one 2 (omega arith) (codes "deployed") old new _ frame (λ counted. it.1) (subst (Holds new.now) (sym next) (deployed_change old.now new.now s _ held frame (λ f q j.
     ap (option_map Some) (it.2 (f, (q, j))) ∙ go f q j (eq_by_cmp place_cmp (f, (q, j)) (e, (p, i))) refl ∙ ap (λ b. option_map (λ name. option_map pos (number_of s.versions (version q name))) (cond b (Some v.name) (s.deployed (f, q, j)))) (sym (place_ties f q j e p i)))))
@@ -91,7 +91,7 @@ pub deployment_ends : (e p i : Words) (n : ℕ) (old new : State) → EndsFrom (
 deployment_ends e p i n old new s here (there, (v, numbered, owner)) numbers =
     let held = here.held in
     let row = row_for e p i n in
-    upsert_ends (recording e p i n) old new held.broker (set old.now held.broker e p i n) numbers.0 (λ id. record { typed = refl; present = refl; checked = refl }) (λ id. (
+    upsert_ends (recording e p i n) old new held.broker (set_at deployed_by_place (recording e p i n) (deploying e p i n) old new held.broker) numbers.0 (λ id. record { typed = refl; present = refl; checked = refl }) (λ id. (
       environment_there old.now s held (id ∷ row) in_deployed.environment e there refl,
       (pacticipant_there old.now s held (id ∷ row) in_deployed.pacticipant p (subst (λ x. IsTrue (is_some (s.pacticipants x))) owner (has_owner old.now s held v n numbered)) refl, (version_there old.now s held (id ∷ row) in_deployed.version_number v n numbered refl, tt)),
     )) (e ∷ p ∷ i ∷ []) (λ are. (are.0, (are.1.0, (are.1.1.0, (tt, tt))))) (omega arith) (omega arith) here.unlimited
@@ -211,32 +211,28 @@ module _ (db : Database) (s : Broker) (held : Holds db s) (e : Words) where
       (named_version db held.broker in_deployed.tree in_deployed.version_number (environments db held.broker) (numbers db held.broker) e
       deployed (listed at_deployed db held.broker) refl (inr (inr (inl refl)))) h
 
-  joined_listed : (rows : List Row) (items : List DeployedItem) → Answers db (record { lets = []; body = joined_query }) (Text e ∷ []) rows → AreRead IsDeployedRow rows items
-      → Lists deployed_cmp (λ x. s.deployed (e, x.pacticipant, x.instance) ≡ Some x.version) items
-  joined_listed = lists_join db (Text e ∷ []) (joined_by in_deployed.version_number) list_project list_order IsDeployedRow deployed_cmp (λ x. s.deployed (e, x.pacticipant, x.instance) ≡ Some x.version) in_deployed.tree in_versions.tree
-      (pairs_apart db held.broker in_deployed.tree in_deployed.version_number (environments db held.broker) (numbers db held.broker) e triples_total place_of list_order
-      (keys_of deployed_by_place db held.broker) (λ p q hp hq tied.
-      let a = has_kept db held.broker in_deployed.tree in_deployed.version_number (environments db held.broker) (numbers db held.broker) e p hp in
-      let b = has_kept db held.broker in_deployed.tree in_deployed.version_number (environments db held.broker) (numbers db held.broker) e q hq in
-      let owner = pacticipants db held.broker in
-      let instance = instances db held.broker in
-      let same = tied_texts _ _ _ _ _ _ _ _ (owner p.0 a.0) (owner q.0 b.0) (instance p.0 a.0) (instance q.0 b.0) tied in
-      λ i. ((a.2.1 ∙ sym b.2.1) i, same i)))
-      (λ a b x y ha hb ra rb h. still_less (text_cmp x.pacticipant y.pacticipant) (text_cmp x.instance y.instance) (text_cmp x.version y.version)
-      (sym (two_texts _ _ _ _ _ _ _ _ ra.0 rb.0 ra.1 rb.1) ∙ h))
-      (λ q x has read.
-      let it = has_kept db held.broker in_deployed.tree in_deployed.version_number (environments db held.broker) (numbers db held.broker) e q has in
-      let known = row_number db held.broker s.versions held.versions q.1 it.1 in
-      (λ i. s.deployed (e, sym (ap text_in read.0) i, sym (ap text_in read.1) i))
-      ∙ (deployed_of q.0 (version (text in_versions.pacticipant q.1) (text in_versions.version q.1)) known.0 it.0 it.2.1 known.1 (sym it.2.0 ∙ known.2)).1
-      ∙ ap Some (ap text_in read.2))
-      (λ x there.
-      let at = deployed_row x.pacticipant x.instance x.version there in
-      let d = at.2 in
-      let v = find_version db held.broker s.versions (version x.pacticipant x.version) at.0 held.versions at.1 in
-      let kept = is_kept db held.broker in_deployed.tree in_deployed.version_number (environments db held.broker) (numbers db held.broker) e d.0 v.0 d.1 v.1 (v.4 ∙ sym d.5) d.2 in
-      (_, kept, λ y read i. record { pacticipant = (sym (ap text_in read.0) ∙ d.3) i; instance = (sym (ap text_in read.1) ∙ d.4) i; version = (sym (ap text_in read.2) ∙ v.3) i }))
-
   pub deployed_listed : (rows : List Row) (items : List DeployedItem) → IsShown (deployments e) db rows → AreRead IsDeployedRow rows items
       → Lists deployed_cmp (λ x. s.deployed (e, x.pacticipant, x.instance) ≡ Some x.version) items
-  deployed_listed rows items h = joined_listed rows items (deployed_joined rows h)
+  deployed_listed = list_pairs db IsDeployedRow deployed_cmp (λ x. s.deployed (e, x.pacticipant, x.instance) ≡ Some x.version) exact_pair (λ x. (x.pacticipant, x.instance))
+      (λ x y less. still_less (text_cmp x.pacticipant y.pacticipant) (text_cmp x.instance y.instance) (text_cmp x.version y.version) less) deployed_joined
+      (IsOf db held.broker in_deployed.tree in_deployed.version_number (environments db held.broker) (numbers db held.broker) e) (numbered_in at_deployed db held.broker) (versions_numbered db held.broker)
+      (joins db held.broker in_deployed.tree in_deployed.version_number (environments db held.broker) (numbers db held.broker) e) (record {
+        key = λ q. (text in_deployed.pacticipant q.0, text in_deployed.instance q.0);
+        sorted = λ a b one two. two_texts _ _ _ _ _ _ _ _ (pacticipants db held.broker a.0 one.0) (pacticipants db held.broker b.0 two.0) (instances db held.broker a.0 one.0) (instances db held.broker b.0 two.0);
+        one = λ a b one two same.
+            let keyed : place_of a.0 ≡ place_of b.0 = λ i. ((one.2.1 ∙ sym two.2.1) i, same i) in
+            let row = one_row triples_total place_of (db.trees in_deployed.tree) (keys_of deployed_by_place db held.broker) a.0 b.0 one.0 two.0 keyed in
+            let number : whole_at 0 a.1 ≡ whole_at 0 b.1 = one.2.0 ∙ ap (whole_at in_deployed.version_number) row ∙ sym two.2.0 in
+            λ i. (row i, one_row int_cmp_total (whole_at 0) (db.trees in_versions.tree) (numbers_once (db.trees in_versions.tree) (versions_numbered db held.broker)) a.1 b.1 one.1 two.1 number i);
+        read = λ q x read i. (text_in (read.0 i), text_in (read.1 i));
+        sound = λ q x it read.
+            let known = row_number db held.broker s.versions held.versions q.1 it.1 in
+            (λ i. s.deployed (e, sym (ap text_in read.0) i, sym (ap text_in read.1) i))
+            ∙ (deployed_of q.0 (version (text in_versions.pacticipant q.1) (text in_versions.version q.1)) known.0 it.0 it.2.1 known.1 (sym it.2.0 ∙ known.2)).1
+            ∙ ap Some (ap text_in read.2);
+        complete = λ x there.
+            let at = deployed_row x.pacticipant x.instance x.version there in
+            let d = at.2 in
+            let v = find_version db held.broker s.versions (version x.pacticipant x.version) at.0 held.versions at.1 in
+            ((d.0, v.0), (d.1, v.1, (v.4 ∙ sym d.5, d.2)), λ y read i. record { pacticipant = (sym (ap text_in read.0) ∙ d.3) i; instance = (sym (ap text_in read.1) ∙ d.4) i; version = (sym (ap text_in read.2) ∙ v.3) i });
+      })

@@ -1,7 +1,7 @@
 -- Lists that are put together, what is found of each member of a list, and one reading after another.
-use Rattle.std.specs.Prelude.{Contains, ◌↔◌}
-use Rattle.std.proofs.Common.{◌≡◌, ◌<◌, ◌≤◌, ◌+◌, ◌⊎◌, inl, inr, ℕ, zero, suc, List, [], ◌∷◌, ◌++◌, length, take, get_or, refl, sym, subst, ◌∙◌, arith}
-use Rattle.std.proofs.{lemmas.List.{take_more, take_all}, lemmas.List.Elements.{Contains-append_cases, Contains-append_left, Contains-append_right}}
+use Rattle.std.{specs.Prelude.{Contains, ◌↔◌}, proofs.Common.{◌≡◌, ◌<◌, ◌≤◌, ◌+◌, ◌⊎◌, inl, inr, ℕ, List, [], ◌∷◌, ◌++◌, length, take, get_or, sym, subst, ◌∙◌}}
+use Rattle.std.proofs.lemmas.List.{get_or_default, take_more, take_all}
+use Rattle.std.proofs.lemmas.List.Elements.{Contains-append_cases, Contains-append_left, Contains-append_right}
 use Rattle.broker_core.proofs.Lists.{contains_none, contains_cases, contains_here}
 use Rattle.deploy_tables.specs.Matrix.{IsOfSome}
 pub use Rattle.broker_tables.proofs.QueryLemmas.{query_failed, calm_then, both_told, calm_answers, calm_both}
@@ -37,15 +37,10 @@ module _ {C Y : Type 0} (Is : C → Y → Type 0) (cs : List C) where
     λ some. elim ((turn cs at c some.0 low).0 some.1) [ inl old ↦ inl (some.0, old, some.2) | inr new ↦ inr (subst (λ d. Is d x) (new ∙ sym is) some.2) ],
   )
 
-  same_get : (at : ℕ) (ds : List C) (d e : C) → at < length ds → get_or ds at d ≡ get_or ds at e
-  same_get at [] d e low = absurd (omega arith)
-  same_get zero (x ∷ ds) d e low = refl
-  same_get (suc at) (x ∷ ds) d e low = same_get at ds d e (omega arith)
-
   -- the same, where the member is told by its place
   pub of_more_at : (at : ℕ) (d : C) (a more b : List Y) → at < length cs → b ≡ a ++ more → ((x : Y) → Contains a x ↔ IsOfSome (λ c. Is c x) (take at cs)) → ((x : Y) → Contains more x ↔ Is (get_or cs at d) x)
       → (x : Y) → Contains b x ↔ IsOfSome (λ c. Is c x) (take (at + 1) cs)
-  of_more_at at d a more b low grown was here = of_more at (get_or cs at d) a more b low (same_get at cs d (get_or cs at d) low) grown was here
+  of_more_at at d a more b low grown was here = of_more at (get_or cs at d) a more b low (get_or_default cs at d (get_or cs at d) low) grown was here
 
   pub of_all : (at : ℕ) (a : List Y) → length cs ≤ at → ((x : Y) → Contains a x ↔ IsOfSome (λ c. Is c x) (take at cs)) → (x : Y) → Contains a x ↔ IsOfSome (λ c. Is c x) cs
   of_all at a past was x = subst (λ ds. Contains a x ↔ IsOfSome (λ c. Is c x) ds) (take_all at cs past) (was x)

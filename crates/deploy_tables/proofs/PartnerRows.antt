@@ -7,11 +7,11 @@ use Rattle.table_access.{specs.{Columns.{text}, Statements.{from_table, keeps}, 
 use Rattle.broker_tables.{specs.{Schema.{in_deployed}, Numbers.{number_of}, Holds.{Holds}}, proofs.{Asked.{Asked, IsShown}, VersionRows.{text_test}}}
 use Rattle.deploy_tables.specs.{declared.partners.ReleasedNumber.{ReleasedNumber}, ContractsThere.{IsDeployedIn}}
 use Rattle.deploy_tables.{specs.Partners.{ArePartners, AreReleasedNumbers, AreNumbered, number_if}, proofs.DeployedRows.{environments, pacticipants}}
-use Rattle.deploy_tables.proofs.{VersionRows.{same_pos, both_hold, row_of, item_of}, DeployedState.{row_deployed, deployed_row}}
-use Rattle.deploy_tables.proofs.{ReleasedRows.{released_numbered}, MatrixLoop.{both_ways, both_of}}
+use Rattle.deploy_tables.proofs.{VersionRows.{same_pos, row_of, item_of}, DeployedState.{row_deployed, deployed_row}, ReleasedRows.{released_numbered}}
+use Rattle.deploy_tables.proofs.MatrixLoop.{both_ways, both_of}
+use Rattle.contract_tables.proofs.ItemLists.{and_tests, last_test}
 use Rattle.sqlite.specs.{Edit.{id_in}, declared.types.Value.TheVariants.{Int, Text}, Order.{Row, column}, Term.{Term, col}, Effect.{Database}}
-use Rattle.sqlite.specs.{Listing.{understood}, Collation.TheVariants.{Binary}}
-use Rattle.sqlite_sql.specs.{declared.ops.BinaryOp.TheVariants.{Compare}, declared.ops.CompareOp.TheVariants.{Eq}, Ops.{binary, is_true}}
+use Rattle.sqlite.specs.Listing.{understood}
 use Rattle.broker_core.specs.{Text.{Text as Words, same_text, version}, State.{State as Broker}, Gate.{Stands}}
 use Rattle.broker_core.proofs.{Lists.{some_is, Contains-from_filter_map, Contains-filter_map}, Judgement.{text_is, text_refl, when}}
 
@@ -33,10 +33,8 @@ module _ (db : Database) (s : Broker) (held : Holds db s) (e p : Words) where
   is_kept : (r : Row) → Has (db.trees in_deployed.tree) r
       → (keeps by_owner params r ≡ true) ↔ ((text in_deployed.environment r ≡ e) × (text in_deployed.pacticipant r ≡ p))
   is_kept r has =
-      let one = text_test (column r in_deployed.environment) (Text e) (text in_deployed.environment r) e (environments db held.broker r has) refl in
-      let two = text_test (column r in_deployed.pacticipant) (Text p) (text in_deployed.pacticipant r) p (pacticipants db held.broker r has) refl in
-      let all = both_hold (is_true (binary (Compare Eq Binary) (column r in_deployed.environment) (Text e))) (is_true (binary (Compare Eq Binary) (column r in_deployed.pacticipant) (Text p))) in
-      (λ kept. let it = all.0 kept in (one.0 it.0, two.0 it.1), λ same. all.1 (one.1 same.0, two.1 same.1))
+      and_tests (text_test (column r in_deployed.environment) (Text e) (text in_deployed.environment r) e (environments db held.broker r has) refl)
+      (last_test (text_test (column r in_deployed.pacticipant) (Text p) (text in_deployed.pacticipant r) p (pacticipants db held.broker r has) refl))
 
   pub deployed_told : (rows : List Row) (items : List ℕ) → IsShown (numbers_of e p) db rows → AreRead (λ row n. column row 0 ≡ Int (pos n)) rows items → ArePartners s p (IsDeployedIn s e) items
   deployed_told rows items h read n = (

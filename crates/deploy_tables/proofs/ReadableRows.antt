@@ -6,13 +6,12 @@ use Rattle.broker_core.specs.State.{State as Broker}
 use Rattle.broker_tables.specs.{Schema.{in_versions, in_contracts, in_deployed, in_released}, Holds.{Holds}, Readable.{IsReadable, IsNamed}}
 use Rattle.broker_tables.proofs.Asked.{Asked, IsShown, EachShown, EachReads, of_both, of_table, number_reads}
 use Rattle.broker_tables.proofs.Placed.{contracts, at_contracts, deployed, at_deployed, released, at_released, listed, wholes_in}
-use Rattle.broker_tables.proofs.ReadableRows.{IsLow, number_cell, name_cell, to_version_low, to_content_low, version_named, to_pacticipant_named}
-use Rattle.broker_tables.proofs.VersionRows.{owners, names}
+use Rattle.broker_tables.proofs.{ReadableRows.{number_cell, name_cell, to_version_low, version_named, to_pacticipant_named}, VersionRows.{owners, names}}
 use Rattle.deploy_tables.{specs.Listings.{ReadsAsDeployed, ReadsAsReleased}, proofs.{ContractsThere.{of_deployed, of_released}, PartnerRows.{numbers_of}}}
 use Rattle.deploy_tables.proofs.VersionNames.{names_of, name_project}
-use Rattle.sqlite.specs.{declared.types.Value.TheVariants.{Int}, Order.{Row, column}, Term.{Term, col, eval_all}, Query.{Query}, Effect.{Database, Answers}}
+use Rattle.sqlite.specs.{Order.{Row}, Term.{Term, col, eval_all}, Query.{Query}, Effect.{Database, Answers}}
 use Rattle.sqlite_value.specs.declared.keys.Key.{Key}
-use Rattle.contract_tables.specs.Listings.{ReadsAsNumbers, ReadsAsMarked}
+use Rattle.contract_tables.{specs.Listings.{ReadsAsNumbers, ReadsAsMarked}, proofs.ReadableRows.{IsLowAt, contract_content}}
 use Rattle.deploy_tables.proofs.DeployedRows as deployed_rows
 use Rattle.deploy_tables.proofs.DeployedState as deployed_list
 use Rattle.deploy_tables.proofs.ReleasedRows as released_list
@@ -20,8 +19,7 @@ use Rattle.deploy_tables.proofs.ReleasedRows as released_list
 -- ---- the columns of the tables
 
 module _ (db : Database) (s : Broker) (held : Holds db s) (readable : IsReadable s) where
-  deployed_number : (r : Row) → Has (db.trees in_deployed.tree) r
-      → (column r in_deployed.version_number ≡ Int (whole_at in_deployed.version_number r)) × IsLow (whole_at in_deployed.version_number r)
+  deployed_number : IsLowAt db in_deployed.tree in_deployed.version_number
   deployed_number r has =
       let typed = deployed_rows.numbers db held.broker r has in
       (typed, to_version_low db s held readable deployed (listed at_deployed db held.broker) in_deployed.version_number r has typed (inr (inr (inl refl))))
@@ -34,23 +32,15 @@ module _ (db : Database) (s : Broker) (held : Holds db s) (readable : IsReadable
   deployed_instance : (r : Row) → Has (db.trees in_deployed.tree) r → IsUtf8 (text in_deployed.instance r)
   deployed_instance r has = let name = deployed_list.row_deployed db s held (text in_deployed.environment r) r has refl in readable.instances (text in_deployed.environment r) (text in_deployed.pacticipant r) (text in_deployed.instance r) name.0 name.1
 
-  released_number : (r : Row) → Has (db.trees in_released.tree) r
-      → (column r in_released.version_number ≡ Int (whole_at in_released.version_number r)) × IsLow (whole_at in_released.version_number r)
+  released_number : IsLowAt db in_released.tree in_released.version_number
   released_number r has =
       let typed = released_list.numbers db held.broker r has in
       (typed, to_version_low db s held readable released (listed at_released db held.broker) in_released.version_number r has typed (inr (inl refl)))
 
-  contract_version : (r : Row) → Has (db.trees in_contracts.tree) r
-      → (column r in_contracts.version_number ≡ Int (whole_at in_contracts.version_number r)) × IsLow (whole_at in_contracts.version_number r)
+  contract_version : IsLowAt db in_contracts.tree in_contracts.version_number
   contract_version r has =
       let typed = wholes_in at_contracts db held.broker in_contracts.version_number refl r has in
       (typed, to_version_low db s held readable contracts (listed at_contracts db held.broker) in_contracts.version_number r has typed (inl refl))
-
-  contract_content : (r : Row) → Has (db.trees in_contracts.tree) r
-      → (column r in_contracts.content ≡ Int (whole_at in_contracts.content r)) × IsLow (whole_at in_contracts.content r)
-  contract_content r has =
-      let typed = wholes_in at_contracts db held.broker in_contracts.content refl r has in
-      (typed, to_content_low db s held readable contracts (listed at_contracts db held.broker) in_contracts.content r has typed (inr (inr (inl refl))))
 
 -- ---- of a LEFT JOIN that shows what the JOIN shows
 

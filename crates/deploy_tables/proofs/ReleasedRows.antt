@@ -10,21 +10,21 @@ use Rattle.table_access.proofs.{Members.{any_has}, Values.{cast_int}, SoundLemma
 use Rattle.broker_core.specs.{State.{State as Broker}, declared.command.Version.{Version}}
 use Rattle.broker_core.specs.{Text.{Text as Words, version, put_at, same_text, same_pair, same_version}, Listing.{Lists}, Machine.{version_cmp}}
 use Rattle.broker_tables.specs.{Schema.{in_versions, in_released, broker_schema}, Rows.{stands_at}, Numbers.{number_of}, Holds.{Holds, IsBroker, HoldsAfter}}
-use Rattle.broker_tables.proofs.{Asked.{Asked, IsShown, of_table}, Listed.{lists_join}}
-use Rattle.broker_tables.proofs.Inserted.{EndsFrom, Adds, held_added, adds_ends, added, environment_there, version_there}
-use Rattle.broker_tables.proofs.{Keyed.{finds_row, is_free, kept_by, keys_of, released_by_key}, VersionRows.{owners, names, same_version as same_row}}
-use Rattle.broker_tables.proofs.{Orders.{placed_total, exact_placed}, NoVersion.{no_row, no_first}, Frames.{released_change}}
+use Rattle.broker_tables.proofs.{Asked.{Asked, IsShown, of_table}, Inserted.{EndsFrom, Adds, held_added, adds_ends, added, environment_there, version_there}}
+use Rattle.broker_tables.proofs.Keyed.{finds_row, is_free, kept_by, keys_of, released_by_key}
+use Rattle.broker_tables.proofs.VersionRows.{owners, names, one_row, versions_numbered, same_version as same_row}
+use Rattle.broker_tables.proofs.{Orders.{placed_total, exact_placed, exact_pair}, NoVersion.{no_row, no_first}, Frames.{released_change}}
 use Rattle.broker_tables.proofs.{NumberLemmas.{number_ties, version_unknown}, Standing.{stands_set, stands_out}, Ties.{two_tests, both_eq}}
-use Rattle.broker_tables.proofs.{Placed.{released, at_released, listed, texts_in, wholes_in}, Removed.{TakesFrom, held_taken, taken_from}}
+use Rattle.broker_tables.proofs.{Placed.{released, at_released, listed, numbered_in, texts_in, wholes_in}, Removed.{TakesFrom, held_taken, taken_from}}
 use Rattle.sqlite.specs.{Listing.{understood}, Edit.{id_in}, declared.types.Value.TheVariants.{Int, Text, Null}, Order.{Row, column}, Term.{Term, col, lit}}
 use Rattle.sqlite.specs.{Collation.TheVariants.{Binary}, Effect.{Database, Answers}, Query.{Query}, State.{State, Executes}}
 use Rattle.sqlite_keyed.proofs.RuleLemmas.{first_of_both, second_of_both}
 use Rattle.deploy_tables.specs.{Releases.{IsVersion, MayBeReleased, RecordsReleased}, declared.partners.ReleasedNumber.{ReleasedNumber}}
 use Rattle.deploy_tables.specs.{Listings.{IsReleasedRow}, ContractsThere.{IsReleasedIn}, Partners.{IsNumberOfReleased, AreReleasedNumbers}}
-use Rattle.deploy_tables.proofs.VersionRows.{joined_by, on_number, in_environment, named_version, same_pos, two_texts, tied_texts, Names, has_kept, pairs_apart, pair_is, is_pair}
+use Rattle.deploy_tables.proofs.VersionRows.{joined_by, on_number, in_environment, named_version, same_pos, two_texts, Names, IsOf, joins, has_kept, is_kept, pair_is, is_pair}
 use Rattle.deploy_tables.proofs.LeftRows.{from_left, as_join}
 use Rattle.sqlite_typing.specs.Types.{accepts_program}
-use Rattle.contract_tables.proofs.JoinRows.{pair_of, item_of_pair}
+use Rattle.contract_tables.proofs.{ItemLists.{list_pairs}, JoinRows.{pair_of, item_of_pair}}
 use Rattle.sqlite_value.specs.{declared.keys.Key.{Key}, Keys.{ascending}}
 
 abbrev pub list_order : List (Term × Key)
@@ -125,24 +125,23 @@ module _ (db : Database) (s : Broker) (held : Holds db s) (e : Words) where
 
   pub released_listed : (rows : List Row) (items : List Version) → IsShown (releases e) db rows → AreRead IsReleasedRow rows items
       → Lists version_cmp (λ v. IsTrue (s.released (e, v))) items
-  released_listed rows items shown = lists_join db (Text e ∷ []) (joined_by in_released.version_number) list_project list_order IsReleasedRow version_cmp
-      (λ v. IsTrue (s.released (e, v))) in_released.tree in_versions.tree
-      (pairs_apart db held.broker in_released.tree in_released.version_number (environments db held.broker) (numbers db held.broker) e placed_total place_of list_order (keys_of released_by_key db held.broker)
-      (λ p q hp hq tied.
-      let a = has_kept db held.broker in_released.tree in_released.version_number (environments db held.broker) (numbers db held.broker) e p hp in
-      let b = has_kept db held.broker in_released.tree in_released.version_number (environments db held.broker) (numbers db held.broker) e q hq in
-      let same = tied_texts _ _ _ _ _ _ _ _ (owners db held.broker p.1 a.1) (owners db held.broker q.1 b.1) (names db held.broker p.1 a.1)
-      (names db held.broker q.1 b.1) tied in
-      let row = same_row db held.broker p.1 q.1 a.1 b.1 (ap (λ x. x.0) same) (ap (λ x. x.1) same) in
-      λ i. ((a.2.1 ∙ sym b.2.1) i, (sym a.2.0 ∙ ap (whole_at 0) row ∙ b.2.0) i)))
-      (λ a b x y ha hb ra rb h. sym (two_texts _ _ _ _ _ _ _ _ ra.0 rb.0 ra.1 rb.1) ∙ h)
-      (λ q x has read. subst (λ v. IsTrue (s.released (e, v))) (λ i. version (text_in (read.0 i)) (text_in (read.1 i)))
-      (pair_is db s held in_released.tree in_released.version_number e (IsReleasedIn s e) released_in q has).3)
-      (λ x there.
-      let n = released_numbered x there in
-      let q = is_pair db s held in_released.tree in_released.version_number e (IsReleasedIn s e) released_in x n.0 n.1 there in
-      (q.0, q.1, λ y read i. version ((sym (ap text_in read.0) ∙ q.2) i) ((sym (ap text_in read.1) ∙ q.3) i)))
-      rows items (released_joined rows shown)
+  released_listed = list_pairs db IsReleasedRow version_cmp (λ v. IsTrue (s.released (e, v))) exact_pair (λ v. (v.pacticipant, v.name)) (λ x y less. less) released_joined
+      (IsOf db held.broker in_released.tree in_released.version_number (environments db held.broker) (numbers db held.broker) e) (numbered_in at_released db held.broker) (versions_numbered db held.broker)
+      (joins db held.broker in_released.tree in_released.version_number (environments db held.broker) (numbers db held.broker) e) (record {
+        key = λ q. (text in_versions.pacticipant q.1, text in_versions.version q.1);
+        sorted = λ a b one two. two_texts _ _ _ _ _ _ _ _ (owners db held.broker a.1 one.1) (owners db held.broker b.1 two.1) (names db held.broker a.1 one.1) (names db held.broker b.1 two.1);
+        one = λ a b one two same.
+            let row = same_row db held.broker a.1 b.1 one.1 two.1 (ap (λ x. x.0) same) (ap (λ x. x.1) same) in
+            let keyed : place_of a.0 ≡ place_of b.0 = λ i. ((one.2.1 ∙ sym two.2.1) i, (sym one.2.0 ∙ ap (whole_at 0) row ∙ two.2.0) i) in
+            λ i. (one_row placed_total place_of (db.trees in_released.tree) (keys_of released_by_key db held.broker) a.0 b.0 one.0 two.0 keyed i, row i);
+        read = λ q x read i. (text_in (read.0 i), text_in (read.1 i));
+        sound = λ q x it read. subst (λ v. IsTrue (s.released (e, v))) (λ i. version (text_in (read.0 i)) (text_in (read.1 i)))
+            (pair_is db s held in_released.tree in_released.version_number e (IsReleasedIn s e) released_in q it).3;
+        complete = λ x there.
+            let n = released_numbered x there in
+            let q = is_pair db s held in_released.tree in_released.version_number e (IsReleasedIn s e) released_in x n.0 n.1 there in
+            (q.0, q.1, λ y read i. version ((sym (ap text_in read.0) ∙ q.2) i) ((sym (ap text_in read.1) ∙ q.3) i));
+      })
 
   -- ---- with the numbers
 
@@ -151,13 +150,14 @@ module _ (db : Database) (s : Broker) (held : Holds db s) (e : Words) where
     λ c.
         let h = numbers_joined rows shown in
         let q = pair_of db (Text e ∷ []) (joined_by in_released.version_number) number_project IsNumberOfReleased rows items read in_released.tree in_versions.tree h x c in
-        let it = pair_is db s held in_released.tree in_released.version_number e (IsReleasedIn s e) released_in q.0 q.1 in
+        let it = pair_is db s held in_released.tree in_released.version_number e (IsReleasedIn s e) released_in q.0 (has_kept db held.broker in_released.tree in_released.version_number (environments db held.broker) (numbers db held.broker) e q.0 q.1) in
         subst (λ p. (name : Words) × IsReleasedIn s e (version p name) × (number_of s.versions (version p name) ≡ Some x.number)) (ap text_in q.2.1)
         (text in_versions.version q.0.1, it.3, it.1 ∙ ap Some (same_pos it.0 x.number (sym it.2 ∙ ap id_in q.2.0))),
     λ there.
         let h = numbers_joined rows shown in
         let q = is_pair db s held in_released.tree in_released.version_number e (IsReleasedIn s e) released_in (version x.pacticipant there.0) x.number there.2 there.1 in
-        let y = item_of_pair db (Text e ∷ []) (joined_by in_released.version_number) number_project IsNumberOfReleased rows items read in_released.tree in_versions.tree h q.0 q.1 in
+        let y = item_of_pair db (Text e ∷ []) (joined_by in_released.version_number) number_project IsNumberOfReleased rows items read in_released.tree in_versions.tree h q.0
+        (is_kept db held.broker in_released.tree in_released.version_number (environments db held.broker) (numbers db held.broker) e q.0 q.1) in
         let number : y.0.number ≡ x.number = same_pos y.0.number x.number (sym (ap id_in y.2.0) ∙ q.4) in
         let same : y.0 ≡ x = (λ i. record { number = number i; pacticipant = (sym (ap text_in y.2.1) ∙ q.2) i }) in
         subst (Contains items) same y.1,

@@ -1,16 +1,17 @@
 -- The names of a version, by its number.
 use Rattle.std.specs.Prelude.{Contains, ◌↔◌, option_to_list, MatchOption}
 use Rattle.std.proofs.Common.{◌≡◌, ◌∙◌, ℕ, pos, codes, List, [], ◌∷◌, ◌++◌, Option, Some, None, true, refl, sym, ap, subst, length, arith}
-use Rattle.std.proofs.{lemmas.List.Elements.{Contains-append_right}, Math.Bool.{and-true}}
+use Rattle.std.proofs.lemmas.List.Elements.{Contains-append_right}
 use Rattle.sqlite_rules.specs.Lists.{Has}
 use Rattle.sqlite_tied.specs.Compute.{everything}
 use Rattle.broker_core.{specs.{declared.command.Version.{Version}, Text.{version}, State.{State as Broker}}, proofs.Lists.{contains_none, contains_here}}
 use Rattle.broker_tables.{specs.{Schema.{in_versions}, Numbers.{number_of}, Holds.{Holds}}, proofs.{Asked.{Asked, IsShown}, NumberLemmas.{one_version}}}
 use Rattle.broker_tables.proofs.VersionRows.{whole_test, version_number, row_number, find_version}
+use Rattle.contract_tables.proofs.ItemLists.{last_test}
 use Rattle.deploy_tables.{specs.{Listings.{IsReleasedRow}, Releases.{IsVersion, IsOfNumber, FindsVersion}}, proofs.VersionRows.{same_pos, row_of, item_of}}
 use Rattle.sqlite.specs.{declared.types.Value.TheVariants.{Int}, Order.{Row, column}, Term.{Term, col, op2}, Collation.TheVariants.{Binary}, Effect.{Database}}
 use Rattle.sqlite.specs.Listing.{understood}
-use Rattle.sqlite_sql.specs.{declared.ops.BinaryOp.TheVariants.{Compare}, declared.ops.CompareOp.TheVariants.{Eq}, Ops.{binary, is_true}}
+use Rattle.sqlite_sql.specs.{declared.ops.BinaryOp.TheVariants.{Compare}, declared.ops.CompareOp.TheVariants.{Eq}}
 use Rattle.table_access.specs.{Columns.{whole_at}, Sound.{text_in}, Statements.{from_table, keeps}, Reading.{AreRead}}
 
 abbrev by_number : List Term
@@ -29,10 +30,7 @@ module _ (db : Database) (s : Broker) (held : Holds db s) (n : ℕ) where
   params = Int (pos n) ∷ []
 
   is_kept : (r : Row) → Has (db.trees in_versions.tree) r → (keeps by_number params r ≡ true) ↔ (whole_at 0 r ≡ pos n)
-  is_kept r has =
-      let test = whole_test (column r 0) (Int (pos n)) (whole_at 0 r) (pos n) (version_number db held.broker r has) refl in
-      let alone = and-true (is_true (binary (Compare Eq Binary) (column r 0) (Int (pos n)))) in
-      (λ kept. test.0 (sym alone ∙ kept), λ same. alone ∙ test.1 same)
+  is_kept r has = last_test (whole_test (column r 0) (Int (pos n)) (whole_at 0 r) (pos n) (version_number db held.broker r has) refl)
 
   -- the version of this number is listed, and no other
   pub names_told : (rows : List Row) (items : List Version) → IsShown (names_of n) db rows → AreRead IsReleasedRow rows items → (w : Version) → Contains items w ↔ (number_of s.versions w ≡ Some n)

@@ -1,20 +1,20 @@
 -- What is read of the rows that a query shows, in whatever order; and rows of a table that name an environment and a
 -- version, with their JOIN with the versions.
-use Rattle.std.specs.{Prelude.{Contains, ◌↔◌}, Ordering.{ordering_then, eq_by_cmp, is_eq}, Cmp.{IsTotalOrder, int_cmp_total, eq_by_cmp_equiv, Equal-is}}
-use Rattle.std.proofs.Common.{true≢false, ◌≡◌, ◌∙◌, ℕ, pos, codes, List, [], ◌∷◌, Bool, true, false, ◌&&◌, refl, sym, ap, Some, Ordering, Less, Equal, map, filter, subst}
-use Rattle.std.proofs.{lemmas.Bool.{and_parts, and_from}, lemmas.List.Sorted.{Contains-permutation}}
-use Rattle.sqlite_value.{specs.declared.keys.Key.{Key}, proofs.OrderLemmas.{value_cmp-Text, then-Equal}}
+use Rattle.std.specs.{Prelude.{Contains, ◌↔◌}, Ordering.{ordering_then}}
+use Rattle.std.proofs.Common.{◌≡◌, ◌∙◌, ℕ, pos, codes, List, [], ◌∷◌, true, refl, sym, Some, Ordering, Less, Equal, map, filter, subst}
+use Rattle.std.proofs.lemmas.List.Sorted.{Contains-permutation}
+use Rattle.sqlite_value.proofs.OrderLemmas.{value_cmp-Text, then-Equal}
 use Rattle.sqlite_rules.specs.Lists.{Has}
 use Rattle.broker_tables.specs.{Schema.{in_versions, in_deployed, to}, Numbers.{number_of}, Holds.{IsBroker, Holds}}
-use Rattle.broker_tables.proofs.VersionRows.{whole_test, text_test, false_if, row_number, find_version, versions_numbered, version_number}
-use Rattle.broker_tables.proofs.{Listed.{read_has, has_read, sorts}, Orders.{exact_pair}, References.{refers_version}}
+use Rattle.broker_tables.proofs.{VersionRows.{whole_test, text_test, row_number, find_version, version_number}, Listed.{read_has, has_read}}
+use Rattle.broker_tables.proofs.References.{refers_version}
+use Rattle.contract_tables.proofs.ItemLists.{and_tests, last_test}
 use Rattle.sqlite.specs.{declared.types.Value.{Value}, declared.types.Value.TheVariants.{Int, Text}, Order.{Row, column, value_cmp}}
-use Rattle.sqlite.specs.{Term.{Term, col, op2, holds}, Table.{Table}, Tree.{IsAscending}, Collation.TheVariants.{Binary}, Effect.{Database, Answers}}
-use Rattle.sqlite_sql.specs.{declared.ops.BinaryOp.TheVariants.{Compare}, declared.ops.CompareOp.TheVariants.{Eq}, Ops.{binary, is_true}}
+use Rattle.sqlite.specs.{Term.{Term, col, op2, holds}, Table.{Table}, Collation.TheVariants.{Binary}, Effect.{Database, Answers}}
+use Rattle.sqlite_sql.specs.{declared.ops.BinaryOp.TheVariants.{Compare}, declared.ops.CompareOp.TheVariants.{Eq}}
 use Rattle.table_access.specs.{Columns.{text, whole_at, pair_cmp}, Statements.{keeps_both, pairs_kept, from_table, keeps, shows}, Reading.{AreRead}}
-use Rattle.table_access.proofs.Keys.{numbers_once}
-use Rattle.table_access.proofs.Members.{ascending_on, has_pair, pair_has, pairs_rise, contains_has, has_contains, has_map, map_has, has_filter, filter_has}
-use Rattle.table_access.proofs.{Steps.{answered}, Answered.{permuted_has}}
+use Rattle.table_access.proofs.{Members.{has_pair, pair_has, contains_has, has_contains, has_map, map_has, has_filter, filter_has}, Steps.{answered}}
+use Rattle.table_access.proofs.Answered.{permuted_has}
 use Rattle.broker_core.specs.{declared.command.Version.{Version}, Text.{Text as Words, version}, State.{State as Broker}}
 
 module _ {Y : Type 0} (db : Database) (params : Row) (terms project : List Term) (reads : Row → Y → Type 0) (rows : List Row) (items : List Y)
@@ -61,24 +61,12 @@ still_less Less y z h = refl
 still_less Equal Less z h = refl
 still_less _ _ z h = absurd cc
 
--- two tests joined by AND hold just where each of them does
-pub both_hold : (a b : Bool) → ((a && (b && true)) ≡ true) ↔ ((a ≡ true) × (b ≡ true))
-both_hold a b = (λ h. let both = and_parts a _ h in (both.0, (and_parts b true both.1).0), λ h. and_from a _ h.0 (and_from b true h.1 refl))
-
 -- two columns of texts are sorted as the pairs of these texts
 pub two_texts : (x y z w : Value) (a b c d : Words) → x ≡ Text a → y ≡ Text b → z ≡ Text c → w ≡ Text d
     → ordering_then (value_cmp x y) (ordering_then (value_cmp z w) Equal) ≡ pair_cmp (a, c) (b, d)
 two_texts x y z w a b c d one two three four =
     (λ i. ordering_then (value_cmp (one i) (two i)) (then-Equal (value_cmp (three i) (four i)) i))
     ∙ (λ i. ordering_then (value_cmp-Text a b i) (value_cmp-Text c d i))
-
-pub tied_texts : (x y z w : Value) (a b c d : Words) → x ≡ Text a → y ≡ Text b → z ≡ Text c → w ≡ Text d
-    → is_eq (ordering_then (value_cmp x y) (ordering_then (value_cmp z w) Equal)) ≡ true → ◌≡◌ {A = Words × Words} (a, c) (b, d)
-tied_texts x y z w a b c d one two three four tied = exact_pair (a, c) (b, d)
-    ((Equal-is (pair_cmp (a, c) (b, d))).0 (sym (ap is_eq (two_texts x y z w a b c d one two three four)) ∙ tied))
-
-same_apart : {K : Type 0} {R : K → K → Ordering} (o : IsTotalOrder R) (a b : K) → a ≡ b → eq_by_cmp R a b ≡ false → ⊥
-same_apart {R = R} o a b same apart = true≢false (sym (ap (eq_by_cmp R a) (sym same) ∙ (eq_by_cmp_equiv o).refl a) ∙ apart)
 
 -- The rows of the table that name this environment name those versions that are such.
 pub record Names (db : Database) (s : Broker) (t place : ℕ) (e : Words) (Is : Version → Type 0) : Type 0 where
@@ -98,60 +86,46 @@ module _ (db : Database) (broker : IsBroker db) (t place : ℕ) (environments : 
       let v = refers_version db broker table listed place among r (subst (λ n. Has (db.trees n) r) (sym here) has) (numbers r has) in
       (v.0, v.1, (whole_test (column v.0 0) (column r place) (whole_at 0 v.0) (whole_at place r) (version_number db broker v.0 v.1) (numbers r has)).1 v.2)
 
+  -- a row of the environment, and its version
+  abbrev pub IsOf : Row → Row → Type 0
+  IsOf d v = (whole_at 0 v ≡ whole_at place d) × (text in_deployed.environment d ≡ e)
+
   -- what ON and WHERE test
-  joins : (d v : Row) → Has (db.trees t) d → Has (db.trees in_versions.tree) v
-      → (keeps_both (joined_by place) (Text e ∷ []) d v ≡ true) ↔ ((whole_at 0 v ≡ whole_at place d) × (text in_deployed.environment d ≡ e))
+  pub joins : (d v : Row) → Has (db.trees t) d → Has (db.trees in_versions.tree) v → (keeps_both (joined_by place) (Text e ∷ []) d v ≡ true) ↔ IsOf d v
   joins d v hd hv =
-      let one = whole_test (column v 0) (column d place) (whole_at 0 v) (whole_at place d) (version_number db broker v hv) (numbers d hd) in
-      let two = text_test (column d in_deployed.environment) (Text e) (text in_deployed.environment d) e (environments d hd) refl in
-      let all = both_hold (is_true (binary (Compare Eq Binary) (column v 0) (column d place))) (is_true (binary (Compare Eq Binary) (column d in_deployed.environment) (Text e))) in
-      (λ h. let it = all.0 h in (one.0 it.0, two.0 it.1), λ same. all.1 (one.1 same.0, two.1 same.1))
+      and_tests (whole_test (column v 0) (column d place) (whole_at 0 v) (whole_at place d) (version_number db broker v hv) (numbers d hd))
+      (last_test (text_test (column d in_deployed.environment) (Text e) (text in_deployed.environment d) e (environments d hd) refl))
 
   -- the pairs of a row of the environment and its version
   abbrev pub kept : List (Row × Row)
   kept = pairs_kept (joined_by place) (Text e ∷ []) (db.trees t) (db.trees in_versions.tree)
 
-  pub has_kept : (q : Row × Row) → Has kept q
-      → Has (db.trees t) q.0 × Has (db.trees in_versions.tree) q.1 × ((whole_at 0 q.1 ≡ whole_at place q.0) × (text in_deployed.environment q.0 ≡ e))
+  abbrev pub AreJoined : Row × Row → Type 0
+  AreJoined q = Has (db.trees t) q.0 × Has (db.trees in_versions.tree) q.1 × IsOf q.0 q.1
+
+  pub has_kept : (q : Row × Row) → Has kept q → AreJoined q
   has_kept q h =
       let it = pair_has (keeps_both (joined_by place) (Text e ∷ [])) (db.trees in_versions.tree) (db.trees t) q h in
       (it.0, it.1, (joins q.0 q.1 it.0 it.1).0 it.2)
 
-  pub is_kept : (d v : Row) → Has (db.trees t) d → Has (db.trees in_versions.tree) v → whole_at 0 v ≡ whole_at place d → text in_deployed.environment d ≡ e
-      → Has kept (d, v)
-  is_kept d v hd hv same there = has_pair (keeps_both (joined_by place) (Text e ∷ [])) (db.trees in_versions.tree) (db.trees t) d v hd hv ((joins d v hd hv).1 (same, there))
-
-  -- no two pairs tie, if the key of a row follows from that by which they are sorted
-  pub pairs_apart : {K : Type 0} {R : K → K → Ordering} (o : IsTotalOrder R) (key : Row → K) (order : List (Term × Key))
-      → IsAscending (λ a b. eq_by_cmp R (key a) (key b) ≡ false) (db.trees t)
-      → ((p q : Row × Row) → Has kept p → Has kept q → is_eq (sorts order (λ (m : Row × Row). (Text e ∷ []) ∷ m.0 ∷ m.1 ∷ []) p q) ≡ true → key p.0 ≡ key q.0)
-      → IsAscending (λ a b. is_eq (sorts order (λ (m : Row × Row). (Text e ∷ []) ∷ m.0 ∷ m.1 ∷ []) a b) ≡ false) kept
-  pairs_apart o key order keys tie =
-      pairs_rise (keeps_both (joined_by place) (Text e ∷ [])) (db.trees in_versions.tree)
-      (λ a b. is_eq (sorts order (λ (m : Row × Row). (Text e ∷ []) ∷ m.0 ∷ m.1 ∷ []) a b) ≡ false) (db.trees t)
-      (λ r hr. ascending_on _ _ (db.trees in_versions.tree) (λ v w hv hw apart kv kw.
-      absurd (same_apart int_cmp_total (whole_at 0 v) (whole_at 0 w) (((joins r v hr hv).0 kv).0 ∙ sym ((joins r w hr hw).0 kw).0) apart))
-      (numbers_once (db.trees in_versions.tree) (versions_numbered db broker)))
-      (ascending_on _ _ (db.trees t) (λ r q hr hq apart v w hv hw kv kw. false_if _ (λ tied. same_apart o (key r) (key q)
-      (tie (r, v) (q, w) (has_pair (keeps_both (joined_by place) (Text e ∷ [])) (db.trees in_versions.tree) (db.trees t) r v hr hv kv)
-      (has_pair (keeps_both (joined_by place) (Text e ∷ [])) (db.trees in_versions.tree) (db.trees t) q w hq hw kw) tied) apart)) keys)
+  pub is_kept : (q : Row × Row) → AreJoined q → Has kept q
+  is_kept q it = has_pair (keeps_both (joined_by place) (Text e ∷ [])) (db.trees in_versions.tree) (db.trees t) q.0 q.1 it.0 it.1 ((joins q.0 q.1 it.0 it.1).1 it.2)
 
 module _ (db : Database) (s : Broker) (held : Holds db s) (t place : ℕ) (e : Words) (Is : Version → Type 0) (names : Names db s t place e Is) where
   -- each pair is that of a version that is such
-  pub pair_is : (q : Row × Row) → Has (kept db held.broker t place names.environments names.numbers e) q
+  pub pair_is : (q : Row × Row) → AreJoined db held.broker t place names.environments names.numbers e q
       → (k : ℕ) × (number_of s.versions (version (text in_versions.pacticipant q.1) (text in_versions.version q.1)) ≡ Some k) × (whole_at place q.0 ≡ pos k)
       × Is (version (text in_versions.pacticipant q.1) (text in_versions.version q.1))
-  pair_is q has =
-      let it = has_kept db held.broker t place names.environments names.numbers e q has in
+  pair_is q it =
       let known = row_number db held.broker s.versions held.versions q.1 it.1 in
       let number = sym it.2.0 ∙ known.2 in
       (known.0, known.1, number, names.row_is q.0 (version (text in_versions.pacticipant q.1) (text in_versions.version q.1)) known.0 it.0 it.2.1 known.1 number)
 
   -- and each version that is such has a pair
   pub is_pair : (w : Version) (n : ℕ) → number_of s.versions w ≡ Some n → Is w
-      → (q : Row × Row) × Has (kept db held.broker t place names.environments names.numbers e) q
+      → (q : Row × Row) × AreJoined db held.broker t place names.environments names.numbers e q
       × (text in_versions.pacticipant q.1 ≡ w.pacticipant) × (text in_versions.version q.1 ≡ w.name) × (whole_at place q.0 ≡ pos n)
   is_pair w n known is =
       let d = names.is_row w n known is in
       let v = find_version db held.broker s.versions w n held.versions known in
-      ((d.0, v.0), is_kept db held.broker t place names.environments names.numbers e d.0 v.0 d.1 v.1 (v.4 ∙ sym d.3) d.2, v.2, v.3, d.3)
+      ((d.0, v.0), (d.1, v.1, (v.4 ∙ sym d.3, d.2)), v.2, v.3, d.3)
