@@ -1,8 +1,9 @@
 -- Deciding by going through a list.
 use Rattle.std.specs.List.{AllByRecursion}
-use Rattle.std.proofs.Common.{◌≡◌, ◌⊎◌, inl, inr, ◌↔◌, ℕ, ◌+◌, ◌<◌, ◌≤◌, Bool, true, false, List, [], ◌∷◌, ◌++◌, length, drop, get_or, IsTrue, refl, sym, ap, ◌∙◌, subst, true≢false}
-use Rattle.std.proofs.lemmas.List.{drop_more, drop_all}
+use Rattle.std.proofs.Common.{◌≡◌, ◌⊎◌, inl, inr, ◌↔◌, ℕ, ◌+◌, ◌<◌, ◌≤◌, Bool, true, false, List, [], ◌∷◌, ◌++◌, length, drop, get_or, IsTrue, refl, sym, ap, ◌∙◌, subst, ⊎_elim, true≢false}
+use Rattle.std.proofs.lemmas.List.{drop_all}
 use Rattle.pact_rules.specs.Lists.{OneOf, IsIn}
+use Rattle.pact_file.proofs.Lists.{left_at}
 
 pub by_test : {B : Type 0} (b : Bool) → (b ≡ true → B) → (b ≡ false → B) → B
 by_test true is isnt = is refl
@@ -21,10 +22,6 @@ right_of : {P Q : Type 0} → ¬ P → P ⊎ Q → Q
 right_of n (inl p) = absurd (n p)
 right_of n (inr q) = q
 
--- what stands at a index, and behind it
-pub drop_at : {A : Type 0} (xs : List A) (i : ℕ) (x : A) → i < length xs → x ≡ get_or xs i x → drop i xs ≡ x ∷ drop (i + 1) xs
-drop_at xs i x l is = drop_more xs i x l ∙ ap (λ y. y ∷ drop (i + 1) xs) (sym is)
-
 module _ {A : Type 0} (P : A → Type 0) where
   -- ---- one of them
 
@@ -37,15 +34,24 @@ module _ {A : Type 0} (P : A → Type 0) where
   pub one_none : (all left : List A) → left ≡ [] → OneOf P all ↔ OneOf P left → ¬ OneOf P all
   one_none all left is h o = subst (OneOf P) is (h.0 o)
 
-  pub in_one : (xs : List A) → OneOf P xs → (x : A) × IsIn x xs × P x
-  in_one [] o = absurd o
-  in_one (x ∷ xs) (inl p) = (x, inl refl, p)
-  in_one (x ∷ xs) (inr o) = let found = in_one xs o in (found.0, inr found.1, found.2)
-
   pub one_in : (xs : List A) (x : A) → IsIn x xs → P x → OneOf P xs
   one_in [] x i p = absurd i
   one_in (y ∷ ys) x (inl same) p = inl (subst P same p)
   one_in (y ∷ ys) x (inr i) p = inr (one_in ys x i p)
+
+  pub one_between : (front more : List A) (x : A) → P x → OneOf P (front ++ x ∷ more)
+  one_between [] more x p = inl p
+  one_between (y ∷ ys) more x p = inr (one_between ys more x p)
+
+  pub one_more : (front : List A) (x : A) → OneOf P front → OneOf P (front ++ x ∷ [])
+  one_more [] x o = absurd o
+  one_more (y ∷ ys) x o = ⊎_elim inl (λ later. inr (one_more ys x later)) o
+
+  pub one_or_last : (front : List A) (x : A) → OneOf P (front ++ x ∷ []) → OneOf P front ⊎ P x
+  one_or_last [] x (inl p) = inr p
+  one_or_last [] x (inr o) = absurd o
+  one_or_last (y ∷ ys) x (inl p) = inl (inl p)
+  one_or_last (y ∷ ys) x (inr o) = ⊎_elim (λ p. inl (inr p)) inr (one_or_last ys x o)
 
   -- ---- each of them
 
@@ -66,11 +72,6 @@ module _ {A : Type 0} (P : A → Type 0) where
   all_and_last [] x a p = (p, tt)
   all_and_last (y ∷ ys) x a p = (a.0, all_and_last ys x a.1 p)
 
-  pub all_in : (xs : List A) → AllByRecursion P xs → (x : A) → IsIn x xs → P x
-  all_in [] a x i = absurd i
-  all_in (y ∷ ys) a x (inl same) = subst P (sym same) a.0
-  all_in (y ∷ ys) a x (inr i) = all_in ys a.1 x i
-
   pub in_all : (xs : List A) → ((x : A) → IsIn x xs → P x) → AllByRecursion P xs
   in_all [] h = tt
   in_all (x ∷ xs) h = (h x (inl refl), in_all xs (λ y i. h y (inr i)))
@@ -78,19 +79,19 @@ module _ {A : Type 0} (P : A → Type 0) where
   -- ---- at a index
 
   pub one_steps : (xs : List A) (i : ℕ) (x : A) → i < length xs → x ≡ get_or xs i x → ¬ P x → OneOf P xs ↔ OneOf P (drop i xs) → OneOf P xs ↔ OneOf P (drop (i + 1) xs)
-  one_steps xs i x l is n h = one_later xs (drop i xs) (drop (i + 1) xs) x (drop_at xs i x l is) n h
+  one_steps xs i x l is n h = one_later xs (drop i xs) (drop (i + 1) xs) x (left_at xs i x l is) n h
 
   pub one_stops : (xs : List A) (i : ℕ) (x : A) → i < length xs → x ≡ get_or xs i x → P x → OneOf P xs ↔ OneOf P (drop i xs) → OneOf P xs
-  one_stops xs i x l is p h = one_found xs (drop i xs) (drop (i + 1) xs) x (drop_at xs i x l is) p h
+  one_stops xs i x l is p h = one_found xs (drop i xs) (drop (i + 1) xs) x (left_at xs i x l is) p h
 
   pub one_ends : (xs : List A) (i : ℕ) → length xs ≤ i → OneOf P xs ↔ OneOf P (drop i xs) → ¬ OneOf P xs
   one_ends xs i l h = one_none xs (drop i xs) (drop_all i xs l) h
 
   pub all_steps : (xs : List A) (i : ℕ) (x : A) → i < length xs → x ≡ get_or xs i x → P x → AllByRecursion P xs ↔ AllByRecursion P (drop i xs) → AllByRecursion P xs ↔ AllByRecursion P (drop (i + 1) xs)
-  all_steps xs i x l is p h = all_later xs (drop i xs) (drop (i + 1) xs) x (drop_at xs i x l is) p h
+  all_steps xs i x l is p h = all_later xs (drop i xs) (drop (i + 1) xs) x (left_at xs i x l is) p h
 
   pub all_stops : (xs : List A) (i : ℕ) (x : A) → i < length xs → x ≡ get_or xs i x → ¬ P x → AllByRecursion P xs ↔ AllByRecursion P (drop i xs) → ¬ AllByRecursion P xs
-  all_stops xs i x l is n h = all_fails xs (drop i xs) (drop (i + 1) xs) x (drop_at xs i x l is) n h
+  all_stops xs i x l is n h = all_fails xs (drop i xs) (drop (i + 1) xs) x (left_at xs i x l is) n h
 
   pub all_ends : (xs : List A) (i : ℕ) → length xs ≤ i → AllByRecursion P xs ↔ AllByRecursion P (drop i xs) → AllByRecursion P xs
   all_ends xs i l h = all_done xs (drop i xs) (drop_all i xs l) h

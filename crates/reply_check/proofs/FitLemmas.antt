@@ -93,5 +93,4 @@ item_step rules at xs i ts y x lt is expected met =
     ∙ ap (λ n. items_fit rules at xs n rest) (sym (add-one i))
 
 pub no_view : (o : Option (Bor Value)) → ((x : Bor Value) → o ≡ Some x → ⊥) → None ≡ option_map (λ v. view v.now) o
-no_view None none = refl
-no_view (Some x) none = absurd (none x refl)
+no_view o none = ap (option_map (λ (v : Bor Value). view v.now)) (sym (none_of o none))

@@ -2,7 +2,7 @@
 use Rattle.std.specs.{Cmp.Lexicographic.{slice_cmp}, Ordering.{match_ordering}}
 use Rattle.std.proofs.Common.{Ordering, Less, Equal, Greater, is_eq, cond, nat_cmp, option_and_then, slice_get, ◌≡◌, ◌⊎◌, inl, inr, ◌↔◌, ℕ, zero, suc, ◌+◌, Bool, true, false, ◌&&◌, List, [], ◌∷◌, ◌++◌, Option, Some, None, is_some, IsTrue, refl, sym, ap, ◌∙◌, subst, arith, bytes_eq}
 use Rattle.std.proofs.{lemmas.Bool.{and_from, and_parts, false≢true}, lemmas.Slice.Eq.{bytes_eq-Decides}, lemmas.Map.Text.{is_eq-slice_cmp}}
-use Rattle.std.proofs.lemmas.Option.{none-some}
+use Rattle.std.proofs.lemmas.Option.{none-some, same_Some}
 use Rattle.pact_paths.specs.Paths.{Location, key}
 use Rattle.serde_json.specs.Data.{Data, null, boolean, number, string, array, object, Items, no_items, item, Members, no_members, member}
 use Rattle.serde_json.specs.Find.{get_member, get_item}
@@ -41,18 +41,9 @@ same_key k l h = (bytes_eq-Decides k l).0 h
 key_itself : (k : List ℕ) → bytes_eq k k ≡ true
 key_itself k = (bytes_eq-Decides k k).1 refl
 
-value_or : Data → Option Data → Data
-value_or d None = d
-value_or d (Some t) = t
-
-some_alike : (u t : Data) → Some u ≡ Some t → u ≡ t
-unfolding value_or
-some_alike u t h = ap (value_or u) h
-
 by_order : {A : Type 0} (o : Ordering) (x y : A) → match_ordering o x y x ≡ cond (is_eq o) y x
-by_order Less x y = refl
 by_order Equal x y = refl
-by_order Greater x y = refl
+by_order o x y = refl
 
 looked_up : (k l : List ℕ) (u : Data) (fs : Members) → get_member k (member l u fs) ≡ cond (bytes_eq k l) (Some u) (get_member k fs)
 looked_up k l u fs = by_order (slice_cmp nat_cmp k l) (get_member k fs) (Some u) ∙ ap (λ b. cond b (Some u) (get_member k fs)) (is_eq-slice_cmp k l)
@@ -67,7 +58,7 @@ there k l u fs isnt = looked_up k l u fs ∙ rw isnt refl
 found_member : (k : List ℕ) (fs : Members) (t : Data) → get_member k fs ≡ Some t → IsMember fs k t
 found_member k no_members t h = absurd (none-some t h)
 found_member k (member l u fs) t h = by_test (bytes_eq k l)
-    (λ is. inl (sym (same_key k l is), some_alike u t (sym (here k l u fs is) ∙ h)))
+    (λ is. inl (sym (same_key k l is), same_Some u t (sym (here k l u fs is) ∙ h)))
     (λ isnt. inr (found_member k fs t (sym (there k l u fs isnt) ∙ h)))
 
 -- a member is looked up
@@ -99,11 +90,7 @@ so_keys all (member l u fs) gs members keys =
 
 expects_is : (x : Data) (k : List ℕ) (e : Data) → Expects x k e ↔ (get_member k (expected_members x) ≡ Some e)
 expects_is (object fs) k e = (λ h. h, λ h. h)
-expects_is null k e = (λ h. absurd h, λ h. none-some e h)
-expects_is (boolean b) k e = (λ h. absurd h, λ h. none-some e h)
-expects_is (number n) k e = (λ h. absurd h, λ h. none-some e h)
-expects_is (string s) k e = (λ h. absurd h, λ h. none-some e h)
-expects_is (array ts) k e = (λ h. absurd h, λ h. none-some e h)
+expects_is x k e = (λ h. absurd h, λ h. none-some e h)
 
 no_example : {A : Type 0} → ⊥ ⊎ (A × ⊥) → ⊥
 no_example (inl h) = h
@@ -123,11 +110,7 @@ in_example xs i e = go (get_item i xs) refl
 
 example_is : (x : Data) (i : ℕ) (e : Data) → IsExample x i e ↔ (example (expected_items x) i ≡ Some e)
 example_is (array xs) i e = (example_in xs i e, in_example xs i e)
-example_is null i e = (λ h. absurd (no_example h), λ h. absurd (none-some e h))
-example_is (boolean b) i e = (λ h. absurd (no_example h), λ h. absurd (none-some e h))
-example_is (number n) i e = (λ h. absurd (no_example h), λ h. absurd (none-some e h))
-example_is (string s) i e = (λ h. absurd (no_example h), λ h. absurd (none-some e h))
-example_is (object fs) i e = (λ h. absurd (no_example h), λ h. absurd (none-some e h))
+example_is x i e = (λ h. absurd (no_example h), λ h. absurd (none-some e h))
 
 -- ---- the whole
 
@@ -140,10 +123,6 @@ flat_so rules order at x y h no_item no_object no_member =
 
 mutual
   pub fits_so : (rules : Rules) (order : IsInOrder rules.body) (at : Location) (x y : Data) → fits rules at x y ≡ true → Fits rules at x y
-  fits_so rules order at x null h = flat_so rules order at x null h (λ i t found. found) (λ is. is) (λ k t found. found)
-  fits_so rules order at x (boolean b) h = flat_so rules order at x (boolean b) h (λ i t found. found) (λ is. is) (λ k t found. found)
-  fits_so rules order at x (number n) h = flat_so rules order at x (number n) h (λ i t found. found) (λ is. is) (λ k t found. found)
-  fits_so rules order at x (string s) h = flat_so rules order at x (string s) h (λ i t found. found) (λ is. is) (λ k t found. found)
   fits_so rules order at x (array ys) h =
       let both = and_parts (meets_here rules at x (array ys)) (items_fit rules at (expected_items x) 0 ys) h in
       fitting at x (array ys) (meets_so rules order at x (array ys) both.0)
@@ -156,6 +135,7 @@ mutual
       (λ i e t is found. absurd found)
       (λ k e is found. let t = value_of (get_member k gs) (keys_so (expected_members x) gs members.0 k e ((expects_is x k e).0 is)) in (t.0, found_member k gs t.0 t.1))
       (λ k e t is found. members_so rules order at (expected_members x) gs members.1 k e t ((expects_is x k e).0 is) found)
+  fits_so rules order at x y h = flat_so rules order at x y h (λ i t found. found) (λ is. is) (λ k t found. found)
 
   items_so : (rules : Rules) (order : IsInOrder rules.body) (at : Location) (xs : Items) (i : ℕ) (ys : Items) → items_fit rules at xs i ys ≡ true
       → (j p : ℕ) (e t : Data) → p ≡ i + j → example xs p ≡ Some e → get_item j ys ≡ Some t → Fits rules (at ++ paths.item p ∷ []) e t
@@ -164,7 +144,7 @@ mutual
       let here_is : i ≡ p = omega arith in
       let both = and_parts (if_there (example xs i) (λ x. fits rules (at ++ paths.item i ∷ []) x y)) (items_fit rules at xs (suc i) ys) h in
       subst (λ p. Fits rules (at ++ paths.item p ∷ []) e t) here_is
-      (subst (λ t. Fits rules (at ++ paths.item i ∷ []) e t) (some_alike y t found)
+      (subst (λ t. Fits rules (at ++ paths.item i ∷ []) e t) (same_Some y t found)
       (fits_so rules order (at ++ paths.item i ∷ []) e y (sym (ap (λ o. if_there o (λ x. fits rules (at ++ paths.item i ∷ []) x y)) (ap (example xs) here_is ∙ is)) ∙ both.0)))
   items_so rules order at xs i (item y ys) h (suc j) p e t sum is found =
       let both = and_parts (if_there (example xs i) (λ x. fits rules (at ++ paths.item i ∷ []) x y)) (items_fit rules at xs (suc i) ys) h in
@@ -198,10 +178,6 @@ there_so (Some e) test h = h e refl
 
 mutual
   pub so_fits : (rules : Rules) (order : IsInOrder rules.body) (at : Location) (x y : Data) → Fits rules at x y → fits rules at x y ≡ true
-  so_fits rules order at x null h = so_meets rules order at x null (parts_of rules at x null h).meeting
-  so_fits rules order at x (boolean b) h = so_meets rules order at x (boolean b) (parts_of rules at x (boolean b) h).meeting
-  so_fits rules order at x (number n) h = so_meets rules order at x (number n) (parts_of rules at x (number n) h).meeting
-  so_fits rules order at x (string s) h = so_meets rules order at x (string s) (parts_of rules at x (string s) h).meeting
   so_fits rules order at x (array ys) h =
       let p = parts_of rules at x (array ys) h in
       and_from (meets_here rules at x (array ys)) (items_fit rules at (expected_items x) 0 ys) (so_meets rules order at x (array ys) p.meeting)
@@ -214,6 +190,7 @@ mutual
       (so_keys (expected_members x) (expected_members x) gs (λ k t found. member_found k (expected_members x) t found)
       (λ k e is. let t = p.keys k e ((expects_is x k e).1 is) tt in member_found k gs t.0 t.1))
       (so_members rules order at (expected_members x) gs (λ k e t is found. p.members k e t ((expects_is x k e).1 is) found)))
+  so_fits rules order at x y h = so_meets rules order at x y (parts_of rules at x y h).meeting
 
   so_items : (rules : Rules) (order : IsInOrder rules.body) (at : Location) (xs : Items) (i : ℕ) (ys : Items)
       → ((j p : ℕ) (e t : Data) → p ≡ i + j → example xs p ≡ Some e → get_item j ys ≡ Some t → Fits rules (at ++ paths.item p ∷ []) e t) → items_fit rules at xs i ys ≡ true

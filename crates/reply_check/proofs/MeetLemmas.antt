@@ -1,14 +1,14 @@
 -- Replies that meet an interaction.
 use Rattle.std.specs.{List.{list_any, find}, Str.{str_eq_ignore_ascii_case}}
-use Rattle.std.proofs.Common.{◌≡◌, ◌↔◌, ℕ, Bool, true, false, List, [], ◌∷◌, IsTrue, IfOk, codes, option_map, Option, Some, None, Result, Ok, Err, refl, sym, ap, ◌∙◌, subst, ⊎_elim}
+use Rattle.std.proofs.Common.{◌≡◌, ◌↔◌, ℕ, Bool, true, false, cond, List, [], ◌∷◌, IsTrue, IfOk, codes, option_map, Option, Some, None, Result, Ok, Err, refl, sym, ap, ◌∙◌, subst, ⊎_elim}
 use Rattle.std.proofs.{lemmas.Bool.{or_left, or_right}, lemmas.Option.{same_Some}}
 use Rattle.serde_json.specs.Data.{Data}
 use Rattle.pact_rules.specs.{Rules.{Rules, Entry, BodyRule, HeaderRule, is_regex, has_regex}, Tables.{header_entry}}
 use Rattle.pact_rules.{specs.{declared.rule_fault.RuleFault.TheVariants.{Pattern}, Lists.{IsIn}}, proofs.ReadingLemmas.{reading_agrees}}
 use Rattle.pact_file.specs.{Headers.{HasHeaders}, Pact.{Header, Interaction}, Parts.{optional_at, status_in, body_in}, Rules.{TableRead, IsRulesOf}}
-use Rattle.pact_file.proofs.Steps.{ok_same, ok_err}
+use Rattle.pact_file.proofs.{Steps.{ok_same, ok_err}, SetLemmas.{one_such, each_such}}
 use Rattle.reply_check.specs.{Bodies.{MeetsBody}, Meeting.{HasHeader, FitsHeader, Meets}, Recorded.{Reply, status_sent}, Sent.{IsFit, WasSent, WereSent}}
-use Rattle.reply_check.proofs.Deciding.{by_test, in_one, one_in, all_in, in_all}
+use Rattle.reply_check.proofs.Deciding.{one_in, in_all}
 
 -- ---- a response has one table of rules
 
@@ -22,27 +22,21 @@ one_rules response a b h k = one_table (optional_at (codes "matchingRules") resp
 
 -- ---- patterns
 
-find_here : (p : HeaderRule → Bool) (x : HeaderRule) (xs : List HeaderRule) → p x ≡ true → find p (x ∷ xs) ≡ Some x
-find_here p x xs is = rw is refl
+abbrev any_regex : List HeaderRule → Bool
+any_regex hs = list_any (λ (h : HeaderRule). list_any is_regex h.entry.matchers) hs
 
-find_later : (p : HeaderRule → Bool) (x : HeaderRule) (xs : List HeaderRule) → p x ≡ false → find p (x ∷ xs) ≡ find p xs
-find_later p x xs isnt = rw isnt refl
-
-in_headers : (p : HeaderRule → Bool) (hs : List HeaderRule) (e : Entry) → Some e ≡ option_map (λ (h : HeaderRule). h.entry) (find p hs) → list_any is_regex e.matchers ≡ true
-    → list_any (λ (h : HeaderRule). list_any is_regex h.entry.matchers) hs ≡ true
+in_headers : (p : HeaderRule → Bool) (hs : List HeaderRule) (e : Entry) → Some e ≡ option_map (λ (h : HeaderRule). h.entry) (find p hs) → list_any is_regex e.matchers ≡ true → any_regex hs ≡ true
 in_headers p [] e is r = absurd cc
-in_headers p (x ∷ xs) e is r = by_test (p x)
-    (λ yes.
-    let same : e ≡ x.entry = same_Some e x.entry (is ∙ ap (option_map (λ (h : HeaderRule). h.entry)) (find_here p x xs yes)) in
-    or_left (list_any is_regex x.entry.matchers) (list_any (λ (h : HeaderRule). list_any is_regex h.entry.matchers) xs) (ap (λ (e : Entry). list_any is_regex e.matchers) (sym same) ∙ r))
-    (λ no.
-    or_right (list_any is_regex x.entry.matchers) (list_any (λ (h : HeaderRule). list_any is_regex h.entry.matchers) xs)
-    (in_headers p xs e (is ∙ ap (option_map (λ (h : HeaderRule). h.entry)) (find_later p x xs no)) r))
+in_headers p (x ∷ xs) e is r = by (p x) (λ later. in_headers p xs e later r) is where
+  by : (b : Bool) → (Some e ≡ option_map (λ (h : HeaderRule). h.entry) (find p xs) → any_regex xs ≡ true) → Some e ≡ option_map (λ (h : HeaderRule). h.entry) (cond b (Some x) (find p xs))
+      → any_regex (x ∷ xs) ≡ true
+  by true again now = or_left (list_any is_regex x.entry.matchers) (any_regex xs) (ap (λ (e : Entry). list_any is_regex e.matchers) (sym (same_Some e x.entry now)) ∙ r)
+  by false again later = or_right (list_any is_regex x.entry.matchers) (any_regex xs) (again later)
 
 -- a header entry with a pattern is in the table
 pub regex_in_header : (rules : Rules) (name : List ℕ) (e : Entry) → Some e ≡ header_entry rules.headers name → list_any is_regex e.matchers ≡ true → has_regex rules ≡ true
 regex_in_header rules name e is r =
-    or_right (list_any (λ (b : BodyRule). list_any is_regex b.entry.matchers) rules.body) (list_any (λ (h : HeaderRule). list_any is_regex h.entry.matchers) rules.headers)
+    or_right (list_any (λ (b : BodyRule). list_any is_regex b.entry.matchers) rules.body) (any_regex rules.headers)
     (in_headers (λ (h : HeaderRule). str_eq_ignore_ascii_case h.name name) rules.headers e is r)
 
 -- ---- headers
@@ -57,7 +51,7 @@ header_listed response list h has (found, read, i) = has.ordered.kept h (subst (
 sent_so : (rules : Rules) (response : Data) (sent : List Header) (h : Header) → HasHeaders response sent → WasSent rules sent h
     → (value : List ℕ) × HasHeader response (record { name = h.name; value = value }) × FitsHeader rules h value
 sent_so rules response sent h has was =
-    let found = in_one (λ g. IsFit rules h g) sent was in
+    let found = one_such (λ g. IsFit rules h g) sent was in
     let g : Header = found.0 in
     let same : g ≡ record { name = h.name; value = g.value } = λ i. record { name = found.2.0 i; value = g.value } in
     (g.value, subst (HasHeader response) same (listed_header response sent g has found.1), found.2.1)
@@ -85,7 +79,7 @@ module _ (x : Interaction) (r : Reply) (rules : Rules) (expected sent : List Hea
       status = (n, e, s);
       rules = rules;
       has_rules = has_rules;
-      headers = λ h is. sent_so rules r.response sent h has_sent (all_in (λ h. WasSent rules sent h) expected were h (header_listed x.response expected h has_expected is));
+      headers = λ h is. sent_so rules r.response sent h has_sent (each_such (λ h. WasSent rules sent h) expected h were (header_listed x.response expected h has_expected is));
       body = body.0 h;
     },
     λ whole. body.1 (subst (λ t. MeetsBody t (body_in x.response) (body_in r.response)) (one_rules x.response whole.rules rules whole.has_rules has_rules) whole.body),

@@ -22,10 +22,8 @@ unfolding object_of
 file_text bytes d e = let json = bind_ok (json_of bytes) _ d (object_ok as_file_fault (object_of bytes) d e) in json_text bytes json.0 json.1
 
 memory_alone : (e : FileFault) → as_file_fault e ≡ Memory → e ≡ file_fault.Memory
-memory_alone file_fault.NotJson h = absurd cc
-memory_alone (file_fault.Tree f) h = absurd cc
-memory_alone file_fault.NotObject h = absurd cc
 memory_alone file_fault.Memory h = refl
+memory_alone e h = absurd cc
 
 -- what follows of want of memory follows where it is the other fault
 pub memory_as : {A B P : Type 0} (e : FileFault) (fault : RepliesFault) → fault ≡ as_file_fault e → (◌≡◌ {A = Result A FileFault} (Err e) (Err file_fault.Memory) → P) → ◌≡◌ {A = Result B RepliesFault} (Err fault) (Err Memory) → P

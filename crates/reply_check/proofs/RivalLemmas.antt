@@ -5,9 +5,9 @@ use Rattle.std.proofs.Common.{◌≡◌, ◌⊎◌, inl, inr, ◌↔◌, ℕ, �
 use Rattle.std.proofs.{lemmas.Bool.{and_from, and_parts, or_parts, not-true, not-false}, lemmas.List.{take_more, take_all}, lemmas.List.Folds.{list_any-append}}
 use Rattle.std.proofs.{lemmas.Map.Text.{is_eq-slice_cmp}, lemmas.Slice.Eq.{bytes_eq-Decides}}
 use Rattle.serde_json.specs.Written.{compact_text}
-use Rattle.pact_file.{specs.{Pact.{State, states_data}, Sound.{IsSound}}, proofs.OrderedSets.{one_states}}
+use Rattle.pact_file.{specs.{Pact.{State, states_data}, Sound.{IsSound}}, proofs.{Lists.{left_at}, OrderedSets.{one_states}}}
 use Rattle.pact_rules.specs.Lists.{OneOf}
-use Rattle.reply_check.{specs.{Recorded.{Reply}, Replies.{AreRivals, HasRivals}}, proofs.Deciding.{by_test, drop_at, all_and_last}}
+use Rattle.reply_check.{specs.{Recorded.{Reply}, Replies.{AreRivals, HasRivals}}, proofs.Deciding.{by_test, one_between, one_or_last, all_and_last}}
 
 -- the descriptions are equal, and so are the states where their texts are
 pub same_key : (d b t e : List ℕ) (ss ts : List State) (r : Bool) → r ≡ (bytes_eq d b && bytes_eq (compact_text (states_data ss)) t) → b ≡ e → t ≡ compact_text (states_data ts)
@@ -45,33 +45,19 @@ is_rival : (s r : Reply) (k : Key) → IsSoundReply s → IsKeyOf r k → IsTrue
 is_rival s r k g h = same_key s.description k.0.now k.1.now r.description s.states r.states (is_key k s) refl h.description h.states_text g h.sound
 
 eq_then : (o p : Ordering) → is_eq (ordering_then o p) ≡ (is_eq o && is_eq p)
-eq_then Less p = refl
 eq_then Equal p = refl
-eq_then Greater p = refl
+eq_then o p = refl
 
 key_at : (r : Reply) (k q : Key) → IsKeyOf r k → is_at (key_cmp k) q ≡ is_key q r
 key_at r k q h =
     eq_then (slice_cmp nat_cmp k.0.now q.0.now) (slice_cmp nat_cmp k.1.now q.1.now)
     ∙ ap₂ (λ a b. a && b) (is_eq-slice_cmp k.0.now q.0.now ∙ ap (λ d. bytes_eq d q.0.now) h.description) (is_eq-slice_cmp k.1.now q.1.now ∙ ap (λ t. bytes_eq t q.1.now) h.states_text)
 
--- ---- one of them, or the last
-
 last_or : (a b : Bool) → cond a true b ≡ (b || (a || false))
 last_or true true = refl
 last_or true false = refl
 last_or false true = refl
 last_or false false = refl
-
-module _ {A : Type 0} (P : A → Type 0) where
-  one_between : (front more : List A) (x : A) → P x → OneOf P (front ++ x ∷ more)
-  one_between [] more x p = inl p
-  one_between (y ∷ ys) more x p = inr (one_between ys more x p)
-
-  one_or_last : (front : List A) (x : A) → OneOf P (front ++ x ∷ []) → OneOf P front ⊎ P x
-  one_or_last [] x (inl p) = inr p
-  one_or_last [] x (inr o) = absurd o
-  one_or_last (y ∷ ys) x (inl p) = inl (inl p)
-  one_or_last (y ∷ ys) x (inr o) = ⊎_elim (λ p. inl (inr p)) inr (one_or_last ys x o)
 
 -- ---- the keys seen so far
 
@@ -90,8 +76,7 @@ rival_behind (s ∷ ss) more r k g h is = by_test (is_key k s)
     (λ isnt. inr (rival_behind ss more r k g.1 h (sym (ap (λ b. b || list_any (is_key k) ss) isnt) ∙ is)))
 
 still_apart : (front : List Reply) (r : Reply) (k : Key) → AllByRecursion IsSoundReply front → IsKeyOf r k → list_any (is_key k) front ≡ false → ¬ HasRivals front → ¬ HasRivals (front ++ r ∷ [])
-still_apart [] r k g h isnt apart (inl o) = o
-still_apart [] r k g h isnt apart (inr o) = o
+still_apart [] r k g h isnt apart o = ⊎_elim (λ none. none) (λ none. none) o
 still_apart (s ∷ ss) r k g h isnt apart (inl o) =
     ⊎_elim (λ p. apart (inl p)) (λ p. true≢false (sym ((is_rival s r k g.0 h).1 p) ∙ (or_parts (is_key k s) (list_any (is_key k) ss) isnt).0)) (one_or_last (λ t. AreRivals s t) ss r o)
 still_apart (s ∷ ss) r k g h isnt apart (inr o) = still_apart ss r k g.1 h (or_parts (is_key k s) (list_any (is_key k) ss) isnt).1 (λ p. apart (inr p)) o
@@ -100,7 +85,7 @@ module _ (xs : List Reply) (i : ℕ) (r : Reply) (k : Key) (old : BTreeSet Key) 
     (s : AreSeen old (take i xs)) where
   pub rival_found : added ≡ false → HasRivals xs
   rival_found isnt =
-      subst HasRivals (ap (λ ys. take i xs ++ ys) (sym (drop_at xs i r within stands)) ∙ take-append-drop i xs)
+      subst HasRivals (ap (λ ys. take i xs ++ ys) (sym (left_at xs i r within stands)) ∙ take-append-drop i xs)
       (rival_behind (take i xs) (drop (i + 1) xs) r k s.sound h (sym (s.known k) ∙ not-false (contains key_cmp old k) (sym added_is ∙ isnt)))
 
   pub one_seen : (new : BTreeSet Key) → added ≡ true → Updates key_cmp old new k true → AreSeen new (take (i + 1) xs)

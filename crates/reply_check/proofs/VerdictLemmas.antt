@@ -2,10 +2,10 @@
 use Rattle.std.specs.List.{AllByRecursion}
 use Rattle.std.proofs.Common.{◌≡◌, ◌⊎◌, inl, inr, ◌↔◌, ℕ, zero, suc, ◌+◌, ◌<◌, List, [], ◌∷◌, ◌++◌, length, get_or, Some, slice_get, refl, sym, ap, ◌∙◌, subst, ⊎_elim, arith}
 use Rattle.std.proofs.{lemmas.Option.{same_Some, slice_get_within, slice_get_read}, lemmas.Bool.{cases_lt}}
-use Rattle.pact_file.specs.Pact.{Interaction}
+use Rattle.pact_file.{specs.Pact.{Interaction}, proofs.SetLemmas.{each_such}}
 use Rattle.pact_rules.specs.Lists.{OneOf, IsIn}
 use Rattle.reply_check.specs.Verdicts.{BelongsTo, IsKnown, AreKnown, IsFirstUnknown, Passes, InteractionFails, IsAscending, AreFailing, UsesPattern}
-use Rattle.reply_check.{specs.{Meeting.{HasPattern}, Recorded.{Reply}}, proofs.Deciding.{all_and_last}}
+use Rattle.reply_check.{specs.{Meeting.{HasPattern}, Recorded.{Reply}}, proofs.Deciding.{one_between, one_more, one_or_last, all_and_last}}
 
 -- ---- indices
 
@@ -16,26 +16,6 @@ all_weaker n (i ∷ is) h = let l : i < n = h.0 in (omega arith, all_weaker n is
 ascending_push : (n : ℕ) (is : List ℕ) → AllByRecursion (λ i. i < n) is → IsAscending is → IsAscending (is ++ n ∷ [])
 ascending_push n [] h a = (tt, tt)
 ascending_push n (i ∷ is) h a = (all_and_last (λ j. i < j) is n a.0 h.0, ascending_push n is h.1 a.1)
-
-below : (n : ℕ) (is : List ℕ) (i : ℕ) → AllByRecursion (λ i. i < n) is → IsIn i is → i < n
-below n [] i h m = absurd m
-below n (j ∷ js) i h (inl same) = let l : j < n = h.0 in omega arith
-below n (j ∷ js) i h (inr m) = below n js i h.1 m
-
-in_push : (n : ℕ) (is : List ℕ) (i : ℕ) → IsIn i is → IsIn i (is ++ n ∷ [])
-in_push n [] i m = absurd m
-in_push n (j ∷ js) i (inl same) = inl same
-in_push n (j ∷ js) i (inr m) = inr (in_push n js i m)
-
-last_in : (n : ℕ) (is : List ℕ) → IsIn n (is ++ n ∷ [])
-last_in n [] = inl refl
-last_in n (j ∷ js) = inr (last_in n js)
-
-of_push : (n : ℕ) (is : List ℕ) (i : ℕ) → IsIn i (is ++ n ∷ []) → IsIn i is ⊎ (i ≡ n)
-of_push n [] i (inl same) = inr same
-of_push n [] i (inr m) = absurd m
-of_push n (j ∷ js) i (inl same) = inl (inl same)
-of_push n (j ∷ js) i (inr m) = ⊎_elim (λ k. inl (inr k)) inr (of_push n js i m)
 
 up_to : (n i : ℕ) → i < n + 1 → (i < n) ⊎ (i ≡ n)
 up_to n i l = ⊎_elim inl (λ le. inr (omega (arith, l, le))) (cases_lt i n)
@@ -52,7 +32,7 @@ module _ (interactions : List Interaction) (replies : List Reply) where
     passing : (i : ℕ) → Passes replies x → (i < n) ⊎ (i ≡ n) → IsIn i indices ↔ InteractionFails interactions replies i
     passing i p (inl l) = h.failing i l
     passing i p (inr same) = (
-      λ m. let l : i < n = below n indices i h.below_all m in absurd (omega arith),
+      λ m. let l : i < n = each_such (λ j. j < n) indices i h.below_all m in absurd (omega arith),
       λ (y, is, fails). absurd (fails (subst (Passes replies) (same_Some x y (sym stands ∙ ap (slice_get interactions) (sym same) ∙ is)) p)),
     )
 
@@ -61,8 +41,8 @@ module _ (interactions : List Interaction) (replies : List Reply) where
 
     failing_one : (i : ℕ) → ¬ Passes replies x → (i < n) ⊎ (i ≡ n) → IsIn i (indices ++ n ∷ []) ↔ InteractionFails interactions replies i
     failing_one i f (inl l) =
-        (λ m. (h.failing i l).0 (⊎_elim (λ k. k) (λ same. absurd (omega (arith, l, same))) (of_push n indices i m)), λ k. in_push n indices i ((h.failing i l).1 k))
-    failing_one i f (inr same) = (λ m. (x, ap (slice_get interactions) same ∙ stands, f), λ k. subst (λ j. IsIn j (indices ++ n ∷ [])) (sym same) (last_in n indices))
+        (λ m. (h.failing i l).0 (⊎_elim (λ k. k) (λ same. absurd (omega (arith, l, same))) (one_or_last (λ j. i ≡ j) indices n m)), λ k. one_more (λ j. i ≡ j) indices n ((h.failing i l).1 k))
+    failing_one i f (inr same) = (λ m. (x, ap (slice_get interactions) same ∙ stands, f), λ k. subst (λ j. IsIn j (indices ++ n ∷ [])) (sym same) (one_between (λ j. n ≡ j) indices [] n refl))
 
     pub one_fails : ¬ Passes replies x → IsSoFar (n + 1) (indices ++ n ∷ [])
     one_fails f = record { ascending = ascending_push n indices h.below_all h.ascending; below_all = all_and_last (λ i. i < n + 1) indices n (all_weaker n indices h.below_all) (omega arith); failing = λ i l. failing_one i f (up_to n i l) }
@@ -71,7 +51,7 @@ module _ (interactions : List Interaction) (replies : List Reply) where
   all_seen n indices all h = record {
     ascending = h.ascending;
     failing = λ i. (
-      λ m. (h.failing i (below n indices i h.below_all m)).0 m,
+      λ m. (h.failing i (each_such (λ j. j < n) indices i h.below_all m)).0 m,
       λ f. let l : i < length interactions = slice_get_within interactions i f.0 f.1 in (h.failing i (omega arith)).1 f,
     );
   }

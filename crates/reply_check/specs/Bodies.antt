@@ -1,17 +1,14 @@
 -- When a reply's body meets the one that is expected (this project's own choice).
 use Rattle.std.specs.Prelude.{◌≡◌, ◌==◌, Bool, true, false, IsTrue, length, [], Option, Some, None, ⊤}
-use Rattle.serde_json.specs.Data.{Data, null, boolean, number, string, array, object}
+use Rattle.serde_json.specs.Data.{Data, null, string}
 use Rattle.pact_rules.specs.Rules.{Rules}
 use Rattle.reply_check.specs.Fitting.{Fits}
 
 -- null, or the empty text
 abbrev pub is_empty : Data → Bool
 is_empty null = true
-is_empty (boolean b) = false
-is_empty (number n) = false
 is_empty (string s) = length s == 0
-is_empty (array ts) = false
-is_empty (object fs) = false
+is_empty d = false
 
 -- Where none is expected, any body meets it. An empty body asks for none or the same, whatever the rules say; any other
 -- must be there and fit at the root.

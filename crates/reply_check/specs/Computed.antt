@@ -1,7 +1,7 @@
 -- For private clauses: whether an actual value fits an expected one, computed from value to value as the code does it.
 -- It is the relation of `Fitting`, as a truth value.
 use Rattle.std.specs.Prelude.{option_and_then, slice_get, ℕ, suc, Bool, true, ◌&&◌, [], ◌∷◌, ◌++◌, Option, Some, None}
-use Rattle.serde_json.specs.Data.{Data, null, boolean, number, string, array, object, Items, no_items, item, Members, no_members, member}
+use Rattle.serde_json.specs.Data.{Data, array, object, Items, no_items, item, Members, no_members, member}
 use Rattle.pact_paths.specs.Paths.{key, Location}
 use Rattle.pact_paths.specs.Paths as paths
 use Rattle.pact_rules.specs.Rules.{Rules, BodyRule}
@@ -32,20 +32,12 @@ abbrev pub example : Items → ℕ → Option Data
 example xs i = first_or xs (get_item i xs)
 
 abbrev pub expected_items : Data → Items
-expected_items null = no_items
-expected_items (boolean b) = no_items
-expected_items (number n) = no_items
-expected_items (string s) = no_items
 expected_items (array xs) = xs
-expected_items (object fs) = no_items
+expected_items x = no_items
 
 abbrev pub expected_members : Data → Members
-expected_members null = no_members
-expected_members (boolean b) = no_members
-expected_members (number n) = no_members
-expected_members (string s) = no_members
-expected_members (array xs) = no_members
 expected_members (object fs) = fs
+expected_members x = no_members
 
 abbrev pub if_there : Option Data → (Data → Bool) → Bool
 if_there None test = true
@@ -54,14 +46,11 @@ if_there (Some x) test = test x
 -- the two meet; each item fits the expected one of its index, or else the first; each expected key is there and fits
 abbrev mutual
   pub fits : Rules → Location → Data → Data → Bool
-  fits rules at x null = meets_here rules at x null
-  fits rules at x (boolean b) = meets_here rules at x (boolean b)
-  fits rules at x (number n) = meets_here rules at x (number n)
-  fits rules at x (string s) = meets_here rules at x (string s)
   fits rules at x (array ys) = meets_here rules at x (array ys) && items_fit rules at (expected_items x) 0 ys
   fits rules at x (object gs) =
       meets_here rules at x (object gs)
       && (has_keys_of (expected_members x) gs && members_fit rules at (expected_members x) gs)
+  fits rules at x y = meets_here rules at x y
 
   pub items_fit : Rules → Location → Items → ℕ → Items → Bool
   items_fit rules at xs i no_items = true

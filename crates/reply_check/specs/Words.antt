@@ -29,11 +29,8 @@ number_text replies_fault.Memory = codes "5"
 
 -- `replies 2 replies[1].status`; out of memory is `memory`
 abbrev pub replies_text : RepliesFault → List ℕ
-replies_text replies_fault.NotJson = codes "replies " ++ number_text replies_fault.NotJson
-replies_text (replies_fault.Shape place) = codes "replies " ++ number_text (replies_fault.Shape place)
-replies_text (replies_fault.Tree fault) = codes "replies " ++ number_text (replies_fault.Tree fault)
-replies_text replies_fault.SameReplyTwice = codes "replies " ++ number_text replies_fault.SameReplyTwice
 replies_text replies_fault.Memory = codes "memory"
+replies_text fault = codes "replies " ++ number_text fault
 
 -- `check 1` without the place, since it is no part of the text
 abbrev pub check_text : CheckFault → List ℕ
