@@ -91,6 +91,7 @@ pub trait OverDisks {
 /// [`sessions_done`] says). A call that was stopped or refused left what was there, or what the call was to make, whole. If
 /// a program was stopped as it opened files that held nothing, they hold nothing, or half of a first page, and the next
 /// one makes its broker in them.
+#[tactic(auto, using(crate::proofs::LifeLemmas::programs_lead))]
 pub fn lives<P: OverDisks>()
     ensures programs { ProgramsLead P.programs }
 {}
@@ -120,12 +121,14 @@ pub fn period_leads<S: Alter>()
 /// at first, or from that of a broker which was made. So of each session exactly a prefix is done, which holds every
 /// acknowledged command. And if each command that was cut comes first in the next session and is answered by a step
 /// there, the state is that of a run over all commands, each once.
+#[tactic(auto, using(crate::proofs::LifeLemmas::lives_run))]
 pub fn sessions_done()
     ensures { LivesRun }
 {}
 
 /// Of each state that a database of format 1 holds, the gate says today what it said in format 1: what each version is
 /// permitted in each environment, its faults, and what can-i-deploy shows. A migration keeps that state.
+#[tactic(auto, using(crate::proofs::MigrationLemmas::judges_former))]
 pub fn former_gate()
     ensures { FormerGateStays }
 {}

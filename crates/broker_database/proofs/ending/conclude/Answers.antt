@@ -1,7 +1,7 @@
-use Rattle.std.proofs.Common.{◌≡◌, ◌∙◌, Ok, Err, Result, Bool, false, IsTrue, IfErr, ap, refl, sym, subst₂, inl, inr}
+use Rattle.std.proofs.Common.{◌≡◌, ◌∙◌, Ok, Err, Result, Bool, false, IsTrue, IfErr, refl}
 use Rattle.sqlite.specs.{Held.{Held, state}, State.{State}}
 use Rattle.table_access.specs.{declared.StoreFault.{StoreFault}, declared.StoreFault.TheVariants.{Memory, Store}}
-use Rattle.broker_database.{specs.Transaction.{Concludes, EndsFor, Finishes, called, conclusion, told}, proofs.Transaction.{outlives_as}}
+use Rattle.broker_database.{specs.Transaction.{EndsFor, Finishes, called, conclusion, told}, proofs.Transaction.{outlives_as}}
 use Rattle.broker_database.proofs.ending.conclude.Goals as goal
 
 -- what a work came to is told as it is
@@ -19,37 +19,6 @@ store_at_worst (Err Store) = refl
 called_ends : {X A : Type 0} (shown : Held X → State) (keeps : Bool) (worked r : Result A StoreFault) (old new : Held X) → (IsTrue keeps → r ≡ worked) → IfErr (called r) (EndsFor shown keeps worked old new)
 called_ends shown keeps worked (Ok a) old new same = tt
 called_ends shown keeps worked (Err fault) old new same = λ kept ok. let clash = same kept ∙ refl in absurd (cc)
-
-pub returns-then-not-keeps-clause-concludes : goal.returns-then-not-keeps-clause-concludes
-returns-then-not-keeps-clause-concludes g c =
-    let old = state g.S.Store c.args.conn.now in
-    let new = state g.S.Store c.undo.new.conn in
-    let unkept : false ≡ c.args.keeps = cc in
-    let is = sym (ap told c.called.ensures ∙ told_called c.undo.result) in
-    subst₂ (λ k r. Concludes old new k c.args.worked r) unkept is c.undo.ensures
-
-pub returns-then-not-keeps-clause-refused : goal.returns-then-not-keeps-clause-refused
-returns-then-not-keeps-clause-refused g c clean =
-    rw c.called.ensures (called_ends (state g.S.Store) c.args.keeps c.args.worked c.undo.result c.args.conn.now c.undo.new.conn (λ kept. absurd (cc)))
-
-pub returns-in-Ok-clause-concludes : goal.returns-in-Ok-clause-concludes
-returns-in-Ok-clause-concludes g c =
-    let old = state g.S.Store c.args.conn.now in
-    let new = state g.S.Store c.commit.new.conn in
-    let ends : Finishes old new c.args.keeps (Ok tt) = record {
-      committed = λ clean _. c.in-Ok.ensures.done clean;
-      over = λ clean undone. elim undone [ inl never ↦ absurd (cc) | inr refused ↦ absurd (cc) ];
-      told = λ _ unkept. absurd (cc);
-      unsure = λ _. tt;
-      live = λ _. c.commit.ensures.live;
-      settled = λ trees now may. g.met.S.Store.settled _ trees now may;
-      survives = outlives_as old new (λ trees is. (c.if-not-keeps.false, is)) c.commit.ensures.survives;
-    } in
-    record { ended = Ok tt; ends = ends; answer = ap told c.called-in-Ok.ensures ∙ told_called c.args.worked }
-
-pub returns-in-Ok-clause-refused : goal.returns-in-Ok-clause-refused
-returns-in-Ok-clause-refused g c clean =
-    rw c.called-in-Ok.ensures (called_ends (state g.S.Store) c.args.keeps c.args.worked c.args.worked c.args.conn.now c.commit.new.conn (λ kept. refl))
 
 pub returns-in-Err-clause-concludes : goal.returns-in-Err-clause-concludes
 returns-in-Err-clause-concludes g c =

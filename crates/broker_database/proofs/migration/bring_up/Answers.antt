@@ -1,9 +1,9 @@
-use Rattle.std.proofs.Common.{◌≡◌, inl, inr, arith, subst, sym, Some, Ok, Err}
-use Rattle.sqlite.specs.{Effect.{Database}, Held.{state}, State.{HasCleanDisk}}
+use Rattle.std.proofs.Common.{◌≡◌, inl, inr, subst, sym, Some, Ok, Err}
+use Rattle.sqlite.specs.{Effect.{Database}, Held.{state}}
 use Rattle.table_access.proofs.CallLemmas.{seq, then_ok}
 use Rattle.registry_tables.specs.Format.{FindsFormer}
 use Rattle.broker_tables.proofs.MakingFails.{calm_then}
-use Rattle.broker_database.{specs.Migration.{BringsUp, CanBeMigrated}, proofs.{MakeLemmas.{former_of}, MigrationLemmas.{former_told}}}
+use Rattle.broker_database.{specs.Migration.{BringsUp, CanBeMigrated}, proofs.MigrationLemmas.{former_told}}
 use Rattle.broker_database.proofs.migration.bring_up.Goals as goal
 
 pub returns-in-Ok-add_all-clause-brings : goal.returns-in-Ok-add_all-clause-brings
@@ -16,20 +16,9 @@ returns-in-Ok-add_all-clause-brings g c =
     (seq old mid new c.in-Ok.value (Ok c.in-Ok-add_all.value) _ _ (λ _. FindsFormer old.now (Some 1) × BringsUp old.now new.now)
     (λ found _ up. (subst (FindsFormer old.now) is found.0, subst (λ (db : Database). BringsUp db new.now) found.1 up)) c.in-Ok.ensures.finds c.in-Ok-add_all.ensures.brings)
 
-pub returns-in-Err-clause-cause : goal.returns-in-Err-clause-cause
-returns-in-Err-clause-cause g c clean unlimited = inl (c.in-Err.ensures.cause clean unlimited)
-
 pub returns-in-Err-clause-calm : goal.returns-in-Err-clause-calm
 returns-in-Err-clause-calm g c clean inside unlimited it =
     elim (c.in-Err.ensures.cause clean unlimited) [ inl failed ↦ failed | inr untold ↦ absurd (former_told _ it.0 it.1 untold.1) ]
-
-pub returns-in-Err-add_all-clause-cause : goal.returns-in-Err-add_all-clause-cause
-returns-in-Err-add_all-clause-cause g c clean unlimited =
-    let old = state g.S.Store c.args.conn.now in
-    let mid = state g.S.Store c.format_to_migrate.new.conn in
-    let looked : HasCleanDisk mid = omega (arith, c.add_all.ensures.brings.survives.clean, clean) in
-    let is : c.in-Ok.value ≡ Some 1 = cc in
-    inr (former_of old.now c.in-Ok.value (c.in-Ok.ensures.finds.ok looked).0 is)
 
 pub returns-in-Err-add_all-clause-calm : goal.returns-in-Err-add_all-clause-calm
 returns-in-Err-add_all-clause-calm g c =

@@ -1,6 +1,6 @@
 use Rattle.sqlite.specs.Held.{state}
 use Rattle.broker_database.specs.{Migration.{CanBeMigrated, CanBeStoredAgain, StoresFormer}, Opening.{OnlyIfRefused}, Transaction.{told}}
-use Rattle.broker_database.proofs.MakeLemmas.{brought_up, going_up, made_refused, not_brought_up, only_if_failed, unbegun_refused}
+use Rattle.broker_database.proofs.MakeLemmas.{brought_up, going_up, made_refused, not_brought_up, only_if_failed}
 use Rattle.broker_core.specs.State.{State as Broker}
 use Rattle.broker_database.proofs.migration.run.Goals as goal
 
@@ -24,6 +24,3 @@ returns-clause-migrates g c =
 
 pub returns-in-Err-clause-migrates : goal.returns-in-Err-clause-migrates
 returns-in-Err-clause-migrates g c = not_brought_up (state g.S.Store) c.args.conn.now c.begin.new.conn c.in-Err.fault c.in-Err.ensures.refused c.in-Err.ensures.cause c.begin.ensures.survives
-
-pub returns-in-Err-clause-refused : goal.returns-in-Err-clause-refused
-returns-in-Err-clause-refused g c s fit = unbegun_refused (state g.S.Store) (λ db. StoresFormer db s) s c.args.conn.now c.begin.new.conn c.in-Err.fault c.in-Err.ensures.cause

@@ -1,8 +1,7 @@
-use Rattle.broker_tables.specs.{Holds.{format}, Making.{HasShortKeys, HasTables, IsBlank}, Refusals.{AreShort}}
-use Rattle.broker_tables.{specs.Schema.{all_tables, contents, contract_part, registry_part, schema_of}, proofs.MakingFails.{calm_then, none_short}}
-use Rattle.broker_tables.proofs.Opening.{has_all, opens, opens_with_room}
+use Rattle.broker_tables.specs.{Holds.{format}, Making.{HasShortKeys, HasTables, IsBlank}, Refusals.{AreShort}, Schema.{all_tables, schema_of}}
+use Rattle.broker_tables.proofs.{MakingFails.{calm_then, none_short}, Opening.{has_all, opens, opens_with_room}}
 use Rattle.sqlite.specs.Held.{state}
-use Rattle.std.proofs.Common.{Err, List, Ok, [], ℕ, ◌++◌, ◌∷◌, ◌≡◌}
+use Rattle.std.proofs.Common.{Ok, [], ◌∷◌, ◌≡◌}
 use Rattle.table_access.proofs.CallLemmas.{failed_then, seq, seq}
 use Rattle.broker_database.proofs.opening.make_all.Goals as goal
 
@@ -36,12 +35,3 @@ returns-clause-calm g c =
     (λ _. IsBlank old.now → HasTables all_tables format digest second.now) _
     (seq old first second c.in-Ok.value (Ok c.in-Ok-make_rest.value) _ _ (λ _. IsBlank old.now → HasTables all_tables format digest second.now) (λ has u rest blank. rest digest (has blank)) c.in-Ok.ensures.makes c.in-Ok-make_rest.ensures.makes)
     c.make_indexes.ensures.makes c.make_indexes.ensures.calm (λ has it. let all = has it.0 in (all.schema, none_short format digest second.now all))
-
-pub returns-in-Err-make_rest-clause-calm : goal.returns-in-Err-make_rest-clause-calm
-returns-in-Err-make_rest-clause-calm g c =
-    let old = state g.S.Store c.args.conn.now in
-    let first = state g.S.Store c.make_first.new.conn in
-    let second = state g.S.Store c.make_rest.new.conn in
-    let digest = c.args.digest.now in
-    calm_then (λ db. IsBlank db × AreShort (digest ∷ [])) (λ db. (office : List ℕ) × HasTables (registry_part ++ contents ∷ contract_part) format office db) old first second c.in-Ok.value (Err c.in-Err-make_rest.fault) _ _
-    c.in-Ok.ensures.makes c.in-Err-make_rest.ensures.makes c.in-Err-make_rest.ensures.calm (λ has it. (digest, has it.0))

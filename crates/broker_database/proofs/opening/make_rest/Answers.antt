@@ -32,9 +32,6 @@ returns-clause-calm g c =
     (call_with old first (Ok c.in-Ok.value) _ _ (λ u makes office was. has_more (registry_part ++ contents ∷ contract_part) deploy_part format office old.now first.now (inl refl) was (makes was.schema)) c.in-Ok.ensures.makes) c.in-Ok-make_checked_results.ensures.makes)
     c.make_strict_environments.ensures.makes c.make_strict_environments.ensures.calm (λ has it. (has it.0 it.1).schema)
 
-pub returns-in-Err-clause-calm : goal.returns-in-Err-clause-calm
-returns-in-Err-clause-calm g c clean inside unlimited it = c.in-Err.ensures.calm clean inside unlimited it.1.schema
-
 pub returns-in-Err-make_checked_results-clause-calm : goal.returns-in-Err-make_checked_results-clause-calm
 returns-in-Err-make_checked_results-clause-calm g c =
     let old = state g.S.Store c.args.conn.now in
