@@ -22,7 +22,7 @@ use Rattle.broker_core.proofs.SessionLemmas.{sessions, runs_once}
 use Rattle.broker_tables.specs.{Former.{former_format, former_tables}, Holds.{format}, Making.{IsBlank, IsMarked}, Schema.{no_schema, schema_of, broker_schema}}
 use Rattle.command_facts.specs.Primitives.{broker_primitives}
 use Rattle.broker_database.specs.{BrokerView.{BrokerView}, Calls.{Created, Opened, Migrated}, Ends.{AddsNoCrashState}, Handed.{verdict}}
-use Rattle.broker_database.specs.Life.{Kept, Period, calls_of, RunsFrom, LeavesAsWas, PeriodLeads, LifeLeads, BeginsFrom, sessions_in, LivesRun, AreTreesOf, KeepsLatest, PeriodRuns, PeriodsLead, MayLeave, EndsAs, HoldsAsBefore, IsKeptIn, LeavesUnopened, OpenedFilesHold, IsUnharmed, OpeningSpares, PeriodLeaves, Programs, ProgramsLead, RunsOver}
+use Rattle.broker_database.specs.Life.{Kept, Period, calls_of, RunsFrom, LeavesAsWas, PeriodLeads, LifeLeads, BeginsFrom, sessions_in, LivesRun, AreTreesOf, PeriodRuns, PeriodsLead, MayLeave, EndsAs, HoldsAsBefore, IsKeptIn, LeavesUnopened, OpenedFilesHold, IsUnharmed, OpeningSpares, PeriodLeaves, Programs, ProgramsLead, RunsOver}
 use Rattle.broker_database.specs.{Life.Kept.{Blank, OfFormer, OfToday}, Life.Period.{Serving, Making, Migrating, NotOpened}, Migration.{StoresFormer, IsFormer}}
 use Rattle.broker_database.specs.{Opening.{Refuses, Judged, judgement}, Sessions.{IsOpenedOn, GivenRuns}, Stored.{Stores, HoldsState}}
 use Rattle.broker_database.{specs.{declared.opening.Refused.{Refused}, declared.opening.OpenFault.{OpenFault}}, proofs.Judgements.{blank_none, marked_some}}
@@ -366,9 +366,6 @@ lives_run old life last it =
       done = (sessions_run broker_primitives run.0 last (sessions_in life)).0 are;
       again = λ again. runs_once broker_primitives run.0 last (sessions_in life) again are;
     }
-
-pub keeps_latest : KeepsLatest
-keeps_latest s trees are = record { schema = are.schema; sound = are.sound; has = are.has.tables.latest }
 
 -- ---- an opening that failed
 

@@ -100,13 +100,6 @@ module _ {X A : Type 0} (shown : Held X → State) (Ready Before : Database → 
     commit = by_commit calm refused ready makes;
   }
 
--- where BEGIN was refused
-pub unbegun_refused : {X A : Type 0} (shown : Held X → State) (Before : Database → Type 0) (s : Broker) (old new : Held X) (why : StoreFault) → (HasCleanDisk (shown new) → FailsToBegin (shown old) (shown new) why) → OnlyIfRefused {A = A} shown Before s old new (Err (Call why))
-unbegun_refused shown Before s old new why cause = record {
-  call = λ clean fresh holds is. unbegun_fails (shown old) (shown new) why fresh (cause clean) (let same : why ≡ Store = (let h = is in cc) in same);
-  commit = λ clean fresh holds refusal is. absurd (let h = is in cc);
-}
-
 -- as it is told, it is Store only for these
 pub only_if_failed : {X A : Type 0} (shown : Held X → State) (Before : Database → Type 0) (s : Broker) (old new : Held X) (result : Result A Failure) → OnlyIfRefused shown Before s old new result → OnlyIfStoreFailed shown Before s old new (told result ≡ Err Store)
 only_if_failed shown Before s old new (Ok a) why clean fresh holds is = absurd (cc)

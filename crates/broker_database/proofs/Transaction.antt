@@ -267,13 +267,6 @@ module _ {A : Type 0} (old mid done new : State) (X Keeps : A → Type 0) (resul
   pub transaction_within : Survives old done (λ _. ⊥)
   transaction_within = within old mid done new t.worked _ _ t.keeps t.concludes.ended parts
 
-  -- where nothing is to be kept
-  pub transaction_undone : t.keeps ≡ false → Survives old new (λ _. ⊥)
-  transaction_undone = commits_nothing old mid done new t.worked _ _ t.keeps t.concludes.ended parts
-
-  pub transaction_as_before : t.keeps ≡ false → HasCleanDisk new → IsAsBefore old new
-  transaction_as_before unkept clean = as_before old mid done new t.worked _ _ t.keeps t.concludes.ended parts clean unkept
-
 -- ---- one that wasn't begun
 
 pub unbegun_over : (old new : State) → (HasCleanDisk new → IsLeft old new) → LeavesNoTransaction old new

@@ -10,7 +10,7 @@ use Rattle.table_access.proofs.{Keys.{is_param, keeps_key, whole_key}, CountLemm
 use Rattle.table_access.proofs.Values.{cast_int}
 use Rattle.broker_tables.{specs.{Schema.{in_deployed}, Rows.{value_at}, Holds.{IsBroker}}, proofs.Keyed.{deployed_by_place, finds, keys_of}}
 use Rattle.broker_tables.proofs.{Asked.{Asked, IsShown}, Orders.{triples_total, exact_triple}, Standing.{stands_found, takes_at}}
-use Rattle.broker_tables.proofs.{Placed.{deployed, at_deployed, texts_in, wholes_in}, RoomLemmas.{Grows, grows_kept}, Upserted.{PutsOver, PutsAt}}
+use Rattle.broker_tables.proofs.{Placed.{at_deployed, texts_in, wholes_in}, RoomLemmas.{Grows, grows_kept}, Upserted.{PutsOver, PutsAt}}
 use Rattle.broker_tables.proofs.Removed.{TakesFrom, taken_from}
 use Rattle.sqlite.specs.{declared.types.Value.TheVariants.{Null, Int, Text}, Order.{Row, column}, Term.{Term, col, lit, holds}, Effect.{Database}}
 use Rattle.sqlite.specs.{State.{State, Executes}, Listing.{understood}}

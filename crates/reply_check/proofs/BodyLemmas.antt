@@ -2,7 +2,7 @@
 use Rattle.std.proofs.Common.{◌≡◌, ◌↔◌, ℕ, Bool, true, false, List, [], Option, Some, None, IsTrue, refl, sym, ap, ◌∙◌, true≢false}
 use Rattle.std.proofs.lemmas.Slice.Eq.{bytes_eq-Decides}
 use Rattle.pact_rules.specs.{Rules.{Rules}, Matching.{are_alike}}
-use Rattle.serde_json.specs.Data.{Data, null, boolean, number, string, array, object}
+use Rattle.serde_json.specs.Data.{Data, null, string}
 use Rattle.reply_check.specs.{Fitting.{Fits}, Bodies.{is_empty, MeetsBody}}
 
 never : {A : Type 0} → false ≡ true → A

@@ -1,6 +1,6 @@
 -- Deciding by going through a list.
 use Rattle.std.specs.List.{AllByRecursion}
-use Rattle.std.proofs.Common.{◌≡◌, ◌⊎◌, inl, inr, ◌↔◌, ℕ, ◌+◌, ◌<◌, ◌≤◌, Bool, true, false, List, [], ◌∷◌, ◌++◌, length, drop, get_or, IsTrue, refl, sym, ap, ◌∙◌, subst, ⊎_elim, true≢false}
+use Rattle.std.proofs.Common.{◌≡◌, ◌⊎◌, inl, inr, ◌↔◌, ℕ, ◌+◌, ◌<◌, ◌≤◌, Bool, true, false, List, [], ◌∷◌, ◌++◌, length, drop, get_or, IsTrue, refl, sym, ◌∙◌, subst, ⊎_elim, true≢false}
 use Rattle.std.proofs.lemmas.List.{drop_all}
 use Rattle.pact_rules.specs.Lists.{OneOf, IsIn}
 use Rattle.pact_file.proofs.Lists.{left_at}
