@@ -33,6 +33,13 @@ pub(crate) fn judge<S: Alter>(
         (λ judged s. GateSays environment.now version.now place judged.0 judged.1.items s) }
 {
     let strict = place.marks.strict;
-    let faults = done!(faults(alloc, conn, version, environment.as_str(), strict));
+    let faults = done!(faults(
+        alloc,
+        conn,
+        place.number,
+        version,
+        environment.as_str(),
+        strict
+    ));
     Ok((permits(place.marks, &faults), faults))
 }

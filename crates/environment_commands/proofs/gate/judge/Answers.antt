@@ -1,4 +1,4 @@
-use Rattle.std.{specs.Prelude.{MatchOption}, proofs.Common.{◌≡◌, ℕ, [], Bool, Option, sym, subst}}
+use Rattle.std.proofs.Common.{Bool, sym, subst}
 use Rattle.sqlite.specs.Held.{state}
 use Rattle.broker_core.specs.{Gate.{Judges}, Text.{Text}}
 use Rattle.deploy_tables.specs.Needs.{AreFaults}
@@ -12,8 +12,5 @@ returns g c =
     let marks = c.args.place.marks in
     let faults = c.in-Ok.value.items in
     calm_answers (state g.S.Store c.args.conn.now) (state g.S.Store c.faults.new.conn) c.in-Ok.value (c.permits.result, c.in-Ok.value) _ _
-    (λ s listed admitted.
-    let there : AreFaults s v c.as_str.result.now marks.strict faults =
-    subst (λ (o : Option ℕ). MatchOption o (faults ≡ []) (λ _. AreFaults s v c.as_str.result.now marks.strict faults)) admitted.1 listed in
-    subst (λ (b : Bool). Judges s v c.args.environment.now b faults) (sym (rw c.deref.ensures.value at c.permits.ensures))
-    (judged s v c.args.environment.now marks faults admitted.0 (subst (λ (e : Text). AreFaults s v e marks.strict faults) c.as_str.ensures there))) c.in-Ok.ensures
+    (λ s listed admitted. subst (λ (b : Bool). Judges s v c.args.environment.now b faults) (sym (rw c.deref.ensures.value at c.permits.ensures))
+    (judged s v c.args.environment.now marks faults admitted.0 (subst (λ (e : Text). AreFaults s v e marks.strict faults) c.as_str.ensures (listed admitted.1)))) c.in-Ok.ensures
