@@ -1,21 +1,17 @@
 -- What a listing leads to, from what was read.
-use Rattle.std.{specs.Prelude.{Option, Some, None, MatchOption, IsTrue, is_some}, proofs.Common.{◌≡◌, List, true, refl, sym, subst, ap}}
-use Rattle.broker_core.specs.{Text.{Text}, State.{State}, Listing.{Lists}, Request.{refused, unless}, Change.{unchanged_with}}
-use Rattle.broker_core.specs.{Machine.{TakesEffect, StepOfCaller, deployed_cmp, version_cmp}, declared.answer.Answer.TheVariants.{Shown}}
+use Rattle.std.{specs.Prelude.{Option, Some, None, IsTrue, is_some}, proofs.Common.{◌≡◌, List, true, refl, ap}}
+use Rattle.broker_core.specs.{Text.{Text}, State.{State}, Listing.{Lists}, Request.{refusal, refused, unless}, Change.{unchanged_with}}
+use Rattle.broker_core.specs.{Machine.{StepOfCaller, deployed_cmp, version_cmp}, declared.answer.Answer.TheVariants.{Shown}}
 use Rattle.broker_core.specs.{declared.answer.DeployedItem.{DeployedItem}, declared.command.Command.TheVariants.{GetEnvironment}}
 use Rattle.broker_core.specs.{declared.command.Marks.{Marks}, declared.command.Version.{Version}, declared.policy.Caller.{Caller}}
-use Rattle.command_facts.specs.Primitives.{broker_primitives}
+use Rattle.command_facts.{specs.Primitives.{broker_primitives}, proofs.CallerSteps.{acts}}
 use Rattle.broker_core.specs.declared.answer.Missing.TheVariants as missing
 use Rattle.broker_core.specs.declared.answer.Shown.TheVariants as shown
 
 -- an environment that is there is shown with its two lists
-pub is_listed : (s : State) (caller : Caller) (e name : Text) (marks : Marks) (items : List DeployedItem) (versions : List Version) → s.environments e ≡ Some marks → name ≡ e
+pub is_listed : (s : State) (caller : Caller) (e : Text) (marks : Marks) (items : List DeployedItem) (versions : List Version) → s.environments e ≡ Some marks
     → Lists deployed_cmp (λ x. s.deployed (e, x.pacticipant, x.instance) ≡ Some x.version) items → Lists version_cmp (λ v. IsTrue (s.released (e, v))) versions
-    → StepOfCaller broker_primitives s caller (GetEnvironment e) (unchanged_with s (Shown (shown.Environment name marks items versions)))
-is_listed s caller e name marks items versions is same deployed released = (
-  None,
-  refl,
-  subst (λ (o : Option Marks). MatchOption (refused (GetEnvironment e) (unless (is_some o) missing.Environment None) true) (TakesEffect broker_primitives s (GetEnvironment e) (unchanged_with s (Shown (shown.Environment name marks items versions))))
-      (λ answer. unchanged_with s (Shown (shown.Environment name marks items versions)) ≡ unchanged_with s answer))
-      (sym is) (marks, is, (items, deployed, (versions, released, ap (λ (n : Text). unchanged_with s (Shown (shown.Environment n marks items versions))) same))),
-)
+    → StepOfCaller broker_primitives s caller (GetEnvironment e) (unchanged_with s (Shown (shown.Environment e marks items versions)))
+is_listed s caller e marks items versions is deployed released =
+    let none : refusal s caller (GetEnvironment e) ≡ None = ap (λ (o : Option Marks). refused (GetEnvironment e) (unless (is_some o) missing.Environment None) true) is in
+    acts s caller (GetEnvironment e) refl (unchanged_with s (Shown (shown.Environment e marks items versions))) none (marks, is, (items, deployed, (versions, released, refl)))
