@@ -1,6 +1,6 @@
 -- What refuses a command on a version and an environment, from what was read.
 use Rattle.std.{specs.Prelude.{Option, Some, None, is_some, filter_map}, proofs.Common.{◌≡◌, inl, inr, Bool, true, false, ◌∷◌, [], refl, ap, ◌∙◌}}
-use Rattle.broker_core.specs.{Text.{Text}, State.{State}, Policy.{allows}, Request.{asks, refusal, refused, unless, has_grant}, declared.answer.Answer.{Answer}}
+use Rattle.broker_core.specs.{Text.{Text}, State.{State}, Policy.{allows}, Request.{asks, refusal, refused, unless, has_grant}}
 use Rattle.broker_core.specs.{declared.answer.Answer.TheVariants.{Denied}, declared.answer.Missing.{Missing}, declared.command.Command.{Command}}
 use Rattle.broker_core.specs.{declared.command.Command.TheVariants.{Deploy, Undeploy, Release, EndSupport}, declared.command.Marks.{Marks}}
 use Rattle.broker_core.specs.{declared.command.Version.{Version}, declared.policy.Caller.{Caller}, declared.policy.Rule.{Rule}}

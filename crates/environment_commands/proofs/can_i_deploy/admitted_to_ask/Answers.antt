@@ -1,5 +1,5 @@
-use Rattle.std.proofs.Common.{None, false, ◌∙◌}
-use Rattle.broker_core.specs.{Request.{refused}, declared.command.Command.TheVariants.{CanIDeploy}, declared.policy.Rule.TheVariants.{A6}}
+use Rattle.std.proofs.Common.{None, ◌∙◌}
+use Rattle.broker_core.specs.{Request.{refused}, declared.command.Command.TheVariants.{CanIDeploy}}
 use Rattle.environment_commands.{specs.Places.{unless_environment}, proofs.PlaceLemmas.{with_marks, without_marks}}
 use Rattle.environment_commands.proofs.can_i_deploy.admitted_to_ask.Goals as goal
 

@@ -1,5 +1,5 @@
-use Rattle.std.proofs.Common.{None, false, ◌∙◌}
-use Rattle.broker_core.specs.{Request.{refused}, declared.command.Command.TheVariants.{GetMatrix}, declared.policy.Rule.TheVariants.{A6}}
+use Rattle.std.proofs.Common.{None, ◌∙◌}
+use Rattle.broker_core.specs.{Request.{refused}, declared.command.Command.TheVariants.{GetMatrix}}
 use Rattle.environment_commands.proofs.matrix.admitted_to_matrix.Goals as goal
 
 pub returns-in-Err-clause-refused : goal.returns-in-Err-clause-refused

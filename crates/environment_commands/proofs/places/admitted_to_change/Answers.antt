@@ -1,5 +1,4 @@
 use Rattle.std.proofs.Common.{Some, None, true, false, ◌∙◌}
-use Rattle.broker_core.specs.{Request.{has_grant}, declared.policy.Rule.TheVariants.{A7}}
 use Rattle.environment_commands.{specs.Places.{unless_version}, proofs.PlaceLemmas.{with_marks, without_marks, refused_alike}}
 use Rattle.broker_core.specs.declared.answer.Missing.TheVariants as missing
 use Rattle.environment_commands.proofs.places.admitted_to_change.Goals as goal
