@@ -1,5 +1,6 @@
 //! Who may do what (this project's own policy).
-ghost use Rattle.std.specs.Prelude.{◌≡◌, if◌then◌else◌};
+ghost use Rattle.std.specs.Prelude.{◌≡◌, if◌then◌else◌, option_map, []};
+ghost use Rattle.std.specs.List.{cons_option};
 ghost use Rattle.broker_core.specs.Policy.{allows};
 
 use broker_names::name::Name;
@@ -68,12 +69,12 @@ impl fmt::Display for Rule {
 }
 
 /// What a command asks of the policy.
-#[derive(Debug, Drop)]
-pub struct Ask {
+#[derive(Clone, Copy, Debug)]
+pub struct Ask<'a> {
     /// The rule by which the command is judged.
     pub rule: Rule,
-    /// The teams that own the pacticipants which count here; empty if none counts.
-    pub owners: Vec<Name>,
+    /// The team that owns the pacticipant which counts here, if one does.
+    pub owner: Option<&'a str>,
     /// Whether the caller's team has a grant for the command's environment.
     pub granted: bool,
 }
@@ -81,38 +82,33 @@ pub struct Ask {
 impl Caller {
     ghost use Rattle.broker_core.specs.Policy.{is_office, is_owner};
 
-    fn is_office(&self) -> bool
+    /// Whether the caller is the office.
+    pub fn is_office(&self) -> bool
         ensures { result ≡ is_office self.now }
     {
         matches!(self, Caller::Office)
     }
 
-    /// Whether the caller is a team that is among the owners.
-    fn is_owner(&self, owners: &[Name]) -> bool
-        ensures { result ≡ is_owner self.now owners.now }
+    /// Whether the caller is the team that is the owner.
+    fn is_owner(&self, owner: Option<&str>) -> bool
+        ensures { result ≡ is_owner self.now (cons_option (option_map (λ o. o.now) owner.entry) []) }
     {
-        match self {
-            Caller::Office => false,
-            Caller::Team(team) => {
-                for owner in owners {
-                    if *team == *owner {
-                        return true;
-                    }
-                }
-                false
-            }
+        match (self, owner) {
+            (Caller::Team(team), Some(owner)) => team.as_str() == owner,
+            _ => false,
         }
     }
 
-    fn has_right(&self, ask: &Ask) -> bool
-        ensures { result ≡ allows ask.now.rule self.now ask.now.owners.items ask.now.granted }
+    fn has_right(&self, ask: &Ask<'_>) -> bool
+        ensures { result ≡ allows ask.now.rule self.now (cons_option (option_map (λ o. o.now) ask.now.owner) [])
+            ask.now.granted }
     {
         match ask.rule {
             Rule::A1 | Rule::A8 => true,
             Rule::A2 => self.is_office(),
-            Rule::A3 | Rule::A4 => self.is_owner(&ask.owners),
-            Rule::A5 | Rule::A6 => self.is_office() || self.is_owner(&ask.owners),
-            Rule::A7 => self.is_owner(&ask.owners) && ask.granted,
+            Rule::A3 | Rule::A4 => self.is_owner(ask.owner),
+            Rule::A5 | Rule::A6 => self.is_office() || self.is_owner(ask.owner),
+            Rule::A7 => self.is_owner(ask.owner) && ask.granted,
         }
     }
 }
@@ -120,9 +116,9 @@ impl Caller {
 /// Whether the policy allows the caller what is asked: nothing, or the rule that denies, which is the one asked for.
 ///
 /// `A1` and `A8` let every caller that is known. Takes no memory.
-pub fn allowed(caller: &Caller, ask: &Ask) -> Result<(), Rule>
-    ensures { result ≡ (if allows ask.now.rule caller.now ask.now.owners.items ask.now.granted
-        then Ok tt else Err ask.now.rule) }
+pub fn allowed(caller: &Caller, ask: &Ask<'_>) -> Result<(), Rule>
+    ensures { result ≡ (if allows ask.now.rule caller.now (cons_option (option_map (λ o. o.now) ask.now.owner) [])
+        ask.now.granted then Ok tt else Err ask.now.rule) }
 {
     if caller.has_right(ask) {
         Ok(())

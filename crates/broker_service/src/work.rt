@@ -60,7 +60,6 @@ fn follow<S: Alter>(
     match command {
         Command::PutTeam { team, token } => put_team(alloc, conn, caller, team, token),
         Command::PutPacticipant { pacticipant, team } => put_pacticipant(
-            alloc,
             conn,
             caller,
             pacticipant,
@@ -73,35 +72,21 @@ fn follow<S: Alter>(
             environment,
             *marks,
         ),
-        Command::PutGrant { team, environment } => put_grant(
-            alloc,
-            conn,
-            caller,
-            team,
-            environment,
-        ),
-        Command::DeleteGrant { team, environment } => delete_grant(
-            alloc,
-            conn,
-            caller,
-            team,
-            environment,
-        ),
-        Command::PutVersion { version, branch } => put_version(
-            alloc, conn, caller, version, branch,
-        ),
+        Command::PutGrant { team, environment } => put_grant(conn, caller, team, environment),
+        Command::DeleteGrant { team, environment } => delete_grant(conn, caller, team, environment),
+        Command::PutVersion { version, branch } => put_version(conn, caller, version, branch),
         Command::PutPact { path, file } => put_pact(alloc, conn, caller, path, file),
-        Command::GetPact { path } => get_pact(alloc, conn, caller, path),
+        Command::GetPact { path } => get_pact(conn, caller, path),
         Command::GetBranchPact {
             provider,
             consumer,
             branch,
-        } => get_branch_pact(alloc, conn, caller, provider, consumer, branch),
+        } => get_branch_pact(conn, caller, provider, consumer, branch),
         Command::PostResult {
             path,
             report,
             success,
-        } => post_result(alloc, conn, caller, path, report, *success),
+        } => post_result(conn, caller, path, report, *success),
         Command::PostReplies {
             path,
             report,
@@ -116,7 +101,7 @@ fn follow<S: Alter>(
             environment,
             version,
             instance,
-        } => undeploy(alloc, conn, caller, environment, version, instance),
+        } => undeploy(conn, caller, environment, version, instance),
         Command::Release {
             environment,
             version,
@@ -124,7 +109,7 @@ fn follow<S: Alter>(
         Command::EndSupport {
             environment,
             version,
-        } => end_support(alloc, conn, caller, environment, version),
+        } => end_support(conn, caller, environment, version),
         Command::CanIDeploy {
             version,
             environment,

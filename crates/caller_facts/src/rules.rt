@@ -1,17 +1,15 @@
 //! The policy's rules, as commands ask for them.
-ghost use Rattle.std.specs.Prelude.{◌≡◌, ◌↔◌, IfErr, IsSomeAnd, [], IfOk, option_map, string_bytes, is_some, Some};
-ghost use Rattle.broker_core.specs.Policy.{allows, is_office};
+ghost use Rattle.std.specs.Prelude.{◌≡◌, [], option_map, string_bytes, is_some, Some};
+ghost use Rattle.std.specs.List.{cons_option};
+ghost use Rattle.broker_core.specs.Policy.{allows};
 ghost use Rattle.broker_core.specs.Request.{has_grant};
-ghost use Rattle.broker_names.specs.Name.{IsName};
 ghost use Rattle.broker_tables.specs.Calm.{CalmQueries, CalmQueriesInPlace};
-ghost use Rattle.caller_facts.specs.Owners.{owners_of, IsOwnerRead};
+ghost use Rattle.caller_facts.specs.Owners.{IsOwnerRead};
 
-use crate::callers::stored_name;
 use broker_core::policy::{Ask, Caller, Rule, allowed};
 use broker_names::name::Name;
 use registry_tables::{granted, owner_of};
 use sqlite::{Alter, Connection};
-use std::alloc::Global;
 use table_access::StoreFault;
 
 /// What the tables say of a pacticipant: whether it is there, and whether the policy's rule allows the caller.
@@ -23,57 +21,16 @@ pub struct OwnerFacts {
     pub is_allowed: bool,
 }
 
-/// Whether the caller is the office.
-pub fn is_office(alloc: Global, caller: &Caller) -> bool
-    ensures { result ≡ is_office caller.now }
-{
-    let ask = Ask {
-        rule: Rule::A2,
-        owners: Vec::new(alloc),
-        granted: false,
-    };
-    allowed(caller, &ask).is_ok()
-}
-
-/// The team that owns a pacticipant, as the policy asks for it.
-fn owners(alloc: Global, owner: &Option<String>) -> Result<Vec<Name>, StoreFault>
-    ensures ok { IfOk result (λ owners. owners.items ≡ owners_of (option_map string_bytes owner.now)) }
-    ensures cause { IfErr result (λ fault. (fault ≡ StoreFault.Store)
-        ↔ IsSomeAnd owner.now (λ text. ¬ (IsName (string_bytes text)))) }
-{
-    let mut owners = Vec::new(alloc);
-    if let Some(owner) = owner {
-        match stored_name(alloc, owner.as_str()) {
-            Ok(name) => if owners.push(name).is_err() {
-                return Err(StoreFault::Memory);
-            },
-            Err(fault) => return Err(fault),
-        }
-    }
-    Ok(owners)
-}
-
 /// Whether the rule allows the caller, for the pacticipant that this team owns, with a grant or without.
-fn is_allowed(
-    alloc: Global,
-    caller: &Caller,
-    rule: Rule,
-    owner: &Option<String>,
-    granted: bool,
-) -> Result<bool, StoreFault>
-    ensures ok { IfOk result (λ is_allowed.
-        is_allowed ≡ allows rule caller.now
-        (owners_of (option_map string_bytes owner.now)) granted) }
-    ensures cause { IfErr result (λ fault. (fault ≡ StoreFault.Store)
-        ↔ IsSomeAnd owner.now (λ text. ¬ (IsName (string_bytes text)))) }
+fn is_allowed(caller: &Caller, rule: Rule, owner: &Option<String>, granted: bool) -> bool
+    ensures { result ≡ allows rule caller.now (cons_option (option_map string_bytes owner.now) []) granted }
 {
-    let owners = done!(owners(alloc, owner));
     let ask = Ask {
         rule,
-        owners,
+        owner: owner.as_deref(),
         granted,
     };
-    Ok(allowed(caller, &ask).is_ok())
+    allowed(caller, &ask).is_ok()
 }
 
 /// Whether the pacticipant is there, and whether the rule allows the caller, with a grant for the environment or
@@ -81,9 +38,8 @@ fn is_allowed(
 ///
 /// # Errors
 /// `StoreFault::Memory` if an allocation failed or the database is out of memory; `StoreFault::Store` if the database
-/// refused the query, or the owner's name is none.
+/// refused the query.
 pub fn read_owner<S: Alter>(
-    alloc: Global,
     conn: &mut Connection<S>,
     caller: &Caller,
     rule: Rule,
@@ -94,10 +50,9 @@ pub fn read_owner<S: Alter>(
         (λ found s. IsOwnerRead s caller.now rule pacticipant.now granted found) }
 {
     let owner = done!(owner_of(conn, pacticipant.as_str()));
-    let is_allowed = done!(is_allowed(alloc, caller, rule, &owner, granted));
     Ok(OwnerFacts {
         has_pacticipant: owner.is_some(),
-        is_allowed,
+        is_allowed: is_allowed(caller, rule, &owner, granted),
     })
 }
 

@@ -1,7 +1,7 @@
 -- The version that a branch shows, from the numbers of versions.
 use Rattle.std.specs.{Prelude.{is_some, option_and_then, Result, Ok, Err}, List.{AllByRecursion, enumerate_from, last_or}}
 use Rattle.std.proofs.Common.{◌≡◌, ◌≤◌, ◌<◌, ◌+◌, ℕ, ℤ, pos, List, [], ◌∷◌, map, length, filter, Bool, true, false, cond, ◌&&◌, nat_lt, Option, Some, None, refl, sym, ap, ◌∙◌, subst, arith}
-use Rattle.std.proofs.lemmas.Bool.{ltb-true, ltb-false}
+use Rattle.std.proofs.lemmas.Bool.{and_parts, ltb-true, ltb-false}
 use Rattle.sqlite.specs.{Order.{Row}, Effect.{Database}}
 use Rattle.table_access.{specs.Columns.{text, whole_at}, proofs.SoundLemmas.{all_of}}
 use Rattle.broker_core.specs.{Text.{Text, same_text, version}, State.{State}, Change.{text_of, unchanged_with}, Machine.{StepOfCaller}}
@@ -85,19 +85,14 @@ all_stand db s held = stand_from s.versions 1 s.versions (db.trees in_versions.t
 
 -- ---- the version that the branch shows
 
-both_true : (a b : Bool) → (a && b) ≡ true → (a ≡ true) × (b ≡ true)
-both_true true true h = (refl, refl)
-both_true true false h = absurd cc
-both_true false b h = absurd cc
-
 module _ (s : State) (provider consumer branch : Text) where
   abbrev passes : Version → Bool
   passes v = same_text v.pacticipant consumer && (s.branches (v, branch) && is_some (s.contracts (v, provider)))
 
   passed : (v : Version) → passes v ≡ true → (v.pacticipant ≡ consumer) × (s.branches (v, branch) ≡ true) × (is_some (s.contracts (v, provider)) ≡ true)
   passed v h =
-      let one = both_true (same_text v.pacticipant consumer) (s.branches (v, branch) && is_some (s.contracts (v, provider))) h in
-      let two = both_true (s.branches (v, branch)) (is_some (s.contracts (v, provider))) one.1 in
+      let one = and_parts (same_text v.pacticipant consumer) (s.branches (v, branch) && is_some (s.contracts (v, provider))) h in
+      let two = and_parts (s.branches (v, branch)) (is_some (s.contracts (v, provider))) one.1 in
       (same_is v.pacticipant consumer one.0, two.0, two.1)
 
   -- no version from the bound on passes

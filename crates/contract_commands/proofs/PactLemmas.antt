@@ -9,10 +9,9 @@ use Rattle.broker_core.specs.{declared.policy.Caller.TheVariants.{Office, Team},
 use Rattle.broker_core.specs.{declared.command.Command.{Command}, declared.command.Command.TheVariants.{PutPact, GetPact}, declared.command.PactPath.{PactPath}}
 use Rattle.broker_core.specs.{declared.command.Version.{Version}, declared.command.FormFault.{FormFault}, declared.answer.Answer.{Answer}}
 use Rattle.broker_core.specs.{declared.answer.Answer.TheVariants.{Done, Full, BadForm, Shown}, declared.answer.Detail.TheVariants.{Content}}
-use Rattle.broker_core.specs.declared.policy.Rule.{Rule}
+use Rattle.broker_core.{specs.declared.policy.Rule.{Rule}, proofs.Effects.{versions_with, contents_with, named_is, stored_is}}
 use Rattle.content_store.{specs.Contents.{is_among}, proofs.TextNumbers.{same_itself, none_before}}
 use Rattle.contract_tables.specs.Verified.{AddsContract}
-use Rattle.caller_facts.specs.Owners.{owners_of}
 use Rattle.command_facts.{specs.{declared.reading.ReadFault.TheVariants.{Form}, Primitives.{broker_primitives}}, proofs.CallerSteps.{refuses, acts}}
 use Rattle.contract_commands.specs.Numbering.{NamesAs}
 use Rattle.contract_commands.specs.Pacts.{AreSidesRead, missing_side, missing_part, Admits, IsPlaceRead, CanPublish, CanRecord, contracted, Publishes, AsksContract, Reaches, ShowsReached}
@@ -22,10 +21,6 @@ use Rattle.broker_core.specs.declared.answer.Missing.TheVariants as missing
 use Rattle.broker_core.specs.declared.answer.Shown.TheVariants as shown
 
 -- ---- refusals
-
-pub sole_publisher : (o : Option Text) (caller : Caller) (granted : Bool) → allows A3 caller (cons_option o []) granted ≡ allows A3 caller (owners_of o) false
-sole_publisher None caller granted = refl
-sole_publisher (Some owner) caller granted = refl
 
 module _ (s : State) (caller : Caller) (path : PactPath) (text : Text) where
   -- a publication is refused as its two sides say
@@ -41,18 +36,10 @@ module _ (s : State) (caller : Caller) (path : PactPath) (text : Text) where
   well_formed file reads = (IsPact path.consumer path.provider text, reads, own_names (same_text path.consumer path.consumer) (same_text path.provider path.provider) (same_itself path.consumer) (same_itself path.provider))
 
   pub publishes_refused : (answer : Answer) → ((file : Text) → refusal s caller (PutPact path file) ≡ Some answer) → Publishes s caller path text (unchanged_with s answer)
-  publishes_refused answer is file reads = (
-    None,
-    well_formed file reads,
-    subst (λ (o : Option Answer). MatchOption o (TakesEffect broker_primitives s (PutPact path file) (unchanged_with s answer)) (λ told. unchanged_with s answer ≡ unchanged_with s told)) (sym (is file)) refl,
-  )
+  publishes_refused answer is file reads = refuses s caller (PutPact path file) (well_formed file reads) answer (is file)
 
   pub publishes : (out : Transition) → ((file : Text) → refusal s caller (PutPact path file) ≡ None) → out ≡ put_pact s (consumer_version path) path.provider text → Publishes s caller path text out
-  publishes out none is file reads = (
-    None,
-    well_formed file reads,
-    subst (λ (o : Option Answer). MatchOption o (TakesEffect broker_primitives s (PutPact path file) out) (λ told. out ≡ unchanged_with s told)) (sym (none file)) (text, reads, is),
-  )
+  publishes out none is file reads = acts s caller (PutPact path file) (well_formed file reads) out (none file) (text, reads, is)
 
 -- the form is at fault
 pub form_fault : (s : State) (caller : Caller) (path : PactPath) (file : Text) (found : FormFault) → FindsFault broker_primitives (PutPact path file) (Some found) → StepOfCaller broker_primitives s caller (PutPact path file) (unchanged_with s (BadForm found))
@@ -101,10 +88,6 @@ position_below (t ∷ texts) body e = go (same_text body t) refl e (position_bel
 
 -- ---- a contract that is asked for
 
-pub sole_verifier : (o : Option Text) (caller : Caller) (granted : Bool) → allows A4 caller (cons_option o []) granted ≡ allows A4 caller (owners_of o) false
-sole_verifier None caller granted = refl
-sole_verifier (Some owner) caller granted = refl
-
 or_none : (b : Bool) → b ≡ (b || false)
 or_none true = refl
 or_none false = refl
@@ -113,7 +96,7 @@ or_both : (a b : Bool) → (a || (b || false)) ≡ ((a || false) || (b || false)
 or_both true b = refl
 or_both false b = refl
 
-pub two_owners : (o q : Option Text) (caller : Caller) (granted : Bool) → allows A5 caller (cons_option o (cons_option q [])) granted ≡ (allows A5 caller (owners_of o) false || allows A5 caller (owners_of q) false)
+pub two_owners : (o q : Option Text) (caller : Caller) (granted : Bool) → allows A5 caller (cons_option o (cons_option q [])) granted ≡ (allows A5 caller (cons_option o []) false || allows A5 caller (cons_option q []) false)
 two_owners o q Office granted = refl
 two_owners None None (Team t) granted = refl
 two_owners None (Some b) (Team t) granted = refl
@@ -136,97 +119,52 @@ module _ (s : State) (caller : Caller) (path : PactPath) (rule : Rule) (owned : 
   asker_reaches (Ok found) is = (h.1.content_is ∙ is.0, λ command asking. asker_refused command asking ∙ is.1 command (ap (λ (a : Asked). a.rule) asking))
   asker_reaches (Err answer) is = λ command asking. asker_refused command asking ∙ is command (ap (λ (a : Asked). a.rule) asking)
 
--- what a contract shows
-shows_contract : (s : State) (caller : Caller) (path : PactPath) (content : ℕ) (text : Text) → s.contracts (consumer_version path, path.provider) ≡ Some content → refusal s caller (GetPact path) ≡ None → text_of s content ≡ Some text
-    → StepOfCaller broker_primitives s caller (GetPact path) (unchanged_with s (Shown (shown.Pact text)))
-shows_contract s caller path content text is none has = acts s caller (GetPact path) refl (unchanged_with s (Shown (shown.Pact text))) none (text, ap (option_and_then (text_of s)) is ∙ has, refl)
-
 -- ---- what naming a version and storing a text leave
 
 module _ (s : State) (v : Version) where
-  abbrev named_by : Bool → State
-  named_by b = if b then s else record s { versions = s.versions ++ v ∷ [] }
-
-  contracts_by : (b : Bool) → (named_by b).contracts ≡ s.contracts
-  contracts_by true = refl
-  contracts_by false = refl
-
-  pacticipants_by : (b : Bool) → (named_by b).pacticipants ≡ s.pacticipants
-  pacticipants_by true = refl
-  pacticipants_by false = refl
-
-  contents_by : (b : Bool) → (named_by b).contents ≡ s.contents
-  contents_by true = refl
-  contents_by false = refl
-
   pub named_contracts : (named s v).contracts ≡ s.contracts
-  named_contracts = contracts_by (is_known s v)
+  named_contracts = ap (λ t. t.contracts) (named_is s v)
 
   pub named_pacticipants : (named s v).pacticipants ≡ s.pacticipants
-  named_pacticipants = pacticipants_by (is_known s v)
+  named_pacticipants = ap (λ t. t.pacticipants) (named_is s v)
 
   pub named_contents : (named s v).contents ≡ s.contents
-  named_contents = contents_by (is_known s v)
+  named_contents = ap (λ t. t.contents) (named_is s v)
+
+  pub named_results : (named s v).results ≡ s.results
+  named_results = ap (λ t. t.results) (named_is s v)
 
 longer : (xs : List Text) (x : Text) → length xs + 1 ≤ length (xs ++ x ∷ [])
 longer [] x = omega arith
 longer (y ∷ xs) x = let more = longer xs x in omega (arith, more)
 
 module _ (s : State) (text : Text) where
-  abbrev stored_by : Bool → State
-  stored_by b = if b then s else record s { contents = s.contents ++ text ∷ [] }
-
-  versions_stay : (b : Bool) → (stored_by b).versions ≡ s.versions
-  versions_stay true = refl
-  versions_stay false = refl
-
-  contracts_stay : (b : Bool) → (stored_by b).contracts ≡ s.contracts
-  contracts_stay true = refl
-  contracts_stay false = refl
-
-  fits : (b : Bool) → is_stored s text ≡ b → content_number s text ≤ length (stored_by b).contents
+  fits : (b : Bool) → is_stored s text ≡ b → content_number s text ≤ length (if b then s.contents else s.contents ++ text ∷ [])
   fits true e = position_below s.contents text e
   fits false e =
       let last : content_number s text ≡ length s.contents + 1 = ap (λ n. n + 1) (none_before s.contents text e) in
       subst (λ n. n ≤ length (s.contents ++ text ∷ [])) (sym last) (longer s.contents text)
 
-  module _ (path : PactPath) (version : VersionNumber) where
-    stays : (b : Bool) → CanPublish path version s → CanPublish path version (stored_by b)
-    stays true can = can
-    stays false can = (record { number_is = can.0.number_is; known_is = can.0.known_is; owned = can.0.owned }, can.1, can.2)
-
-    -- once the text is stored, its contract may be recorded
-    pub can_record : (content : ℕ) → content ≡ content_number s text → CanPublish path version s → CanRecord path version content (stored s text)
-    can_record content is can =
-        let low : 1 ≤ content_number s text = omega arith in (
-          stays (is_stored s text) can,
-          subst (λ n. 1 ≤ n) (sym is) low,
-          subst (λ n. n ≤ length (stored s text).contents) (sym is) (fits (is_stored s text) refl),
-        )
+  -- once the text is stored, its contract may be recorded
+  pub can_record : (path : PactPath) (version : VersionNumber) (content : ℕ) → content ≡ content_number s text → CanPublish path version s → CanRecord path version content (stored s text)
+  can_record path version content is can =
+      let low : 1 ≤ content_number s text = omega arith in
+      subst (CanRecord path version content) (sym (stored_is s text)) (
+        (record { number_is = can.0.number_is; known_is = can.0.known_is; owned = can.0.owned }, can.1, can.2),
+        subst (λ n. 1 ≤ n) (sym is) low,
+        subst (λ n. n ≤ length (contents_with s.contents text)) (sym is) (fits (is_stored s text) refl),
+      )
 
   module _ (v : Version) where
-    abbrev named_on : State → Bool → State
-    named_on u k = if k then u else record u { versions = u.versions ++ v ∷ [] }
-
-    abbrev stored_on : State → Bool → State
-    stored_on u b = if b then u else record u { contents = u.contents ++ text ∷ [] }
-
-    orders : (b k : Bool) → named_on (stored_on s b) k ≡ stored_on (named_on s k) b
-    orders true true = refl
-    orders true false = refl
-    orders false true = refl
-    orders false false = refl
-
     -- storing a text and naming a version come to the same in either order
     commutes : named (stored s text) v ≡ stored (named s v) text
     commutes =
-        let known : is_known (stored s text) v ≡ is_known s v = ap (λ (vs : List Version). list_any (same_version v) vs) (versions_stay (is_stored s text)) in
-        let is : is_stored s text ≡ is_stored (named s v) text = ap (λ (texts : List Text). list_any (same_text text) texts) (sym (named_contents s v)) in
-        ap (named_on (stored s text)) known ∙ orders (is_stored s text) (is_known s v) ∙ ap (stored_on (named s v)) is
+        ap (λ t. named t v) (stored_is s text) ∙ named_is (record s { contents = contents_with s.contents text }) v
+        ∙ sym (ap (λ t. stored t text) (named_is s v) ∙ stored_is (record s { versions = versions_with s v }) text)
 
     pub now_published : (provider : Text) (content : ℕ) → content ≡ content_number s text → contracted (named (stored s text) v) v provider content ≡ published s v provider text
     now_published provider content is =
-        let contracts_are : (named (stored s text) v).contracts ≡ s.contracts = named_contracts (stored s text) v ∙ contracts_stay (is_stored s text) in
+        let contracts_are : (named (stored s text) v).contracts ≡ s.contracts = named_contracts (stored s text) v ∙ ap (λ t. t.contracts) (stored_is s text) in
         λ i. record (commutes i) { contracts = put_at (same_pair same_version same_text) (contracts_are i) (v, provider) (Some (is i)) }
 
 -- where its version was named, a contract is added
@@ -250,12 +188,9 @@ form_same f e h = cc
 
 -- ---- what is shown of a contract that was reached
 
-asks_to_show : (path : PactPath) → AsksContract path A5 (path.provider ∷ path.consumer ∷ []) (GetPact path)
-asks_to_show path = refl
-
 pub shown_reached : (s : State) (caller : Caller) (path : PactPath) (place : Result ℕ Answer) (answer : Answer) → Reaches s caller path A5 (path.provider ∷ path.consumer ∷ []) place → ShowsReached s place answer
     → StepOfCaller broker_primitives s caller (GetPact path) (unchanged_with s answer)
 shown_reached s caller path (Ok content) answer reach it =
-    subst (λ a. StepOfCaller broker_primitives s caller (GetPact path) (unchanged_with s a)) (sym it.2) (shows_contract s caller path content it.0 reach.0 (reach.1 (GetPact path) (asks_to_show path)) it.1)
+    acts s caller (GetPact path) refl (unchanged_with s answer) (reach.1 (GetPact path) refl) (it.0, ap (option_and_then (text_of s)) reach.0 ∙ it.1, ap (unchanged_with s) it.2)
 shown_reached s caller path (Err refusal) answer reach it =
-    subst (λ a. StepOfCaller broker_primitives s caller (GetPact path) (unchanged_with s a)) (sym it) (refuses s caller (GetPact path) refl refusal (reach (GetPact path) (asks_to_show path)))
+    subst (λ a. StepOfCaller broker_primitives s caller (GetPact path) (unchanged_with s a)) (sym it) (refuses s caller (GetPact path) refl refusal (reach (GetPact path) refl))

@@ -4,7 +4,7 @@ use Rattle.std.proofs.Common.{◌≡◌, ℕ, ◌+◌, ◌==◌, List, [], ◌�
 use Rattle.sqlite.specs.State.{State as Connection}
 use Rattle.table_access.{specs.declared.StoreFault.{StoreFault}, proofs.CallLemmas.{then_ok, seq}}
 use Rattle.broker_tables.{specs.{Calm.{CalmQueriesBetween}, Holds.{AnswersTakingBetween}, Numbers.{number_of}}, proofs.QueryLemmas.{stays_held}}
-use Rattle.broker_tables.proofs.{RoomLemmas.{takes_none}, NumberLemmas.{number_ties}, Ties.{nat_ties}}
+use Rattle.broker_tables.proofs.{RoomLemmas.{takes_none}, NumberLemmas.{number_ties}, Ties.{nat_ties}, VersionRows.{false_if}}
 use Rattle.command_facts.proofs.PerformLemmas.{after_read}
 use Rattle.broker_core.specs.{Text.{Text, same_bool, same_version, version}, State.{State, Verification}, Limit.{has_room}}
 use Rattle.broker_core.specs.Change.{Transition, unchanged_with, named, can_name, report, result_of_run, says_same}
@@ -17,24 +17,19 @@ use Rattle.contract_tables.specs.{Verified.{Told, told_of, result_for, RecordsRe
 use Rattle.contract_commands.specs.{Numbering.{NamesAs}, Pacts.{AsksContract}}
 use Rattle.contract_commands.specs.Results.{HasPacticipant, reported_version, reported_result, Reports, told_row, IsRowOf, IsNumbered, AllowsReport, recorded}
 use Rattle.contract_commands.specs.{declared.results.Finding.{Finding}, declared.results.Reported.TheVariants.{Recorded, Known, RunTaken, Full}}
-use Rattle.contract_commands.{specs.declared.numbers.VersionNumber.{VersionNumber}, proofs.{ContentThere.{number_there}, PactLemmas.{named_contents}}}
+use Rattle.contract_commands.{specs.declared.numbers.VersionNumber.{VersionNumber}, proofs.ContentThere.{number_there}}
+use Rattle.contract_commands.proofs.PactLemmas.{named_contents, named_results}
 use Rattle.broker_core.specs.declared.answer.Answer.TheVariants as answer
 use Rattle.broker_core.specs.declared.answer.Clash.TheVariants as clash
 use Rattle.broker_core.specs.declared.answer.Missing.TheVariants as missing
 
--- ---- the two commands ask for the contract of their path
-
-pub asks_to_claim : (path : PactPath) (r : Report) (success : Bool) → AsksContract path A4 (path.provider ∷ []) (PostResult path r success)
-asks_to_claim path r success = refl
-
-pub asks_to_check : (path : PactPath) (r : Report) (replies : Text) → AsksContract path A4 (path.provider ∷ []) (PostReplies path r replies)
-asks_to_check path r replies = refl
+-- ---- where nothing refuses
 
 first_there : (command : Command) (b may : Bool) (what : Missing) (rest : Option Missing) → refused command (unless b what rest) may ≡ None → b ≡ true
 first_there command true may what rest h = refl
 first_there command false may what rest h = absurd cc
 
--- where nothing refuses, the provider is there
+-- the provider is there
 pub provider_there : (s : State) (caller : Caller) (path : PactPath) (command : Command) → AsksContract path A4 (path.provider ∷ []) command → refusal s caller command ≡ None → HasPacticipant s path.provider
 provider_there s caller path command is none =
     let told : refused command (first_absent s (contract_of path)) (is_allowed s caller command) ≡ None = sym (ap (λ (a : Asked). refused command (first_absent s a.wanted) (is_allowed s caller command)) is) ∙ none in
@@ -102,10 +97,6 @@ no_content : (b c : Bool) → (b && (false && c)) ≡ false
 no_content true c = refl
 no_content false c = refl
 
-false_if : (b : Bool) → (b ≡ true → ⊥) → b ≡ false
-false_if true h = absurd (h refl)
-false_if false h = refl
-
 module _ (s : State) (provider : Text) (r : Report) (found : Finding) (row : ResultRow) (e : ℕ × Verification) (h : IsRowOf s row e) where
   content_is : row.content ≡ e.1.content
   content_is = ap (λ (t : Told). t.1) h
@@ -136,17 +127,9 @@ module _ (s : State) (provider : Text) (r : Report) (found : Finding) (row : Res
 
 -- ---- a result that is recorded
 
-module _ (s : State) (v : Version) where
-  abbrev named_by : Bool → State
-  named_by b = if b then s else record s { versions = s.versions ++ v ∷ [] }
-
-  results_by : (b : Bool) → (named_by b).results ≡ s.results
-  results_by true = refl
-  results_by false = refl
-
 module _ (s t : State) (provider : Text) (r : Report) (found : Finding) (p : Text) (run : Option Text) (next number : ℕ) (of : p ≡ provider) (by : run ≡ r.run) (names : NamesAs (reported_version provider r) number s t) where
   results_stay : t.results ≡ s.results
-  results_stay = ap (λ (u : State). u.results) names.0 ∙ results_by s (reported_version provider r) (is_known s (reported_version provider r))
+  results_stay = ap (λ (u : State). u.results) names.0 ∙ named_results s (reported_version provider r)
 
   is_next : next ≡ length s.results + 1 → next ≡ length t.results + 1
   is_next is = is ∙ ap (λ (rows : List Verification). length rows + 1) (sym results_stay)

@@ -16,7 +16,6 @@ use broker_tables::next_number;
 use contract_tables::contract_of;
 use registry_tables::{branch_number_below, version_count};
 use sqlite::{Alter, Connection};
-use std::alloc::Global;
 use table_access::StoreFault;
 
 /// A version on a branch.
@@ -117,7 +116,6 @@ fn admit_branch_pact(sides: Sides, content: Option<u32>) -> Result<u32, Answer>
 
 /// The content of the contract that the branch shows to the caller, or the refusal.
 fn read_branch_to_show<S: Alter>(
-    alloc: Global,
     conn: &mut Connection<S>,
     caller: &Caller,
     provider: &Name,
@@ -127,14 +125,13 @@ fn read_branch_to_show<S: Alter>(
     ensures { CalmQueries S.Store conn.old conn.new result
         (λ place s. ReachesBranch s caller.now provider.now consumer.now branch.now place) }
 {
-    let sides = done!(read_sides_to_show(alloc, conn, caller, provider, consumer));
+    let sides = done!(read_sides_to_show(conn, caller, provider, consumer));
     let content = done!(read_branch(conn, provider, consumer, branch));
     Ok(admit_branch_pact(sides, content))
 }
 
 /// Shows the contract of the newest version on a branch that has one with the provider, or says why not.
 pub fn get_branch_pact<S: Alter>(
-    alloc: Global,
     conn: &mut Connection<S>,
     caller: &Caller,
     provider: &Name,
@@ -144,6 +141,6 @@ pub fn get_branch_pact<S: Alter>(
     ensures { CarriesCalmly S.Store conn.old conn.new result caller.now
         (GetBranchPact provider.now consumer.now branch.now) }
 {
-    let place = done!(read_branch_to_show(alloc, conn, caller, provider, consumer, branch));
+    let place = done!(read_branch_to_show(conn, caller, provider, consumer, branch));
     show_pact(conn, place)
 }

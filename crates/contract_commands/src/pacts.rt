@@ -14,7 +14,6 @@ use broker_core::answer::{Answer, Shown};
 use broker_core::command::PactPath;
 use broker_core::policy::Caller;
 use sqlite::{Alter, Connection};
-use std::alloc::Global;
 use table_access::StoreFault;
 
 /// Shows the text of a content.
@@ -45,13 +44,12 @@ pub(crate) fn show_pact<S: Alter>(
 
 /// Shows a contract, or says why not.
 pub fn get_pact<S: Alter>(
-    alloc: Global,
     conn: &mut Connection<S>,
     caller: &Caller,
     path: &PactPath,
 ) -> Result<Answer, StoreFault>
     ensures { CarriesCalmly S.Store conn.old conn.new result caller.now (GetPact path.now) }
 {
-    let place = done!(read_contract_to_show(alloc, conn, caller, path));
+    let place = done!(read_contract_to_show(conn, caller, path));
     show_pact(conn, place)
 }

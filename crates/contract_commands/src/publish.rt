@@ -159,7 +159,6 @@ fn publish_between<S: Alter>(
 
 /// Publishes the text of a file that is well formed, or says why not.
 fn publish<S: Alter>(
-    alloc: Global,
     conn: &mut Connection<S>,
     caller: &Caller,
     path: &PactPath,
@@ -168,7 +167,7 @@ fn publish<S: Alter>(
     ensures { CarriesTo S.Store conn.old conn.new result (¬ AreShort (text.now ∷ names_in path.now))
         (λ s out. Publishes s caller.now path.now text.now out) }
 {
-    let sides = done!(read_sides_to_publish(alloc, conn, caller, &path.provider, &path.consumer));
+    let sides = done!(read_sides_to_publish(conn, caller, &path.provider, &path.consumer));
     match refuse_sides(Rule::A3, sides) {
         Some(answer) => Ok(answer),
         None => publish_between(conn, path, text),
@@ -196,7 +195,7 @@ pub fn put_pact<S: Alter>(
     ensures { Carries S.Store conn.old conn.new result caller.now (PutPact path.now file.now) }
 {
     match read_form(alloc, path, file) {
-        Ok(pact) => publish(alloc, conn, caller, path, &pact.text),
+        Ok(pact) => publish(conn, caller, path, &pact.text),
         Err(fault) => tell_unread(fault),
     }
 }

@@ -125,7 +125,7 @@ fn check_replies<S: Alter>(
         → FailsToDoFrom S.Store conn.old conn.new result (HasSoundContents broker_primitives) caller.now
         (PostReplies path.now report.now body) }
 {
-    match done!(read_contract_to_verify(alloc, conn, caller, path)) {
+    match done!(read_contract_to_verify(conn, caller, path)) {
         Ok(content) => check_content(alloc, conn, &path.provider, report, content, replies),
         Err(answer) => Ok(answer),
     }

@@ -24,7 +24,6 @@ use broker_names::name::Name;
 use contract_tables::{ResultRow, record_result, result_of_run};
 use registry_tables::version_of;
 use sqlite::{Alter, Connection};
-use std::alloc::Global;
 use table_access::StoreFault;
 
 /// What a result says of a content: whether it is a pass, and whether the broker checked it.
@@ -232,7 +231,6 @@ fn claim<S: Alter>(
 
 /// Records the result that is claimed of a contract, or says why not.
 pub fn post_result<S: Alter>(
-    alloc: Global,
     conn: &mut Connection<S>,
     caller: &Caller,
     path: &PactPath,
@@ -241,7 +239,7 @@ pub fn post_result<S: Alter>(
 ) -> Result<Answer, StoreFault>
     ensures { Carries S.Store conn.old conn.new result caller.now (PostResult path.now report.now success) }
 {
-    match done!(read_contract_to_verify(alloc, conn, caller, path)) {
+    match done!(read_contract_to_verify(conn, caller, path)) {
         Ok(content) => claim(conn, &path.provider, report, content, success),
         Err(answer) => Ok(answer),
     }

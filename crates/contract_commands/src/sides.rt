@@ -18,7 +18,6 @@ use content_store::get;
 use contract_tables::contract_of;
 use registry_tables::version_of;
 use sqlite::{Alter, Connection};
-use std::alloc::Global;
 use table_access::StoreFault;
 
 /// What the tables say of the two sides of a contract, and what the rule of a command says of its caller.
@@ -50,7 +49,6 @@ pub(crate) struct ContractPlace {
 
 /// Whether the two sides of a contract are there, and whether the caller may publish it: the consumer's owner may.
 pub(crate) fn read_sides_to_publish<S: Alter>(
-    alloc: Global,
     conn: &mut Connection<S>,
     caller: &Caller,
     provider: &Name,
@@ -60,7 +58,7 @@ pub(crate) fn read_sides_to_publish<S: Alter>(
         (λ sides s. AreSidesRead s caller.now A3 (consumer.now ∷ []) provider.now consumer.now sides) }
 {
     let has_provider = done!(has_pacticipant(conn, provider));
-    let consumer = done!(read_owner(alloc, conn, caller, Rule::A3, consumer, false));
+    let consumer = done!(read_owner(conn, caller, Rule::A3, consumer, false));
     Ok(Sides {
         has_provider,
         has_consumer: consumer.has_pacticipant,
@@ -71,7 +69,6 @@ pub(crate) fn read_sides_to_publish<S: Alter>(
 /// Whether the two sides of a contract are there, and whether the caller may report how its verification went: the
 /// provider's owner may.
 fn read_sides_to_verify<S: Alter>(
-    alloc: Global,
     conn: &mut Connection<S>,
     caller: &Caller,
     provider: &Name,
@@ -80,7 +77,7 @@ fn read_sides_to_verify<S: Alter>(
     ensures { CalmQueries S.Store conn.old conn.new result
         (λ sides s. AreSidesRead s caller.now A4 (provider.now ∷ []) provider.now consumer.now sides) }
 {
-    let provider = done!(read_owner(alloc, conn, caller, Rule::A4, provider, false));
+    let provider = done!(read_owner(conn, caller, Rule::A4, provider, false));
     let has_consumer = done!(has_pacticipant(conn, consumer));
     Ok(Sides {
         has_provider: provider.has_pacticipant,
@@ -92,7 +89,6 @@ fn read_sides_to_verify<S: Alter>(
 /// Whether the two sides of a contract are there, and whether the caller may see it: the owner of either side may, and
 /// the office.
 pub(crate) fn read_sides_to_show<S: Alter>(
-    alloc: Global,
     conn: &mut Connection<S>,
     caller: &Caller,
     provider: &Name,
@@ -101,8 +97,8 @@ pub(crate) fn read_sides_to_show<S: Alter>(
     ensures { CalmQueries S.Store conn.old conn.new result
         (λ sides s. AreSidesRead s caller.now A5 (provider.now ∷ consumer.now ∷ []) provider.now consumer.now sides) }
 {
-    let provider = done!(read_owner(alloc, conn, caller, Rule::A5, provider, false));
-    let consumer = done!(read_owner(alloc, conn, caller, Rule::A5, consumer, false));
+    let provider = done!(read_owner(conn, caller, Rule::A5, provider, false));
+    let consumer = done!(read_owner(conn, caller, Rule::A5, consumer, false));
     Ok(Sides {
         has_provider: provider.has_pacticipant,
         has_consumer: consumer.has_pacticipant,
@@ -184,7 +180,6 @@ fn admit_contract(rule: Rule, place: ContractPlace) -> Result<u32, Answer>
 
 /// The content of a contract that the caller may see, or the refusal.
 pub(crate) fn read_contract_to_show<S: Alter>(
-    alloc: Global,
     conn: &mut Connection<S>,
     caller: &Caller,
     path: &PactPath,
@@ -192,14 +187,13 @@ pub(crate) fn read_contract_to_show<S: Alter>(
     ensures { CalmQueries S.Store conn.old conn.new result
         (λ found s. Reaches s caller.now path.now A5 (path.now.provider ∷ path.now.consumer ∷ []) found) }
 {
-    let sides = done!(read_sides_to_show(alloc, conn, caller, &path.provider, &path.consumer));
+    let sides = done!(read_sides_to_show(conn, caller, &path.provider, &path.consumer));
     let contract = done!(read_contract(conn, &path.provider, &path.consumer, &path.version));
     Ok(admit_contract(Rule::A5, ContractPlace { sides, contract }))
 }
 
 /// The content of a contract of which the caller may report how its verification went, or the refusal.
 pub(crate) fn read_contract_to_verify<S: Alter>(
-    alloc: Global,
     conn: &mut Connection<S>,
     caller: &Caller,
     path: &PactPath,
@@ -207,7 +201,7 @@ pub(crate) fn read_contract_to_verify<S: Alter>(
     ensures { CalmQueries S.Store conn.old conn.new result
         (λ found s. Reaches s caller.now path.now A4 (path.now.provider ∷ []) found) }
 {
-    let sides = done!(read_sides_to_verify(alloc, conn, caller, &path.provider, &path.consumer));
+    let sides = done!(read_sides_to_verify(conn, caller, &path.provider, &path.consumer));
     let contract = done!(read_contract(conn, &path.provider, &path.consumer, &path.version));
     Ok(admit_contract(Rule::A4, ContractPlace { sides, contract }))
 }

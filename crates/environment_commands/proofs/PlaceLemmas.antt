@@ -1,24 +1,12 @@
 -- What refuses a command on a version and an environment, from what was read.
 use Rattle.std.{specs.Prelude.{Option, Some, None, is_some, filter_map}, proofs.Common.{◌≡◌, inl, inr, Bool, true, false, ◌∷◌, [], refl, ap, ◌∙◌}}
-use Rattle.broker_core.specs.{Text.{Text}, State.{State}, Policy.{allows}, Request.{asks, refusal, refused, unless, has_grant}, declared.answer.Answer.{Answer}}
+use Rattle.broker_core.specs.{Text.{Text}, State.{State}, Policy.{allows}, Request.{asks, refusal, refused, unless, has_grant}}
 use Rattle.broker_core.specs.{declared.answer.Answer.TheVariants.{Denied}, declared.answer.Missing.{Missing}, declared.command.Command.{Command}}
 use Rattle.broker_core.specs.{declared.command.Command.TheVariants.{Deploy, Undeploy, Release, EndSupport}, declared.command.Marks.{Marks}}
 use Rattle.broker_core.specs.{declared.command.Version.{Version}, declared.policy.Caller.{Caller}, declared.policy.Rule.{Rule}}
 use Rattle.broker_core.specs.declared.policy.Rule.TheVariants.{A7}
-use Rattle.caller_facts.specs.Owners.{owners_of}
-use Rattle.environment_commands.specs.Places.{IsVersionRead, HasPlace, IsAdmitted, ChangesPlace, unless_environment, unless_version}
-use Rattle.environment_commands.specs.{declared.places.Admitted.{Admitted}, declared.places.VersionFacts.{VersionFacts}}
+use Rattle.environment_commands.specs.{Places.{HasPlace, IsAdmitted, ChangesPlace, unless_environment, unless_version}, declared.places.Admitted.{Admitted}}
 use Rattle.broker_core.specs.declared.answer.Missing.TheVariants as missing
-
--- the owner of one pacticipant, as the policy asks for it
-owner_listed : (rule : Rule) (caller : Caller) (p : Text) (granted : Bool) (o : Option Text) → allows rule caller (filter_map (λ (q : Text). o) (p ∷ [])) granted ≡ allows rule caller (owners_of o) granted
-owner_listed rule caller p granted None = refl
-owner_listed rule caller p granted (Some owner) = refl
-
--- the rule lets the caller as was read
-pub as_read : (s : State) (caller : Caller) (rule : Rule) (v : Version) (granted : Bool) (found : VersionFacts) → IsVersionRead s caller rule v granted found
-    → allows rule caller (filter_map s.pacticipants (v.pacticipant ∷ [])) granted ≡ found.owner.is_allowed
-as_read s caller rule v granted found h = owner_listed rule caller v.pacticipant granted (s.pacticipants v.pacticipant) ∙ h.owner.may_is
 
 -- an environment with these marks is there, or it is what is missing
 pub with_marks : (s : State) (e : Text) (marks : Marks) (rest : Option Missing) → s.environments e ≡ Some marks → unless_environment s e rest ≡ rest

@@ -40,7 +40,6 @@ fn admitted_to_ask(version: VersionFacts, marks: Option<Marks>) -> Result<Admitt
 
 /// The version's number, whether the caller may ask of it, and the environment's marks.
 fn read_gate_facts<S: Alter>(
-    alloc: Global,
     conn: &mut Connection<S>,
     caller: &Caller,
     version: &Version,
@@ -50,7 +49,7 @@ fn read_gate_facts<S: Alter>(
         (λ found s. IsVersionRead s caller.now A6 version.now false found.0
         × (s.environments environment.now ≡ found.1)) }
 {
-    let facts = done!(read_version(alloc, conn, caller, Rule::A6, version, false));
+    let facts = done!(read_version(conn, caller, Rule::A6, version, false));
     let marks = done!(marks_of(conn, environment.as_str()));
     Ok((facts, marks))
 }
@@ -101,7 +100,7 @@ pub fn can_i_deploy<S: Alter>(
 ) -> Result<Answer, StoreFault>
     ensures { CarriesCalmly S.Store conn.old conn.new result caller.now (CanIDeploy version.now environment.now) }
 {
-    let (facts, marks) = done!(read_gate_facts(alloc, conn, caller, version, environment));
+    let (facts, marks) = done!(read_gate_facts(conn, caller, version, environment));
     match admitted_to_ask(facts, marks) {
         Ok(place) => show_gate(alloc, conn, version, environment, place),
         Err(answer) => Ok(answer),

@@ -87,7 +87,7 @@ pub fn deploy<S: Alter>(
     ensures { Carries S.Store conn.old conn.new result caller.now
         (Deploy environment.now version.now instance.now) }
 {
-    match done!(read_admitted(alloc, conn, caller, environment, version)) {
+    match done!(read_admitted(conn, caller, environment, version)) {
         Ok(place) => deploy_judged(alloc, conn, environment, version, instance, place),
         Err(answer) => Ok(answer),
     }

@@ -12,7 +12,6 @@ use broker_core::command::Version;
 use broker_core::policy::Caller;
 use broker_names::name::Name;
 use sqlite::{Alter, Connection};
-use std::alloc::Global;
 use table_access::StoreFault;
 
 /// Ends the support of the version of this number, if it is released there.
@@ -35,7 +34,6 @@ fn remove_release<S: Alter>(
 
 /// Ends the support of a version, or says why not.
 pub fn end_support<S: Alter>(
-    alloc: Global,
     conn: &mut Connection<S>,
     caller: &Caller,
     environment: &Name,
@@ -43,7 +41,7 @@ pub fn end_support<S: Alter>(
 ) -> Result<Answer, StoreFault>
     ensures { CarriesCalmly S.Store conn.old conn.new result caller.now (EndSupport environment.now version.now) }
 {
-    match done!(read_admitted(alloc, conn, caller, environment, version)) {
+    match done!(read_admitted(conn, caller, environment, version)) {
         Ok(place) => remove_release(conn, environment, version, place.number),
         Err(answer) => Ok(answer),
     }

@@ -52,7 +52,7 @@ pub fn get_matrix<S: Alter>(
 ) -> Result<Answer, StoreFault>
     ensures { CarriesCalmly S.Store conn.old conn.new result caller.now (GetMatrix version.now) }
 {
-    let facts = done!(read_version(alloc, conn, caller, Rule::A6, version, false));
+    let facts = done!(read_version(conn, caller, Rule::A6, version, false));
     match admitted_to_matrix(facts) {
         Ok(number) => show_matrix(alloc, conn, number),
         Err(answer) => Ok(answer),

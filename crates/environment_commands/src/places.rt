@@ -14,7 +14,6 @@ use broker_names::name::Name;
 use caller_facts::rules::{OwnerFacts, read_grant, read_owner};
 use registry_tables::{marks_of, version_of};
 use sqlite::{Alter, Connection};
-use std::alloc::Global;
 use table_access::StoreFault;
 
 /// What the tables say of a version: whether its pacticipant is there, whether the rule allows the caller, and its
@@ -84,7 +83,6 @@ fn admitted_to_change(place: PlaceFacts) -> Result<Admitted, Answer>
 
 /// The version's number, whether its pacticipant is there, and whether the rule allows the caller.
 pub(crate) fn read_version<S: Alter>(
-    alloc: Global,
     conn: &mut Connection<S>,
     caller: &Caller,
     rule: Rule,
@@ -94,7 +92,7 @@ pub(crate) fn read_version<S: Alter>(
     ensures { CalmQueries S.Store conn.old conn.new result
         (λ found s. IsVersionRead s caller.now rule version.now granted found) }
 {
-    let owner = done!(read_owner(alloc, conn, caller, rule, &version.pacticipant, granted));
+    let owner = done!(read_owner(conn, caller, rule, &version.pacticipant, granted));
     let number = done!(version_of(conn, version.pacticipant.as_str(), version.name.as_str()));
     Ok(VersionFacts { owner, number })
 }
@@ -102,7 +100,6 @@ pub(crate) fn read_version<S: Alter>(
 /// The version's number, and whether its pacticipant is there and is the caller's, with a grant for
 /// the environment.
 fn read_granted<S: Alter>(
-    alloc: Global,
     conn: &mut Connection<S>,
     caller: &Caller,
     environment: &Name,
@@ -112,12 +109,11 @@ fn read_granted<S: Alter>(
         (λ found s. IsVersionRead s caller.now A7 version.now (has_grant s caller.now (Some environment.now)) found) }
 {
     let granted = done!(read_grant(conn, caller, environment));
-    read_version(alloc, conn, caller, Rule::A7, version, granted)
+    read_version(conn, caller, Rule::A7, version, granted)
 }
 
 /// What is asked of a version and an environment before anything changes there.
 fn read_place<S: Alter>(
-    alloc: Global,
     conn: &mut Connection<S>,
     caller: &Caller,
     environment: &Name,
@@ -126,7 +122,7 @@ fn read_place<S: Alter>(
     ensures { CalmQueries S.Store conn.old conn.new result
         (λ found s. IsPlaceRead s caller.now environment.now version.now found) }
 {
-    let version = done!(read_granted(alloc, conn, caller, environment, version));
+    let version = done!(read_granted(conn, caller, environment, version));
     let marks = done!(marks_of(conn, environment.as_str()));
     Ok(PlaceFacts { version, marks })
 }
@@ -134,7 +130,6 @@ fn read_place<S: Alter>(
 /// The version and the environment if the caller may change what is there, or the answer that refuses each command that
 /// would: what is missing first, or the policy's rule.
 pub(crate) fn read_admitted<S: Alter>(
-    alloc: Global,
     conn: &mut Connection<S>,
     caller: &Caller,
     environment: &Name,
@@ -142,6 +137,6 @@ pub(crate) fn read_admitted<S: Alter>(
 ) -> Result<Result<Admitted, Answer>, StoreFault>
     ensures { CalmQueries S.Store conn.old conn.new result (IsAdmission caller.now environment.now version.now) }
 {
-    let place = done!(read_place(alloc, conn, caller, environment, version));
+    let place = done!(read_place(conn, caller, environment, version));
     Ok(admitted_to_change(place))
 }

@@ -67,7 +67,7 @@ pub fn release<S: Alter>(
 ) -> Result<Answer, StoreFault>
     ensures { Carries S.Store conn.old conn.new result caller.now (Release environment.now version.now) }
 {
-    match done!(read_admitted(alloc, conn, caller, environment, version)) {
+    match done!(read_admitted(conn, caller, environment, version)) {
         Ok(place) => release_judged(alloc, conn, environment, version, place),
         Err(answer) => Ok(answer),
     }

@@ -13,7 +13,6 @@ use broker_core::policy::Caller;
 use broker_names::name::Name;
 use deploy_tables::take_out;
 use sqlite::{Alter, Connection};
-use std::alloc::Global;
 use table_access::StoreFault;
 
 /// Takes the version of this number out of this instance, if it is deployed there.
@@ -43,7 +42,6 @@ fn remove_deployment<S: Alter>(
 
 /// Takes a version out of an instance, or says why not.
 pub fn undeploy<S: Alter>(
-    alloc: Global,
     conn: &mut Connection<S>,
     caller: &Caller,
     environment: &Name,
@@ -53,7 +51,7 @@ pub fn undeploy<S: Alter>(
     ensures { CarriesCalmly S.Store conn.old conn.new result caller.now
         (Undeploy environment.now version.now instance.now) }
 {
-    match done!(read_admitted(alloc, conn, caller, environment, version)) {
+    match done!(read_admitted(conn, caller, environment, version)) {
         Ok(place) => remove_deployment(
             conn,
             environment,

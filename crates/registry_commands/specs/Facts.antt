@@ -144,7 +144,7 @@ pub record IsRoomRead (s : Broker) (found : RoomFacts) : Type 0 where
 pub record IsNamingRead (s : Broker) (caller : Caller) (v : Version) (branch : Option Text) (found : NamingFacts)
     : Type 0 where
   pub owner : IsOwnerRead s caller A3 v.pacticipant false found.owner
-  pub version : IsNumberRead s v branch found.version
+  pub number : IsNumberRead s v branch found.number
   pub versions : IsRoomRead s found.versions
 
 -- a version may be put on the branch, or be named and put there: its number, if it has one, and what its
@@ -167,7 +167,7 @@ AnswersPutVersion found answer =
 abbrev pub NamesOrJoins : NamingFacts → Type 0
 NamesOrJoins found =
     (s : Broker) (caller : Caller) (v : Version) (branch : Option Text) → IsNamingRead s caller v branch found
-    → CanJoin s v branch found.version.number found.versions.count
+    → CanJoin s v branch found.number.number found.versions.count
     × StepOfCaller broker_primitives s caller (PutVersion v branch) (done (joined (named s v) v branch))
 
 -- the texts that are stored of a version and its branch

@@ -9,7 +9,6 @@ use broker_core::answer::{Answer, Clash, Detail};
 use broker_core::command::{FormFault, Marks};
 use broker_core::policy::{Caller, Rule};
 use broker_names::name::{Name, Text};
-use caller_facts::rules::is_office;
 use command_facts::change::told;
 use registry_tables::{add_environment, marks_of};
 use sqlite::{Alter, Connection};
@@ -32,16 +31,11 @@ fn form_of_marks(alloc: Global, marks: Marks) -> Result<Option<Answer>, StoreFau
 }
 
 /// The answer if nothing changes; none if the environment is added.
-fn decide_put_environment(
-    alloc: Global,
-    caller: &Caller,
-    old: Option<Marks>,
-    marks: Marks,
-) -> Option<Answer>
+fn decide_put_environment(caller: &Caller, old: Option<Marks>, marks: Marks) -> Option<Answer>
     ensures unchanged { IfSome result (AnswersPutEnvironment caller.now old marks) }
     ensures changes { IfNone result (AddsNewEnvironment caller.now old marks) }
 {
-    if !is_office(alloc, caller) {
+    if !caller.is_office() {
         return Some(Answer::Denied(Rule::A2));
     }
     match old {
@@ -56,7 +50,6 @@ fn decide_put_environment(
 
 /// Adds an environment with well-formed marks, or reports why not.
 fn put_marks<S: Alter>(
-    alloc: Global,
     conn: &mut Connection<S>,
     caller: &Caller,
     environment: &Name,
@@ -66,7 +59,7 @@ fn put_marks<S: Alter>(
     ensures { Carries S.Store conn.old conn.new result caller.now (PutEnvironment environment.now marks) }
 {
     let old = done!(marks_of(conn, environment.as_str()));
-    match decide_put_environment(alloc, caller, old, marks) {
+    match decide_put_environment(caller, old, marks) {
         Some(answer) => Ok(answer),
         None => told(add_environment(conn, environment.as_str(), marks.gated, marks.strict)),
     }
@@ -88,6 +81,6 @@ pub fn put_environment<S: Alter>(
 {
     match done!(form_of_marks(alloc, marks)) {
         Some(answer) => Ok(answer),
-        None => put_marks(alloc, conn, caller, environment, marks),
+        None => put_marks(conn, caller, environment, marks),
     }
 }

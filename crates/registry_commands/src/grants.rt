@@ -10,11 +10,9 @@ ghost use Rattle.registry_commands.specs.Facts.{IsGrantRead, AnswersPutGrant, Ad
 use broker_core::answer::{Answer, Detail, Missing};
 use broker_core::policy::{Caller, Rule};
 use broker_names::name::Name;
-use caller_facts::rules::is_office;
 use command_facts::change::told;
 use registry_tables::{add_grant, gated, granted, has_team, remove_grant};
 use sqlite::{Alter, Connection};
-use std::alloc::Global;
 use table_access::StoreFault;
 
 /// What the tables say of a team, an environment and the team's grant for it.
@@ -48,7 +46,7 @@ fn read_grant_facts<S: Alter>(
 }
 
 /// The answer if no grant is added; none if it is.
-fn decide_put_grant(alloc: Global, caller: &Caller, facts: GrantFacts) -> Option<Answer>
+fn decide_put_grant(caller: &Caller, facts: GrantFacts) -> Option<Answer>
     ensures unchanged { IfSome result (AnswersPutGrant caller.now facts) }
     ensures changes { IfNone result (AddsNewGrant caller.now facts) }
 {
@@ -58,7 +56,7 @@ fn decide_put_grant(alloc: Global, caller: &Caller, facts: GrantFacts) -> Option
     if !facts.has_environment {
         return Some(Answer::Unknown(Missing::Environment));
     }
-    if !is_office(alloc, caller) {
+    if !caller.is_office() {
         return Some(Answer::Denied(Rule::A2));
     }
     if facts.has_grant {
@@ -68,7 +66,7 @@ fn decide_put_grant(alloc: Global, caller: &Caller, facts: GrantFacts) -> Option
 }
 
 /// The answer if no grant is taken; none if it is.
-fn decide_delete_grant(alloc: Global, caller: &Caller, facts: GrantFacts) -> Option<Answer>
+fn decide_delete_grant(caller: &Caller, facts: GrantFacts) -> Option<Answer>
     ensures unchanged { IfSome result (AnswersDeleteGrant caller.now facts) }
     ensures changes { IfNone result (TakesGrant caller.now facts) }
 {
@@ -78,7 +76,7 @@ fn decide_delete_grant(alloc: Global, caller: &Caller, facts: GrantFacts) -> Opt
     if !facts.has_environment {
         return Some(Answer::Unknown(Missing::Environment));
     }
-    if !is_office(alloc, caller) {
+    if !caller.is_office() {
         return Some(Answer::Denied(Rule::A2));
     }
     if !facts.has_grant {
@@ -93,7 +91,6 @@ fn decide_delete_grant(alloc: Global, caller: &Caller, facts: GrantFacts) -> Opt
 /// `StoreFault::Memory` if the database is out of memory, which ended the transaction; `StoreFault::Store` if it refused
 /// a statement, or a row breaks the rules of its table.
 pub fn put_grant<S: Alter>(
-    alloc: Global,
     conn: &mut Connection<S>,
     caller: &Caller,
     team: &Name,
@@ -103,7 +100,7 @@ pub fn put_grant<S: Alter>(
     ensures memory { TellsMemory (state S.Store conn.old) (state S.Store conn.new) result }
 {
     let facts = done!(read_grant_facts(conn, team, environment));
-    match decide_put_grant(alloc, caller, facts) {
+    match decide_put_grant(caller, facts) {
         Some(answer) => Ok(answer),
         None => told(add_grant(conn, team.as_str(), environment.as_str())),
     }
@@ -116,7 +113,6 @@ pub fn put_grant<S: Alter>(
 /// `StoreFault::Memory` if the database is out of memory, which ended the transaction; `StoreFault::Store` if it refused
 /// a statement, or a row breaks the rules of its table.
 pub fn delete_grant<S: Alter>(
-    alloc: Global,
     conn: &mut Connection<S>,
     caller: &Caller,
     team: &Name,
@@ -126,7 +122,7 @@ pub fn delete_grant<S: Alter>(
     ensures memory { TellsMemory (state S.Store conn.old) (state S.Store conn.new) result }
 {
     let facts = done!(read_grant_facts(conn, team, environment));
-    match decide_delete_grant(alloc, caller, facts) {
+    match decide_delete_grant(caller, facts) {
         Some(answer) => Ok(answer),
         None => told(remove_grant(conn, team.as_str(), environment.as_str())),
     }

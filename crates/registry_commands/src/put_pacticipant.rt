@@ -9,11 +9,9 @@ ghost use Rattle.broker_core.specs.declared.command.Command.TheVariants.{PutPact
 use broker_core::answer::{Answer, Clash, Detail, Missing};
 use broker_core::policy::{Caller, Rule};
 use broker_names::name::Name;
-use caller_facts::rules::is_office;
 use command_facts::change::told;
 use registry_tables::{add_pacticipant, has_team, owner_of};
 use sqlite::{Alter, Connection};
-use std::alloc::Global;
 use table_access::StoreFault;
 
 /// What the tables say of a team and of a pacticipant.
@@ -40,19 +38,14 @@ fn read_pacticipant_facts<S: Alter>(
 }
 
 /// The answer if nothing changes; none if the pacticipant is added.
-fn decide_put_pacticipant(
-    alloc: Global,
-    caller: &Caller,
-    facts: &PacticipantFacts,
-    team: &Name,
-) -> Option<Answer>
+fn decide_put_pacticipant(caller: &Caller, facts: &PacticipantFacts, team: &Name) -> Option<Answer>
     ensures unchanged { IfSome result (AnswersPutPacticipant caller.now team.now facts.now) }
     ensures changes { IfNone result (AddsNewPacticipant caller.now team.now facts.now) }
 {
     if !facts.has_team {
         return Some(Answer::Unknown(Missing::Team));
     }
-    if !is_office(alloc, caller) {
+    if !caller.is_office() {
         return Some(Answer::Denied(Rule::A2));
     }
     match &facts.owner {
@@ -71,7 +64,6 @@ fn decide_put_pacticipant(
 /// `StoreFault::Memory` if an allocation failed or the database is out of memory; `StoreFault::Store` if the database
 /// refused a statement, or a row breaks the rules of its table.
 pub fn put_pacticipant<S: Alter>(
-    alloc: Global,
     conn: &mut Connection<S>,
     caller: &Caller,
     pacticipant: &Name,
@@ -80,7 +72,7 @@ pub fn put_pacticipant<S: Alter>(
     ensures { Carries S.Store conn.old conn.new result caller.now (PutPacticipant pacticipant.now team.now) }
 {
     let facts = done!(read_pacticipant_facts(conn, pacticipant, team));
-    match decide_put_pacticipant(alloc, caller, &facts, team) {
+    match decide_put_pacticipant(caller, &facts, team) {
         Some(answer) => Ok(answer),
         None => told(add_pacticipant(conn, pacticipant.as_str(), team.as_str())),
     }

@@ -13,7 +13,6 @@ use broker_core::answer::{Answer, Clash, Detail};
 use broker_core::policy::{Caller, Rule};
 use broker_names::name::{Name, Token};
 use caller_facts::callers::{digest_of, holder_of};
-use caller_facts::rules::is_office;
 use command_facts::change::told;
 use registry_tables::add_team;
 use sqlite::{Alter, Connection};
@@ -47,18 +46,13 @@ fn read_team_facts<S: Alter>(
 }
 
 /// The answer if nothing changes; none if the team is added.
-fn decide_put_team(
-    alloc: Global,
-    caller: &Caller,
-    facts: &TeamFacts,
-    digest: &str,
-) -> Option<Answer>
+fn decide_put_team(caller: &Caller, facts: &TeamFacts, digest: &str) -> Option<Answer>
     ensures unchanged { IfSome result (AnswersPutTeam caller.now digest.now facts.now) }
     ensures changes { IfNone result (AddsNewTeam caller.now digest.now facts.now) }
     ensures unused { IfNone result ((s : BrokerState) → IsCallerOfDigest s digest.now facts.now.holder
         → (team : List ℕ) → ¬ (s.teams team ≡ Some digest.now)) }
 {
-    if !is_office(alloc, caller) {
+    if !caller.is_office() {
         return Some(Answer::Denied(Rule::A2));
     }
     match &facts.digest {
@@ -86,7 +80,7 @@ fn put_digest<S: Alter>(
         (λ s out. PutsTeam s caller.now team.now digest.now out) }
 {
     let facts = done!(read_team_facts(alloc, conn, team, digest));
-    match decide_put_team(alloc, caller, &facts, digest) {
+    match decide_put_team(caller, &facts, digest) {
         Some(answer) => Ok(answer),
         None => told(add_team(conn, team.as_str(), digest)),
     }

@@ -21,7 +21,6 @@ use caller_facts::rules::{OwnerFacts, read_owner};
 use command_facts::change::told;
 use registry_tables::{add_branch, add_version_as, on_branch, version_count, version_of};
 use sqlite::{Alter, Connection};
-use std::alloc::Global;
 use table_access::StoreFault;
 
 /// What the tables say of a version and a branch.
@@ -46,7 +45,7 @@ struct RoomFacts {
 #[derive(Clone, Copy)]
 struct NamingFacts {
     owner: OwnerFacts,
-    version: NumberFacts,
+    number: NumberFacts,
     versions: RoomFacts,
 }
 
@@ -100,7 +99,6 @@ fn read_room<S: Alter>(conn: &mut Connection<S>) -> Result<RoomFacts, StoreFault
 
 /// What naming a version asks of the tables.
 fn read_naming_facts<S: Alter>(
-    alloc: Global,
     conn: &mut Connection<S>,
     caller: &Caller,
     version: &Version,
@@ -109,12 +107,12 @@ fn read_naming_facts<S: Alter>(
     ensures { CalmQueries S.Store conn.old conn.new result
         (λ found s. IsNamingRead s caller.now version.now branch.now found) }
 {
-    let owner = done!(read_owner(alloc, conn, caller, Rule::A3, &version.pacticipant, false));
+    let owner = done!(read_owner(conn, caller, Rule::A3, &version.pacticipant, false));
     let number = done!(read_number(conn, version, branch));
     let versions = done!(read_room(conn));
     Ok(NamingFacts {
         owner,
-        version: number,
+        number,
         versions,
     })
 }
@@ -130,8 +128,8 @@ fn decide_put_version(facts: NamingFacts) -> Option<Answer>
     if !facts.owner.is_allowed {
         return Some(Answer::Denied(Rule::A3));
     }
-    if facts.version.number.is_some() {
-        if facts.version.is_on_branch {
+    if facts.number.number.is_some() {
+        if facts.number.is_on_branch {
             return Some(Answer::Already(Detail::Plain));
         }
         return None;
@@ -224,7 +222,6 @@ fn record_version<S: Alter>(
 /// `StoreFault::Memory` if an allocation failed or the database is out of memory; `StoreFault::Store` if the database
 /// refused a statement, or a row breaks the rules of its table.
 pub fn put_version<S: Alter>(
-    alloc: Global,
     conn: &mut Connection<S>,
     caller: &Caller,
     version: &Version,
@@ -232,14 +229,14 @@ pub fn put_version<S: Alter>(
 ) -> Result<Answer, StoreFault>
     ensures { Carries S.Store conn.old conn.new result caller.now (PutVersion version.now branch.now) }
 {
-    let facts = done!(read_naming_facts(alloc, conn, caller, version, branch));
+    let facts = done!(read_naming_facts(conn, caller, version, branch));
     match decide_put_version(facts) {
         Some(answer) => Ok(answer),
         None => told(record_version(
             conn,
             version,
             branch,
-            facts.version.number,
+            facts.number.number,
             facts.versions.count,
         )),
     }

@@ -1,6 +1,4 @@
-use Rattle.std.proofs.Common.{◌∙◌}
 use Rattle.sqlite.specs.Held.{state}
-use Rattle.contract_commands.proofs.PactLemmas.{sole_publisher}
 use Rattle.broker_tables.proofs.QueryLemmas.{calm_both}
 use Rattle.contract_commands.proofs.sides.read_sides_to_publish.Goals as goal
 
@@ -12,5 +10,5 @@ returns g c =
     (λ s there h. record {
       provider_is = there;
       consumer_is = h.pacticipant_is;
-      may_is = λ granted. sole_publisher (s.pacticipants c.args.consumer.now) c.args.caller.now granted ∙ h.may_is;
+      may_is = λ granted. h.may_is;
     }) c.in-Ok.ensures c.in-Ok-read_owner.ensures

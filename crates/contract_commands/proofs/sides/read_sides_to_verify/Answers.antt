@@ -1,6 +1,4 @@
-use Rattle.std.proofs.Common.{◌∙◌}
 use Rattle.sqlite.specs.Held.{state}
-use Rattle.contract_commands.proofs.PactLemmas.{sole_verifier}
 use Rattle.broker_tables.proofs.QueryLemmas.{calm_both}
 use Rattle.contract_commands.proofs.sides.read_sides_to_verify.Goals as goal
 
@@ -12,5 +10,5 @@ returns g c =
     (λ s h there. record {
       provider_is = h.pacticipant_is;
       consumer_is = there;
-      may_is = λ granted. sole_verifier (s.pacticipants c.args.provider.now) c.args.caller.now granted ∙ h.may_is;
+      may_is = λ granted. h.may_is;
     }) c.in-Ok.ensures c.in-Ok-has_pacticipant.ensures

@@ -1,4 +1,4 @@
-use Rattle.std.{specs.Prelude.{if◌then◌else◌}, proofs.Common.{◌≡◌, Option, Some, Bool, true, List, sym, ap, ◌∙◌, ◌≤◌, ◌^◌, ℕ, length, subst}}
+use Rattle.std.{specs.Prelude.{if◌then◌else◌}, proofs.Common.{◌≡◌, Option, Bool, true, List, sym, ap, ◌∙◌, ◌≤◌, ◌^◌, ℕ, length, subst}}
 use Rattle.broker_core.specs.{Change.{Transition, deploy as deployment, unchanged_with, instance_of}, Gate.{Judges}, State.{State}, Text.{Text}}
 use Rattle.broker_core.specs.{declared.answer.Answer.TheVariants.{NotPermitted}, declared.command.Command.TheVariants.{Deploy}}
 use Rattle.broker_core.specs.{declared.command.Version.{Version}, declared.need.PairFault.{PairFault}}

@@ -1,5 +1,5 @@
 use Rattle.std.specs.Prelude.{codes, if◌then◌else◌}
-use Rattle.std.proofs.Common.{◌≡◌, ◌∷◌, [], ℕ, Bool, true, false, Some, Err, refl, sym, subst, ap, ◌∙◌, arith, ◌≤◌, ◌^◌, List, length}
+use Rattle.std.proofs.Common.{◌≡◌, ◌∷◌, [], ℕ, Bool, true, false, Some, refl, sym, subst, ap, ◌∙◌, ◌≤◌, ◌^◌, List, length}
 use Rattle.broker_core.specs.{Change.{deploy as deployment, already, done, is_text}, State.{State}, Text.{Text, put_at, same_place}}
 use Rattle.broker_core.specs.{declared.answer.Answer.TheVariants.{Already}, declared.answer.Detail.TheVariants.{Plain}, declared.command.Version.{Version}}
 use Rattle.sqlite.specs.Held.{state}

@@ -1,4 +1,4 @@
-use Rattle.std.{specs.Prelude.{if◌then◌else◌}, proofs.Common.{◌≡◌, Some, Bool, true, List, sym, ap, ◌∙◌}}
+use Rattle.std.{specs.Prelude.{if◌then◌else◌}, proofs.Common.{◌≡◌, Bool, true, List, sym, ap, ◌∙◌}}
 use Rattle.broker_core.specs.{Change.{Transition, release as released, unchanged_with}, Gate.{Judges}, State.{State}, Text.{Text}}
 use Rattle.broker_core.specs.{declared.answer.Answer.TheVariants.{NotPermitted}, declared.command.Command.TheVariants.{Release}}
 use Rattle.broker_core.specs.{declared.command.Version.{Version}, declared.need.PairFault.{PairFault}}
