@@ -12,8 +12,8 @@ use Rattle.sqlite_tied.specs.Compute.{everything}
 use Rattle.table_access.{specs.{Columns.{whole_at}, Sound.{IsNumbered}}, proofs.{Values.{cast_null, cast_int}, SoundLemmas.{at_has}, Storable.{IsShortRow}}}
 use Rattle.broker_tables.specs.{Schema.{in_results, in_latest, in_checked_results}, Rows.{stands_at}, Holds.{IsBroker, result_in, result_of}}
 use Rattle.broker_tables.specs.Refusals.{AreShort}
-use Rattle.broker_tables.proofs.Placed.{results, at_results, checked_results, at_checked_results, at_latest, numbered_in, wholes_in}
-use Rattle.broker_tables.proofs.{References.{leads}, Inserted.{EndsFrom, EndsOnly, Puts, inserted, insert_ends, next_counted, pacticipant_there, version_there}}
+use Rattle.broker_tables.proofs.{Placed.{results, at_results, checked_results, at_checked_results, at_latest, numbered_in, wholes_in}, References.{leads}}
+use Rattle.broker_tables.proofs.Inserted.{EndsFrom, EndsOnly, Puts, inserted, insert_ends, next_counted, pacticipant_there, version_there}
 use Rattle.broker_tables.proofs.{Keyed.{latest_by_key}, Upserted.{PutsOver, PutsAt, put_at, set_at, upsert_ends}}
 use Rattle.contract_tables.specs.Verified.{run_value, result_row, AllowsResult, AllowsMark, AllowsPoint, PutsRow, Points, texts_of}
 use Rattle.contract_tables.proofs.{ReferredRows.{number_there, has_content, has_owner}, ResultLookups.{numbered_rows, marked_rows, run_free}}

@@ -4,8 +4,7 @@ use Rattle.std.proofs.Common.{Ordering, Equal, is_eq, cond, nat_cmp, option_and_
 use Rattle.std.proofs.{lemmas.Bool.{and_from, and_parts, false≢true}, lemmas.Slice.Eq.{bytes_eq-Decides}, lemmas.Map.Text.{is_eq-slice_cmp}}
 use Rattle.std.proofs.lemmas.Option.{none-some, same_Some}
 use Rattle.pact_paths.specs.Paths.{Location, key}
-use Rattle.serde_json.specs.Data.{Data, array, object, Items, no_items, item, Members, no_members, member}
-use Rattle.serde_json.specs.Find.{get_member, get_item}
+use Rattle.serde_json.specs.{Data.{Data, array, object, Items, no_items, item, Members, no_members, member}, Find.{get_member, get_item}}
 use Rattle.pact_rules.specs.{Rules.{Rules, BodyRule, IsInOrder}, Choice.{chosen}, Matching.{has_keys_of}}
 use Rattle.pact_rules.proofs.ChoiceLemmas.{chosen_is_choice, choice_unique}
 use Rattle.reply_check.specs.Fitting.{IsRuleFor, HasItem, IsMember, HasMember, Expects, IsObject, IsExample, MeetsRule, MeetsHere, Fits, fitting}
