@@ -1,15 +1,15 @@
 -- What the commands on contracts lead to, from what was read.
-use Rattle.std.specs.{List.{cons_option, position_or_len, list_any}, Option.{option_map_or}, Prelude.{filter_map, option_and_then, Result, Ok, Err}}
-use Rattle.std.proofs.Common.{◌≡◌, ℕ, ◌+◌, ◌≤◌, List, [], ◌∷◌, ◌++◌, length, Bool, true, false, not, ◌&&◌, ◌||◌, cond, is_some, Option, Some, None, MatchOption, refl, sym, ap, ◌∙◌, subst, arith, if◌then◌else◌}
+use Rattle.std.specs.{List.{cons_option, position_or_len}, Option.{option_map_or}, Prelude.{filter_map, option_and_then, Result, Ok, Err}}
+use Rattle.std.proofs.Common.{◌≡◌, ℕ, ◌+◌, ◌≤◌, List, [], ◌∷◌, ◌++◌, length, Bool, true, false, not, ◌&&◌, ◌||◌, cond, is_some, Option, Some, None, refl, sym, ap, ◌∙◌, subst, arith, if◌then◌else◌}
 use Rattle.broker_core.specs.{Text.{Text, same_text, same_pair, same_version, put_at}, State.{State}, Policy.{allows}, Limit.{has_room}}
 use Rattle.broker_core.specs.Change.{Transition, unchanged_with, put_pact, republished, text_of, can_name, named, stored, is_stored, content_number}
-use Rattle.broker_core.specs.Request.{consumer_version, Asked, contract_of, first_absent, unless, refused, refusal, has_grant, is_known, is_allowed, first_missing}
-use Rattle.broker_core.specs.{Machine.{TakesEffect, FindsFault, StepOfCaller, fault_of_reading}, Machine.Reading.{IsPact}, declared.policy.Caller.{Caller}}
-use Rattle.broker_core.specs.{declared.policy.Caller.TheVariants.{Office, Team}, declared.policy.Rule.TheVariants.{A3, A4, A5}}
-use Rattle.broker_core.specs.{declared.command.Command.{Command}, declared.command.Command.TheVariants.{PutPact, GetPact}, declared.command.PactPath.{PactPath}}
-use Rattle.broker_core.specs.{declared.command.Version.{Version}, declared.command.FormFault.{FormFault}, declared.answer.Answer.{Answer}}
-use Rattle.broker_core.specs.{declared.answer.Answer.TheVariants.{Done, Full, BadForm, Shown}, declared.answer.Detail.TheVariants.{Content}}
-use Rattle.broker_core.{specs.declared.policy.Rule.{Rule}, proofs.Effects.{versions_with, contents_with, named_is, stored_is}}
+use Rattle.broker_core.specs.Request.{consumer_version, Asked, contract_of, first_absent, unless, refused, refusal, has_grant, is_allowed, first_missing}
+use Rattle.broker_core.specs.{Machine.{FindsFault, StepOfCaller, fault_of_reading}, Machine.Reading.{IsPact}, declared.policy.Caller.{Caller}}
+use Rattle.broker_core.specs.{declared.policy.Caller.TheVariants.{Office, Team}, declared.policy.Rule.TheVariants.{A3, A5}, declared.command.Command.{Command}}
+use Rattle.broker_core.specs.{declared.command.Command.TheVariants.{PutPact, GetPact}, declared.command.PactPath.{PactPath}, declared.command.Version.{Version}}
+use Rattle.broker_core.specs.{declared.command.FormFault.{FormFault}, declared.answer.Answer.{Answer}, declared.answer.Answer.TheVariants.{Done, Full, BadForm}}
+use Rattle.broker_core.specs.{declared.answer.Detail.TheVariants.{Content}, declared.policy.Rule.{Rule}}
+use Rattle.broker_core.proofs.Effects.{versions_with, contents_with, named_is, stored_is}
 use Rattle.content_store.{specs.Contents.{is_among}, proofs.TextNumbers.{same_itself, none_before}}
 use Rattle.contract_tables.specs.Verified.{AddsContract}
 use Rattle.command_facts.{specs.{declared.reading.ReadFault.TheVariants.{Form}, Primitives.{broker_primitives}}, proofs.CallerSteps.{refuses, acts}}

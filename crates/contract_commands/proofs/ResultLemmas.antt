@@ -1,6 +1,6 @@
 -- What the commands on results lead to, from what was read.
 use Rattle.std.specs.{Prelude.{option_map, if◌then◌else◌}, Option.{option_map_or}}
-use Rattle.std.proofs.Common.{◌≡◌, ℕ, ◌+◌, ◌==◌, List, [], ◌∷◌, ◌++◌, length, Bool, true, false, ◌&&◌, is_some, Option, Some, None, refl, sym, ap, subst, ◌∙◌, ◌≤◌, Ok, Result, arith}
+use Rattle.std.proofs.Common.{◌≡◌, ℕ, ◌+◌, ◌==◌, List, [], ◌∷◌, ◌++◌, length, Bool, true, false, ◌&&◌, is_some, Option, Some, None, refl, sym, ap, subst, ◌∙◌, ◌≤◌, Ok, Result}
 use Rattle.sqlite.specs.State.{State as Connection}
 use Rattle.table_access.{specs.declared.StoreFault.{StoreFault}, proofs.CallLemmas.{then_ok, seq}}
 use Rattle.broker_tables.{specs.{Calm.{CalmQueriesBetween}, Holds.{AnswersTakingBetween}, Numbers.{number_of}}, proofs.QueryLemmas.{stays_held}}
@@ -9,10 +9,9 @@ use Rattle.command_facts.proofs.PerformLemmas.{after_read}
 use Rattle.broker_core.specs.{Text.{Text, same_bool, same_version, version}, State.{State, Verification}, Limit.{has_room}}
 use Rattle.broker_core.specs.Change.{Transition, unchanged_with, named, can_name, report, result_of_run, says_same}
 use Rattle.broker_core.specs.{Request.{is_known, Asked, contract_of, first_absent, unless, is_allowed, refused, refusal}, declared.policy.Caller.{Caller}}
-use Rattle.broker_core.specs.{declared.policy.Rule.TheVariants.{A4}, declared.command.Command.{Command}}
-use Rattle.broker_core.specs.{declared.command.Command.TheVariants.{PostResult, PostReplies}, declared.command.PactPath.{PactPath}}
-use Rattle.broker_core.specs.{declared.command.Report.{Report}, declared.command.Version.{Version}, declared.answer.Answer.{Answer}}
-use Rattle.broker_core.{specs.{declared.answer.Detail.{Detail}, declared.answer.Missing.{Missing}}, proofs.Judgement.{version_is}}
+use Rattle.broker_core.specs.{declared.policy.Rule.TheVariants.{A4}, declared.command.Command.{Command}, declared.command.PactPath.{PactPath}}
+use Rattle.broker_core.specs.{declared.command.Report.{Report}, declared.answer.Answer.{Answer}, declared.answer.Detail.{Detail}}
+use Rattle.broker_core.{specs.declared.answer.Missing.{Missing}, proofs.Judgement.{version_is}}
 use Rattle.contract_tables.specs.{Verified.{Told, told_of, result_for, RecordsResult, AllowsResult}, declared.lookups.ResultRow.{ResultRow}}
 use Rattle.contract_commands.specs.{Numbering.{NamesAs}, Pacts.{AsksContract}}
 use Rattle.contract_commands.specs.Results.{HasPacticipant, reported_version, reported_result, Reports, told_row, IsRowOf, IsNumbered, AllowsReport, recorded}

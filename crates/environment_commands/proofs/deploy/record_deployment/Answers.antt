@@ -1,12 +1,10 @@
 use Rattle.std.specs.Prelude.{codes, if◌then◌else◌}
 use Rattle.std.proofs.Common.{◌≡◌, ◌∷◌, [], ℕ, Bool, true, false, Some, refl, sym, subst, ap, ◌∙◌, ◌≤◌, ◌^◌, List, length}
 use Rattle.broker_core.specs.{Change.{deploy as deployment, already, done, is_text}, State.{State}, Text.{Text, put_at, same_place}}
-use Rattle.broker_core.specs.{declared.answer.Answer.TheVariants.{Already}, declared.answer.Detail.TheVariants.{Plain}, declared.command.Version.{Version}}
-use Rattle.sqlite.specs.Held.{state}
-use Rattle.table_access.proofs.CallLemmas.{memory_ok}
+use Rattle.broker_core.specs.{declared.answer.Detail.TheVariants.{Plain}, declared.command.Version.{Version}}
 use Rattle.broker_tables.specs.Numbers.{number_of}
 use Rattle.deploy_tables.specs.Deployments.{FindsDeployed, IsEnvironment}
-use Rattle.command_facts.proofs.{CarryLemmas.{makes_from, tells}, InPlace.{told_in_place}}
+use Rattle.command_facts.proofs.CarryLemmas.{makes_from, tells}
 use Rattle.environment_commands.proofs.deploy.record_deployment.Goals as goal
 
 -- the state in which the version is deployed there
@@ -40,9 +38,3 @@ returns-clause-carries g c =
     ))
     (λ long are. long (subst (λ (t : List ℕ). length t ≤ 10 ^ 7) (sym c.as_str-3.ensures) are.0, (subst (λ (t : List ℕ). length t ≤ 10 ^ 7) (sym c.as_str-4.ensures) are.1.0, (are.1.1.0, tt))))
     c.told.ensures c.in-Ok.ensures c.record_deployed.ensures.changes c.record_deployed.ensures.calm
-
-pub returns-then-value-clause-memory : goal.returns-then-value-clause-memory
-returns-then-value-clause-memory g c = memory_ok false (state g.S.Store c.args.conn.now) (state g.S.Store c.is_deployed.new.conn) (Already Plain)
-
-pub returns-clause-memory : goal.returns-clause-memory
-returns-clause-memory g c = told_in_place c.told.ensures c.in-Ok.ensures.call c.record_deployed.ensures.changes

@@ -1,12 +1,10 @@
 use Rattle.std.specs.Prelude.{codes, if◌then◌else◌}
 use Rattle.std.proofs.Common.{◌≡◌, ◌∷◌, [], ℕ, Bool, true, false, Some, refl, sym, subst, ap, ◌∙◌, ◌≤◌, ◌^◌, List, length}
 use Rattle.broker_core.specs.{Change.{release as released, already, done}, State.{State}, Text.{Text, put_at, same_pair, same_text, same_version}}
-use Rattle.broker_core.specs.{declared.answer.Answer.TheVariants.{Already}, declared.answer.Detail.TheVariants.{Plain}, declared.command.Version.{Version}}
-use Rattle.sqlite.specs.Held.{state}
-use Rattle.table_access.proofs.CallLemmas.{memory_ok}
+use Rattle.broker_core.specs.{declared.answer.Detail.TheVariants.{Plain}, declared.command.Version.{Version}}
 use Rattle.broker_tables.specs.Numbers.{number_of}
 use Rattle.deploy_tables.specs.{Deployments.{IsEnvironment}, Releases.{FindsReleased}}
-use Rattle.command_facts.proofs.{CarryLemmas.{makes_from, tells}, InPlace.{told_in_place}}
+use Rattle.command_facts.proofs.CarryLemmas.{makes_from, tells}
 use Rattle.environment_commands.proofs.release.record_release.Goals as goal
 
 -- the state in which the version is released there
@@ -37,9 +35,3 @@ returns-clause-carries g c =
     ((subst (λ (t : Text). IsEnvironment t s) (sym c.as_str-2.ensures) there.0, (v, there.1, (λ i. s.released (c.as_str-2.ensures i, v)) ∙ free)), (Plain, next s e v, releases s e v false free)))
     (λ long are. long (subst (λ (t : List ℕ). length t ≤ 10 ^ 7) (sym c.as_str-2.ensures) are.0, tt))
     c.told.ensures c.in-Ok.ensures c.record_released.ensures.changes c.record_released.ensures.calm
-
-pub returns-then-value-clause-memory : goal.returns-then-value-clause-memory
-returns-then-value-clause-memory g c = memory_ok false (state g.S.Store c.args.conn.now) (state g.S.Store c.is_released.new.conn) (Already Plain)
-
-pub returns-clause-memory : goal.returns-clause-memory
-returns-clause-memory g c = told_in_place c.told.ensures c.in-Ok.ensures.call c.record_released.ensures.changes
