@@ -2,8 +2,8 @@
 use Rattle.std.specs.Io.KnownBytes.{Appends, Consumes}
 use Rattle.std.proofs.Common.{◌≡◌, ℕ, ◌+◌, ◌<◌, false, List, [], ◌∷◌, ◌++◌, Option, Result, length, take, drop, refl, sym, ap, ◌∙◌, subst, append_assoc, append-nil, inl, inr, arith}
 use Rattle.std.proofs.KnownBytes.{Appends-trans, Consumes-trans}
-use Rattle.http_messages.specs.{Message.{Message}, Reading.{LeavesAtFault, IsOutcome, TellsFailure}, declared.reading.ReadFault.{ReadFault}}
-use Rattle.http_messages.specs.{declared.head.Head.{Head}, declared.head.Refused.{Refused}, declared.reading.ReadOutcome.{ReadOutcome}}
+use Rattle.http_messages.specs.{Message.{Message}, Reading.{LeavesAtFault, IsOutcome}, declared.reading.ReadFault.{ReadFault}, declared.head.Head.{Head}}
+use Rattle.http_messages.specs.{declared.head.Refused.{Refused}, declared.reading.ReadOutcome.{ReadOutcome}}
 use Rattle.http_messages.specs.Messages.{AnnouncesBody, BeginsWithMessage, HasNoMessage, message_of}
 use Rattle.http_messages.proofs.MessagesLemmas.{BeginsWithMessage-more, IsHeadOf-more}
 use Rattle.broker_http.specs.{Faults.{fault_of_read, TellsDevice}, Serving.{IsOutOfMemory, ServesUntil}}
@@ -156,7 +156,3 @@ tells_writer faults.Count P Q p = tt
 tells_writer (faults.Write fault) P Q p = p
 tells_writer faults.Memory P Q p = tt
 
--- the fault of reading a message, as one of serving, says no more of the reader
-pub tells_reader : (fault : ReadFault) (P Q : Type 0) → TellsFailure fault P → TellsDevice (fault_of_read fault) P Q
-tells_reader (reads.Reader failed) P Q p = p
-tells_reader reads.Memory P Q p = tt

@@ -18,7 +18,6 @@ use Rattle.contract_commands.specs.Pacts.{AreSidesRead, missing_side, missing_pa
 use Rattle.contract_commands.specs.{declared.numbers.VersionNumber.{VersionNumber}, declared.sides.ContractPlace.{ContractPlace}, declared.sides.Sides.{Sides}}
 use Rattle.broker_core.specs.declared.command.FormFault.TheVariants as fault
 use Rattle.broker_core.specs.declared.answer.Missing.TheVariants as missing
-use Rattle.broker_core.specs.declared.answer.Shown.TheVariants as shown
 
 -- ---- refusals
 

@@ -2,8 +2,5 @@ use Rattle.broker_database.specs.Calls.{Applied}
 use Rattle.broker_http.proofs.OneReading as lemma
 use Rattle.broker_http.proofs.laws.one_reading.Goals as goal
 
-pub returns-clause-closes : goal.returns-clause-closes
-returns-clause-closes g c = lemma.closes_by_request (Applied g.B.Service.shown)
-
 pub returns-clause-reading : goal.returns-clause-reading
 returns-clause-reading g c = lemma.one_reading (Applied g.B.Service.shown) (Applied g.C.Service.shown)

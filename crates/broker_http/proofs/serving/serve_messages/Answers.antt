@@ -1,16 +1,12 @@
 use Rattle.std.specs.Io.KnownBytes.{Appends}
-use Rattle.std.proofs.Common.{◌≡◌, ◌≢◌, ◌+◌, ◌-◌, ◌^◌, ◌++◌, length, drop, [], ◌∷◌, refl, sym, inl, ◌∙◌, subst, arith, eqb-true, length-append}
+use Rattle.std.proofs.Common.{◌≢◌, ◌+◌, ◌-◌, ◌++◌, length, drop, [], ◌∷◌, refl, sym, inl, ◌∙◌, subst, arith, eqb-true, length-append}
 use Rattle.std.proofs.{KnownBytes.{Consumes-kept, Consumes-nil, Consumes-trans, Appends-nil, Appends-trans}, lemmas.Result.{err_from_is_err_and}}
 use Rattle.std.proofs.lemmas.Bool.{eqb-false}
 use Rattle.http_messages.specs.Reading.{IsOutcome}
 use Rattle.broker_http.specs.{Calls.{ByBroker}, Stream.{texts}}
-use Rattle.broker_http.proofs.ResponsesLemmas.{Responses-came, Responses-answered, Responses-broken, Responses-unread, AllOpen-then, texts-then, StreamEnds-at_end, StreamEnds-rest, tells_reader, tells_writer}
+use Rattle.broker_http.proofs.ResponsesLemmas.{Responses-came, Responses-answered, Responses-broken, Responses-unread, AllOpen-then, texts-then, StreamEnds-at_end, StreamEnds-rest, tells_writer}
 use Rattle.broker_http.proofs.serving.serve_messages.Goals.{then-is_empty, else-is_empty}
 use Rattle.broker_http.proofs.serving.serve_messages.Goals as goal
-
-pub loop-answered-init : goal.loop-answered-init
-loop-answered-init g c =
-    ([], [], Consumes-nil _, (refl, c.in-Ok.ensures), tt, refl, Appends-nil _, omega (arith, c.in-Ok-with_capacity.ensures.capacity))
 
 pub returns-in_default-clause-answers : goal.returns-in_default-clause-answers
 returns-in_default-clause-answers g c = record {
@@ -25,9 +21,6 @@ returns-in_default-with_capacity-clause-answers g c = record {
   end = tt;
   fault = ([], [], [], [], Consumes-nil _, (refl, refl), (tt, refl), Appends-nil _, inl refl);
 }
-
-pub answer-requires-clause-capacity : goal.answer-requires-clause-capacity
-answer-requires-clause-capacity g c = c.loop-answered.invariant.7
 
 pub returns-in_err-head_len-clause-answers : goal.returns-in_err-head_len-clause-answers
 returns-in_err-head_len-clause-answers g c =
@@ -145,31 +138,6 @@ loop-answered-preserved g c =
           (Appends-trans _ _ _ (texts so_far.1) response.text so_far.6 answered.3),
       c.in_ok-answer.ensures.kept,
     )
-
-pub returns-in-Some-clause-answers : goal.returns-in-Some-clause-answers
-returns-in-Some-clause-answers g c =
-    let so_far = c.loop-answered.invariant in
-    let read = Consumes-kept _ _ _ so_far.0 so_far.2 c.is_over.ensures in
-    record {
-      ok = tt;
-      end = tt;
-      fault = (so_far.0, so_far.1, _, texts so_far.1, read, so_far.3, (so_far.4, refl), so_far.6, tt);
-    }
-
-pub returns-clause-answers : goal.returns-clause-answers
-returns-clause-answers g c =
-    let so_far = c.loop-answered.invariant in
-    let all : length so_far.1 ≡ 2 ^ 64 - 1 = omega (arith, so_far.5, c.loop-answered-test.false) in
-    record {
-      ok = tt;
-      end = tt;
-      fault = (so_far.0, so_far.1, _, texts so_far.1, so_far.2, so_far.3, (so_far.4, refl, all), so_far.6, tt);
-    }
-
-pub returns-in_err-head_len-clause-failed : goal.returns-in_err-head_len-clause-failed
-returns-in_err-head_len-clause-failed g c =
-    let p = err_from_is_err_and c.from_residual.result c.from_residual.ensures.1 in
-    rw (p.1, p.2) (tells_reader c.in_err-head_len.field-0.0 _ _ c.in_err-head_len.ensures.failed)
 
 pub returns-in_err-answer-clause-failed : goal.returns-in_err-answer-clause-failed
 returns-in_err-answer-clause-failed g c =
