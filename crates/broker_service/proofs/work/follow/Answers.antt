@@ -18,17 +18,11 @@ returns-in-PutEnvironment g c = follows c.args.caller.now c.in-PutEnvironment.is
 pub returns-in-PutGrant : goal.returns-in-PutGrant
 returns-in-PutGrant g c = follows c.args.caller.now c.in-PutGrant.is c.put_grant.ensures.carries
 
-pub returns-in-DeleteGrant : goal.returns-in-DeleteGrant
-returns-in-DeleteGrant g c = follows c.args.caller.now c.in-DeleteGrant.is c.delete_grant.ensures.carries
-
 pub returns-in-PutVersion : goal.returns-in-PutVersion
 returns-in-PutVersion g c = follows c.args.caller.now c.in-PutVersion.is c.put_version.ensures
 
 pub returns-in-PutPact : goal.returns-in-PutPact
 returns-in-PutPact g c = follows c.args.caller.now c.in-PutPact.is c.put_pact.ensures
-
-pub returns-in-GetPact : goal.returns-in-GetPact
-returns-in-GetPact g c = follows c.args.caller.now c.in-GetPact.is c.get_pact.ensures
 
 pub returns-in-GetBranchPact : goal.returns-in-GetBranchPact
 returns-in-GetBranchPact g c = follows c.args.caller.now c.in-GetBranchPact.is c.get_branch_pact.ensures
@@ -36,26 +30,14 @@ returns-in-GetBranchPact g c = follows c.args.caller.now c.in-GetBranchPact.is c
 pub returns-in-PostResult : goal.returns-in-PostResult
 returns-in-PostResult g c = follows c.args.caller.now c.in-PostResult.is c.post_result.ensures
 
-pub returns-in-GetEnvironment : goal.returns-in-GetEnvironment
-returns-in-GetEnvironment g c = follows c.args.caller.now c.in-GetEnvironment.is c.get_environment.ensures
-
 pub returns-in-Deploy : goal.returns-in-Deploy
 returns-in-Deploy g c = follows c.args.caller.now c.in-Deploy.is c.deploy.ensures
-
-pub returns-in-Undeploy : goal.returns-in-Undeploy
-returns-in-Undeploy g c = follows c.args.caller.now c.in-Undeploy.is c.undeploy.ensures
 
 pub returns-in-Release : goal.returns-in-Release
 returns-in-Release g c = follows c.args.caller.now c.in-Release.is c.release.ensures
 
-pub returns-in-EndSupport : goal.returns-in-EndSupport
-returns-in-EndSupport g c = follows c.args.caller.now c.in-EndSupport.is c.end_support.ensures
-
 pub returns-in-CanIDeploy : goal.returns-in-CanIDeploy
 returns-in-CanIDeploy g c = follows c.args.caller.now c.in-CanIDeploy.is c.can_i_deploy.ensures
-
-pub returns-in-GetMatrix : goal.returns-in-GetMatrix
-returns-in-GetMatrix g c = follows c.args.caller.now c.in-GetMatrix.is c.get_matrix.ensures
 
 pub returns-in-PostReplies : goal.returns-in-PostReplies
 returns-in-PostReplies g c = record {

@@ -1,6 +1,6 @@
 use Rattle.sqlite.specs.Held.{state}
 use Rattle.caller_facts.specs.Callers.{token_of}
-use Rattle.broker_service.{specs.Transacted.{IsNoFailure}, proofs.TransactLemmas.{answered, transacted, untransacted}}
+use Rattle.broker_service.proofs.TransactLemmas.{transacted, untransacted}
 use Rattle.broker_service.proofs.work.transact.Goals as goal
 
 pub returns-clause-transacts : goal.returns-clause-transacts
@@ -11,7 +11,3 @@ returns-clause-transacts g c =
 pub returns-in-Err-clause-transacts : goal.returns-in-Err-clause-transacts
 returns-in-Err-clause-transacts g c =
     untransacted (token_of c.args.token) c.args.command.now (state g.S.Store) c.args.conn.now c.begin.new.conn c.in-Err.fault c.in-Err.ensures.refused c.in-Err.ensures.cause c.begin.ensures.survives
-
-pub returns-clause-answers : goal.returns-clause-answers
-returns-clause-answers g c =
-    answered IsNoFailure c.work-worked.result c.conclude.ensures.concludes.ended c.conclude.result c.conclude.ensures.concludes.answer c.work-worked.ensures.answers

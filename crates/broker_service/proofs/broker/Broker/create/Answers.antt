@@ -1,8 +1,4 @@
-use Rattle.std.proofs.Common.{refl}
 use Rattle.broker_service.proofs.broker.Broker.create.Goals as goal
-
-pub returns-in-Ok : goal.returns-in-Ok
-returns-in-Ok g c = record { tables = c.in-Ok.ensures; runs = refl }
 
 pub returns-in-Err : goal.returns-in-Err
 returns-in-Err g c = record { tables = c.in-Err.ensures; runs = tt }

@@ -9,6 +9,3 @@ returns-in-Ok g c = record {
   room = λ clean n holds. keeps_on _ _ _ (c.in-Ok.ensures.kept clean) holds;
   runs = refl;
 }
-
-pub returns-in-Err : goal.returns-in-Err
-returns-in-Err g c = record { tables = c.in-Err.ensures; holds = tt; room = tt; runs = tt }
