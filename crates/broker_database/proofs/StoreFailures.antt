@@ -1,9 +1,23 @@
 -- Why a transaction is answered Store: the store failed, or what the work fails by besides.
 use Rattle.std.proofs.Common.{◌≡◌, ◌⊎◌, inl, inr, ◌≤◌, Bool, true, false, IsTrue, Result, Ok, Err, IfErr, refl, sym, ◌∙◌, arith}
-use Rattle.sqlite.specs.State.{State, HasCleanDisk}
-use Rattle.table_access.specs.{Calls.{HasFailed, GoesOn, FailsAs}, Unit.{Begins, TellsRollback}, declared.StoreFault.{StoreFault}}
+use Rattle.sqlite.specs.State.{State, HasCleanDisk, HasCause, store_error}
+use Rattle.sqlite_trees.specs.declared.error.StoreError.{StoreError}
+use Rattle.sqlite_trees.specs.declared.error.StoreError.TheVariants.{OutOfMemory, Io, Corrupt, Full, Broken, Unstorable}
+use Rattle.table_access.specs.{Calls.{HasFailed, GoesOn, FailsAs, fault_of}, Unit.{Begins, TellsRollback}, declared.StoreFault.{StoreFault}}
 use Rattle.table_access.{specs.declared.StoreFault.TheVariants.{Memory, Store}, proofs.{CallLemmas.{ended_since}, RefusedEnds.{failed_idle}}}
 use Rattle.broker_database.{specs.Transaction.{conclusion}, proofs.Transaction.{IsTransaction, WholeTransaction, parts, transaction_begun}}
+
+-- a failure of the store that isn't want of memory is one of the disk, or the connection was shut
+pub disk_at_fault : (old new : State) → HasFailed old new Store → HasCause old new ⊥ Io ⊎ HasCause old new ⊥ Broken
+disk_at_fault old new failed = by failed.cause failed.fault_is failed.has
+  where
+    by : (cause : StoreError) → Store ≡ fault_of (store_error cause) → HasCause old new ⊥ cause → HasCause old new ⊥ Io ⊎ HasCause old new ⊥ Broken
+    by OutOfMemory is has = absurd (let clash : Store ≡ Memory = is in cc)
+    by Io is has = inl has
+    by Corrupt is has = inl has
+    by Full is has = inl has
+    by Broken is has = inr has
+    by Unstorable is has = absurd has
 
 module _ {A : Type 0} (old mid done new : State) (X Keeps : A → Type 0) (clean : HasCleanDisk new) where
   -- the failure of the work is that of the transaction

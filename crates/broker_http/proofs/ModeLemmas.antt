@@ -2,15 +2,14 @@
 use Rattle.std.specs.Prelude.{min, length, Contains}
 use Rattle.std.proofs.Common.{◌≡◌, ◌≢◌, ◌⊎◌, inl, inr, ℕ, suc, ◌+◌, ◌-◌, ◌*◌, ◌^◌, ◌≤◌, nat_le, Bool, true, false, if◌then◌else◌, IsTrue, List, [], ◌∷◌, ◌++◌, length-append, Option, refl, sym, ap, ◌∙◌, subst, arith}
 use Rattle.std.proofs.lemmas.Bool.{cases_Bool, leb-true, leb-false}
-use Rattle.sqlite.{specs.{Tree.{Trees}, Held.{Held}, State.{State, HasCleanDisk, Survives, HasCause, store_error}}, proofs.StateLemmas.{survives_then}}
-use Rattle.sqlite_trees.specs.declared.error.StoreError.{StoreError}
-use Rattle.sqlite_trees.specs.declared.error.StoreError.TheVariants.{OutOfMemory, Io, Corrupt, Full, Broken, Unstorable}
-use Rattle.table_access.specs.{Calls.{HasFailed, fault_of}, declared.StoreFault.TheVariants.{Memory, Store}}
+use Rattle.sqlite.{specs.{Tree.{Trees}, Held.{Held}, State.{State, HasCleanDisk, Survives, HasCause}}, proofs.StateLemmas.{survives_then}}
+use Rattle.sqlite_trees.specs.declared.error.StoreError.TheVariants.{Io}
+use Rattle.table_access.specs.{Calls.{HasFailed}, declared.StoreFault.TheVariants.{Store}}
 use Rattle.broker_core.specs.{Laws.{IsDone}, Machine.{Request as Asked, is_step}, State.{State as Broker}, Text.{Text}, declared.answer.Answer.{Answer}}
 use Rattle.broker_core.specs.declared.command.Command.{Command}
 use Rattle.broker_tables.{specs.{Readable.{IsReadable}, Room.{HasRoomFor, TakesRoom, enough}}, proofs.RoomLemmas.{room_for, takes_none, takes_then}}
 use Rattle.broker_database.specs.{BrokerView.{BrokerView}, Calls.{Applied}, Ends.{Applies, IsAsBefore, CommitsAtMostOnce}, Stored.{HoldsState}}
-use Rattle.broker_database.proofs.Transaction.{outlives_itself}
+use Rattle.broker_database.proofs.{Transaction.{outlives_itself}, StoreFailures.{disk_at_fault}}
 use Rattle.http_responses.specs.Responses.{Response}
 use Rattle.broker_http.specs.{Stream.{Responses}, Serving.{Mode, ModeStep, IsInMode, RunsReadable, IsDiskAtFault, StopsOnlyBy}}
 use Rattle.broker_http.specs.{Serving.Mode.{Running, IsStopped}, Journal.{Journal, JournalStep, written}}
@@ -52,18 +51,6 @@ since_then first here next since s clean = record {
   limit = s.limit ∙ since.limit;
   closes = λ _ is_open. elim (since.closes (still_clean _ _ s.clean clean) is_open) [ inl still ↦ elim (s.closes clean still) [ inl now ↦ inl now | inr more ↦ inr (omega (arith, since.up, more)) ] | inr more ↦ inr (omega (arith, s.counts, more)) ];
 }
-
--- a failure of the store that isn't want of memory is one of the disk
-disk_at_fault : (old new : State) → HasFailed old new Store → IsDiskAtFault old new
-disk_at_fault old new failed = by failed.cause failed.fault_is failed.has
-  where
-    by : (cause : StoreError) → Store ≡ fault_of (store_error cause) → HasCause old new ⊥ cause → IsDiskAtFault old new
-    by OutOfMemory is has = absurd (let clash : Store ≡ Memory = is in cc)
-    by Io is has = inl has
-    by Corrupt is has = inl has
-    by Full is has = inl has
-    by Broken is has = inr has
-    by Unstorable is has = absurd has
 
 -- a connection is open unless the disk failed
 open_or_fault : (first here : State) → IsSince first here → HasCleanDisk here → IsTrue here.is_open ⊎ IsDiskAtFault first here

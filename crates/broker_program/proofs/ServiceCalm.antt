@@ -1,36 +1,23 @@
 -- a broker in a file is stopped, on a disk that works, only at a command that was to be done
-use Rattle.std.proofs.Common.{◌≡◌, ◌⊎◌, inl, inr, true, false, IsTrue, List, [], ◌∷◌, ◌++◌, None, refl, sym, ap, ◌∙◌, subst, arith}
-use Rattle.std.proofs.{Math.Logic.{∥∥₁_elim, ∥∥₁_map}, lemmas.Bool.{cases_Bool}}
+use Rattle.std.proofs.{Common.{◌≡◌, inl, inr, true, false, IsTrue, List, [], ◌∷◌, ◌++◌, None, refl, sym, ap, ◌∙◌, subst, arith}, Math.Logic.{∥∥₁_elim, ∥∥₁_map}}
+use Rattle.std.proofs.lemmas.Bool.{cases_Bool}
 use Rattle.sqlite_disk.specs.{declared.Disk.{Ghosts}, Disk.{MoreFaults}}
-use Rattle.sqlite_trees.specs.declared.error.StoreError.{StoreError}
-use Rattle.sqlite_trees.specs.{declared.error.StoreError.TheVariants.{OutOfMemory, Io, Corrupt, Full, Broken, Unstorable}, Objects.{catalog_tree}}
-use Rattle.sqlite.specs.{Files.{IsOpened, file_state, HoldsDatabase}, Held.{Held, IsNew}, Recovery.{Image}, State.{State, HasCause, HasCleanDisk, store_error}}
+use Rattle.sqlite_trees.specs.Objects.{catalog_tree}
+use Rattle.sqlite.specs.{Files.{IsOpened, file_state, HoldsDatabase}, Held.{Held, IsNew}, Recovery.{Image}, State.{HasCleanDisk}}
 use Rattle.sqlite.specs.{declared.FileStore.{FileStore}, Effect.{IsDatabase}, Schema.{Schema}, Start.{FindsIn}, Tree.{Trees}}
-use Rattle.table_access.specs.{Calls.{HasFailed, fault_of}, declared.StoreFault.TheVariants.{Memory, Store}, Durability.{IsOnDisk}}
+use Rattle.table_access.specs.{declared.StoreFault.TheVariants.{Memory, Store}, Durability.{IsOnDisk}}
 use Rattle.broker_core.specs.{Laws.{CallLeaves, Exit, LeavesAll}, Laws.Exit.{NoStep, Stepped, WasCut}, Machine.{Request, is_step}, State.{State as Broker}}
 use Rattle.broker_core.specs.declared.answer.Answer.{Answer}
 use Rattle.broker_tables.specs.Readable.{IsReadable}
 use Rattle.command_facts.specs.Primitives.{broker_primitives}
 use Rattle.broker_database.specs.{BrokerView.{BrokerView}, Calls.{Applied}, Sessions.{RunsCalls, exit_of}, Stored.{HoldsState, Stores}}
 use Rattle.broker_database.specs.{Causes.{IsToBeDone, StaysReadable}, Life.{IsKeptIn, AreTreesOf, Kept, LifeLeads, Period, PeriodLeads}}
-use Rattle.broker_database.{specs.{Life.Kept.{Blank, OfToday}, Life.Period.{Serving}}, proofs.SchemaLemmas.{one_schema}}
+use Rattle.broker_database.{specs.{Life.Kept.{Blank, OfToday}, Life.Period.{Serving}}, proofs.{SchemaLemmas.{one_schema}, StoreFailures.{disk_at_fault}}}
 use Rattle.sqlite_store.specs.Laws.{settled_at}
 use Rattle.broker_program.specs.{Calm.{AllStopCalmly, DiskWorked, DiskWorks, ServesCalmly, StopsAtChange, StopsCalmly, StopsFrom}, Life.{periods_of}}
 use Rattle.broker_program.specs.Serving.{StartsAfter, Work, Works}
 use Rattle.broker_program.proofs.{CallLemmas.{IsBefore, before_itself, calls_since, peers_since, work_runs, works_clean}, PeriodLemmas.{Begins, starts_after}}
 use Rattle.broker_core.specs.declared.answer.Answer.TheVariants as answers
-
--- a failure of the store that isn't want of memory is one of the disk, or the connection was shut
-at_fault : (old new : State) → HasFailed old new Store → MoreFaults old.faults new.faults ⊎ (old.is_open ≡ false)
-at_fault old new failed = by failed.cause failed.fault_is failed.has
-  where
-    by : (cause : StoreError) → Store ≡ fault_of (store_error cause) → HasCause old new ⊥ cause → MoreFaults old.faults new.faults ⊎ (old.is_open ≡ false)
-    by OutOfMemory is has = absurd (let clash : Store ≡ Memory = is in cc)
-    by Io is has = inl has
-    by Corrupt is has = inl has
-    by Full is has = inl has
-    by Broken is has = inr has
-    by Unstorable is has = absurd has
 
 -- an answer that is a step ends the call so
 stepped : (answer : Answer) → is_step answer ≡ true → exit_of answer ≡ Stepped answer
@@ -95,7 +82,7 @@ module _ {D : Type 0} {g : Ghosts D} where
             let store = (applied.stops it.runs).0 stops in
             let cut : exit ≡ WasCut = elim rest [ inl on ↦ on.0 ∙ ap exit_of store | inr killed ↦ killed.0 ] in
             let done : IsToBeDone s r.token r.command = elim (applied.calm now it.runs store s (record { held = it.held; readable = it.readable; unlimited = it.unlimited })) [
-              | inl failed ↦ elim (at_fault _ _ failed) [ inl more ↦ absurd (first more) | inr shut ↦ absurd (let bad : true ≡ false = sym it.is_open ∙ shut in cc) ]
+              | inl failed ↦ elim (disk_at_fault _ _ failed) [ inl more ↦ absurd (first more) | inr shut ↦ absurd (let bad : true ≡ false = sym it.is_open ∙ shut in cc) ]
               | inr lacks ↦ lacks.0
             ] in
             record { before = []; request = r; after = calls; split = ap (λ (e : Exit). (r, e) ∷ calls) cut; state = s; leads = refl; done = done }

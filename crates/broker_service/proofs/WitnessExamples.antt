@@ -1,12 +1,12 @@
 -- What a wrong body leaves: a clause that ends in an existential excludes it, whatever witness is given.
 use Rattle.std.{specs.Prelude.{IsTrue}, proofs.Common.{◌≡◌, ◌≢◌, inl, inr, Option, Result, Err, true, false, sym, ◌∙◌}}
-use Rattle.sqlite.specs.{Held.{Held}, State.{State, HasCleanDisk, HasCause, store_error}}
-use Rattle.sqlite_trees.specs.declared.error.StoreError.{StoreError}
-use Rattle.sqlite_trees.specs.declared.error.StoreError.TheVariants.{OutOfMemory, Io, Corrupt, Full, Broken, Unstorable}
-use Rattle.table_access.specs.Calls.{HasFailed, fault_of}
+use Rattle.sqlite.specs.{Held.{Held}, State.{State, HasCleanDisk, HasCause}}
+use Rattle.sqlite_trees.specs.declared.error.StoreError.TheVariants.{Io}
+use Rattle.table_access.specs.Calls.{HasFailed}
 use Rattle.broker_core.specs.{SoundNames.{AreNames}, State.{State as Broker}, Text.{Text}, declared.answer.Answer.{Answer}, declared.command.Command.{Command}}
 use Rattle.broker_tables.specs.Room.{HasRoomFor, enough}
 use Rattle.broker_database.specs.{Causes.{HoldsReadable}, declared.ending.Failure.{Failure}, declared.ending.Failure.TheVariants.{Call}}
+use Rattle.broker_database.proofs.StoreFailures.{disk_at_fault}
 use Rattle.broker_service.specs.Transacted.{Transacted}
 use Rattle.table_access.specs.declared.StoreFault.TheVariants as faults
 
@@ -16,14 +16,10 @@ DiskWorks old new = ¬ (HasCause old new ⊥ Io)
 
 -- a store that was open, over a disk that works, hasn't failed by Store
 no_failure : (old new : State) → IsTrue old.is_open → DiskWorks old new → ¬ (HasFailed old new faults.Store)
-no_failure old new was_open works failed = by failed.cause failed.fault_is failed.has where
-  by : (cause : StoreError) → faults.Store ≡ fault_of (store_error cause) → HasCause old new ⊥ cause → ⊥
-  by OutOfMemory is has = absurd cc
-  by Io is has = works has
-  by Corrupt is has = works has
-  by Full is has = works has
-  by Broken is shut = let clash : true ≡ false = sym was_open ∙ shut in absurd cc
-  by Unstorable is has = has
+no_failure old new was_open works failed = elim (disk_at_fault old new failed) [
+  | inl more ↦ works more
+  | inr shut ↦ let clash : true ≡ false = sym was_open ∙ shut in absurd cc
+]
 
 -- `done_command_given_up`: over a disk that works, and tables that have numbers for its rows, no command is given up by
 -- Store
