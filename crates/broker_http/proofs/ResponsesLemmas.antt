@@ -155,4 +155,3 @@ tells_writer (faults.Turn over) P Q p = tt
 tells_writer faults.Count P Q p = tt
 tells_writer (faults.Write fault) P Q p = p
 tells_writer faults.Memory P Q p = tt
-
