@@ -1,6 +1,6 @@
 & verified
-# Texts that are no names: the command that meets one is answered so, and the broker is stopped until it is opened
-# again. Nothing has changed then.
+# Texts that are no names: the command that has to show one, or needs it, is answered so, and the broker is stopped until
+# it is opened again. Nothing has changed then.
 # A character below U+0020 in a version.
 ! UPDATE versions SET version = 'a\x01' WHERE number = 1
 > R GET /matrix?pacticipant=shop&version=3
@@ -82,7 +82,7 @@
 > G GET /environments/live
 < 200 {"answer":"shown","deployed":[{"instance":"","pacticipant":"shop","version":"1"},{"instance":"",
   "pacticipant":"stock","version":"1"}],"environment":"live","gated":true,"released":[]}
-# As the owner of a pacticipant. Its partner is as before.
+# As the owner of a pacticipant, which nobody owns then: no team may deploy it, and the broker goes on.
 ! INSERT INTO teams (name, token_digest) VALUES ('', 'none')
 ! UPDATE pacticipants SET team = '' WHERE name = 'shop'
 > R GET /environments/live
@@ -93,9 +93,11 @@
   "providerVersion":"1","result":3,"success":true},{"consumer":"shop","consumerVersion":"3","evidence":"claimed",
   "provider":"stock","providerVersion":"1","result":3,"success":true}]}
 > R POST /environments/live/deployments {"pacticipant":"shop","version":"3"}
-< 500 {"answer":"store"}
+< 403 {"answer":"denied","rule":"A7"}
 > B GET /matrix?pacticipant=stock&version=1
-< 503 {"answer":"stopped"}
+< 200 {"answer":"shown","rows":[{"consumer":"shop","consumerVersion":"1","evidence":"claimed","provider":"stock",
+  "providerVersion":"1","result":3,"success":true},{"consumer":"shop","consumerVersion":"3","evidence":"claimed",
+  "provider":"stock","providerVersion":"1","result":3,"success":true}]}
 ! UPDATE pacticipants SET team = 'red' WHERE name = 'shop'
 ! DELETE FROM teams WHERE name = ''
 > R GET /environments/live
