@@ -1,6 +1,6 @@
 & verified
-# Texts that are no names: the command that has to show one, or needs it, is answered so, and the broker is stopped until
-# it is opened again. Nothing has changed then.
+# Texts that are no names: the command that has to show one, or needs it, is answered so, and the broker is stopped
+# until it is opened again. Nothing has changed then.
 # A character below U+0020 in a version.
 ! UPDATE versions SET version = 'a\x01' WHERE number = 1
 > R GET /matrix?pacticipant=shop&version=3

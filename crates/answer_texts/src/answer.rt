@@ -6,81 +6,80 @@ ghost use Rattle.answer_texts.specs.AnswerText.{body_bytes};
 
 use crate::constants::{BodyText, denied_text, fixed_text, taken_text, unknown_text};
 use crate::texts::{detail_text, faults_text, form_text, shown_text};
-use broker_core::answer::Answer as Outcome;
+use broker_core::answer::Answer;
 use broker_core::policy::Rule;
 use http::StatusCode;
 use std::alloc::{AllocError, Global};
 use std::marker::Model;
 
-/// What came of a command, with its body. A contract sees what came of it.
+/// An answer with its body. A contract sees the answer.
 #[derive(Drop)]
-pub struct Answer {
-    outcome: Outcome,
+pub struct RenderedAnswer {
+    answer: Answer,
     body: BodyText,
 }
 
-impl Model for Answer {
-    ghost use Rattle.broker_core.specs.declared.answer.Answer.{Answer as OutcomeAnswer};
+impl Model for RenderedAnswer {
+    ghost use Rattle.broker_core.specs.declared.answer.Answer.{Answer};
     ghost use Rattle.answer_texts.specs.AnswerText.{IsMade};
 
-    ghost Value = { OutcomeAnswer };
+    ghost Value = { Answer };
 
-    ghost view = { λ a. a.outcome };
+    ghost view = { λ a. a.answer };
 
-    ghost invariant = { λ a. IsMade a.body a.outcome };
+    ghost invariant = { λ a. IsMade a.body a.answer };
 }
 
 /// The body of an answer. Only one that isn't constant takes memory.
 #[tactic(auto, unfolding(json::specs::Print::escape_byte))]
-fn body_of(alloc: Global, outcome: &Outcome) -> Result<BodyText, AllocError>
-    ensures text { IfOk result (λ body. body_bytes body ≡ spec.answer_text outcome.now) }
-    ensures memory { IfErr result (λ _. spec.is_constant outcome.now ≡ false) }
+fn body_of(alloc: Global, answer: &Answer) -> Result<BodyText, AllocError>
+    ensures text { IfOk result (λ body. body_bytes body ≡ spec.answer_text answer.now) }
+    ensures memory { IfErr result (λ _. spec.is_constant answer.now ≡ false) }
 {
-    match outcome {
-        Outcome::Done(detail) => detail_text(alloc, "done", "{\"answer\":\"done\"}", detail),
-        Outcome::Already(detail) => {
+    match answer {
+        Answer::Done(detail) => detail_text(alloc, "done", "{\"answer\":\"done\"}", detail),
+        Answer::Already(detail) => {
             detail_text(alloc, "already", "{\"answer\":\"already\"}", detail)
         }
-        Outcome::Shown(shown) => Ok(BodyText::Made(shown_text(alloc, shown)?)),
-        Outcome::Denied(rule) => Ok(BodyText::Constant(denied_text(*rule))),
-        Outcome::Unknown(what) => Ok(BodyText::Constant(unknown_text(*what))),
-        Outcome::BadForm(fault) => form_text(alloc, fault),
-        Outcome::Taken(what) => Ok(BodyText::Constant(taken_text(*what))),
-        Outcome::Full => Ok(BodyText::Constant("{\"answer\":\"full\"}")),
-        Outcome::NotPermitted(faults) => {
+        Answer::Shown(shown) => Ok(BodyText::Made(shown_text(alloc, shown)?)),
+        Answer::Denied(rule) => Ok(BodyText::Constant(denied_text(*rule))),
+        Answer::Unknown(what) => Ok(BodyText::Constant(unknown_text(*what))),
+        Answer::BadForm(fault) => form_text(alloc, fault),
+        Answer::Taken(what) => Ok(BodyText::Constant(taken_text(*what))),
+        Answer::Full => Ok(BodyText::Constant("{\"answer\":\"full\"}")),
+        Answer::NotPermitted(faults) => {
             Ok(BodyText::Made(faults_text(alloc, faults.as_slice())?))
         }
-        Outcome::Pattern | Outcome::Memory | Outcome::Store | Outcome::Stopped => {
-            Ok(BodyText::Constant(fixed_text(outcome)))
+        Answer::Pattern | Answer::Memory | Answer::Store | Answer::Stopped => {
+            Ok(BodyText::Constant(fixed_text(answer)))
         }
     }
 }
 
-impl Answer {
-    /// The answer of this outcome, with its body. Without memory for a body that isn't constant there is none.
-    pub fn new(alloc: Global, outcome: Outcome) -> Result<Answer, AllocError>
-        ensures answer { IfOk result (λ answer. answer ≡ outcome) }
-        ensures memory { IfErr result (λ _. spec.is_constant outcome ≡ false) }
+impl RenderedAnswer {
+    /// This answer with its body. Without memory for a body that isn't constant there is none.
+    pub fn new(alloc: Global, answer: Answer) -> Result<RenderedAnswer, AllocError>
+        ensures answer { IfOk result (λ made. made ≡ answer) }
+        ensures memory { IfErr result (λ _. spec.is_constant answer ≡ false) }
     {
-        let body = body_of(alloc, &outcome)?;
-        Ok(Answer { outcome, body })
+        let body = body_of(alloc, &answer)?;
+        Ok(RenderedAnswer { answer, body })
     }
 
-    /// The answer that says why there was no step. Its body is constant, so that it takes no
-    /// memory.
-    pub fn failed(outcome: Outcome) -> Answer
-        requires { is_step outcome ≡ false }
-        ensures { result ≡ outcome }
+    /// The answer that says why there was no step, with its body, which is constant and takes no memory.
+    pub fn failed(answer: Answer) -> RenderedAnswer
+        requires { is_step answer ≡ false }
+        ensures { result ≡ answer }
     {
-        let body = BodyText::Constant(fixed_text(&outcome));
-        Answer { outcome, body }
+        let body = BodyText::Constant(fixed_text(&answer));
+        RenderedAnswer { answer, body }
     }
 
-    /// What came of the command.
-    pub fn outcome(&self) -> &Outcome
+    /// The answer.
+    pub fn answer(&self) -> &Answer
         ensures { result.now ≡ self.now }
     {
-        &self.outcome
+        &self.answer
     }
 
     /// The body: compact JSON without a newline, with the keys of objects in byte order.
@@ -94,15 +93,15 @@ impl Answer {
     pub fn status(&self) -> StatusCode
         ensures { result ≡ spec.status_of self.now }
     {
-        match &self.outcome {
-            Outcome::Done(_) | Outcome::Already(_) | Outcome::Shown(_) => StatusCode::OK,
-            Outcome::Denied(Rule::A1) => StatusCode::UNAUTHORIZED,
-            Outcome::Denied(_) => StatusCode::FORBIDDEN,
-            Outcome::Unknown(_) => StatusCode::NOT_FOUND,
-            Outcome::BadForm(_) => StatusCode::UNPROCESSABLE_ENTITY,
-            Outcome::Taken(_) | Outcome::Full | Outcome::NotPermitted(_) => StatusCode::CONFLICT,
-            Outcome::Pattern | Outcome::Store => StatusCode::INTERNAL_SERVER_ERROR,
-            Outcome::Memory | Outcome::Stopped => StatusCode::SERVICE_UNAVAILABLE,
+        match &self.answer {
+            Answer::Done(_) | Answer::Already(_) | Answer::Shown(_) => StatusCode::OK,
+            Answer::Denied(Rule::A1) => StatusCode::UNAUTHORIZED,
+            Answer::Denied(_) => StatusCode::FORBIDDEN,
+            Answer::Unknown(_) => StatusCode::NOT_FOUND,
+            Answer::BadForm(_) => StatusCode::UNPROCESSABLE_ENTITY,
+            Answer::Taken(_) | Answer::Full | Answer::NotPermitted(_) => StatusCode::CONFLICT,
+            Answer::Pattern | Answer::Store => StatusCode::INTERNAL_SERVER_ERROR,
+            Answer::Memory | Answer::Stopped => StatusCode::SERVICE_UNAVAILABLE,
         }
     }
 }

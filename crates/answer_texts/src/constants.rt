@@ -1,10 +1,10 @@
 //! The bodies that are constant, so that they take no memory.
 ghost use Rattle.std.specs.Prelude.{◌≡◌, false};
 ghost use Rattle.broker_core.specs.Machine.{is_step};
-ghost use Rattle.broker_core.specs.declared.answer.Answer.TheVariants as outcomes;
+ghost use Rattle.broker_core.specs.declared.answer.Answer.TheVariants as answers;
 ghost use Rattle.answer_texts.specs.AnswerText.{answer_text, body_bytes};
 
-use broker_core::answer::{Answer as Outcome, Clash, Missing};
+use broker_core::answer::{Answer, Clash, Missing};
 use broker_core::policy::Rule;
 
 /// The text of a body: a constant, or one that was made.
@@ -29,7 +29,7 @@ impl BodyText {
 /// The body that says by which rule a caller may not.
 #[tactic(auto, unfolding(json::specs::Print::escape_byte))]
 pub(crate) fn denied_text(rule: Rule) -> &'static str
-    ensures { result.now ≡ answer_text (outcomes.Denied rule) }
+    ensures { result.now ≡ answer_text (answers.Denied rule) }
 {
     match rule {
         Rule::A1 => "{\"answer\":\"denied\",\"rule\":\"A1\"}",
@@ -46,7 +46,7 @@ pub(crate) fn denied_text(rule: Rule) -> &'static str
 /// The body that says what is unknown.
 #[tactic(auto, unfolding(json::specs::Print::escape_byte))]
 pub(crate) fn unknown_text(what: Missing) -> &'static str
-    ensures { result.now ≡ answer_text (outcomes.Unknown what) }
+    ensures { result.now ≡ answer_text (answers.Unknown what) }
 {
     match what {
         Missing::Team => "{\"answer\":\"unknown\",\"what\":\"team\"}",
@@ -63,7 +63,7 @@ pub(crate) fn unknown_text(what: Missing) -> &'static str
 /// The body that says what is taken.
 #[tactic(auto, unfolding(json::specs::Print::escape_byte))]
 pub(crate) fn taken_text(what: Clash) -> &'static str
-    ensures { result.now ≡ answer_text (outcomes.Taken what) }
+    ensures { result.now ≡ answer_text (answers.Taken what) }
 {
     match what {
         Clash::Name => "{\"answer\":\"taken\",\"what\":\"name\"}",
@@ -74,14 +74,14 @@ pub(crate) fn taken_text(what: Clash) -> &'static str
 }
 
 /// The body of an answer that is no step.
-pub(crate) fn fixed_text(outcome: &Outcome) -> &'static str
-    requires { is_step outcome.now ≡ false }
-    ensures { result.now ≡ answer_text outcome.now }
+pub(crate) fn fixed_text(answer: &Answer) -> &'static str
+    requires { is_step answer.now ≡ false }
+    ensures { result.now ≡ answer_text answer.now }
 {
-    match outcome {
-        Outcome::Pattern => "{\"answer\":\"pattern\"}",
-        Outcome::Memory => "{\"answer\":\"memory\"}",
-        Outcome::Store => "{\"answer\":\"store\"}",
+    match answer {
+        Answer::Pattern => "{\"answer\":\"pattern\"}",
+        Answer::Memory => "{\"answer\":\"memory\"}",
+        Answer::Store => "{\"answer\":\"store\"}",
         _ => "{\"answer\":\"stopped\"}",
     }
 }

@@ -8,4 +8,4 @@ mod parts;
 mod texts;
 mod writing;
 
-pub use answer::Answer;
+pub use answer::RenderedAnswer;

@@ -28,7 +28,7 @@ use Rattle.broker_core.specs.Text.{Text, same_text}
 use Rattle.broker_tables.specs.Holds.{Holds}
 use Rattle.broker_tables.specs.Former.{HoldsFormer, IsUnmarked, former_format}
 use Rattle.broker_tables.specs.Readable.{IsReadable}
-use Rattle.broker_tables.specs.Refusals.{AreShort}
+use Rattle.broker_tables.specs.ChangeRefusals.{AreShort}
 use Rattle.broker_tables.specs.Room.{HasRoomFor, LeaveNumbers, counted_tables}
 use Rattle.broker_tables.specs.Rows.{rows_of}
 use Rattle.registry_tables.specs.Format.{IsOfFormat, IsForeign, HasFormerTables, FindsFormer, FailsToFind}

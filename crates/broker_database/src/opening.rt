@@ -9,7 +9,7 @@ ghost use Rattle.broker_core.specs.State.{opening};
 ghost use Rattle.broker_tables.specs.Schema.{registry_part, contents, contract_part, all_tables, all_indexes, schema_of};
 ghost use Rattle.broker_tables.specs.Holds.{Holds, format};
 ghost use Rattle.broker_tables.specs.Making.{IsBlank, HasTables, HasShortKeys, IsCalmOver};
-ghost use Rattle.broker_tables.specs.Refusals.{AreShort};
+ghost use Rattle.broker_tables.specs.ChangeRefusals.{AreShort};
 ghost use Rattle.registry_tables.specs.Format.{Finds};
 ghost use Rattle.command_facts.specs.Primitives.{broker_primitives};
 ghost use Rattle.broker_database.specs.Ends.{IsAsBefore, IsUnchangedUnless, CommitsAtMostOnce, LeavesNoTransaction};

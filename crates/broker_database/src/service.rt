@@ -5,7 +5,7 @@ ghost use Rattle.caller_facts.specs.Callers.{token_of};
 ghost use Rattle.broker_database.specs.BrokerView.{BrokerView};
 ghost use Rattle.broker_database.specs.Calls.{Applied};
 
-use answer_texts::Answer;
+use answer_texts::RenderedAnswer;
 use broker_core::command::Command;
 use std::alloc::Global;
 
@@ -22,6 +22,6 @@ pub trait Service {
     ghost seen: { Self → BrokerView Store };
 
     /// Runs one command of the caller with this token, in one transaction.
-    fn apply(&mut self, alloc: Global, token: Option<&str>, command: &Command) -> Answer
+    fn apply(&mut self, alloc: Global, token: Option<&str>, command: &Command) -> RenderedAnswer
         ensures { Applied shown (seen self.old) (token_of token.entry) command.now result (seen self.new) };
 }

@@ -9,7 +9,7 @@ ghost use Rattle.broker_http.specs.Faults.{TellsDevice};
 ghost use Rattle.broker_http.specs.Stream.{ExchangeCut, ExchangeDone};
 
 use crate::served::ServeFault;
-use answer_texts::Answer;
+use answer_texts::RenderedAnswer;
 use broker_core::command::Command;
 use broker_database::Service;
 use broker_names::name::Token;
@@ -28,7 +28,7 @@ fn apply<B: Service>(
     broker: &mut B,
     token: &Option<Token>,
     command: &Command,
-) -> Answer
+) -> RenderedAnswer
     ensures { Applied B.shown (B.seen broker.old) token.now command.now result (B.seen broker.new) }
 {
     match token {

@@ -13,7 +13,7 @@ use Rattle.broker_database.specs.Life.{Kept, Period, PeriodLeads, LifeLeads, Per
 use Rattle.broker_database.specs.{declared.opening.OpenFault.{OpenFault}, Life.Period.{NotOpened, Serving}}
 use Rattle.broker_database.proofs.LifeLemmas.{file_leads, opening_spares, programs_lead}
 use Rattle.program_io.specs.{Entrance.{Visit}, declared.fault.RunFault.{RunFault}}
-use Rattle.broker_program.specs.{Cuts.{FindsNoBroker, StaysShut, StaysUnclosed}, Life.{IsUnharmedShut, periods_of, periods_over}, Refusals.{IsNotClosed}}
+use Rattle.broker_program.specs.{Cuts.{FindsNoBroker, StaysShut, StaysUnclosed}, Life.{IsUnharmedShut, periods_of, periods_over}, FileRefusals.{IsNotClosed}}
 use Rattle.broker_program.specs.{Files.{EndsClean, Leaves, StartsFrom}, Serving.{ServesOver, ServesTo, StartsAfter, Work, Works}, declared.seed.NoSeed.{NoSeed}}
 use Rattle.broker_program.proofs.CallLemmas.{work_runs, works_clean}
 use Rattle.sqlite.specs.declared.file.Leftover.TheVariants as left

@@ -6,7 +6,7 @@ use Rattle.sqlite.specs.{Files.{file_state}, FileStore.{view}, Held.{Held}, Reco
 use Rattle.sqlite.specs.declared.FileStore.{FileStore}
 use Rattle.broker_database.specs.declared.opening.OpenFault.{OpenFault}
 use Rattle.broker_program.specs.Files.{GivesUpAs, LeavesCut, LeavesStore, OpensOn, StartsFrom}
-use Rattle.broker_program.specs.Refusals.{EndsUnclosed, FailsThere, GivesUpUnopened, IsNotClosed, IsOfDatabase, OpensNone}
+use Rattle.broker_program.specs.FileRefusals.{EndsUnclosed, FailsThere, GivesUpUnopened, IsNotClosed, IsOfDatabase, OpensNone}
 use Rattle.broker_program.specs.{declared.left.CutService.{CutService}, declared.left.Left.{Left}, declared.left.Left.TheVariants.{Cut, GivenUp}}
 use Rattle.program_io.specs.{Reported.{IsFromOutside}, declared.fault.RunFault.{RunFault}}
 use Rattle.program_io.specs.declared.fault.RunFault.TheVariants as run_fault

@@ -7,7 +7,7 @@ use Rattle.sqlite.specs.{FileStore.{files as store_files, state as store_state, 
 use Rattle.sqlite.specs.{Recovery.{Image}, View.{IsClean}, WalFiles.{outcomes}, WalReads.{AreClean}, declared.FileStore.{FileStore}}
 use Rattle.sqlite_store.specs.Calls.{IsQuietCall}
 use Rattle.broker_database.specs.{BrokerView.{BrokerView}, Life.{IsOpenedAfter}, declared.opening.OpenFault.{OpenFault}}
-use Rattle.broker_program.specs.{Files.{GivesUpAs}, Refusals.{GivesUpUnopened}, Serving.{OpensAfter, ReopensOn}}
+use Rattle.broker_program.specs.{Files.{GivesUpAs}, FileRefusals.{GivesUpUnopened}, Serving.{OpensAfter, ReopensOn}}
 use Rattle.broker_program.specs.Reopening.{EmptiesLog, FindsNoneAgain, IsStillGiven, OpensFilesAgain}
 use Rattle.program_io.specs.declared.fault.RunFault.TheVariants as run_fault
 use Rattle.sqlite.specs.declared.file.Leftover.TheVariants as left

@@ -8,7 +8,7 @@ use Rattle.broker_database.specs.{BrokerView.{BrokerView}, Life.{IsGivenBack}}
 use Rattle.broker_http.specs.{Calls.{IsServed}, declared.served.ServeFault.{ServeFault}, declared.served.Served.{Served}}
 use Rattle.program_io.specs.{Entrance.{IsLetGo, IsLetIn, NoneIsIn, Peer, Queue, Visit}, declared.fault.RunFault.{RunFault}}
 use Rattle.broker_program.specs.{Cuts.{CutsFile, CutsQueue, CountsCut, IsBrokerless, StaysUnclosed}, Files.{ClosesAs, Leaves, OpensBroker}}
-use Rattle.broker_program.specs.Refusals.{IsLeftUnserved, IsNotClosed, IsReopeningFault}
+use Rattle.broker_program.specs.FileRefusals.{IsLeftUnserved, IsNotClosed, IsReopeningFault}
 use Rattle.broker_program.specs.Reopening.{CutsAll, FailsToReopen, FindsNoneAgain, OpensBrokerAgain, ServesAll, ServesBetween, ServesMore, ServesNoMore, ServesOn, ServesSoFar}
 use Rattle.broker_program.specs.Serving.{IsPeerOf, LosesFiles, ServesFile, ServesNext, ServesOver, ServesPeer, ServesPeers, ServesQueue, ServesTo, ServesVisits, Work, Works, calls_of_peers, visits_of}
 use Rattle.broker_program.specs.{declared.left.CutService.{CutService}, declared.left.Service.{Service}, declared.seed.NoSeed.{NoSeed}}

@@ -19,7 +19,7 @@ use Rattle.program_io.specs.Entrance.{AreVisited, Queue, Visit}
 use Rattle.program_io.specs.Reported.{IsFromOutside}
 use Rattle.program_io.specs.declared.fault.RunFault.{RunFault}
 use Rattle.program_io.specs.declared.fault.RunFault.TheVariants as run_fault
-use Rattle.broker_program.specs.Refusals.{IsNotClosed, IsReopeningFault, OpensNone, told_of}
+use Rattle.broker_program.specs.FileRefusals.{IsNotClosed, IsReopeningFault, OpensNone, told_of}
 use Rattle.broker_program.specs.Serving.{IsPeerOf, LosesFiles, ServesOver, ServesTo, StartsAfter, Work, visits_of}
 use Rattle.broker_program.specs.Files.{Leaves, LeavesCut}
 use Rattle.broker_program.specs.declared.left.CutService.{CutService}

@@ -11,5 +11,5 @@ pub mod Life
 pub mod Calm
 pub mod Tested
 pub mod Reasons
-pub mod Refusals
+pub mod FileRefusals
 pub mod Cuts

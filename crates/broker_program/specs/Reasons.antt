@@ -18,8 +18,8 @@ use Rattle.program_io.specs.declared.fault.RunFault.TheVariants as run_fault
 use Rattle.broker_program.specs.Cuts.{CutsFile}
 use Rattle.broker_program.specs.Files.{LeavesCut, LeavesRead, LeavesStore}
 use Rattle.broker_program.specs.Making.{MakesOn, MigratesOn}
-use Rattle.broker_program.specs.Refusals.{EndsUnclosed, FailsToConnect, IsLeftUnserved, IsOfDatabase}
-use Rattle.broker_program.specs.Refusals.{MakesNone, MigratesNone, OpensNone}
+use Rattle.broker_program.specs.FileRefusals.{EndsUnclosed, FailsToConnect, IsLeftUnserved, IsOfDatabase}
+use Rattle.broker_program.specs.FileRefusals.{MakesNone, MigratesNone, OpensNone}
 use Rattle.broker_program.specs.Replays.{ReplaysUpTo}
 use Rattle.broker_program.specs.Told.{AnswersQuestion, permission, question}
 use Rattle.broker_program.specs.declared.can_i_deploy.Question.{Question}

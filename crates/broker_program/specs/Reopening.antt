@@ -17,7 +17,7 @@ use Rattle.broker_database.specs.Calls.{Opened}
 use Rattle.broker_database.specs.Life.{IsOpenedAfter}
 use Rattle.broker_program.specs.Cuts.{BreaksInCopy, CutsVisits, IsBrokerless, IsNotReopened, OfStore, StaysShut}
 use Rattle.broker_program.specs.Files.{GivesUpAs}
-use Rattle.broker_program.specs.Refusals.{OpensNone}
+use Rattle.broker_program.specs.FileRefusals.{OpensNone}
 use Rattle.program_io.specs.Entrance.{AreVisited, Queue, Visit}
 use Rattle.program_io.specs.declared.fault.RunFault.{RunFault}
 use Rattle.program_io.specs.declared.fault.RunFault.TheVariants as run_fault

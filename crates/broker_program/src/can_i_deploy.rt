@@ -9,10 +9,10 @@ ghost use Rattle.broker_program.specs.Told.{TellsGate, TellsGateUntil};
 
 use crate::files::{Failed, open_broker, release};
 use crate::left::Left;
-use broker_core::answer::{Answer as Outcome, Shown};
+use broker_core::answer::{Answer, Shown};
 use broker_core::command::{Command, Version};
 use broker_names::name::Token;
-use broker_service::Answer;
+use broker_service::RenderedAnswer;
 use command_line::FilePath;
 use program_io::fault::RunFault;
 use program_io::forms::{name_of, token_of};
@@ -59,7 +59,7 @@ fn request_of(alloc: Global, question: Question<'_>) -> Result<(Token, Command),
 }
 
 /// What a broker answered, and the store of its file, which is given up as it is.
-type Answered<S> = (Answer, FileStore<FileFrom<S>>);
+type Answered<S> = (RenderedAnswer, FileStore<FileFrom<S>>);
 
 /// What the broker in the file answers the caller with the token.
 fn answer_at<S: Start>(
@@ -98,18 +98,18 @@ fn answer_to<S: Start>(
 }
 
 /// Whether the answer permits the deployment, if it says so.
-fn permits(answer: &Answer) -> Option<bool>
+fn permits(answer: &RenderedAnswer) -> Option<bool>
     ensures { result ≡ permission answer.now }
 {
-    match answer.outcome() {
-        Outcome::Shown(Shown::Gate { permitted, .. }) => Some(*permitted),
+    match answer.answer() {
+        Answer::Shown(Shown::Gate { permitted, .. }) => Some(*permitted),
         _ => None,
     }
 }
 
 /// Writes the answer and a newline, and says whether the version is permitted. An answer that doesn't say so is a
 /// fault.
-fn tell_answer<W: Write>(answer: Answer, output: &mut W) -> Result<bool, RunFault>
+fn tell_answer<W: Write>(answer: RenderedAnswer, output: &mut W) -> Result<bool, RunFault>
     ensures ok { IfOk result (TellsGate answer (W.contents output.old) (W.contents output.new)) }
     // Nothing was written, or a beginning of the answer.
     ensures err { OnErr result ((output.new ≡ output.old)

@@ -6,7 +6,7 @@ ghost use Rattle.broker_database.specs.Calls.{Opened};
 ghost use Rattle.broker_program.specs.Files.{ClosesAs, GivesUpAs, LeavesStore, OpensBroker, OpensOn};
 ghost use Rattle.broker_program.specs.Reasons.{FailsToOpen};
 ghost use Rattle.program_io.specs.Reported.{IsFromOutside};
-ghost use Rattle.broker_program.specs.Refusals.{FailsToConnect, GivesUpUnopened, IsNotClosed, left_of, told_of};
+ghost use Rattle.broker_program.specs.FileRefusals.{FailsToConnect, GivesUpUnopened, IsNotClosed, left_of, told_of};
 
 use crate::left::Left;
 use broker_service::{Broker, OpenFault};

@@ -5,7 +5,7 @@ ghost use Rattle.broker_names.specs.Name.{IsToken};
 ghost use Rattle.broker_program.specs.Files.{OpensOn};
 ghost use Rattle.broker_program.specs.Making.{BrokerIsMade, MakesThere};
 ghost use Rattle.broker_program.specs.Reasons.{FailsToMake, FailsToMakeIn};
-ghost use Rattle.broker_program.specs.Refusals.{IsOfDatabase, MakesNone};
+ghost use Rattle.broker_program.specs.FileRefusals.{IsOfDatabase, MakesNone};
 
 use crate::files::{Failed, FileBroker, FileConnection, close, connect, give_up};
 use crate::left::Left;

@@ -4,7 +4,7 @@ ghost use Rattle.sqlite.specs.WalFiles.{image_at};
 ghost use Rattle.broker_program.specs.Files.{OpensOn};
 ghost use Rattle.broker_program.specs.Making.{FileIsMigrated, MigratesThere};
 ghost use Rattle.broker_program.specs.Reasons.{FailsToMigrate};
-ghost use Rattle.broker_program.specs.Refusals.{IsOfDatabase, MigratesNone};
+ghost use Rattle.broker_program.specs.FileRefusals.{IsOfDatabase, MigratesNone};
 
 use crate::files::{Failed, FileConnection, connect_existing, disconnect, give_up};
 use crate::left::Left;

@@ -3,7 +3,7 @@ ghost use Rattle.std.specs.Prelude.{◌≡◌, false, None, Some, Ok, IfErr, IfO
 ghost use Rattle.sqlite.specs.WalFiles.{image_at};
 ghost use Rattle.program_io.specs.Reported.{IsFromOutside};
 ghost use Rattle.broker_program.specs.Cuts.{StaysShut};
-ghost use Rattle.broker_program.specs.Refusals.{IsReopeningFault};
+ghost use Rattle.broker_program.specs.FileRefusals.{IsReopeningFault};
 ghost use Rattle.broker_program.specs.Reopening.{EmptiesLog, FailsToReopen, KeepsServing, OpensBrokerAgain};
 ghost use Rattle.broker_program.specs.Reopening.{OpensFilesAgain};
 

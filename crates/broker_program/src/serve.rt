@@ -6,7 +6,7 @@ ghost use Rattle.program_io.specs.Listening.{ListensOn};
 ghost use Rattle.broker_program.specs.Cuts.{CutsAfter, CutsService};
 ghost use Rattle.broker_program.specs.Files.{OpensBroker};
 ghost use Rattle.broker_program.specs.Reasons.{FailsToServe};
-ghost use Rattle.broker_program.specs.Refusals.{IsReopeningFault};
+ghost use Rattle.broker_program.specs.FileRefusals.{IsReopeningFault};
 ghost use Rattle.broker_program.specs.Reopening.{CutsAll, ServesAll, ServesBetween};
 ghost use Rattle.broker_program.specs.Serving.{ServesFile, ServesNext, ServesQueue};
 

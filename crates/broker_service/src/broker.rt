@@ -8,8 +8,8 @@ ghost use Rattle.broker_database.specs.Transaction.{fault_of};
 ghost use Rattle.broker_service.specs.Transacted.{IsSoundCommand, failed_as};
 
 use crate::work::transact;
-use answer_texts::Answer;
-use broker_core::answer::Answer as Outcome;
+use answer_texts::RenderedAnswer;
+use broker_core::answer::Answer;
 use broker_core::command::Command;
 use broker_database::{Failure, Refused};
 use broker_names::name::Token;
@@ -21,12 +21,12 @@ use std::marker::Model;
 use table_access::StoreFault;
 
 /// The answer to a command whose transaction isn't done.
-fn failed(failure: &Failure) -> Answer
+fn failed(failure: &Failure) -> RenderedAnswer
     ensures { result ≡ failed_as (fault_of failure.now) }
 {
     match failure.fault() {
-        StoreFault::Memory => Answer::failed(Outcome::Memory),
-        StoreFault::Store => Answer::failed(Outcome::Store),
+        StoreFault::Memory => RenderedAnswer::failed(Answer::Memory),
+        StoreFault::Store => RenderedAnswer::failed(Answer::Store),
     }
 }
 
@@ -123,20 +123,20 @@ impl<S: Alter> Broker<S> {
     /// command that is to change something, and only if its commit was refused for lack of memory, or a table has no
     /// numbers left for its rows. From then on each answer is `Stopped`, and nothing changes. After a refused commit a
     /// crash may leave the next state.
-    pub fn apply(&mut self, alloc: Global, token: Option<&str>, command: &Command) -> Answer
+    pub fn apply(&mut self, alloc: Global, token: Option<&str>, command: &Command) -> RenderedAnswer
         ensures { Applied (state S.Store) self.old (token_of token.entry) command.now result self.new }
     {
         // For the proof: the names are in UTF-8, so that a step keeps what can be read back such (the clause `readable`).
         has_readable_names(command);
         readable_stays();
         if self.stopped {
-            return Answer::failed(Outcome::Stopped);
+            return RenderedAnswer::failed(Answer::Stopped);
         }
         self.run(alloc, token, command)
     }
 
     /// Runs one command of the caller with this token, in one transaction. If the database fails the broker is stopped.
-    fn run(&mut self, alloc: Global, token: Option<&str>, command: &Command) -> Answer
+    fn run(&mut self, alloc: Global, token: Option<&str>, command: &Command) -> RenderedAnswer
         ensures { self.old.is_stopped ≡ false → IsSoundCommand (token_of token.entry) command.now →
             Applied (state S.Store) self.old (token_of token.entry) command.now result self.new }
     {
@@ -144,7 +144,7 @@ impl<S: Alter> Broker<S> {
             Ok(answer) => answer,
             Err(failure) => failed(&failure),
         };
-        self.stopped = matches!(answer.outcome(), Outcome::Store);
+        self.stopped = matches!(answer.answer(), Answer::Store);
         answer
     }
 }

@@ -16,6 +16,6 @@ mod broker;
 mod service;
 mod work;
 
-pub use answer_texts::Answer;
+pub use answer_texts::RenderedAnswer;
 pub use broker::Broker;
 pub use broker_database::{OpenFault, Refused, migrate};

@@ -1,6 +1,6 @@
 //! The broker as what runs the commands of a stream.
 use crate::broker::Broker;
-use answer_texts::Answer;
+use answer_texts::RenderedAnswer;
 use broker_core::command::Command;
 use broker_database::Service;
 use sqlite::Alter;
@@ -15,7 +15,7 @@ impl<S: Alter> Service for Broker<S> {
 
     ghost seen = { λ broker. broker };
 
-    fn apply(&mut self, alloc: Global, token: Option<&str>, command: &Command) -> Answer {
+    fn apply(&mut self, alloc: Global, token: Option<&str>, command: &Command) -> RenderedAnswer {
         Broker::apply(self, alloc, token, command)
     }
 }

@@ -1,8 +1,9 @@
 //! A command inside its transaction, and the transaction round it.
-ghost use Rattle.std.specs.Prelude.{◌≡◌, ◌↔◌, IsTrue, IfOk, IfErr, IsOkAnd};
+ghost use Rattle.std.specs.Prelude.{◌≡◌, ◌↔◌, IsTrue, IfOk, IfErr, IsOk, IsOkAnd, None};
 ghost use Rattle.sqlite.specs.Held.{state};
 ghost use Rattle.broker_core.specs.Contents.{HasSoundContents};
 ghost use Rattle.broker_core.specs.Laws.{IsDone};
+ghost use Rattle.broker_core.specs.Words.{named_in};
 ghost use Rattle.broker_core.specs.declared.answer.Answer.TheVariants.{BadForm};
 ghost use Rattle.caller_facts.specs.Callers.{token_of};
 ghost use Rattle.command_facts.specs.Performs.{Performs, FailsToChangeFrom, IsMisnamed, TokensStep};
@@ -10,8 +11,8 @@ ghost use Rattle.command_facts.specs.Primitives.{broker_primitives};
 ghost use Rattle.broker_service.specs.Transacted.{IsNoFailure, Transacted};
 ghost use Rattle.broker_service.specs.Does.{Does};
 
-use answer_texts::Answer;
-use broker_core::answer::Answer as Outcome;
+use answer_texts::RenderedAnswer;
+use broker_core::answer::Answer;
 use broker_core::command::{Command, FormFault};
 use broker_core::policy::{Caller, Rule};
 use broker_database::{Failure, conclude};
@@ -38,12 +39,13 @@ use std::alloc::Global;
 use table_access::{StoreFault, begin};
 
 /// The answer to a command whose form is at fault.
-fn bad_form(fault: &FormFault) -> Result<Outcome, StoreFault>
-    ensures ok { IfOk result (λ outcome. outcome ≡ BadForm fault.now) }
+fn bad_form(fault: &FormFault) -> Result<Answer, StoreFault>
+    ensures ok { IfOk result (λ answer. answer ≡ BadForm fault.now) }
     ensures cause { IfErr result (λ e. e ≡ StoreFault.Memory) }
+    ensures plain { named_in fault.now ≡ None → IsOk result }
 {
     match fault.clone() {
-        Ok(fault) => Ok(Outcome::BadForm(fault)),
+        Ok(fault) => Ok(Answer::BadForm(fault)),
         Err(_) => Err(StoreFault::Memory),
     }
 }
@@ -54,7 +56,7 @@ fn follow<S: Alter>(
     conn: &mut Connection<S>,
     caller: &Caller,
     command: &Command,
-) -> Result<Outcome, StoreFault>
+) -> Result<Answer, StoreFault>
     ensures { Does S.Store conn.old conn.new result caller.now command.now }
 {
     match command {
@@ -131,27 +133,27 @@ fn step_of<S: Alter>(
     conn: &mut Connection<S>,
     token: Option<&str>,
     command: &Command,
-) -> Result<Outcome, StoreFault>
+) -> Result<Answer, StoreFault>
     ensures answers { Performs S.Store conn.old conn.new result (TokensStep (token_of token.entry) command.now) }
     ensures calm { FailsToChangeFrom S.Store conn.old conn.new result (IsMisnamed command.now)
         (HasSoundContents broker_primitives) (TokensStep (token_of token.entry) command.now) }
 {
     match done!(caller_of(alloc, conn, token)) {
         Some(caller) => follow(alloc, conn, &caller, command),
-        None => Ok(Outcome::Denied(Rule::A1)),
+        None => Ok(Answer::Denied(Rule::A1)),
     }
 }
 
 /// The answer with its body. A failure, and that the broker is stopped, is answered only by `Broker::apply`: no command
 /// comes to it.
-fn answer_of(alloc: Global, outcome: Outcome) -> Result<Answer, StoreFault>
-    ensures ok { IfOk result (λ answer. (answer ≡ outcome) × IsNoFailure answer) }
-    ensures cause { IsNoFailure outcome → IfErr result (λ e. e ≡ StoreFault.Memory) }
+fn answer_of(alloc: Global, answer: Answer) -> Result<RenderedAnswer, StoreFault>
+    ensures ok { IfOk result (λ made. (made ≡ answer) × IsNoFailure made) }
+    ensures cause { IsNoFailure answer → IfErr result (λ e. e ≡ StoreFault.Memory) }
 {
-    if matches!(outcome, Outcome::Memory | Outcome::Store | Outcome::Stopped) {
+    if matches!(answer, Answer::Memory | Answer::Store | Answer::Stopped) {
         return Err(StoreFault::Store);
     }
-    match Answer::new(alloc, outcome) {
+    match RenderedAnswer::new(alloc, answer) {
         Ok(answer) => Ok(answer),
         Err(_) => Err(StoreFault::Memory),
     }
@@ -163,22 +165,22 @@ fn work<S: Alter>(
     conn: &mut Connection<S>,
     token: Option<&str>,
     command: &Command,
-) -> Result<Answer, StoreFault>
+) -> Result<RenderedAnswer, StoreFault>
     ensures performs { Performs S.Store conn.old conn.new result (TokensStep (token_of token.entry) command.now) }
     ensures calm { FailsToChangeFrom S.Store conn.old conn.new result (IsMisnamed command.now)
         (HasSoundContents broker_primitives) (TokensStep (token_of token.entry) command.now) }
     ensures answers { IfOk result IsNoFailure }
 {
-    let outcome = done!(step_of(alloc, conn, token, command));
-    Ok(done!(answer_of(alloc, outcome)))
+    let answer = done!(step_of(alloc, conn, token, command));
+    Ok(done!(answer_of(alloc, answer)))
 }
 
 /// Whether something was done, so that there is something to commit.
-fn is_done(worked: &Result<Answer, StoreFault>) -> bool
+fn is_done(worked: &Result<RenderedAnswer, StoreFault>) -> bool
     ensures { IsTrue result ↔ IsOkAnd worked.now (λ answer. IsDone answer) }
 {
     match worked {
-        Ok(answer) => matches!(answer.outcome(), Outcome::Done(_)),
+        Ok(answer) => matches!(answer.answer(), Answer::Done(_)),
         Err(_) => false,
     }
 }
@@ -190,7 +192,7 @@ pub(crate) fn transact<S: Alter>(
     conn: &mut Connection<S>,
     token: Option<&str>,
     command: &Command,
-) -> Result<Answer, Failure>
+) -> Result<RenderedAnswer, Failure>
     ensures transacts { Transacted (state S.Store) (token_of token.entry) command.now conn.old conn.new result }
     ensures answers { IfOk result IsNoFailure }
 {

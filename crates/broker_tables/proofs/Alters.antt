@@ -3,7 +3,7 @@ use Rattle.std.{specs.Prelude.{IfErr}, proofs.{Common.{ℕ, Result}, lemmas.Resu
 use Rattle.sqlite.specs.State.{State}
 use Rattle.table_access.{specs.{declared.StoreFault.{StoreFault}, Calls.{CallsStoreBetween}}, proofs.CallLemmas.{call_with}}
 use Rattle.broker_core.specs.State.{State as Broker}
-use Rattle.broker_tables.specs.{Holds.{Holds}, Refusals.{HoldsOpen}}
+use Rattle.broker_tables.specs.{Holds.{Holds}, ChangeRefusals.{HoldsOpen}}
 
 -- what the statement makes of a state, the call does
 pub alters : {old new : State} {r : Result (Unit {0}) StoreFault} {Done : ℕ → Type 0} {Next : Broker → Broker → Type 0} {After : Broker → Type 0}

@@ -1,7 +1,7 @@
 -- A query as a value: what a text asks of the broker's tables, and what a call that asks it answers, and why it fails.
-use Rattle.std.specs.{Prelude.{option_map, is_some, IsUtf8}, List.Sorted.{IsPermutation}}
-use Rattle.std.proofs.Common.{◌≡◌, ◌∙◌, inl, inr, ℕ, List, [], ◌∷◌, Option, Some, None, Result, IfErr, Bool, true, false, sym, ap, subst, pos, slice_get, map, filter, arith}
-use Rattle.std.proofs.lemmas.Result.{IfOk-weaker}
+use Rattle.std.specs.{Prelude.{Contains, option_map, is_some, IsUtf8}, List.Sorted.{IsPermutation}}
+use Rattle.std.proofs.Common.{◌≡◌, ◌∙◌, inl, inr, ℕ, List, [], ◌∷◌, Option, Some, None, Result, IfErr, Bool, true, false, refl, sym, ap, subst, pos, slice_get, map, filter, arith}
+use Rattle.std.proofs.lemmas.Result.{IfErr-weaker, IfOk-weaker}
 use Rattle.sqlite.specs.{declared.types.Value.TheVariants.{Int, Text}, Order.{Row, column}, Term.{Term, col, eval_all}, Query.{Query}}
 use Rattle.sqlite.specs.{Command.TheVariants.{Select}, Effect.{Database, Answers}, State.{State, Shown, HasCleanDisk}}
 use Rattle.sqlite_value.specs.declared.keys.Key.{Key}
@@ -9,14 +9,14 @@ use Rattle.sqlite_rules.specs.Lists.{Has}
 use Rattle.table_access.specs.{declared.StoreFault.{StoreFault}, declared.StoreFault.TheVariants.{Store}, Columns.{text, whole_at}}
 use Rattle.table_access.specs.Calls.{CallsTablesBetween, CallsStoreBetween, HasFailed}
 use Rattle.table_access.specs.Reading.{AreRead, FailsToRead, FailsToTake, IsRefusedAs, TellsNumber, TellsText, BeginsWithText, IsNumberRow, IsTextAt}
-use Rattle.table_access.{specs.Statements.{from_table, from_both, up_to, keeps, keeps_both, shows}, proofs.{Members.{map_has, filter_has}, Newest.{first_rows}}}
-use Rattle.table_access.proofs.Steps.{Means, answered, shown_answers, shown_unchanged}
-use Rattle.table_access.proofs.Answered.{Runs, refusal_ends, list_ends, number_ends, text_ends, first_has, permuted_has, take_has, pair_shown, first_pair_shown}
+use Rattle.table_access.{specs.Statements.{from_table, from_both, up_to, keeps, keeps_both, shows}, proofs.Members.{map_has, filter_has}}
+use Rattle.table_access.proofs.{Newest.{first_rows, first_joined}, Steps.{Means, answered, shown_answers, shown_unchanged}}
+use Rattle.table_access.proofs.Answered.{Runs, refusal_ends, list_ends, number_ends, text_ends, first_has, permuted_has, take_has, pair_shown}
 use Rattle.broker_core.specs.{declared.command.Version.{Version}, State.{State as Broker}}
 use Rattle.broker_tables.specs.{Schema.{broker_schema}, Numbers.{number_of}, Holds.{Holds, IsBroker, IsRead}}
-use Rattle.broker_tables.specs.{Calm.{Serves, HasFailedOrMemory, CalmQueriesBetween, IfNoVersionBetween}, Readable.{IsReadable}}
+use Rattle.broker_tables.specs.{Calm.{Serves, HasFailedOrMemory, CalmQueriesBetween, IfNoVersionBetween, NeedsNoRoomBetween}, Readable.{IsReadable}}
 use Rattle.broker_tables.proofs.{Frames.{meant, runs_here, held_still}, NoVersion.{no_items, no_answer, no_first}, QueryLemmas.{read_out, else_memory}}
-use Rattle.broker_tables.proofs.ReadableRows.{IsLow, number_cell}
+use Rattle.broker_tables.proofs.{ReadableRows.{IsLow, number_cell}, Listed.{has_read}}
 
 -- The text asks this query of the broker's tables, and can be run with these parameters: `refl` finds each field of both,
 -- under `unfolding understood everything`, also where the parameters are variables.
@@ -51,6 +51,15 @@ NoneFor asked db number = (s : Broker) → Holds db s → ((v : Version) → ¬ 
 -- a row fails so only where it isn't such: as Store
 abbrev pub FailsOnly : (Row → StoreFault → Type 0) → (Row → Type 0) → Type 0
 FailsOnly Fails Is = (row : Row) (fault : StoreFault) → Fails row fault → fault ≡ Store → ¬ Is row
+
+-- rows that read are read into a list
+rows_read : {B : Type 0} {Reads : Row → B → Type 0} {Is : Row → Type 0} → ((row : Row) → Is row → (x : B) × Reads row x) → (rows : List Row)
+    → ((row : Row) → Has rows row → Is row) → (items : List B) × AreRead Reads rows items
+rows_read reads [] is = ([], tt)
+rows_read reads (r ∷ rows) is =
+    let x = reads r (is r (inl refl)) in
+    let more = rows_read reads rows (λ row has. is row (inr has)) in
+    (x.0 ∷ more.0, (x.1, more.1))
 
 module _ {sql : List ℕ} {params : Row} {query : Query} (asked : Asked sql params query) (old new : State) where
   here : IsBroker old.now → Means old.now.schema sql (Select (record { lets = []; body = query }) asked.names)
@@ -126,6 +135,20 @@ module _ {sql : List ℕ} {params : Row} {query : Query} (asked : Asked sql para
       → EachReads asked old.now Is → CallsTablesBetween old new r (Was (λ list rows. AreRead Reads rows (items list)))
       → FailsFor r (FailsToRead Reads FailsAs sql params old new) → CalmQueriesBetween true old new r P
   lists {r = r} {P = P} only tells each = read_out old new r _ P _ (told _ P tells) (why_list only each)
+
+  -- where nothing is to be listed, no row is shown, and so none was refused
+  pub lists_in_place : {A B : Type 0} {Reads : Row → B → Type 0} {Is : Row → Type 0} {Nothing : Broker → Type 0} (r : Result A StoreFault) (Fails : Row → StoreFault → Type 0)
+      → ((row : Row) → Is row → (x : B) × Reads row x) → ((s : Broker) → Holds old.now s → Nothing s → (rows : List Row) → IsShown asked old.now rows → (items : List B)
+      → AreRead Reads rows items → (x : B) → ¬ (Contains items x)) → EachReads asked old.now Is → FailsFor r (FailsToRead Reads Fails sql params old new)
+      → NeedsNoRoomBetween old new r Nothing
+  lists_in_place {Reads = Reads} r Fails read none each cause clean s at nothing = IfErr-weaker r _ _ because (cause clean) where
+    because : (fault : StoreFault) → FailsToRead Reads Fails sql params old new fault → HasFailed old new fault
+    because fault (inl refused) = why_refused s at fault refused
+    because fault (inr (rows, shown, row, has, why)) =
+        let answer = (reads s at.held rows shown).0 in
+        let all = rows_read read rows (each s at.held at.readable rows answer) in
+        let one = has_read Reads rows all.0 row all.1 has in
+        absurd (none s at.held nothing rows answer all.0 all.1 one.0 one.1)
 
   -- a number, or none without a row
   abbrev IsFirst : Option ℕ → List Row → Type 0
@@ -215,7 +238,8 @@ module _ {sql : List ℕ} {params : Row} {terms project : List Term} {order : Li
   pub of_first_both : {t u most : ℕ} (asked : Asked sql params (up_to most (from_both t u terms project order))) (db : Database) (Is : Row → Type 0)
       → EachPair params terms project t u db Is → EachShown asked db Is
   of_first_both {t} {u} {most} asked db Is is rows h row has =
-      let it = first_pair_shown db params most t u terms project order rows h row has in
+      let all = first_joined db params t u terms project order most rows h in
+      let it = pair_shown db params t u terms project order all.0 all.1 row (take_has most all.0 row (subst (λ xs. Has xs row) all.2 has)) in
       subst Is (sym it.4) (is it.0 it.1 it.2 it.3 it.5)
 
 -- ---- what is shown of one column

@@ -54,21 +54,17 @@ each_table = (
   record { alone = record { means = record { is = refl; plain = (refl, refl); unlisted = refl }; whole = refl; text = refl }; defined = refl; uncounted = refl; new = record { written = refl; named = refl; free = refl; own = refl; room = refl; short = refl }; keys_free = refl; formed = refl; fit = refl; whole_numbers = refl },
 )
 
-contents_by_digest_text : DefinesIndex (indexed_by (schema_of all_tables) (take 0 all_indexes)) CONTENTS_BY_DIGEST.now schema.contents_by_digest
+each_index : DefinesIndex (indexed_by (schema_of all_tables) (take 0 all_indexes)) CONTENTS_BY_DIGEST.now schema.contents_by_digest
+    × DefinesIndex (indexed_by (schema_of all_tables) (take 1 all_indexes)) CONTRACTS_BY_CONTENT.now schema.contracts_by_content
+    × DefinesIndex (indexed_by (schema_of all_tables) (take 2 all_indexes)) LATEST_BY_PROVIDER_VERSION.now schema.latest_by_provider_version
+    × DefinesIndex (indexed_by (schema_of all_tables) (take 3 all_indexes)) VERSIONS_BY_PACTICIPANT.now schema.versions_by_pacticipant
 unfolding understood everything listed
-contents_by_digest_text = record { at = 7; alone = record { means = record { is = refl; plain = (refl, refl); unlisted = refl }; whole = refl; text = refl }; there = refl; defined = refl; new = record { written = refl; named = refl; free = refl; own = refl; room = refl; short = refl }; parent = refl; fit = refl; whole_numbers = refl; repeats = refl; known = inl refl; few = refl }
-
-contracts_by_content_text : DefinesIndex (indexed_by (schema_of all_tables) (take 1 all_indexes)) CONTRACTS_BY_CONTENT.now schema.contracts_by_content
-unfolding understood everything listed
-contracts_by_content_text = record { at = 8; alone = record { means = record { is = refl; plain = (refl, refl); unlisted = refl }; whole = refl; text = refl }; there = refl; defined = refl; new = record { written = refl; named = refl; free = refl; own = refl; room = refl; short = refl }; parent = refl; fit = refl; whole_numbers = refl; repeats = refl; known = inr (inl refl); few = refl }
-
-latest_by_provider_version_text : DefinesIndex (indexed_by (schema_of all_tables) (take 2 all_indexes)) LATEST_BY_PROVIDER_VERSION.now schema.latest_by_provider_version
-unfolding understood everything listed
-latest_by_provider_version_text = record { at = 10; alone = record { means = record { is = refl; plain = (refl, refl); unlisted = refl }; whole = refl; text = refl }; there = refl; defined = refl; new = record { written = refl; named = refl; free = refl; own = refl; room = refl; short = refl }; parent = refl; fit = refl; whole_numbers = refl; repeats = refl; known = inr (inr (inl refl)); few = refl }
-
-versions_by_pacticipant_text : DefinesIndex (indexed_by (schema_of all_tables) (take 3 all_indexes)) VERSIONS_BY_PACTICIPANT.now schema.versions_by_pacticipant
-unfolding understood everything listed
-versions_by_pacticipant_text = record { at = 3; alone = record { means = record { is = refl; plain = (refl, refl); unlisted = refl }; whole = refl; text = refl }; there = refl; defined = refl; new = record { written = refl; named = refl; free = refl; own = refl; room = refl; short = refl }; parent = refl; fit = refl; whole_numbers = refl; repeats = refl; known = inr (inr (inr (inl refl))); few = refl }
+each_index = (
+  record { at = 7; alone = record { means = record { is = refl; plain = (refl, refl); unlisted = refl }; whole = refl; text = refl }; there = refl; defined = refl; new = record { written = refl; named = refl; free = refl; own = refl; room = refl; short = refl }; parent = refl; fit = refl; whole_numbers = refl; repeats = refl; known = inl refl; few = refl },
+  record { at = 8; alone = record { means = record { is = refl; plain = (refl, refl); unlisted = refl }; whole = refl; text = refl }; there = refl; defined = refl; new = record { written = refl; named = refl; free = refl; own = refl; room = refl; short = refl }; parent = refl; fit = refl; whole_numbers = refl; repeats = refl; known = inr (inl refl); few = refl },
+  record { at = 10; alone = record { means = record { is = refl; plain = (refl, refl); unlisted = refl }; whole = refl; text = refl }; there = refl; defined = refl; new = record { written = refl; named = refl; free = refl; own = refl; room = refl; short = refl }; parent = refl; fit = refl; whole_numbers = refl; repeats = refl; known = inr (inr (inl refl)); few = refl },
+  record { at = 3; alone = record { means = record { is = refl; plain = (refl, refl); unlisted = refl }; whole = refl; text = refl }; there = refl; defined = refl; new = record { written = refl; named = refl; free = refl; own = refl; room = refl; short = refl }; parent = refl; fit = refl; whole_numbers = refl; repeats = refl; known = inr (inr (inr (inl refl))); few = refl },
+)
 
 pub tables_defined : AreDefinedTables no_schema table_texts
 tables_defined =
@@ -76,4 +72,4 @@ tables_defined =
     (e.0, (e.1, (e.2, (e.3, (e.4, (e.5, (e.6, (e.7, (e.8, (e.9, (e.10, (e.11, (e.12, (e.13, (e.14, tt)))))))))))))))
 
 pub indexes_defined : AreDefinedIndexes (schema_of all_tables) index_texts
-indexes_defined = (contents_by_digest_text, (contracts_by_content_text, (latest_by_provider_version_text, (versions_by_pacticipant_text, tt))))
+indexes_defined = let e = each_index in (e.0, (e.1, (e.2, (e.3, tt))))

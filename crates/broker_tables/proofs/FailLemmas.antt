@@ -1,7 +1,7 @@
 -- Why a call fails that comes after a query, and what the failure of a call is to another.
 use Rattle.broker_core.specs.State.{State as Broker}
 use Rattle.broker_tables.specs.{Calm.{FailsFromBetween, IsCalmFromBetween}, Holds.{AnswersTakingBetween, Holds, QueriesBetween}}
-use Rattle.broker_tables.specs.{Refusals.{IsCalmTakingBetween, IsCalmUnlessBetween}, Room.{HasRoomFor, enough}}
+use Rattle.broker_tables.specs.{ChangeRefusals.{IsCalmTakingBetween, IsCalmUnlessBetween}, Room.{HasRoomFor, enough}}
 use Rattle.broker_tables.proofs.{QueryLemmas.{ended_or_memory, serves_on}, RoomLemmas.{is_counted, numbers_of, room_for}}
 use Rattle.sqlite.specs.State.{HasCleanDisk, State}
 use Rattle.std.{specs.List.{AllByRecursion}, proofs.Common.{Bool, Err, List, Ok, Result, arith, inl, inr, subst, sym, true, ℕ, ◌+◌, ◌∙◌, ◌≡◌, ◌≤◌}}

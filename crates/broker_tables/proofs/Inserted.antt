@@ -1,11 +1,11 @@
 -- Why an INSERT of one row into a table of the broker fails: if the row suits its table, only as the store fails.
 use Rattle.broker_core.specs.{State.{State as Broker}, declared.command.Version.{Version}}
-use Rattle.broker_tables.specs.{Holds.{Holds, HoldsAfter, IsBroker, marks_in}, Numbers.{number_of, numbered}, Refusals.{AreShort, HaveNumbers, HoldsOpen}}
+use Rattle.broker_tables.specs.{Holds.{Holds, HoldsAfter, IsBroker, marks_in}, Numbers.{number_of, numbered}, ChangeRefusals.{AreShort, HaveNumbers, HoldsOpen}}
 use Rattle.broker_tables.specs.{Room.{LeaveNumbers}, Rows.{rows_of, value_at}}
 use Rattle.broker_tables.{specs.Schema.{broker_schema, in_environments, in_pacticipants, in_teams, in_versions, to}, proofs.Frames.{Frame, frame_of, meant}}
-use Rattle.broker_tables.proofs.{Keyed.{IsFree}, Placed.{Need, Placed, calm, is_plain, listed, numbered_in, plain_there, plainly, ready_at, there}}
-use Rattle.broker_tables.proofs.{RoomLemmas.{Grows, after_one, grows_added, number_for}, Orders.{exact_texts}}
-use Rattle.broker_tables.proofs.References.{LeadsTo, environment_names, leads, pacticipant_names, row_number, team_names}
+use Rattle.broker_tables.proofs.Keyed.{IsFree}
+use Rattle.broker_tables.proofs.Placed.{Need, Placed, at_environments, at_pacticipants, at_teams, calm, is_plain, listed, numbered_in, plain_there, plainly, ready_at, texts_in, there}
+use Rattle.broker_tables.proofs.{RoomLemmas.{Grows, after_one, grows_added, number_for}, Orders.{exact_texts}, References.{LeadsTo, leads, row_number}}
 use Rattle.broker_tables.proofs.VersionRows.{find_version, version_number}
 use Rattle.sqlite.specs.{Cast.{cast_all, cast_row}, Collation.TheVariants.{Binary}, Command.TheVariants.{Insert}, Does.{due}, Edit.{next_rowid, with_rowid}}
 use Rattle.sqlite.specs.{Effect.{Database, value_rows}, Listing.{understood}, Order.{Row, column, value_cmp}, Rows.{Edited, Inserts, Written}, Schema.{Schema}}
@@ -202,14 +202,14 @@ module _ (db : Database) (made : Row) (p : ℕ) where
 module _ (db : Database) (s : Broker) (held : Holds db s) (made : Row) (p : ℕ) where
   -- a team that is there has the row that a reference to its name leads to
   pub team_there : (name : List ℕ) → IsTrue (is_some (s.teams name)) → column made p ≡ Text name → IsThere db made p (codes "teams") (codes "name")
-  team_there name = named db made p (codes "teams") in_teams.tree in_teams.name (leads p).5 (team_names db held.broker) (text in_teams.token_digest) name (s.teams name) (held.teams name)
+  team_there name = named db made p (codes "teams") in_teams.tree in_teams.name (leads p).5 (texts_in at_teams db held.broker in_teams.name refl) (text in_teams.token_digest) name (s.teams name) (held.teams name)
 
   -- and so do a pacticipant, an environment, and a version for its number
   pub pacticipant_there : (name : List ℕ) → IsTrue (is_some (s.pacticipants name)) → column made p ≡ Text name → IsThere db made p (codes "pacticipants") (codes "name")
-  pacticipant_there name = named db made p (codes "pacticipants") in_pacticipants.tree in_pacticipants.name (leads p).4 (pacticipant_names db held.broker) (text in_pacticipants.team) name (s.pacticipants name) (held.pacticipants name)
+  pacticipant_there name = named db made p (codes "pacticipants") in_pacticipants.tree in_pacticipants.name (leads p).4 (texts_in at_pacticipants db held.broker in_pacticipants.name refl) (text in_pacticipants.team) name (s.pacticipants name) (held.pacticipants name)
 
   pub environment_there : (name : List ℕ) → IsTrue (is_some (s.environments name)) → column made p ≡ Text name → IsThere db made p (codes "environments") (codes "name")
-  environment_there name = named db made p (codes "environments") in_environments.tree in_environments.name (leads p).3 (environment_names db held.broker) (marks_in (rows_of db (codes "strict_environments"))) name (s.environments name) (held.environments name)
+  environment_there name = named db made p (codes "environments") in_environments.tree in_environments.name (leads p).3 (texts_in at_environments db held.broker in_environments.name refl) (marks_in (rows_of db (codes "strict_environments"))) name (s.environments name) (held.environments name)
 
   pub version_there : (v : Version) (n : ℕ) → number_of s.versions v ≡ Some n → column made p ≡ Int (pos n) → IsThere db made p (codes "versions") (codes "number")
   version_there v n is refer =

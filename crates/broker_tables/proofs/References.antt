@@ -16,7 +16,7 @@ use Rattle.table_access.proofs.SoundLemmas.{at_has}
 use Rattle.broker_core.specs.declared.command.Version.{Version}
 use Rattle.broker_tables.specs.Schema.{broker_schema, to, in_teams, in_pacticipants, in_versions, in_environments, in_contents, in_results}
 use Rattle.broker_tables.{specs.Holds.{IsBroker, AreVersions}, proofs.Orders.{exact_texts}}
-use Rattle.broker_tables.proofs.Placed.{Placed, at_contents, at_environments, at_pacticipants, at_results, at_teams, at_versions, numbered_in, texts_in}
+use Rattle.broker_tables.proofs.Placed.{Placed, at_contents, at_environments, at_pacticipants, at_results, at_versions, numbered_in, texts_in}
 
 -- what REFERENCES names is the column at this place of the table at this tree, which is compared byte by byte
 abbrev pub LeadsTo : ℕ → List ℕ → List ℕ → ℕ → ℕ → Type 0
@@ -83,23 +83,13 @@ module _ (db : Database) (broker : IsBroker db) where
       → (x : Row) × Has (db.trees in_results.tree) x × (whole_at in_results.number x ≡ whole_at p r)
   refers_result t listed p among r has typed = refers_number db broker t listed p r has (codes "results") (codes "number") in_results.tree (leads p).2 (ids_of at_results) among typed
 
-  -- the names in the rows of three tables are texts
-  pub team_names : (x : Row) → Has (db.trees in_teams.tree) x → column x in_teams.name ≡ Text (text in_teams.name x)
-  team_names x has = texts_in at_teams db broker in_teams.name refl x has
-
-  pub environment_names : (x : Row) → Has (db.trees in_environments.tree) x → column x in_environments.name ≡ Text (text in_environments.name x)
-  environment_names x has = texts_in at_environments db broker in_environments.name refl x has
-
   pub refers_environment : (t : Table) → Has db.schema.tables t → (p : ℕ) → Has t.references (to p (codes "environments") (codes "name")) → (r : Row) → Has (db.trees t.tree) r → column r p ≡ Text (text p r)
       → (x : Row) × Has (db.trees in_environments.tree) x × (text in_environments.name x ≡ text p r)
-  refers_environment t listed p among r has typed = refers_name db broker t listed p r has (codes "environments") (codes "name") in_environments.tree in_environments.name (leads p).3 environment_names among typed
-
-  pub pacticipant_names : (x : Row) → Has (db.trees in_pacticipants.tree) x → column x in_pacticipants.name ≡ Text (text in_pacticipants.name x)
-  pacticipant_names x has = texts_in at_pacticipants db broker in_pacticipants.name refl x has
+  refers_environment t listed p among r has typed = refers_name db broker t listed p r has (codes "environments") (codes "name") in_environments.tree in_environments.name (leads p).3 (texts_in at_environments db broker in_environments.name refl) among typed
 
   pub refers_pacticipant : (t : Table) → Has db.schema.tables t → (p : ℕ) → Has t.references (to p (codes "pacticipants") (codes "name")) → (r : Row) → Has (db.trees t.tree) r → column r p ≡ Text (text p r)
       → (x : Row) × Has (db.trees in_pacticipants.tree) x × (text in_pacticipants.name x ≡ text p r)
-  refers_pacticipant t listed p among r has typed = refers_name db broker t listed p r has (codes "pacticipants") (codes "name") in_pacticipants.tree in_pacticipants.name (leads p).4 pacticipant_names among typed
+  refers_pacticipant t listed p among r has typed = refers_name db broker t listed p r has (codes "pacticipants") (codes "name") in_pacticipants.tree in_pacticipants.name (leads p).4 (texts_in at_pacticipants db broker in_pacticipants.name refl) among typed
 
 -- ---- the numbers of the versions
 

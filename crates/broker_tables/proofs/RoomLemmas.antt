@@ -9,7 +9,7 @@ use Rattle.sqlite_sql.specs.Ops.{fits_i64}
 use Rattle.table_access.{specs.Statements.{IsAdded}, proofs.{SoundLemmas.{at_has}, Members.{any_has}}}
 use Rattle.broker_core.{specs.{Text.{same_text}, State.{State as Broker}}, proofs.Judgement.{text_is}}
 use Rattle.broker_tables.specs.{Rows.{rows_of}, Holds.{Holds, HoldsAfter}, Room.{counted_tables, LeavesAbove, LeaveNumbers, HasRoomFor, TakesRoom}}
-use Rattle.broker_tables.{specs.Refusals.{HaveNumbers}, proofs.Frames.{Frame, Stays}}
+use Rattle.broker_tables.{specs.ChangeRefusals.{HaveNumbers}, proofs.Frames.{Frame, Stays}}
 
 -- ---- more and fewer
 

@@ -15,7 +15,7 @@ use Rattle.sqlite_rules.specs.{Keys.{AreConflicts, conflicts}, Lists.{Has}, Step
 use Rattle.table_access.{specs.{Calls.{fault_of}, Sound.{IsNumbered, IsShortValue}, Statements.{ChangesOnly, IsAdded, shows}}, proofs.Answered.{is_whole}}
 use Rattle.table_access.proofs.{Edits.{IsAlone}, SoundLemmas.{has_place, at_has}, Steps.{Means}, Upsert.{setting, Upserted, upsert_leaves}}
 use Rattle.table_access.proofs.{Changes.{upserts_at}, Keys.{agrees, cells_at}, UpsertRefused.{Takes, key_of, upsert_fails}, Values.{cast_null, cast_kept}}
-use Rattle.broker_tables.specs.{Schema.{broker_schema}, Holds.{IsBroker}, Refusals.{AreShort}, Room.{LeavesAbove, LeaveNumbers}, Rows.{value_at}}
+use Rattle.broker_tables.specs.{Schema.{broker_schema}, Holds.{IsBroker}, ChangeRefusals.{AreShort}, Room.{LeavesAbove, LeaveNumbers}, Rows.{value_at}}
 use Rattle.broker_tables.proofs.{Frames.{meant}, Keyed.{Keyed, keys_of}, Inserted.{apart, storable, EndsOnly}}
 use Rattle.broker_tables.proofs.{Placed.{Placed, calm, numbered_in, plain_there, plainly}, RoomLemmas.{Grows, grows_added, grows_changed, number_for}}
 

@@ -41,6 +41,11 @@ FailsFromBetween old new r TooBig Allows Changes = HasCleanDisk new → (s : Bro
     → IfErr r (λ fault. HasFailedOrMemory old new fault
     ⊎ (Changes s × (HasRoomFor enough old.now → EndsBy TooBig old new fault)))
 
+-- where it has nothing to answer, it takes no room for that: only the store failed
+abbrev pub NeedsNoRoomBetween : {A : Type 0} → State → State → Result A StoreFault → (Broker → Type 0) → Type 0
+NeedsNoRoomBetween old new r Nothing =
+    HasCleanDisk new → (s : Broker) → Serves old s → Nothing s → IfErr r (HasFailed old new)
+
 -- as a query fails whose answer may take memory, or takes none
 abbrev pub HasFailedTaking : Bool → State → State → StoreFault → Type 0
 HasFailedTaking true = HasFailedOrMemory
@@ -74,6 +79,9 @@ module _ {X : Type 0} (store : Ghosts X) (old new : Held X) where
 
   abbrev pub IfNoVersion : {A : Type 0} → Result A StoreFault → ℕ → (A → Type 0) → Type 0
   IfNoVersion r number Nothing = IfNoVersionBetween (state store old) (state store new) r number Nothing
+
+  abbrev pub NeedsNoRoom : {A : Type 0} → Result A StoreFault → (Broker → Type 0) → Type 0
+  NeedsNoRoom r Nothing = NeedsNoRoomBetween (state store old) (state store new) r Nothing
 
   -- why a call fails whose answer is stated otherwise, if there may be no room for it, or if it takes no memory
   abbrev pub IsCalm : {A : Type 0} → Result A StoreFault → Type 0

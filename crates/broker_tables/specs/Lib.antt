@@ -10,4 +10,4 @@ pub mod Calm
 pub mod Laws
 pub mod Making
 pub mod Former
-pub mod Refusals
+pub mod ChangeRefusals

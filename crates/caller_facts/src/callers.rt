@@ -1,6 +1,6 @@
 //! Who calls.
 
-ghost use Rattle.std.specs.Prelude.{◌≡◌, ◌↔◌, IfErr, ℕ, List, Some, false, IsTrue, MatchOption, IfOk, string_bytes};
+ghost use Rattle.std.specs.Prelude.{◌≡◌, ◌↔◌, IfErr, ℕ, List, Some, None, Ok, false, IsTrue, MatchOption, IfOk, string_bytes};
 ghost use Rattle.broker_core.specs.Machine.{IsCallerOfDigest};
 ghost use Rattle.broker_names.specs.Name.{IsName};
 ghost use Rattle.broker_tables.specs.Calm.{CalmQueries};
@@ -79,14 +79,15 @@ pub fn holder_of<S: Alter>(
     }
 }
 
-/// The caller of a token; without one there is none.
+/// The caller of a token; without one there is none, and nothing is asked of the database.
 pub fn caller_of<S: Alter>(
     alloc: Global,
     conn: &mut Connection<S>,
     token: Option<&str>,
 ) -> Result<Option<Caller>, StoreFault>
-    ensures { CalmQueries S.Store conn.old conn.new result
+    ensures answers { CalmQueries S.Store conn.old conn.new result
         (λ who s. IsSender s (token_of token.entry) who) }
+    ensures none { token_of token.entry ≡ None → (result ≡ Ok None) × (conn.new ≡ conn.old) }
 {
     match token {
         Some(token) => {

@@ -7,7 +7,7 @@ use Rattle.table_access.{specs.{Calls.{HasFailed}, declared.StoreFault.{StoreFau
 use Rattle.broker_core.specs.{State.{State as Broker}, Change.{Transition, unchanged_with, done}, declared.answer.Answer.{Answer}}
 use Rattle.broker_core.specs.{declared.answer.Answer.TheVariants.{Done}, declared.answer.Detail.TheVariants.{Plain}}
 use Rattle.broker_tables.specs.{Calm.{CalmQueriesBetween, FailsOnlyBy, IsCalmFromBetween}, Holds.{Holds, ChangesTakingBetween, ChangesBetween, QueriesBetween}}
-use Rattle.broker_tables.specs.{Refusals.{IsCalmTakingBetween, IsCalmUnlessBetween}, Room.{enough}}
+use Rattle.broker_tables.specs.{ChangeRefusals.{IsCalmTakingBetween, IsCalmUnlessBetween}, Room.{enough}}
 use Rattle.broker_tables.proofs.{FailLemmas.{calm_after, calm_fails, fails_after, fails_more, fails_changing, taking}, QueryLemmas.{stays_held}}
 use Rattle.broker_tables.proofs.RoomLemmas.{is_counted}
 use Rattle.command_facts.specs.Performs.{PerformsBetween, PerformsWhereBetween, FailsBetween, CarriesBetween, IsToChange, told_done}

@@ -1,11 +1,11 @@
 -- the values of a line, from the matches of its command, and the command that words name
 use Rattle.std.specs.{Prelude.{MatchOption, find, option_map, bytes_eq}, Option.{option_map_or}}
-use Rattle.std.proofs.Common.{◌≡◌, ◌∙◌, ◌&&◌, not, ◌+◌, ◌<◌, ℕ, List, [], ◌∷◌, Bool, true, false, Option, Some, None, cond, refl, ap, sym, subst, unwrap_or, inl, inr, drop, get_or, length, map}
-use Rattle.std.proofs.{lemmas.List.{at_drop_more}, lemmas.Slice.Eq.{bytes_eq-Decides}}
+use Rattle.std.proofs.Common.{◌≡◌, ◌∙◌, ◌&&◌, not, List, [], ◌∷◌, Bool, true, false, Option, Some, None, cond, refl, ap, sym, subst, unwrap_or, inl, inr}
+use Rattle.std.proofs.lemmas.Slice.Eq.{bytes_eq-Decides}
 use Rattle.clap.specs.Words.{App, HasKind, HasMatchesOf, Kinds, Row, Text, fault_of, found_of, is_simple, is_simple_and_free, kind_of, matches_of, rows_of}
 use Rattle.clap.specs.{Kinds.{or_else}, declared.error.Error.{Error}, declared.error.kind.ErrorKind.{ErrorKind}}
 use Rattle.clap.specs.{declared.error.kind.ErrorKind.TheVariants.{OutOfMemory}, declared.parser.matches.ArgMatches.{ArgMatches}}
-use Rattle.command_line.specs.Lines.{BeginsWithName, HasOptions, HasValues, command_among, command_at, command_named, command_of, commands, has_none, is_command, is_line, is_taken, mistakes, named_in, unnamed_mistakes, whole_program}
+use Rattle.command_line.specs.Lines.{BeginsWithName, HasOptions, HasValues, command_at, command_named, command_of, commands, has_none, is_command, is_line, is_taken, mistakes, named_in, unnamed_mistakes, whole_program}
 use Rattle.command_line.specs.{declared.line.Line.{Line}, declared.names.CommandName.{CommandName}}
 use Rattle.command_line.specs.declared.names.CommandName.TheVariants as names
 
@@ -126,10 +126,3 @@ named_is_plain _ = refl
 
 pub program_is_free : is_simple_and_free whole_program ≡ true
 program_is_free = refl
-
--- the first of the commands that are left, or one after it
-pub among_step : (word : Text) (names : List CommandName) (i : ℕ) (d : CommandName) → i < length names → (same : Bool) → same ≡ bytes_eq word (command_named (get_or names i d)).top.name
-    → command_among word (map command_named (drop i names)) ≡ cond same (Some (command_named (get_or names i d))) (command_among word (map command_named (drop (i + 1) names)))
-among_step word names i d inside same is =
-    at_drop_more (λ ns. command_among word (map command_named ns)) names i d inside
-    ∙ ap (λ b. cond b (Some (command_named (get_or names i d))) (command_among word (map command_named (drop (i + 1) names)))) (sym is)

@@ -12,8 +12,8 @@ use Rattle.sqlite_sql.specs.{Query.{sort_cmp}, declared.ops.BinaryOp.TheVariants
 use Rattle.sqlite_value.{specs.declared.keys.Key.{Key}, proofs.OrderLemmas.{then-Equal}}
 use Rattle.sqlite_rules.{specs.{Lists.{Has}, Edit.{is_taken}}, proofs.TableLemmas.{int_is}}
 use Rattle.sqlite_tied.specs.Compute.{everything}
-use Rattle.table_access.specs.{Columns.{text, text_cmp, whole_at}, Statements.{from_table, up_to, newest, keeps, shows}, Sound.{IsNumbered}}
-use Rattle.table_access.proofs.{Values.{cast_null, cast_int}, Steps.{answered}, Newest.{newest_number}, Ordered.{selects_in_order}, Members.{ascending_on}}
+use Rattle.table_access.{specs.{Columns.{text, text_cmp, whole_at}, Statements.{from_table, up_to, newest, keeps, shows}}, proofs.Values.{cast_null, cast_int}}
+use Rattle.table_access.proofs.{Steps.{answered}, Newest.{newest_number}, Ordered.{selects_in_order}, Members.{ascending_on}}
 use Rattle.table_access.proofs.{Keys.{keeps_key, numbers_once, text_key, whole_key}, Maps.{looks_up_at}, SoundLemmas.{at_has, all_of}}
 use Rattle.table_access.proofs.ReadLemmas.{option_map_twice}
 use Rattle.broker_tables.specs.{Schema.{in_contents, broker_schema}, Numbers.{numbered}, Holds.{IsBroker, with_digest}, Rows.{rows_of}}
@@ -22,14 +22,10 @@ use Rattle.broker_tables.proofs.{Frames.{meant, frame_of, Frame, is_other, still
 use Rattle.broker_tables.proofs.{NextRow.{next_row}, ByNumber.{by_number}}
 use Rattle.broker_core.specs.{Limit.{has_room}, Text.{same_text}}
 use Rattle.content_store.specs.Contents.{ContentsBy, AreContentsBy, with_digest_by, text_in, is_among, found_in, IsPut}
-use Rattle.content_store.proofs.TextNumbers.{same_is, none_before, with_new}
+use Rattle.content_store.proofs.TextNumbers.{same_is, none_before}
 
-module _ (db : Database) (broker : IsBroker db) where
-  pub numbered_rows : IsNumbered (db.trees in_contents.tree)
-  numbered_rows = numbered_in at_contents db broker
-
-  pub ids : (r : Row) → Has (db.trees in_contents.tree) r → column r in_contents.number ≡ Int (whole_at in_contents.number r)
-  ids r has = int_is (rowid r) (at_has _ (db.trees in_contents.tree) r numbered_rows.1 has)
+pub ids : (db : Database) → IsBroker db → (r : Row) → Has (db.trees in_contents.tree) r → column r in_contents.number ≡ Int (whole_at in_contents.number r)
+ids db broker r has = int_is (rowid r) (at_has _ (db.trees in_contents.tree) r (numbered_in at_contents db broker).1 has)
 
 -- ---- the text with a number
 
@@ -52,7 +48,7 @@ pub contents_counted : (digest : List ℕ → List ℕ) (old new : State) (rows 
     → option_map (λ n. Int (pos n)) found ≡ option_map (λ row. column row 0) (slice_get rows 0) → unwrap_or found 0 ≡ length texts
 contents_counted digest old new rows texts found held h read =
     newest_count (λ r. (text in_contents.digest r, text in_contents.body r)) (old.now.trees in_contents.tree) (map (with_digest_by digest) texts) found held.are
-    (newest_number count_sql old new in_contents.tree _ (meant old.now held.broker count_sql highest.means) (numbered_rows old.now held.broker) rows h found read)
+    (newest_number count_sql old new in_contents.tree _ (meant old.now held.broker count_sql highest.means) (numbered_in at_contents old.now held.broker) rows h found read)
     ∙ length-map texts (with_digest_by digest)
 
 -- ---- the text with a number, in the rows
@@ -77,7 +73,7 @@ by_id db broker z = all_of _ (db.trees in_contents.tree) (λ r has. keeps_key (w
 pub body_found : (digest : List ℕ → List ℕ) (z : ℤ) (n : ℕ) → z ≡ pos n → (db : Database) (rows : List Row) (texts : List (List ℕ)) → ContentsBy digest db texts → IsShown (stored z) db rows
     → option_map (text 0) (slice_get rows 0) ≡ text_in texts n
 body_found digest z n is db rows texts held h =
-    looks_up_at int_cmp_total int_cmp-IsAntisymmetric (whole_at in_contents.number) (text in_contents.body) _ (text 0) (λ r. refl) z _ (db.trees in_contents.tree) rows (by_id db held.broker z) (numbers_once (db.trees in_contents.tree) (numbered_rows db held.broker))
+    looks_up_at int_cmp_total int_cmp-IsAntisymmetric (whole_at in_contents.number) (text in_contents.body) _ (text 0) (λ r. refl) z _ (db.trees in_contents.tree) rows (by_id db held.broker z) (numbers_once (db.trees in_contents.tree) (numbered_in at_contents db held.broker))
     (answered db _ in_contents.tree _ _ _ rows h)
     ∙ ap (find int_cmp z) (bodies digest (db.trees in_contents.tree) texts held.are) ∙ ap (λ k. find int_cmp k (numbers_from 1 texts)) is ∙ by_number texts n
 
@@ -121,7 +117,7 @@ candidates dg db rows broker h =
     by_query a b = sort_cmp rising ((Text dg ∷ []) ∷ a ∷ []) ((Text dg ∷ []) ∷ b ∷ [])
 
     up : IsAscending (λ a b. by_query a b ≡ Less) kept
-    up = ascending-filter (λ a b. by_query a b ≡ Less) (keeps of_digest (Text dg ∷ [])) (db.trees in_contents.tree) (ascending_on _ _ (db.trees in_contents.tree) (λ a b ha hb less. then-Equal (value_cmp (column a in_contents.number) (column b in_contents.number)) ∙ less) (numbered_rows db broker).0)
+    up = ascending-filter (λ a b. by_query a b ≡ Less) (keeps of_digest (Text dg ∷ [])) (db.trees in_contents.tree) (ascending_on _ _ (db.trees in_contents.tree) (λ a b ha hb less. then-Equal (value_cmp (column a in_contents.number) (column b in_contents.number)) ∙ less) (numbered_in at_contents db broker).0)
 
 module _ (digest : List ℕ → List ℕ) (body dg : List ℕ) (is : digest body ≡ dg) where
   abbrev Entry : Type 0
@@ -214,11 +210,11 @@ content_put digest number dg body by old new count texts held free is h =
     let broker : IsBroker new.now = still_broker (codes "contents" ∷ []) old.now new.now frame held.broker in
     let entry : Row → List ℕ × List ℕ = λ r. (text in_contents.digest r, text in_contents.body r) in
     let rows : AreContentsBy digest (texts ++ body ∷ []) (new.now.trees in_contents.tree) =
-    next_row entry (map (with_digest_by digest) texts) (old.now.trees in_contents.tree) (new.now.trees in_contents.tree) made held.are (numbered_rows new.now broker) (ap pos (is ∙ ap (λ k. k + 1) (sym (length-map texts (with_digest_by digest))))) it.1
+    next_row entry (map (with_digest_by digest) texts) (old.now.trees in_contents.tree) (new.now.trees in_contents.tree) made held.are (numbered_in at_contents new.now broker) (ap pos (is ∙ ap (λ k. k + 1) (sym (length-map texts (with_digest_by digest))))) it.1
     ∙ ap (λ d. numbered (map (with_digest_by digest) texts ++ (d, body) ∷ [])) (sym by) ∙ ap numbered (sym (map-append (with_digest_by digest) texts (body ∷ []))) in
     record {
       number_is = is ∙ ap (λ k. k + 1) (sym (none_before texts body free));
-      contents = subst (ContentsBy digest new.now) (sym (with_new texts body free)) (record { broker = broker; are = rows });
+      contents = subst (ContentsBy digest new.now) (sym (ap (λ b. cond b texts (texts ++ body ∷ [])) free)) (record { broker = broker; are = rows });
       others = others_kept (codes "contents") broker_schema.tables old.now new.now frame.others;
       same = λ there. absurd (let clash : true ≡ false = sym there ∙ free in cc);
     }
@@ -228,7 +224,7 @@ pub content_ends : (number : ℕ) (dg body : List ℕ) (old new : State) → End
 content_ends number dg body old new s here (is, room) numbers =
     let rows = old.now.trees in_contents.tree in
     let few : length s.contents < 1000000000 = ltb-true (length s.contents) 1000000000 room in
-    let next : is_taken rows (Int (pos (length (map with_digest s.contents) + 1)) ∷ Null ∷ Text dg ∷ Text body ∷ []) ≡ false = next_counted (λ r. (text in_contents.digest r, text in_contents.body r)) rows (map with_digest s.contents) (Null ∷ Text dg ∷ Text body ∷ []) here.held.contents (numbered_rows old.now here.held.broker) in
+    let next : is_taken rows (Int (pos (length (map with_digest s.contents) + 1)) ∷ Null ∷ Text dg ∷ Text body ∷ []) ≡ false = next_counted (λ r. (text in_contents.digest r, text in_contents.body r)) rows (map with_digest s.contents) (Null ∷ Text dg ∷ Text body ∷ []) here.held.contents (numbered_in at_contents old.now here.held.broker) in
     insert_ends at_contents (put_puts number dg body) old new here.held.broker (put_stored number dg body rows) (record {
       pass = record { typed = refl; present = refl; checked = refl };
       fits = lt-ltb number (2 ^ 63) (omega (arith, is, few));

@@ -1,13 +1,15 @@
 -- The calls on contents, where all were stored by SHA-256 and the database holds a state of the broker.
 use Rattle.std.specs.{Prelude.{⊤}, List.{AllByRecursion}}
-use Rattle.std.proofs.Common.{◌≡◌, ℕ, Option, Some, None, List, [], ◌∷◌, ◌++◌, map, Bool, true, false, not, ◌||◌, cond, codes, refl, sym, ◌∙◌, Result, arith}
-use Rattle.sqlite.specs.{Table.{Table}, Effect.{Database}, State.{State}}
+use Rattle.std.proofs.Common.{◌≡◌, ℕ, Option, Some, None, List, [], ◌∷◌, ◌++◌, map, Bool, true, false, not, ◌||◌, cond, codes, refl, sym, ◌∙◌, Result, arith, Ok, subst}
+use Rattle.std.proofs.lemmas.Result.{IfErr-weaker}
+use Rattle.sqlite.specs.{Table.{Table}, Effect.{Database}, State.{State, HasCleanDisk}}
 use Rattle.sha2.specs.Sha256.{sha256}
-use Rattle.table_access.{specs.{declared.StoreFault.{StoreFault}, Calls.{CallsTablesBetween, CallsStoreBetween}}, proofs.CallLemmas.{call_with}}
+use Rattle.table_access.{specs.{declared.StoreFault.{StoreFault}, Calls.{CallsTablesBetween, CallsStoreBetween}}, proofs.CallLemmas.{call_with, ended_since}}
 use Rattle.broker_core.specs.{Text.{Text, same_text}, State.{State as Broker}, Change.{is_stored, content_number, stored}}
-use Rattle.broker_tables.specs.{Schema.{broker_schema}, Rows.{rows_of}, Holds.{Holds, HoldsAfter, IsRead, QueriesBetween, ChangesAndAnswersBetween}}
-use Rattle.broker_tables.proofs.{Frames.{Frame, is_other, contents_change}, QueryLemmas.{stays_held}, RoomLemmas.{takes_none, after_one}}
-use Rattle.content_store.specs.Contents.{hex_of, ContentsBy, IsReadBy, IsReadByAny, IsPut, IsPutIfRoom, StoresIfRoom}
+use Rattle.broker_tables.specs.{Schema.{broker_schema}, Rows.{rows_of}, Holds.{Holds, HoldsAfter, QueriesBetween, ChangesAndAnswersBetween}}
+use Rattle.broker_tables.{specs.ChangeRefusals.{HoldsOpen, IsCalmUnlessBetween}, proofs.{Frames.{Frame, is_other, contents_change}, QueryLemmas.{stays_held}}}
+use Rattle.broker_tables.proofs.RoomLemmas.{takes_none, after_one}
+use Rattle.content_store.specs.Contents.{hex_of, ContentsBy, IsReadByAny, IsPut, IsPutIfRoom, StoresIfRoom}
 
 -- what a state says of contents is that they are stored by SHA-256
 pub contents_held : (db : Database) (s : Broker) → Holds db s → ContentsBy (hex_of sha256) db s.contents
@@ -15,12 +17,9 @@ contents_held db s held = record { broker = held.broker; are = held.contents }
 
 -- ---- a read
 
-pub read_held : {A : Type 0} (old new : State) (P : A → List Text → Type 0) (a : A) → IsReadBy (hex_of sha256) old new P a → IsRead old new (λ x s. P x s.contents) a
-read_held old new P a read s held = read s.contents (contents_held old.now s held)
-
 -- a query about the contents, by whatever digest, answers of those of the state that the database holds
 pub reads_held : {A : Type 0} (old new : State) (r : Result A StoreFault) (P : A → List Text → Type 0) → CallsTablesBetween old new r (IsReadByAny old new P) → QueriesBetween true old new r (λ a s. P a s.contents)
-reads_held old new r P = call_with old new r _ _ (λ a read. read_held old new P a (read (hex_of sha256)))
+reads_held old new r P = call_with old new r _ _ (λ a read s held. read (hex_of sha256) s.contents (contents_held old.now s held))
 
 -- ---- a text is put
 
@@ -61,3 +60,14 @@ puts_if_room_held old new r body = call_with old new r _ _ by_found
     by_found None puts s held free =
         let it = puts s.contents (contents_held old.now s held) in
         (s, (refl, it.0), (stays_held old new s it.1 held, takes_none 2 old.now new.now it.1))
+
+-- ---- a text is put after a look-up: it fails only as the store fails, if both do
+
+pub calm_then : {A B : Type 0} (old mid new : State) (a : A) (r : Result B StoreFault) (P : A → Type 0) (Q : B → Type 0) (TooBig : Type 0) (Allows Then : Broker → Type 0) → CallsStoreBetween old mid (Ok a) P → CallsStoreBetween mid new r Q
+    → (P a → (s : Broker) → Holds old.now s → Allows s → Then s × (mid.now ≡ old.now)) → IsCalmUnlessBetween mid new r [] TooBig Then → IsCalmUnlessBetween old new r [] TooBig Allows
+calm_then old mid new a r P Q TooBig Allows Then one two more calm clean s here allowed room =
+    let mid_clean : HasCleanDisk mid = omega (arith, two.survives.clean, clean) in
+    let on = one.goes_on mid_clean here.inside in
+    let told = more (one.ok mid_clean) s here.held allowed in
+    let now : HoldsOpen mid s = record { inside = on.0; unlimited = one.survives.limit ∙ here.unlimited; held = subst (λ d. Holds d s) (sym told.1) here.held } in
+    IfErr-weaker r _ _ (λ e why. ended_since old mid new e on one.survives.counts why) (calm clean s now told.0 room)

@@ -2,4 +2,3 @@ pub mod TextNumbers
 pub mod ContentRows
 pub mod ReadableRows
 pub mod Held
-pub mod CalmPuts

@@ -1,9 +1,9 @@
 -- Texts and their numbers.
 use Rattle.std.specs.List.{position_or_len}
-use Rattle.std.proofs.Common.{◌≡◌, ◌<◌, ◌↔◌, ℕ, cond, List, [], ◌∷◌, ◌++◌, length, true, false, true≢false, Bool, IsTrue, ◌||◌, refl, sym, ap, subst, arith}
+use Rattle.std.proofs.Common.{◌≡◌, ◌<◌, ◌↔◌, ℕ, List, [], ◌∷◌, length, true, false, true≢false, Bool, IsTrue, ◌||◌, refl, sym, subst, arith}
 use Rattle.std.proofs.lemmas.Bool.{lt-ltb, le-ltb}
 use Rattle.broker_core.specs.{Text.{Text, same_text}, Limit.{limit, HasRoom, has_room}}
-use Rattle.content_store.specs.Contents.{is_among, with_text}
+use Rattle.content_store.specs.Contents.{is_among}
 -- texts that are the same by their bytes are equal, and a text is the same as itself
 pub use Rattle.broker_core.proofs.Judgement.{text_is as same_is, text_refl as same_itself}
 
@@ -15,10 +15,6 @@ none_before (t ∷ texts) body free = go (same_text body t) refl free (none_befo
     go : (b : Bool) → same_text body t ≡ b → (b || is_among texts body) ≡ false → (is_among texts body ≡ false → position_or_len (same_text body) texts ≡ length texts) → position_or_len (same_text body) (t ∷ texts) ≡ length (t ∷ texts)
     go true e h more = absurd cc
     go false e h more = rw e (omega (arith, more h))
-
--- a text that isn't there comes last
-pub with_new : (texts : List Text) (body : Text) → is_among texts body ≡ false → with_text texts body ≡ texts ++ body ∷ []
-with_new texts body e = ap (λ b. cond b texts (texts ++ body ∷ [])) e
 
 -- ---- the limit
 

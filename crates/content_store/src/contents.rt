@@ -1,5 +1,5 @@
 //! The normal texts of pacts, each once under its number, beside its digest.
-ghost use Rattle.std.specs.Prelude.{◌≡◌, [], ◌∷◌, true, false, pos, List, ℕ, IfOk, IfErr, length, option_map, string_bytes};
+ghost use Rattle.std.specs.Prelude.{◌≡◌, [], ◌∷◌, true, false, None, pos, List, ℕ, IfOk, IfErr, length, option_map, string_bytes};
 ghost use Rattle.std.specs.List.{find as first};
 ghost use Rattle.sqlite.specs.Order.{column};
 ghost use Rattle.sqlite.specs.declared.types.Value.TheVariants.{Int};
@@ -9,17 +9,17 @@ ghost use Rattle.table_access.specs.Columns.{text};
 ghost use Rattle.table_access.specs.Reading.{IsTextAt};
 ghost use Rattle.broker_core.specs.Limit.{has_room};
 ghost use Rattle.broker_core.specs.Text.{Text, same_text};
-ghost use Rattle.broker_tables.specs.Calm.{IsCalm, IsCalmInPlace};
+ghost use Rattle.broker_tables.specs.Calm.{IsCalm, IsCalmInPlace, NeedsNoRoom};
 ghost use Rattle.broker_tables.specs.Readable.{IsReadable};
-ghost use Rattle.broker_tables.specs.Refusals.{IsCalmStoring};
-ghost use Rattle.content_store.specs.Contents.{StaysBroker, IsNextContent, hex_of, is_among, found_in, IsTextOf, TellsUnreadable, IsReadBy, IsReadByAny, IsPutBy, IsPutUnder, IsNewBy, IsNewAfter, IsNewIfRoom, IsPutIfRoom, CanBeAdded, FailsToAdd};
+ghost use Rattle.broker_tables.specs.ChangeRefusals.{IsCalmStoring};
+ghost use Rattle.content_store.specs.Contents.{StaysBroker, IsNextContent, hex_of, is_among, found_in, text_in, IsTextOf, TellsUnreadable, IsReadBy, IsReadByAny, IsPutBy, IsPutUnder, IsNewBy, IsNewAfter, IsNewIfRoom, IsPutIfRoom, CanBeAdded, FailsToAdd};
 
 use crate::digester::{Digester, digest_digits};
 use broker_core::limit::room;
 use broker_tables::next_number;
 use sqlite::types::{ToSql, ValueRef};
 use sqlite::{Alter, Connection, Row, params};
-use table_access::{StoreFault, change, number_in, number_of, select, text_at, text_of};
+use table_access::{StoreFault, change, find_number, find_text, number_in, select, text_at};
 
 /// The text with this number, or `None` if there is none. No row has a number above 2^63 - 1.
 ///
@@ -30,9 +30,10 @@ pub fn get<S: Alter>(conn: &mut Connection<S>, number: u64) -> Result<Option<Str
     ensures call { CallsTables S.Store conn.old conn.new result
         (λ found old new. IsReadByAny old new (λ found texts. IsTextOf texts number (option_map string_bytes found)) found) }
     ensures calm { IsCalm S.Store conn.old conn.new result }
+    ensures missing { NeedsNoRoom S.Store conn.old conn.new result (λ s. text_in s.contents number ≡ None) }
 {
     match i64::try_from(number) {
-        Ok(number) => text_of(
+        Ok(number) => find_text(
             conn,
             "SELECT body FROM contents WHERE number = ?1",
             params![number],
@@ -51,7 +52,7 @@ pub fn content_count<S: Alter>(conn: &mut Connection<S>) -> Result<u64, StoreFau
         (λ count old new. IsReadByAny old new (λ count texts. count ≡ length texts) count) }
     ensures calm { IsCalmInPlace S.Store conn.old conn.new result }
 {
-    let newest = done!(number_of(
+    let newest = done!(find_number(
         conn,
         "SELECT number FROM contents ORDER BY number DESC LIMIT 1",
         &[],

@@ -1,7 +1,7 @@
 -- The numbers that versions and results have or get.
-use Rattle.std.specs.Prelude.{IfSome, IfNone, if◌then◌else◌}
-use Rattle.std.proofs.Common.{◌≡◌, ◌+◌, ◌<◌, ◌≤◌, ◌||◌, ℕ, List, length, true, false, true≢false, is_some, IsTrue, Bool, Option, Some, None, ◌∷◌, [], ◌++◌, refl, sym, ap, ◌∙◌, subst, arith}
-use Rattle.broker_core.specs.{Limit.{HasRoom, has_room}, Change.{can_name}, Request.{is_known}, State.{State}, declared.command.Version.{Version}}
+use Rattle.std.specs.Prelude.{if◌then◌else◌}
+use Rattle.std.proofs.Common.{◌≡◌, ◌+◌, ◌||◌, ℕ, List, length, true, false, true≢false, is_some, IsTrue, Bool, Option, Some, None, ◌∷◌, [], ◌++◌, refl, sym, ap, ◌∙◌, subst}
+use Rattle.broker_core.specs.{Limit.{has_room}, Change.{can_name}, Request.{is_known}, State.{State}, declared.command.Version.{Version}}
 use Rattle.broker_tables.specs.Numbers.{number_of}
 use Rattle.registry_tables.specs.Registry.{AddsVersion, AllowsVersionAs}
 use Rattle.content_store.proofs.TextNumbers.{room_is}
@@ -9,10 +9,6 @@ use Rattle.contract_commands.specs.{Numbering.{IsNextNumber, IsNextOf, IsNumberF
 use Rattle.contract_commands.specs.declared.numbers.VersionNumber.TheVariants.{Old, New}
 
 -- ---- the next number
-
-pub next_found : (count : ℕ) (found : Option ℕ) → HasRoom count → IfSome found (λ n. n ≡ count + 1) → IfNone found (4294967295 ≤ count) → IsNextNumber count found
-next_found count (Some n) has some none = (has, some)
-next_found count None has some none = absurd (let low : count < 1000000000 = has in omega (arith, low, none))
 
 pub next_of : {X : Type 0} (rows : List X) (count : ℕ) (found : Option ℕ) → IsNextNumber count found → count ≡ length rows → IsNextOf rows found
 next_of rows count (Some n) it is = (room_is rows count true (λ _. it.0, λ _. refl) is, it.1 ∙ ap (λ k. k + 1) is)

@@ -1,11 +1,11 @@
 -- What the commands on contracts lead to, from what was read.
-use Rattle.std.specs.{List.{cons_option, position_or_len}, Option.{option_map_or}, Prelude.{filter_map, option_and_then, Result, Ok, Err}}
+use Rattle.std.specs.{List.{position_or_len}, Option.{option_map_or}, Prelude.{filter_map, option_and_then, Result, Ok, Err}}
 use Rattle.std.proofs.Common.{◌≡◌, ℕ, ◌+◌, ◌≤◌, List, [], ◌∷◌, ◌++◌, length, Bool, true, false, not, ◌&&◌, ◌||◌, cond, is_some, Option, Some, None, refl, sym, ap, ◌∙◌, subst, arith, if◌then◌else◌}
 use Rattle.broker_core.specs.{Text.{Text, same_text, same_pair, same_version, put_at}, State.{State}, Policy.{allows}, Limit.{has_room}}
 use Rattle.broker_core.specs.Change.{Transition, unchanged_with, put_pact, republished, text_of, can_name, named, stored, is_stored, content_number}
 use Rattle.broker_core.specs.Request.{consumer_version, Asked, contract_of, first_absent, unless, refused, refusal, has_grant, is_allowed, first_missing}
 use Rattle.broker_core.specs.{Machine.{FindsFault, StepOfCaller, fault_of_reading}, Machine.Reading.{IsPact}, declared.policy.Caller.{Caller}}
-use Rattle.broker_core.specs.{declared.policy.Caller.TheVariants.{Office, Team}, declared.policy.Rule.TheVariants.{A3, A5}, declared.command.Command.{Command}}
+use Rattle.broker_core.specs.{declared.policy.Rule.TheVariants.{A3, A5}, declared.command.Command.{Command}}
 use Rattle.broker_core.specs.{declared.command.Command.TheVariants.{PutPact, GetPact}, declared.command.PactPath.{PactPath}, declared.command.Version.{Version}}
 use Rattle.broker_core.specs.{declared.command.FormFault.{FormFault}, declared.answer.Answer.{Answer}, declared.answer.Answer.TheVariants.{Done, Full, BadForm}}
 use Rattle.broker_core.specs.{declared.answer.Detail.TheVariants.{Content}, declared.policy.Rule.{Rule}}
@@ -86,21 +86,6 @@ position_below (t ∷ texts) body e = go (same_text body t) refl e (position_bel
   go false f h more = let low = more h in omega (arith, low)
 
 -- ---- a contract that is asked for
-
-or_none : (b : Bool) → b ≡ (b || false)
-or_none true = refl
-or_none false = refl
-
-or_both : (a b : Bool) → (a || (b || false)) ≡ ((a || false) || (b || false))
-or_both true b = refl
-or_both false b = refl
-
-pub two_owners : (o q : Option Text) (caller : Caller) (granted : Bool) → allows A5 caller (cons_option o (cons_option q [])) granted ≡ (allows A5 caller (cons_option o []) false || allows A5 caller (cons_option q []) false)
-two_owners o q Office granted = refl
-two_owners None None (Team t) granted = refl
-two_owners None (Some b) (Team t) granted = refl
-two_owners (Some a) None (Team t) granted = or_none (same_text t a || false)
-two_owners (Some a) (Some b) (Team t) granted = or_both (same_text t a) (same_text t b)
 
 module _ (s : State) (caller : Caller) (path : PactPath) (rule : Rule) (owned : List Text) (place : ContractPlace) (h : IsPlaceRead s caller rule owned path place) where
   what_lacks : first_absent s (contract_of path) ≡ missing_part place

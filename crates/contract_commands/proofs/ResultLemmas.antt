@@ -4,18 +4,17 @@ use Rattle.std.proofs.Common.{◌≡◌, ℕ, ◌+◌, ◌==◌, List, [], ◌�
 use Rattle.sqlite.specs.State.{State as Connection}
 use Rattle.table_access.{specs.declared.StoreFault.{StoreFault}, proofs.CallLemmas.{then_ok, seq}}
 use Rattle.broker_tables.{specs.{Calm.{CalmQueriesBetween}, Holds.{AnswersTakingBetween}, Numbers.{number_of}}, proofs.QueryLemmas.{stays_held}}
-use Rattle.broker_tables.proofs.{RoomLemmas.{takes_none}, NumberLemmas.{number_ties}, Ties.{nat_ties}, VersionRows.{false_if}}
+use Rattle.broker_tables.proofs.{RoomLemmas.{takes_none}, NumberLemmas.{number_ties}, Ties.{nat_ties}}
 use Rattle.command_facts.proofs.PerformLemmas.{after_read}
 use Rattle.broker_core.specs.{Text.{Text, same_bool, same_version, version}, State.{State, Verification}, Limit.{has_room}}
-use Rattle.broker_core.specs.Change.{Transition, unchanged_with, named, can_name, report, result_of_run, says_same}
+use Rattle.broker_core.specs.Change.{Transition, unchanged_with, can_name, report, result_of_run, says_same}
 use Rattle.broker_core.specs.{Request.{is_known, Asked, contract_of, first_absent, unless, is_allowed, refused, refusal}, declared.policy.Caller.{Caller}}
 use Rattle.broker_core.specs.{declared.policy.Rule.TheVariants.{A4}, declared.command.Command.{Command}, declared.command.PactPath.{PactPath}}
-use Rattle.broker_core.specs.{declared.command.Report.{Report}, declared.answer.Answer.{Answer}, declared.answer.Detail.{Detail}}
-use Rattle.broker_core.{specs.declared.answer.Missing.{Missing}, proofs.Judgement.{version_is}}
+use Rattle.broker_core.specs.{declared.command.Report.{Report}, declared.answer.Detail.{Detail}, declared.answer.Missing.{Missing}}
 use Rattle.contract_tables.specs.{Verified.{Told, told_of, result_for, RecordsResult, AllowsResult}, declared.lookups.ResultRow.{ResultRow}}
 use Rattle.contract_commands.specs.{Numbering.{NamesAs}, Pacts.{AsksContract}}
 use Rattle.contract_commands.specs.Results.{HasPacticipant, reported_version, reported_result, Reports, told_row, IsRowOf, IsNumbered, AllowsReport, recorded}
-use Rattle.contract_commands.specs.{declared.results.Finding.{Finding}, declared.results.Reported.TheVariants.{Recorded, Known, RunTaken, Full}}
+use Rattle.contract_commands.specs.{declared.results.Finding.{Finding}, declared.results.Reported.TheVariants.{Recorded, Full}}
 use Rattle.contract_commands.{specs.declared.numbers.VersionNumber.{VersionNumber}, proofs.ContentThere.{number_there}}
 use Rattle.contract_commands.proofs.PactLemmas.{named_contents, named_results}
 use Rattle.broker_core.specs.declared.answer.Answer.TheVariants as answer
@@ -51,26 +50,6 @@ none_told s o found is h = by_result o (sym (ap (option_map told_row) is) ∙ h)
 
 -- ---- what is told
 
-module _ (s : State) (r : Verification) (e : ℕ × Verification) (used : result_of_run s r.version.pacticipant r.run ≡ Some e) where
-  abbrev again : (ℕ → Detail) → Bool → Answer
-  again detail b = if b then answer.Already (detail e.0) else answer.Taken clash.Run
-
-  abbrev first : (ℕ → Detail) → Transition
-  first detail = if can_name s r.version && has_room s.results
-      then record { answer = answer.Done (detail (length s.results + 1)); state = record (named s r.version) { results = s.results ++ r ∷ [] } }
-      else unchanged_with s answer.Full
-
-  is_again : (detail : ℕ → Detail) (b : Bool) → says_same e.1 r ≡ b → unchanged_with s (again detail b) ≡ report s r detail
-  is_again detail b same =
-      sym (ap (λ (o : Option (ℕ × Verification)). option_map_or (λ q. unchanged_with s (if says_same q.1 r then answer.Already (detail q.0) else answer.Taken clash.Run)) o (first detail)) used
-      ∙ ap (λ t. unchanged_with s (again detail t)) same)
-
-  pub known_again : (number : ℕ) → number ≡ e.0 → says_same e.1 r ≡ true → Reports s r (Known number) s
-  known_again number is same = λ detail. ap (λ n. unchanged_with s (answer.Already (detail n))) is ∙ is_again detail true same
-
-  pub taken_again : says_same e.1 r ≡ false → Reports s r RunTaken s
-  taken_again other = λ detail. is_again detail false other
-
 module _ (s : State) (r : Verification) (unused : result_of_run s r.version.pacticipant r.run ≡ None) where
   abbrev newly : (ℕ → Detail) → Bool → Transition
   newly detail b = if b
@@ -92,10 +71,6 @@ module _ (s : State) (r : Verification) (unused : result_of_run s r.version.pact
 
 -- ---- whether two results say the same, by numbers
 
-no_content : (b c : Bool) → (b && (false && c)) ≡ false
-no_content true c = refl
-no_content false c = refl
-
 module _ (s : State) (provider : Text) (r : Report) (found : Finding) (row : ResultRow) (e : ℕ × Verification) (h : IsRowOf s row e) where
   content_is : row.content ≡ e.1.content
   content_is = ap (λ (t : Told). t.1) h
@@ -109,20 +84,11 @@ module _ (s : State) (provider : Text) (r : Report) (found : Finding) (row : Res
   checked_is : row.checked ≡ e.1.checked
   checked_is = ap (λ (t : Told). t.4) h
 
-  pub number_told : row.number ≡ e.0
-  number_told = ap (λ (t : Told). t.0) h
-
   pub same_numbered : (n : ℕ) → number_of s.versions (reported_version provider r) ≡ Some n
       → (row.content == found.content && (row.provider_version == n && (same_bool row.pass found.pass && same_bool row.checked found.checked))) ≡ says_same e.1 (reported_result provider r found)
   same_numbered n is =
       let ties : (row.provider_version == n) ≡ same_version e.1.version (reported_version provider r) = nat_ties row.provider_version n ∙ sym (number_ties s.versions e.1.version (reported_version provider r) row.provider_version n (sym version_numbered) is) in
       λ i. (content_is i == found.content) && (ties i && (same_bool (pass_is i) found.pass && same_bool (checked_is i) found.checked))
-
-  pub not_numbered : number_of s.versions (reported_version provider r) ≡ None → false ≡ says_same e.1 (reported_result provider r found)
-  not_numbered none =
-      let other : same_version e.1.version (reported_version provider r) ≡ false = false_if _ (λ same. let both : Some row.provider_version ≡ None = version_numbered ∙ ap (number_of s.versions) (version_is e.1.version (reported_version provider r) same) ∙ none in absurd cc) in
-      let rest = same_bool e.1.pass found.pass && same_bool e.1.checked found.checked in
-      sym (ap (λ b. (e.1.content == found.content) && (b && rest)) other ∙ no_content (e.1.content == found.content) rest)
 
 -- ---- a result that is recorded
 

@@ -13,7 +13,7 @@ use Rattle.broker_core.specs.declared.answer.Detail.{Detail}
 use Rattle.broker_core.specs.declared.answer.Detail.TheVariants as detail
 use Rattle.broker_core.specs.declared.answer.Clash.TheVariants as clash
 use Rattle.broker_tables.specs.Numbers.{number_of}
-use Rattle.broker_tables.specs.Refusals.{AreShort}
+use Rattle.broker_tables.specs.ChangeRefusals.{AreShort}
 use Rattle.contract_tables.specs.Verified.{Told, told, told_of, result_for}
 use Rattle.contract_tables.specs.declared.lookups.ResultRow.{ResultRow}
 use Rattle.contract_commands.specs.Numbering.{CanName}

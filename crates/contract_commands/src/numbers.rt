@@ -3,7 +3,7 @@ ghost use Rattle.std.specs.Prelude.{Some, [], ◌∷◌};
 ghost use Rattle.broker_core.specs.Text.{version as version_named};
 ghost use Rattle.broker_tables.specs.Holds.{ChangesAndAnswers};
 ghost use Rattle.broker_tables.specs.Calm.{CalmQueriesInPlace};
-ghost use Rattle.broker_tables.specs.Refusals.{IsCalmStoring};
+ghost use Rattle.broker_tables.specs.ChangeRefusals.{IsCalmStoring};
 ghost use Rattle.contract_commands.specs.Numbering.{IsNextNumber, IsNextOf, IsNumberFor, CanName, NamesAs};
 
 use broker_core::limit::room;
@@ -52,7 +52,7 @@ pub(crate) fn next_result<S: Alter>(conn: &mut Connection<S>) -> Result<Option<u
 
 /// The number of a version that has this one, or of one that has none; `None` if it has none and there is no room for
 /// one more version. How many there are is asked only for a version that has no number.
-pub(crate) fn number_version<S: Alter>(
+pub(crate) fn number_for<S: Alter>(
     conn: &mut Connection<S>,
     number: Option<u32>,
 ) -> Result<Option<VersionNumber>, StoreFault>
@@ -68,7 +68,7 @@ pub(crate) fn number_version<S: Alter>(
 }
 
 /// The version is named if it isn't yet, and has this number.
-pub(crate) fn name_version<S: Alter>(
+pub(crate) fn ensure_named<S: Alter>(
     conn: &mut Connection<S>,
     pacticipant: &Name,
     name: &Name,

@@ -9,14 +9,14 @@ ghost use Rattle.broker_core.specs.declared.command.Command.TheVariants.{PutPact
 ghost use Rattle.broker_core.specs.declared.command.FormFault.{FormFault as FormFaultModel};
 ghost use Rattle.broker_tables.specs.Holds.{Queries, ChangesAndAnswers, AnswersTaking};
 ghost use Rattle.broker_tables.specs.Calm.{IsCalmFrom};
-ghost use Rattle.broker_tables.specs.Refusals.{AreShort, IsCalmTaking};
+ghost use Rattle.broker_tables.specs.ChangeRefusals.{AreShort, IsCalmTaking};
 ghost use Rattle.command_facts.specs.declared.reading.ReadFault.TheVariants.{Form};
 ghost use Rattle.command_facts.specs.Primitives.{broker_primitives};
 ghost use Rattle.command_facts.specs.Performs.{Carries, CarriesTo, CarriesWhere, PerformsWhere, FailsOnlyAt, FailsToChangeFrom};
 ghost use Rattle.content_store.specs.Contents.{CanBeAdded, StoresIfRoom};
 ghost use Rattle.contract_commands.specs.Pacts.{names_in, HasContent, HasSides, HasNoContract, CanPublish, CanRecord, RecordsContract, PutsPact, Publishes, answer_to};
 
-use crate::numbers::{VersionNumber, name_version, number_version};
+use crate::numbers::{VersionNumber, ensure_named, number_for};
 use crate::sides::{read_contract, read_sides_to_publish, read_text, refuse_sides};
 use broker_core::answer::{Answer, Clash, Detail};
 use broker_core::command::{FormFault, PactPath};
@@ -99,7 +99,7 @@ fn record_contract<S: Alter>(
         (CanRecord path.now version content) (λ _. RecordsContract path.now content) }
     ensures calm { IsCalmTaking S.Store conn.old conn.new 3 result (names_in path.now) (CanRecord path.now version content) }
 {
-    let number = done!(name_version(conn, &path.consumer, &path.version, version));
+    let number = done!(ensure_named(conn, &path.consumer, &path.version, version));
     add_contract(conn, number, path.provider.as_str(), content)
 }
 
@@ -135,7 +135,7 @@ fn publish_first<S: Alter>(
     ensures { CarriesWhere S.Store conn.old conn.new result (HasNoContract path.now number)
         (¬ AreShort (text.now ∷ names_in path.now)) (PutsPact path.now text.now) }
 {
-    match done!(number_version(conn, number)) {
+    match done!(number_for(conn, number)) {
         Some(version) => publish_numbered(conn, path, text, version),
         None => Ok(Answer::Full),
     }

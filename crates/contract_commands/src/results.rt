@@ -9,20 +9,20 @@ ghost use Rattle.broker_core.specs.declared.answer.Detail.TheVariants as detail;
 ghost use Rattle.broker_core.specs.declared.command.Command.TheVariants.{PostResult};
 ghost use Rattle.broker_tables.specs.Holds.{AnswersTaking};
 ghost use Rattle.broker_tables.specs.Calm.{CalmQueriesInPlace, FailsFrom};
-ghost use Rattle.broker_tables.specs.Refusals.{IsCalmTaking};
+ghost use Rattle.broker_tables.specs.ChangeRefusals.{IsCalmTaking};
 ghost use Rattle.contract_tables.specs.Verified.{told_of};
 ghost use Rattle.command_facts.specs.Performs.{Carries, PerformsWhere, FailsToChangeFrom};
 ghost use Rattle.contract_commands.specs.Pacts.{HasContent};
 ghost use Rattle.contract_commands.specs.Results.{names_of, AreLong, HasPacticipant, CanReceive, IsToReport, told_as, Receives, Claims, told_row, TellsSame, TellsAgain, IsUnused, CanReport, CanRecordReport, AllowsReport, RecordsReport};
 
-use crate::numbers::{VersionNumber, name_version, next_result, number_version};
+use crate::numbers::{VersionNumber, ensure_named, next_result, number_for};
 use crate::sides::read_contract_to_verify;
 use broker_core::answer::{Answer, Clash, Detail};
 use broker_core::command::{PactPath, Report};
 use broker_core::policy::Caller;
 use broker_names::name::Name;
 use contract_tables::{ResultRow, record_result, result_of_run};
-use registry_tables::version_of;
+use registry_tables::version_number;
 use sqlite::{Alter, Connection};
 use table_access::StoreFault;
 
@@ -118,7 +118,7 @@ fn record_report<S: Alter>(
     ensures calm { IsCalmTaking S.Store conn.old conn.new 3 result (names_of provider.now report.now)
         (AllowsReport provider.now report.now found version next) }
 {
-    let number = done!(name_version(conn, provider, &report.provider_version, version));
+    let number = done!(ensure_named(conn, provider, &report.provider_version, version));
     record_result(
         conn,
         next,
@@ -168,7 +168,7 @@ fn receive_new<S: Alter>(
         (λ s. IsUnused s provider.now report.now number × HasContent s found.content)
         (IsToReport provider.now report.now found) }
 {
-    match done!(number_version(conn, number)) {
+    match done!(number_for(conn, number)) {
         Some(version) => receive_numbered(conn, provider, report, found, version),
         None => Ok(Reported::Full),
     }
@@ -186,7 +186,7 @@ pub(crate) fn receive<S: Alter>(
     ensures calm { FailsFrom S.Store conn.old conn.new result (AreLong provider.now report.now)
         (CanReceive provider.now found.content) (IsToReport provider.now report.now found) }
 {
-    let number = done!(version_of(conn, provider.as_str(), report.provider_version.as_str()));
+    let number = done!(version_number(conn, provider.as_str(), report.provider_version.as_str()));
     match done!(read_run(conn, provider, &report.run)) {
         Some(row) => Ok(tell_again(row, number, found)),
         None => receive_new(conn, provider, report, found, number),

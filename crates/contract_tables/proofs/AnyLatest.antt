@@ -84,10 +84,7 @@ module _ (c n : ℕ) (old new : State) (h : HasBrokerTables old.now.schema) (row
   abbrev y : Bool
   y = is_strict old.now.schema h 1
 
-  abbrev Shows : Row → Row → Row
-  Shows l r = eval_all passes_project (pair_params c n ∷ l ∷ r ∷ [])
-
-  pair_row : (row : Row) → Has rows row → (l r : Row) × NamesResult c n old.now l r × (row ≡ Shows l r)
+  pair_row : (row : Row) → Has rows row → (l r : Row) × NamesResult c n old.now l r × (row ≡ eval_all passes_project (pair_params c n ∷ l ∷ r ∷ []))
   pair_row row has =
       let it = pair_shown old.now (pair_params c n) in_latest.tree in_results.tree (pair_terms x y) passes_project [] rows (is_answer_of old new (pair_asks old.now.schema h c n) rows shown) row has in
       let t = (pair_tests x y c n it.0 it.1).0 it.5 in

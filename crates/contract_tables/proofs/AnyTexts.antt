@@ -20,17 +20,16 @@ with_results s given t u w = record s {
   tables = laid_out broker_schema.tables (λ n. if n == 9 then t else (if n == 10 then u else (if n == 13 then w else given n)));
 }
 
--- the columns of latest, each STRICT or not
-abbrev latest_columns : (ℕ → Column) → Bool → Bool → Bool → List Column
-latest_columns ls x y z =
-    record (named_as (numbers (codes "content")) (ls 0)) { is_strict = x }
-    ∷ record (named_as (numbers (codes "provider_version")) (ls 1)) { is_strict = y }
-    ∷ record (named_as (numbers (codes "result")) (ls 2)) { is_strict = z } ∷ []
-
+-- the columns of latest are STRICT or not, each of them
 abbrev declared : Schema → (ℕ → Table) → (ℕ → Column) → (ℕ → Column) → (ℕ → Column) → Bool → Bool → Bool → Schema
 declared s given rs ls cs x y z = with_results s given
     (record (given 9) { columns = set_out results.columns rs; key = Some 0 })
-    (record (given 10) { columns = latest_columns ls x y z; key = None })
+    (record (given 10) {
+      columns = record (named_as (numbers (codes "content")) (ls 0)) { is_strict = x }
+          ∷ record (named_as (numbers (codes "provider_version")) (ls 1)) { is_strict = y }
+          ∷ record (named_as (numbers (codes "result")) (ls 2)) { is_strict = z } ∷ [];
+      key = None;
+    })
     (record (given 13) { columns = set_out checked_results.columns cs; key = Some 0 })
 
 -- a schema that has the tables is such a one
@@ -97,11 +96,8 @@ passes_query y = from_both in_latest.tree in_results.tree (version_terms y) pass
 abbrev pub marks_query : Bool → Query
 marks_query y = from_both in_latest.tree in_checked_results.tree (version_terms y) marks_project order
 
-abbrev pub checked_terms : List Term
-checked_terms = op2 (Compare Eq Binary) (col 1 0) (col 0 0) ∷ []
-
 abbrev pub checked_query : Query
-checked_query = from_table in_checked_results.tree checked_terms (col 1 0 ∷ []) []
+checked_query = from_table in_checked_results.tree (op2 (Compare Eq Binary) (col 1 0) (col 0 0) ∷ []) (col 1 0 ∷ []) []
 
 module _ (s : Schema) (given : ℕ → Table) (rs ls cs : ℕ → Column) where
   pair_declared : (x y z : Bool) (c n : ℕ) → AsksOf (declared s given rs ls cs x y z) pair_sql (pair_params c n) (pair_query x y)
@@ -136,12 +132,9 @@ module _ (s : Schema) (given : ℕ → Table) (rs ls cs : ℕ → Column) where
 -- ---- what they ask
 
 module _ (s : Schema) (h : HasBrokerTables s) where
-  abbrev pub columns_of : ℕ → Column
-  columns_of = (is_declared s h).2
-
   -- whether a column of latest is STRICT
   abbrev pub is_strict : ℕ → Bool
-  is_strict n = (columns_of n).is_strict
+  is_strict n = ((is_declared s h).2 n).is_strict
 
   pub pair_asks : (c n : ℕ) → AsksOf s pair_sql (pair_params c n) (pair_query (is_strict 0) (is_strict 1))
   pair_asks c n =

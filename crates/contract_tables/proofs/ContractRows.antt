@@ -21,8 +21,7 @@ use Rattle.broker_tables.proofs.{Orders.{marked_total, exact_marked, exact_texts
 use Rattle.broker_tables.proofs.{NumberLemmas.{number_ties, version_unknown}, Placed.{at_contracts, numbered_in, texts_in, wholes_in}, References.{leads}}
 use Rattle.broker_tables.proofs.{Asked.{Asked, IsShown}, Inserted.{EndsFrom, Adds, held_added, adds_ends, added, version_there, pacticipant_there}}
 use Rattle.contract_tables.specs.{Verified.{AddsContract}, declared.listings.Contract.{Contract}, Listings.{contract_cmp, IsContractRow, IsConsumerRow}}
-use Rattle.contract_tables.proofs.ReferredRows.{number_there, has_content}
-use Rattle.contract_tables.proofs.ItemLists.{and_tests, last_test, last_text, first_less, answers_of, list_rows, list_pairs}
+use Rattle.contract_tables.proofs.{ReferredRows.{number_there, has_content}, ItemLists.{and_tests, last_test, last_text, answers_of, list_rows, list_pairs}}
 
 abbrev pub key : Row → ℤ × List ℕ
 key r = (whole_at in_contracts.version_number r, text in_contracts.provider r)
@@ -105,7 +104,7 @@ module _ (db : Database) (s : Broker) (held : Holds db s) (v : Version) (n : ℕ
 
   pub contracts_listed : (rows : List Row) (items : List Contract) → IsShown (own n) db rows → AreRead IsContractRow rows items → Lists contract_cmp Is items
   contracts_listed = list_rows db IsContractRow contract_cmp Is exact_texts (λ c. c.provider)
-      (λ x y. first_less (text_cmp x.provider y.provider) (nat_cmp x.content y.content)) (own n) (λ r. whole_at in_contracts.version_number r ≡ pos n) (contracts_numbered db held.broker)
+      (λ x y. ap (λ o. ordering_then o (nat_cmp x.content y.content))) (own n) (λ r. whole_at in_contracts.version_number r ≡ pos n) (contracts_numbered db held.broker)
       (λ r has. last_test (whole_test (column r in_contracts.version_number) (Int (pos n)) (whole_at in_contracts.version_number r) (pos n) (numbers db held.broker r has) refl)) (record {
         key = text in_contracts.provider;
         sorted = λ a b one two. last_text (column a in_contracts.provider) (column b in_contracts.provider) (text in_contracts.provider a) (text in_contracts.provider b)

@@ -30,9 +30,6 @@ last_text x y a b xs ys = then-Equal (value_cmp x y) ∙ (λ i. value_cmp (xs i)
 pub last_number : (x y : Value) (a b : ℤ) → x ≡ Int a → y ≡ Int b → ordering_then (value_cmp x y) Equal ≡ int_cmp a b
 last_number x y a b xs ys = then-Equal (value_cmp x y) ∙ (λ i. value_cmp (xs i) (ys i)) ∙ value_cmp-Int a b
 
-pub first_less : (o p : Ordering) → o ≡ Less → ordering_then o p ≡ Less
-first_less o p h = ap (λ x. ordering_then x p) h
-
 pub less_nat : (a b : ℕ) → int_cmp (pos a) (pos b) ≡ Less → nat_cmp a b ≡ Less
 less_nat a b h = go (nat_lt a b) (nat_lt b a) (a == b) h
   where

@@ -19,22 +19,18 @@ placed n [] e has = absurd has
 placed {X} n (y ∷ rows) e (inl same) = (0, ap (λ (z : ℕ × X). z.0) same ∙ (let it : n ≡ n + 0 = omega arith in it), ap (λ (z : ℕ × X). Some z.1) (sym same))
 placed n (y ∷ rows) e (inr later) = let at = placed (n + 1) rows e later in (suc at.0, at.1 ∙ (let it : n + 1 + at.0 ≡ n + suc at.0 = omega arith in it), at.2)
 
-pub last_stands : {X : Type 0} (test : X → Bool) (rows : List X) (e : ℕ × X) → last_row test rows ≡ Some e
-    → (if e.0 == 0 then None else slice_get rows (e.0 - 1)) ≡ Some e.1
-last_stands test rows e is = elim (last_has None (filter (λ e. test e.1) (enumerate_from 1 rows)) e is) [
+last_kept : {X : Type 0} (test : X → Bool) (rows : List X) (e : ℕ × X) → last_row test rows ≡ Some e → Has (enumerate_from 1 rows) e × (test e.1 ≡ true)
+last_kept test rows e is = elim (last_has None (filter (λ e. test e.1) (enumerate_from 1 rows)) e is) [
   | inl wrong ↦ absurd cc
-  | inr there ↦
-      let at = placed 1 rows e (filter_has (λ e. test e.1) (enumerate_from 1 rows) e there).0 in
-      let place : e.0 - 1 ≡ at.0 = omega (arith, at.1) in
-      cond-false (e.0 == 0) None (slice_get rows (e.0 - 1)) (ne_eqb e.0 0 (λ none. omega (arith, none, at.1))) ∙ ap (slice_get rows) place ∙ at.2
+  | inr there ↦ filter_has (λ e. test e.1) (enumerate_from 1 rows) e there
 ]
 
--- and passes it
-pub last_passes : {X : Type 0} (test : X → Bool) (rows : List X) (e : ℕ × X) → last_row test rows ≡ Some e → test e.1 ≡ true
-last_passes test rows e is = elim (last_has None (filter (λ e. test e.1) (enumerate_from 1 rows)) e is) [
-  | inl wrong ↦ absurd cc
-  | inr there ↦ (filter_has (λ e. test e.1) (enumerate_from 1 rows) e there).1
-]
+pub last_stands : {X : Type 0} (test : X → Bool) (rows : List X) (e : ℕ × X) → last_row test rows ≡ Some e
+    → (if e.0 == 0 then None else slice_get rows (e.0 - 1)) ≡ Some e.1
+last_stands test rows e is =
+    let at = placed 1 rows e (last_kept test rows e is).0 in
+    let place : e.0 - 1 ≡ at.0 = omega (arith, at.1) in
+    cond-false (e.0 == 0) None (slice_get rows (e.0 - 1)) (ne_eqb e.0 0 (λ none. omega (arith, none, at.1))) ∙ ap (slice_get rows) place ∙ at.2
 
 -- ---- one more row
 
@@ -67,7 +63,7 @@ latest_with s content v e is = last_stands (λ r. r.content == content && same_v
 -- and one for the content, of the version
 pub latest_pair : (s : Broker) (content : ℕ) (v : Version) (e : ℕ × Verification) → latest_result s content v ≡ Some e → (e.1.content ≡ content) × (e.1.version ≡ v)
 latest_pair s content v e is =
-    let both = last_passes (λ r. r.content == content && same_version r.version v) s.results e is in
+    let both = (last_kept (λ r. r.content == content && same_version r.version v) s.results e is).1 in
     (eqb-true e.1.content content (first_of_both _ _ both), version_is e.1.version v (second_of_both _ _ both))
 
 -- what is told of a result, with the mark whether the broker checked it, which is looked up by its number

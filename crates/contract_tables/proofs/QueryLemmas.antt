@@ -1,9 +1,9 @@
 -- A computation after a query, and an answer without one, over the state that the database holds.
-use Rattle.std.proofs.{Common.{Bool, true, ◌≡◌, refl, inr, Ok, Err, Result, IfOk, IfErr}, lemmas.Result.{IfErr-weaker}}
+use Rattle.std.proofs.{Common.{Bool, true, ◌≡◌, inr, Ok, Err, Result, IfOk, IfErr}, lemmas.Result.{IfErr-weaker}}
 use Rattle.sqlite.specs.State.{State}
-use Rattle.table_access.{specs.{declared.StoreFault.{StoreFault}, declared.StoreFault.TheVariants.{Memory}}, proofs.CallLemmas.{then_ok, then_stop, idle}}
+use Rattle.table_access.{specs.{declared.StoreFault.{StoreFault}, declared.StoreFault.TheVariants.{Memory}}, proofs.CallLemmas.{then_ok, then_stop}}
 use Rattle.broker_core.specs.State.{State as Broker}
-use Rattle.broker_tables.{specs.{Holds.{IsRead, QueriesBetween}, Calm.{CalmQueriesBetween}}, proofs.QueryLemmas.{placed}}
+use Rattle.broker_tables.specs.{Holds.{IsRead, QueriesBetween}, Calm.{CalmQueriesBetween}}
 
 -- an answer that is computed after a query, or no room for it
 pub computed : {A B : Type 0} {any : Bool} (old new : State) (a : A) (r : Result B StoreFault) (P : A → Broker → Type 0) (L : B → Type 0) (R : B → Broker → Type 0) → ((s : Broker) → P a s → (b : B) → L b → R b s)
@@ -14,7 +14,3 @@ computed old new a (Err e) P L R more is one = then_stop old new a e (IsRead old
 pub calm_computed : {A B : Type 0} {any : Bool} (old new : State) (a : A) (r : Result B StoreFault) (P : A → Broker → Type 0) (L : B → Type 0) (R : B → Broker → Type 0) → ((s : Broker) → P a s → (b : B) → L b → R b s)
     → IfOk r L → IfErr r (λ e. e ≡ Memory) → CalmQueriesBetween any old new (Ok a) P → CalmQueriesBetween true old new r R
 calm_computed old new a r P L R more is room one = record { call = computed old new a r P L R more is one.call; calm = λ clean s here. IfErr-weaker r _ _ (λ e memory. inr memory) room }
-
--- an answer that needs no statement
-pub calm_known : {A : Type 0} {takes : Bool} (now : State) (a : A) (P : A → Broker → Type 0) → ((s : Broker) → P a s) → CalmQueriesBetween takes now now (Ok a) P
-calm_known now a P told = placed now now a P (idle now a _ (λ s held. (told s, refl)))

@@ -1,21 +1,24 @@
 -- The rows of each query of these tables can be read, if the state that the database holds can; and there is none for a
 -- number that no version has.
 use Rattle.std.proofs.Common.{◌≡◌, ◌∙◌, ◌≤◌, inl, inr, ℕ, pos, List, [], ◌∷◌, Some, true, refl, sym, ap, subst, arith}
-use Rattle.sqlite.specs.{declared.types.Value.TheVariants.{Int}, Order.{Row, column}, Term.{col, eval_all}, Effect.{Database}, Collation.TheVariants.{Binary}}
+use Rattle.sqlite.specs.{declared.types.Value.TheVariants.{Int}, Order.{Row, column}, Term.{Term, col, op2, eval_all}, Effect.{Database}}
+use Rattle.sqlite.specs.Collation.TheVariants.{Binary}
 use Rattle.sqlite_rules.{specs.Lists.{Has}, proofs.TableLemmas.{int_is}}
 use Rattle.sqlite_sql.specs.{declared.ops.BinaryOp.TheVariants.{Compare}, declared.ops.CompareOp.TheVariants.{Eq}, Ops.{binary, is_true}}
+use Rattle.sqlite_value.specs.declared.keys.Key.{Key}
 use Rattle.sqlite_keyed.proofs.RuleLemmas.{first_of_both, second_of_both}
-use Rattle.table_access.{specs.{Columns.{text, whole_at}, Reading.{IsNumberRow}, Statements.{shows}}, proofs.SoundLemmas.{at_has}}
+use Rattle.table_access.{specs.{Columns.{text, whole_at}, Reading.{IsNumberRow}, Statements.{shows, from_table, from_both}}, proofs.SoundLemmas.{at_has}}
+use Rattle.table_access.proofs.Keys.{is_param}
 use Rattle.broker_core.specs.{State.{State as Broker}, declared.command.Version.{Version}}
 use Rattle.broker_tables.specs.{Schema.{in_versions, in_contracts, in_results, in_latest}, Holds.{Holds}, Readable.{IsReadable}, Numbers.{number_of}}
 use Rattle.broker_tables.proofs.ReadableRows.{IsLow, number_cell, name_cell, truth_cell, result_low, to_version_low, to_content_low, to_result_low, version_named, to_pacticipant_named, pass_low}
 use Rattle.broker_tables.proofs.{Placed.{contracts, at_contracts, results, at_results, latest, at_latest, listed, wholes_in}, NoVersion.{no_row}}
-use Rattle.broker_tables.proofs.{VersionRows.{owners, names, whole_test}, Asked.{EachReads, NoneFor, of_table, of_both, of_first, number_reads}}
+use Rattle.broker_tables.proofs.{VersionRows.{owners, names, whole_test}, Asked.{Asked, EachReads, NoneFor, of_table, of_both, of_first, number_reads}}
 use Rattle.contract_tables.specs.{Listings.{ReadsAsMarked, ReadsAsNames}, VersionResults.{ReadsAsLatest}, Verified.{ReadsAsResult}}
 use Rattle.contract_tables.proofs.ContractRows.{numbers, contents, providers, content, project, own, users_project, users}
 use Rattle.contract_tables.proofs.ResultRows.{contents as latest_contents, versions, numbers as latest_numbers}
-use Rattle.contract_tables.proofs.{VerifiedList.{project as verified_project, verifiers}, ToldResults.{told_passes, told_marks, told_marks_project}}
-use Rattle.contract_tables.proofs.VersionResults.{passes_project, passes, marks_project, marks, join, of_its_pair}
+use Rattle.contract_tables.proofs.{VerifiedList.{project as verified_project, verifiers}, ToldResults.{told_marks, told_marks_project}}
+use Rattle.contract_tables.proofs.VersionResults.{terms, order, passes_project, marks_project, marks, join, of_its_pair}
 use Rattle.contract_tables.proofs.ResultLookups.{numbered_rows, count, run_project, run}
 
 -- ---- the columns of the tables
@@ -100,8 +103,10 @@ module _ (db : Database) (s : Broker) (held : Holds db s) (readable : IsReadable
         ),
       )
 
-pub join_reads : (c n : ℕ) (db : Database) → EachReads (join c n) db ReadsAsLatest
-join_reads c n db s held readable = of_both (join c n) db _ (λ l r hl hr kept. pair_reads db s held readable l r hl hr (first_of_both _ _ kept))
+pub pairs_read : {sql : List ℕ} {params : Row} {more : List Term} {by : List (Term × Key)}
+    (asked : Asked sql params (from_both in_latest.tree in_results.tree (op2 (Compare Eq Binary) (col 2 0) (col 1 in_latest.result) ∷ more) passes_project by))
+    (db : Database) → EachReads asked db ReadsAsLatest
+pairs_read asked db s held readable = of_both asked db _ (λ l r hl hr kept. pair_reads db s held readable l r hl hr (first_of_both _ _ kept))
 
 pub verifiers_reads : (c : ℕ) (p : List ℕ) (db : Database) → EachReads (verifiers c p) db ReadsAsMarked
 verifiers_reads c p db s held readable = of_both (verifiers c p) db _ (λ l v hl hv kept.
@@ -109,16 +114,10 @@ verifiers_reads c p db s held readable = of_both (verifiers c p) db _ (λ l v hl
     let shown : Row = eval_all verified_project ([] ∷ l ∷ v ∷ []) in
     (number_cell shown 0 (whole_at in_latest.result l) (omega arith) number.0 number.1, name_cell shown 1 (text in_versions.version v) (omega arith) (names db held.broker v hv) (version_named db s held readable v hv).1))
 
-pub passes_reads : (n : ℕ) (db : Database) → EachReads (passes n) db ReadsAsLatest
-passes_reads n db s held readable = of_both (passes n) db _ (λ l r hl hr kept. pair_reads db s held readable l r hl hr (first_of_both _ _ kept))
-
 pub marks_reads : (n : ℕ) (db : Database) → EachReads (marks n) db IsNumberRow
 marks_reads n db s held readable = of_both (marks n) db _ (λ l r hl hr kept.
     let content = latest_content db s held readable l hl in
     number_cell (eval_all marks_project ([] ∷ l ∷ r ∷ [])) 0 (whole_at in_latest.content l) (omega arith) content.0 content.1)
-
-pub told_reads : (c : ℕ) (db : Database) → EachReads (told_passes c) db ReadsAsLatest
-told_reads c db s held readable = of_both (told_passes c) db _ (λ l r hl hr kept. pair_reads db s held readable l r hl hr (first_of_both _ _ kept))
 
 pub told_marks_reads : (c : ℕ) (db : Database) → EachReads (told_marks c) db IsNumberRow
 told_marks_reads c db s held readable = of_both (told_marks c) db _ (λ l r hl hr kept.
@@ -153,18 +152,15 @@ module _ (db : Database) (s : Broker) (held : Holds db s) (n : ℕ) (none : (v :
   of_latest : (r : Row) → Has (db.trees in_latest.tree) r → is_true (binary (Compare Eq Binary) (column r in_latest.provider_version) (Int (pos n))) ≡ true → ⊥
   of_latest r has = no_row db s held n none latest (listed at_latest db held.broker) in_latest.provider_version (inr (inl refl)) r has (versions db held.broker r has)
 
-pub content_none : (n : ℕ) (p : List ℕ) (db : Database) → NoneFor (content n p) db n
-content_none n p db s held none = of_table (content n p) db _ (λ r has kept. of_version db s held n none r has (first_of_both _ _ kept))
-
-pub own_none : (n : ℕ) (db : Database) → NoneFor (own n) db n
-own_none n db s held none = of_table (own n) db _ (λ r has kept. of_version db s held n none r has (first_of_both _ _ kept))
+pub contract_none : {sql : List ℕ} {params : Row} {n : ℕ} {more project : List Term} {by : List (Term × Key)}
+    (asked : Asked sql (Int (pos n) ∷ params) (from_table in_contracts.tree (is_param in_contracts.version_number 0 ∷ more) project by)) (db : Database) → NoneFor asked db n
+contract_none {n = n} asked db s held none = of_table asked db _ (λ r has kept. of_version db s held n none r has (first_of_both _ _ kept))
 
 pub join_none : (c n : ℕ) (db : Database) → NoneFor (join c n) db n
 join_none c n db s held none =
     of_both (join c n) db _ (λ l r hl hr kept. of_latest db s held n none l hl (first_of_both _ _ (second_of_both _ _ (second_of_both _ _ kept))))
 
-pub passes_none : (n : ℕ) (db : Database) → NoneFor (passes n) db n
-passes_none n db s held none = of_both (passes n) db _ (λ l r hl hr kept. of_latest db s held n none l hl (first_of_both _ _ (second_of_both _ _ kept)))
-
-pub marks_none : (n : ℕ) (db : Database) → NoneFor (marks n) db n
-marks_none n db s held none = of_both (marks n) db _ (λ l r hl hr kept. of_latest db s held n none l hl (first_of_both _ _ (second_of_both _ _ kept)))
+pub version_none : {sql : List ℕ} {u n : ℕ} {project : List Term} (asked : Asked sql (Int (pos n) ∷ []) (from_both in_latest.tree u terms project order))
+    (db : Database) → NoneFor asked db n
+version_none {n = n} asked db s held none =
+    of_both asked db _ (λ l r hl hr kept. of_latest db s held n none l hl (first_of_both _ _ (second_of_both _ _ kept)))

@@ -15,7 +15,7 @@ use Rattle.sqlite_trees.proofs.ListLemmas.{filter_same}
 use Rattle.sqlite_value.specs.Keys.{plain, first_key}
 use Rattle.sqlite_rules.{specs.Lists.{Has}, proofs.{ListLemmas.{has_kept}, TableLemmas.{int_is}}}
 use Rattle.sqlite_keyed.proofs.{ListLemmas.{filter-map, ascending-filter}, RuleLemmas.{first_of_both, second_of_both}}
-use Rattle.table_access.specs.{Columns.{text, whole_at}, Sound.{IsNumbered, whole}, Statements.{from_table, by_two, up_to, newest, keeps, shows}}
+use Rattle.table_access.specs.{Columns.{whole_at}, Sound.{IsNumbered, whole}, Statements.{from_table, by_two, up_to, newest, keeps, shows}}
 use Rattle.table_access.proofs.{Steps.{answered}, Newest.{newest_number}, Maps.{looks_up_at, find_has, few_permuted}}
 use Rattle.table_access.proofs.{Keys.{is_param, keeps_key, numbers_once, whole_key}, Values.{same_texts, equal_text}, Members.{filter_has}}
 use Rattle.table_access.proofs.{SoundLemmas.{at_has, all_of}, ReadLemmas.{option_map_twice, whole_pos}}
@@ -120,9 +120,6 @@ module _ (db : Database) (broker : IsBroker db) (p u : List ℕ) where
   abbrev kept : List Row
   kept = filter (keeps (by_two in_results.provider in_results.run) params) (db.trees in_results.tree)
 
-  providers : (r : Row) → Has (db.trees in_results.tree) r → column r in_results.provider ≡ Text (text in_results.provider r)
-  providers r has = texts_in at_results db broker in_results.provider refl r has
-
   texts : (r : Row) → keeps (by_two in_results.provider in_results.run) params r ≡ true
       → (column r in_results.provider ≡ Text p) × (column r in_results.run ≡ Text u)
   texts r test = (equal_text (column r in_results.provider) p (first_of_both _ _ test), equal_text (column r in_results.run) u (first_of_both _ true (second_of_both _ _ test)))
@@ -152,7 +149,7 @@ module _ (db : Database) (broker : IsBroker db) (p u : List ℕ) where
   passes e = same_text e.1.provider p && is_text u e.1.run
 
   row_test : (r : Row) → Has (db.trees in_results.tree) r → keeps (by_two in_results.provider in_results.run) params r ≡ passes (entry r)
-  row_test r has = two_tests _ _ _ _ (text_test (column r in_results.provider) p ∙ ap (λ v. is_text p (text_or_null v)) (providers r has)) (and-true _ ∙ text_test (column r in_results.run) u)
+  row_test r has = two_tests _ _ _ _ (text_test (column r in_results.provider) p ∙ ap (λ v. is_text p (text_or_null v)) (texts_in at_results db broker in_results.provider refl r has)) (and-true _ ∙ text_test (column r in_results.run) u)
 
   module _ (s : Broker) (held : Holds db s) where
     abbrev as_row : ℕ × Verification → ℤ × ResultRow

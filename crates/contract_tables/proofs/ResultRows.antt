@@ -1,21 +1,21 @@
 -- The statements on results, on those that the broker checked, and on the latest ones.
-use Rattle.std.specs.{Prelude.{if◌then◌else◌, is_some}, Ordering.{eq_by_cmp, is_eq, int_cmp}, Cmp.{eq_by_cmp_equiv, int_cmp_total}}
+use Rattle.std.specs.{Prelude.{if◌then◌else◌, is_some}, Ordering.{eq_by_cmp, is_eq, int_cmp}, Cmp.{eq_by_cmp_equiv, int_cmp_total}, Borrow.{Bor}}
 use Rattle.std.proofs.Common.{◌≡◌, ◌+◌, ◌<◌, ◌^◌, arith, IsTrue, map, ℕ, ℤ, pos, codes, List, [], ◌∷◌, Bool, true, false, refl, sym, ap, subst, ◌∙◌, Some, None, Option, Ok}
 use Rattle.std.proofs.{lemmas.Bool.{false_from_ne_true, lt-ltb}, lemmas.List.{length-map}}
 use Rattle.sqlite.specs.{Tree.{rowid}, Edit.{with_rowid}, Rowids.TheVariants.{Chosen}, declared.types.Value.TheVariants.{Null, Int, Text}}
-use Rattle.sqlite.specs.{Order.{Row, column, value_cmp}, Cast.{cast, cast_row}, Term.{col, lit}, Effect.{Database}, State.{State, Executes}}
-use Rattle.sqlite.specs.Listing.{understood}
+use Rattle.sqlite.specs.{Values.{or_null, bound_value}, Order.{Row, column, value_cmp}, Cast.{cast, cast_row}, Term.{col, lit}, Effect.{Database}}
+use Rattle.sqlite.specs.{State.{State, Executes}, Listing.{understood}}
 use Rattle.sqlite_sql.specs.Ops.{binary}
 use Rattle.sqlite_rules.{specs.{Lists.{Has}, Steps.{PassAlone}, Edit.{is_taken}}, proofs.{ListLemmas.{some_has, some_from}, TableLemmas.{int_is}}}
 use Rattle.sqlite_value.{specs.Keys.{plain}, proofs.OrderLemmas.{value_cmp-Int}}
 use Rattle.sqlite_tied.specs.Compute.{everything}
 use Rattle.table_access.{specs.{Columns.{whole_at}, Sound.{IsNumbered}}, proofs.{Values.{cast_null, cast_int}, SoundLemmas.{at_has}, Storable.{IsShortRow}}}
 use Rattle.broker_tables.specs.{Schema.{in_results, in_latest, in_checked_results}, Rows.{stands_at}, Holds.{IsBroker, result_in, result_of}}
-use Rattle.broker_tables.specs.Refusals.{AreShort}
+use Rattle.broker_tables.specs.ChangeRefusals.{AreShort}
 use Rattle.broker_tables.proofs.{Placed.{results, at_results, checked_results, at_checked_results, at_latest, numbered_in, wholes_in}, References.{leads}}
 use Rattle.broker_tables.proofs.Inserted.{EndsFrom, EndsOnly, Puts, inserted, insert_ends, next_counted, pacticipant_there, version_there}
 use Rattle.broker_tables.proofs.{Keyed.{latest_by_key}, Upserted.{PutsOver, PutsAt, put_at, set_at, upsert_ends}}
-use Rattle.contract_tables.specs.Verified.{run_value, result_row, AllowsResult, AllowsMark, AllowsPoint, PutsRow, Points, texts_of}
+use Rattle.contract_tables.specs.Verified.{run_value, run_of, result_row, AllowsResult, AllowsMark, AllowsPoint, PutsRow, Points, texts_of}
 use Rattle.contract_tables.proofs.{ReferredRows.{number_there, has_content, has_owner}, ResultLookups.{numbered_rows, marked_rows, run_free}}
 use Rattle.sqlite.specs.Kind.TheVariants as kind
 
@@ -24,10 +24,19 @@ use Rattle.sqlite.specs.Kind.TheVariants as kind
 abbrev pub put_sql : List ℕ
 put_sql = codes "INSERT INTO results (number, content, provider, provider_version, pass, run) VALUES (?1, ?2, ?3, ?4, ?5, ?6)"
 
-pub put_puts : (number content : ℕ) (provider : List ℕ) (version : ℕ) (pass : ℤ) (run : List ℕ)
-    → Puts at_results put_sql (Int (pos number) ∷ Int (pos content) ∷ Text provider ∷ Int (pos version) ∷ Int pass ∷ Text run ∷ []) (Int (pos number) ∷ Null ∷ Int (pos content) ∷ Text provider ∷ Int (pos version) ∷ Int pass ∷ Text run ∷ [])
+pub put_puts : (number content : ℕ) (provider : List ℕ) (version : ℕ) (pass : ℤ) (run : Option (List ℕ))
+    → Puts at_results put_sql (Int (pos number) ∷ Int (pos content) ∷ Text provider ∷ Int (pos version) ∷ Int pass ∷ run_value run ∷ [])
+    (Int (pos number) ∷ Null ∷ Int (pos content) ∷ Text provider ∷ Int (pos version) ∷ Int pass ∷ run_value run ∷ [])
 unfolding understood everything
-put_puts number content provider version pass run = record {
+put_puts number content provider version pass (Some run) = record {
+  terms = col 0 0 ∷ lit Null ∷ col 0 1 ∷ col 0 2 ∷ col 0 3 ∷ col 0 4 ∷ col 0 5 ∷ [];
+  width = 7;
+  means = record { is = refl; plain = (refl, refl); unlisted = refl };
+  whole = refl;
+  kinds = refl;
+  one = refl;
+}
+put_puts number content provider version pass None = record {
   terms = col 0 0 ∷ lit Null ∷ col 0 1 ∷ col 0 2 ∷ col 0 3 ∷ col 0 4 ∷ col 0 5 ∷ [];
   width = 7;
   means = record { is = refl; plain = (refl, refl); unlisted = refl };
@@ -36,20 +45,10 @@ put_puts number content provider version pass run = record {
   one = refl;
 }
 
-abbrev pub plain_sql : List ℕ
-plain_sql = codes "INSERT INTO results (number, content, provider, provider_version, pass, run) VALUES (?1, ?2, ?3, ?4, ?5, NULL)"
-
-pub plain_puts : (number content : ℕ) (provider : List ℕ) (version : ℕ) (pass : ℤ)
-    → Puts at_results plain_sql (Int (pos number) ∷ Int (pos content) ∷ Text provider ∷ Int (pos version) ∷ Int pass ∷ []) (Int (pos number) ∷ Null ∷ Int (pos content) ∷ Text provider ∷ Int (pos version) ∷ Int pass ∷ Null ∷ [])
-unfolding understood everything
-plain_puts number content provider version pass = record {
-  terms = col 0 0 ∷ lit Null ∷ col 0 1 ∷ col 0 2 ∷ col 0 3 ∷ col 0 4 ∷ lit Null ∷ [];
-  width = 7;
-  means = record { is = refl; plain = (refl, refl); unlisted = refl };
-  whole = refl;
-  kinds = refl;
-  one = refl;
-}
+-- a run as it is bound
+pub run_bound : (run : Option (Bor (List ℕ))) → bound_value (or_null (λ text. Text text.now) run) ≡ run_value (run_of run)
+run_bound (Some run) = refl
+run_bound None = refl
 
 cast_run : (run : Option (List ℕ)) → cast kind.Text (run_value run) ≡ run_value run
 cast_run (Some run) = refl

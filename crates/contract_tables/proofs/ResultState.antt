@@ -2,17 +2,17 @@
 use Rattle.std.specs.{Prelude.{option_map, option_and_then, if◌then◌else◌}, Ordering.{eq_by_cmp, int_cmp}, Cmp.{eq_by_cmp_equiv, int_cmp_total}}
 use Rattle.std.proofs.Common.{◌≡◌, ◌==◌, inl, inr, ℕ, ℤ, pos, ◌+◌, codes, List, [], ◌∷◌, ◌++◌, map, length, Bool, true, false, ◌&&◌, ◌||◌, cond, refl, sym, ap, subst, subst₂, ◌∙◌, Some, None, Option, arith}
 use Rattle.std.proofs.{lemmas.Bool.{ne_eqb, and_right}, lemmas.List.{map-append, length-map}, Math.Bool.{and-true, or-false}}
-use Rattle.sqlite.specs.{Tree.{rowid}, declared.types.Value.TheVariants.{Int, Null}, Order.{Row}, State.{State}, Effect.{Database}}
+use Rattle.sqlite.specs.{Tree.{rowid}, declared.types.Value.TheVariants.{Int}, Order.{Row}, State.{State}, Effect.{Database}}
 use Rattle.sqlite_rules.{specs.Lists.{Has}, proofs.TableLemmas.{int_is}}
 use Rattle.table_access.{specs.{Columns.{whole_at, by_both}, Sound.{IsNumbered}, Statements.{IsAdded}}, proofs.{SoundLemmas.{at_has}, Members.{has_right}}}
 use Rattle.broker_core.specs.{State.{State as Broker, Verification, latest_result}, Text.{same_version}, declared.command.Version.{Version}}
 use Rattle.broker_tables.specs.Schema.{in_results, in_latest, in_checked_results}
 use Rattle.broker_tables.specs.Holds.{Holds, HoldsAfter, IsBroker, AreResults, AreLatest, ResultRow, result_in, result_of}
-use Rattle.broker_tables.specs.{Rows.{stands_at, truth_in, text_or_null}, Numbers.{numbered, number_of}, Refusals.{HaveNumbers}}
-use Rattle.broker_tables.proofs.{Frames.{Frame, frame_of, frame_then, still_broker, results_change}, Standing.{stands_put}, Growth.{none_stands}}
-use Rattle.broker_tables.proofs.{Ties.{both_eq, two_tests, nat_ties}, References.{refers_result, row_number}}
-use Rattle.broker_tables.proofs.{Placed.{checked_results, at_checked_results, listed}, RoomLemmas.{Grows, takes_more, takes_rows}, NextRow.{next_row}}
-use Rattle.broker_tables.proofs.{NumberLemmas.{version_ties, number_ties, version_unknown}, Orders.{pairs_total, numbers_total}}
+use Rattle.broker_tables.specs.{Rows.{stands_at, truth_in, text_or_null}, Numbers.{numbered, number_of}, ChangeRefusals.{HaveNumbers}}
+use Rattle.broker_tables.proofs.{Frames.{Frame, frame_of, frame_then, still_broker, results_change}, Growth.{none_stands}, Ties.{both_eq, two_tests, nat_ties}}
+use Rattle.broker_tables.proofs.{References.{refers_result, row_number}, Placed.{checked_results, at_checked_results, listed}}
+use Rattle.broker_tables.proofs.{RoomLemmas.{Grows, takes_more, takes_rows}, NextRow.{next_row}, NumberLemmas.{version_ties, number_ties, version_unknown}}
+use Rattle.broker_tables.proofs.Orders.{pairs_total, numbers_total}
 use Rattle.contract_tables.specs.Verified.{latest_at, result_row, result_for, run_value, PutsRow, Marks, Points, HasRowWith, AllowsResult, AllowsMark, AllowsPoint}
 use Rattle.contract_tables.proofs.{ContractRows.{map_cond}, ReferredRows.{has_content, has_version}, LastRow.{last_pushed}}
 use Rattle.contract_tables.proofs.ResultLookups.{numbered_rows, marked_rows}
@@ -138,15 +138,6 @@ module _ (s : Broker) (r : Verification) (n : ℕ) (is : number_of s.versions r.
       )
 
 -- ---- as the calls tell it
-
--- the mark of a result that was checked
-pub is_marked : (checked : Bool) (number : ℕ) (old new : State) → checked ≡ true → PutsRow in_checked_results.tree (Int (pos number) ∷ Null ∷ []) old new → Marks checked number old new
-is_marked checked number old new is put = (
-  put.0,
-  λ k.
-      stands_put int_cmp (whole_at 0) (old.now.trees in_checked_results.tree) (new.now.trees in_checked_results.tree) (Int (pos number) ∷ Null ∷ []) put.1 k
-      ∙ sym (ap (λ b. (b && eq_by_cmp int_cmp k (pos number)) || stands_at int_cmp (whole_at 0) (old.now.trees in_checked_results.tree) k) is),
-)
 
 pub marked_broker : (checked : Bool) (number : ℕ) (old new : State) → IsBroker old.now → Marks checked number old new → IsBroker new.now
 marked_broker checked number old new broker marks = still_broker (codes "checked_results" ∷ []) old.now new.now (frame_of (codes "checked_results" ∷ []) in_checked_results.tree refl old new broker marks.0) broker

@@ -1,7 +1,7 @@
 -- What a binary search finds in a list that rises by its keys.
 use Rattle.std.specs.{Prelude.{is_ok, Contains}, List.{list_any}, List.Sorted.{IsStrictlySortedBy, IsSortedBy, IsBinarySearchResult, IsSearchInRange}}
 use Rattle.std.specs.{Ordering.{nat_cmp, ordering_reverse, is_lt}, Cmp.{nat_cmp_total, ranked}}
-use Rattle.std.proofs.Common.{◌≡◌, ◌==◌, ◌<◌, ◌+◌, inl, inr, ℕ, zero, suc, List, [], ◌∷◌, length, get_or, sym, ap, subst, true, ◌∙◌, Result, Ok, Err, Less, Equal, Greater, arith}
+use Rattle.std.proofs.Common.{◌≡◌, ◌==◌, ◌<◌, ◌+◌, inl, inr, ℕ, zero, suc, List, [], ◌∷◌, length, get_or, sym, ap, ◌∙◌, Result, Ok, Err, Less, Equal, Greater, arith}
 use Rattle.std.proofs.{lemmas.Bool.{eq-eqb, eqb-true, cases_lt, false_from_ne_true}, lemmas.List.Sorted.{searchable_from_sorted}}
 use Rattle.table_access.proofs.{Members.{has_contains, any_has}, ReadLemmas.{has_get}, SoundLemmas.{any_of}}
 
@@ -38,9 +38,3 @@ module _ {X : Type 0} (key : X → ℕ) where
   searched k xs (Err i) low parts up = sym (false_from_ne_true _ (λ found.
       let it = any_has (λ y. key y == k) xs found in
       missing k xs i parts up it.0 (has_contains xs it.0 it.1) (eqb-true (key it.0) k it.2)))
-
--- where a search finds a number, it is among those that were searched, in order or not
-pub found_in : (k : ℕ) (xs : List ℕ) (r : Result ℕ ℕ) → IsSearchInRange r (length xs) → IsBinarySearchResult (λ y. nat_cmp y k) xs r → is_ok r ≡ true → Contains xs k
-found_in k [] (Ok i) low at found = absurd (omega (arith, low))
-found_in k (x ∷ xs) (Ok i) low at found = subst (Contains (x ∷ xs)) (found_at (λ n. n) k (x ∷ xs) i x at) (has_contains (x ∷ xs) _ (has_get (x ∷ xs) i x low))
-found_in k xs (Err i) low at found = absurd cc

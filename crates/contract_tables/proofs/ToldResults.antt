@@ -9,9 +9,9 @@ use Rattle.table_access.specs.{Columns.{whole_at}, Sound.{IsNumbered, whole}, St
 use Rattle.table_access.proofs.{SoundLemmas.{any_of, at_has}, Members.{has_pair, pair_has, any_has, contains_has, has_contains}}
 use Rattle.broker_tables.specs.{Schema.{in_results, in_latest, in_checked_results}, Numbers.{number_of}, Holds.{Holds, ResultRow}}
 use Rattle.broker_tables.proofs.{VersionRows.{whole_test, by_number}, Asked.{Asked, IsShown}, Listed.{lists_read}}
-use Rattle.contract_tables.specs.{declared.told_versions.NumberedPass.{NumberedPass}, declared.told_versions.NamedResult.{NamedResult}}
-use Rattle.contract_tables.specs.{Verified.{PassCells, result_with, latest_at}, VersionResults.{is_among}}
-use Rattle.contract_tables.specs.ToldVersions.{verified_cmp, named_cmp, IsNumberedPassRow, Tell, TellPasses, TellChecked, IsUntold, IsToldBy, IsTold}
+use Rattle.contract_tables.specs.{declared.version_results.ContentPass.{ContentPass}, declared.listings.NumberedName.{NumberedName}}
+use Rattle.contract_tables.specs.{Verified.{result_with, latest_at}, VersionResults.{is_among, IsPassRow}}
+use Rattle.contract_tables.specs.ToldVersions.{verified_cmp, named_cmp, Tell, TellPasses, TellChecked, IsUntold, IsToldBy, IsTold}
 use Rattle.contract_tables.proofs.{ItemLists.{and_tests, last_test}, JoinRows.{pair_of, item_of_pair}, LastRow.{latest_with}}
 use Rattle.contract_tables.proofs.{ResultLookups.{numbered_rows, marked_rows}, ResultRows.{contents, numbers}, VerifiedList.{told_as, tells_row}}
 use Rattle.contract_tables.proofs.VersionResults.{passes_project, result_row, row_result, mark_says, says_mark}
@@ -58,7 +58,7 @@ module _ (db : Database) (s : Broker) (held : Holds db s) (k : ℕ) where
       → result_with s (number x) ≡ Some v → Says x v)
       (said : (e : ℕ × Verification) → result_with s e.0 ≡ Some e.1 → Meets e.1
       → (r : Row) × Has (db.trees u) r × (whole_at 0 r ≡ pos e.0)
-      × ((l : Row) (y : X) → whole_at in_latest.result l ≡ pos e.0 → reads (eval_all project (params ∷ l ∷ r ∷ [])) y → y ≡ item e)) where
+      × ((l : Row) (y : X) → whole_at in_latest.content l ≡ pos k → whole_at in_latest.result l ≡ pos e.0 → reads (eval_all project (params ∷ l ∷ r ∷ [])) y → y ≡ item e)) where
     -- what ON and WHERE test
     parts_of : (l r : Row) → Has (db.trees in_latest.tree) l → Has (db.trees u) r
         → (keeps_both terms params l r ≡ true) ↔ ((whole_at 0 r ≡ whole_at in_latest.result l) × (whole_at in_latest.content l ≡ pos k))
@@ -80,26 +80,29 @@ module _ (db : Database) (s : Broker) (held : Holds db s) (k : ℕ) where
           let r = said e (latest_with s k w e found) meets in
           let kept = has_pair (keeps_both terms params) (db.trees u) (db.trees in_latest.tree) l.0 r.0 l.1 r.1 ((parts_of l.0 r.0 l.1 r.1).1 (r.2 ∙ sym l.4, l.2)) in
           let y = item_of_pair db params terms project reads rows items read in_latest.tree u h (l.0, r.0) kept in
-          subst (Contains items) (r.3 l.0 y.0 l.4 y.2) y.1,
+          subst (Contains items) (r.3 l.0 y.0 l.2 l.4 y.2) y.1,
     )
 
-  pub passes_told : (rows : List Row) (items : List NumberedPass) → IsShown (told_passes k) db rows → AreRead IsNumberedPassRow rows items → TellPasses s k items
+  pub passes_told : (rows : List Row) (items : List ContentPass) → IsShown (told_passes k) db rows → AreRead IsPassRow rows items → TellPasses s k items
   passes_told =
-      told in_results.tree (numbered_rows db held.broker) passes_project IsNumberedPassRow (λ x. x.number) (λ x r. x.pass ≡ r.pass)
-      (λ e. record { number = e.0; pass = e.1.pass }) (λ r. ⊤)
-      (λ l r x v has same shown is.
-      let number : pos x.number ≡ whole_at 0 r = ap (λ (c : PassCells). id_in c.0) shown.0 in
-      ap (λ (c : PassCells). c.1) shown.0 ∙ ap (λ (y : ResultRow). y.pass) (row_result db s held x.number v is r has (sym number)))
+      told in_results.tree (numbered_rows db held.broker) passes_project IsPassRow (λ x. x.result) (λ x r. x.pass ≡ r.pass)
+      (λ e. record { content = k; result = e.0; pass = e.1.pass }) (λ r. ⊤)
+      (λ l r x v has same shown is. sym shown.2 ∙ ap (λ (y : ResultRow). y.pass) (row_result db s held x.result v is r has (ap id_in shown.1)))
       (λ e is _.
       let r = result_row db s held e.0 e.1 is in
-      let pass = ap (λ (z : ResultRow). z.pass) r.3 in
-      (r.0, r.1, r.2, λ l y number shown i. record { number = whole ((ap (λ (c : PassCells). id_in c.0) shown.0 ∙ r.2) i); pass = (ap (λ (c : PassCells). c.1) shown.0 ∙ pass) i }))
+      let pass = ap (λ (z : ResultRow). z.pass) r.3 in (
+        r.0,
+        r.1,
+        r.2,
+        λ l y content number shown i.
+            record { content = whole ((sym (ap id_in shown.0) ∙ content) i); result = whole ((sym (ap id_in shown.1) ∙ r.2) i); pass = (sym shown.2 ∙ pass) i },
+      ))
 
   pub checked_told : (rows : List Row) (items : List ℕ) → IsShown (told_marks k) db rows → AreRead IsNumber rows items → TellChecked s k items
   checked_told =
       told in_checked_results.tree (marked_rows db held.broker) told_marks_project IsNumber (λ n. n) (λ n r. r.checked ≡ true) (λ e. e.0) (λ r. r.checked ≡ true)
       (λ l r n v has same shown is. mark_says db s held n v is r has (same ∙ ap id_in shown))
-      (λ e is so. let r = says_mark db s held e.0 e.1 is so in (r.0, r.1, r.2, λ l y number shown. ap whole (sym (ap id_in shown) ∙ number)))
+      (λ e is so. let r = says_mark db s held e.0 e.1 is so in (r.0, r.1, r.2, λ l y content number shown. ap whole (sym (ap id_in shown) ∙ number)))
 
 -- the same in another order
 pub told_moved : {X : Type 0} (number : X → ℕ) (Says : X → Verification → Type 0) (item : ℕ × Verification → X) (Meets : Verification → Type 0) (s : Broker) (k : ℕ)
@@ -111,7 +114,7 @@ told_moved number Says item Meets s k xs ys moved tell = (
 
 -- ---- the versions that are told with them
 
-module _ (s : Broker) (content : ℕ) (passes : List NumberedPass) (checked : List ℕ) (tell : TellPasses s content passes) (are_checked : TellChecked s content checked) where
+module _ (s : Broker) (content : ℕ) (passes : List ContentPass) (checked : List ℕ) (tell : TellPasses s content passes) (are_checked : TellChecked s content checked) where
   -- whether a latest result was checked is whether its number is there
   checked_is : (w : Version) (e : ℕ × Verification) → latest_result s content w ≡ Some e → is_among checked e.0 ≡ e.1.checked
   checked_is w e is = go (is_among checked e.0) e.1.checked refl refl
@@ -129,13 +132,13 @@ module _ (s : Broker) (content : ℕ) (passes : List NumberedPass) (checked : Li
   -- what both lists say of a latest result is what it says
   told_is : (w : Version) (e : ℕ × Verification) → latest_result s content w ≡ Some e → (r : Verified) → r.result ≡ e.0 → IsToldBy passes checked r → r.latest ≡ said_by e.1
   told_is w e is r number by =
-      let pass : r.latest.pass ≡ e.1.pass = tell.0 (record { number = r.result; pass = r.latest.pass }) e.1 by.1 (ap (result_with s) number ∙ latest_with s content w e is) in
+      let pass : r.latest.pass ≡ e.1.pass = sym by.1.3 ∙ tell.0 by.1.0 e.1 by.1.1 (ap (result_with s) (by.1.2 ∙ number) ∙ latest_with s content w e is) in
       let mark : r.latest.checked ≡ e.1.checked = by.0 ∙ ap (is_among checked) number ∙ checked_is w e is in
       λ i. record { pass = pass i; checked = mark i }
 
   module _ (p : Text) where
-    abbrev IsNamed : NamedResult → Type 0
-    IsNamed x = option_map (λ e. e.0) (latest_result s content (version p x.name)) ≡ Some x.result
+    abbrev IsNamed : NumberedName → Type 0
+    IsNamed x = option_map (λ e. e.0) (latest_result s content (version p x.name)) ≡ Some x.number
 
     abbrev IsVerified : Verified → Type 0
     IsVerified r = IsLatest s content (version p r.provider_version) r
@@ -145,19 +148,19 @@ module _ (s : Broker) (content : ℕ) (passes : List NumberedPass) (checked : Li
     latest_is None r h = absurd h
     latest_is (Some e) r h = (e, refl, h.0, h.1)
 
-    pub versions_told : (named : List NamedResult) (found : List Verified) → Lists named_cmp IsNamed named → AreRead (IsTold passes checked) named found → Lists verified_cmp IsVerified found
+    pub versions_told : (named : List NumberedName) (found : List Verified) → Lists named_cmp IsNamed named → AreRead (IsTold passes checked) named found → Lists verified_cmp IsVerified found
     versions_told = lists_read named_cmp IsNamed (IsTold passes checked) verified_cmp IsVerified
         (λ a b x y ha hb is_x is_y less. (λ i. text_cmp (is_x.0 i) (is_y.0 i)) ∙ less)
         (λ x r named is.
         let w = version p x.name in
-        let e = told_as (λ e. e.0) (latest_result s content w) x.result named in
+        let e = told_as (λ e. e.0) (latest_result s content w) x.number named in
         let number : r.result ≡ e.0.0 = is.1 ∙ sym e.2 in
         let found : latest_result s content (version p r.provider_version) ≡ Some e.0 = ap (λ n. latest_result s content (version p n)) is.0 ∙ e.1 in
         subst (λ o. IsSomeAnd o (λ e. (r.result ≡ e.0) × (r.latest ≡ said_by e.1))) (sym found) (number, told_is w e.0 e.1 r number is.2))
         (λ r there.
         let w = version p r.provider_version in
         let e = latest_is (latest_result s content w) r there in (
-          record { name = r.provider_version; result = r.result },
+          record { name = r.provider_version; number = r.result },
           ap (option_map (λ (e : ℕ × Verification). e.0)) e.1 ∙ ap Some (sym e.2),
           λ y is.
               let latest : y.latest ≡ r.latest = told_is w e.0 e.1 y (is.1 ∙ e.2) is.2 ∙ sym e.3 in
@@ -165,8 +168,8 @@ module _ (s : Broker) (content : ℕ) (passes : List NumberedPass) (checked : Li
         ))
 
     -- each of their results is told of
-    pub none_untold : (named : List NamedResult) → Lists named_cmp IsNamed named → ¬ ((x : NamedResult) × Contains named x × IsUntold passes x.result)
+    pub none_untold : (named : List NumberedName) → Lists named_cmp IsNamed named → ¬ ((x : NumberedName) × Contains named x × IsUntold passes x.number)
     none_untold named listed (x, there, untold) =
         let w = version p x.name in
-        let e = told_as (λ e. e.0) (latest_result s content w) x.result ((listed.exactly x).0 there) in
-        untold (record { number = e.0.0; pass = e.0.1.pass }, tell.1 w e.0 e.1 tt, e.2)
+        let e = told_as (λ e. e.0) (latest_result s content w) x.number ((listed.exactly x).0 there) in
+        untold (record { content = content; result = e.0.0; pass = e.0.1.pass }, tell.1 w e.0 e.1 tt, e.2)

@@ -14,7 +14,7 @@ use Rattle.broker_core.specs.State.{State as Broker, Verification, latest_result
 use Rattle.broker_tables.{specs.{Schema.{in_versions, in_latest}, Rows.{value_at}, Numbers.{number_of}, Holds.{Holds}}, proofs.Asked.{Asked, IsShown}}
 use Rattle.broker_tables.proofs.VersionRows.{whole_test, text_test, by_number, version_number, versions_numbered, owners, names, same_version, row_number, find_version, one_row}
 use Rattle.broker_tables.proofs.{Orders.{exact_texts, numbers_total, exact_numbers}, Keyed.{keys_of, latest_by_key}}
-use Rattle.contract_tables.specs.{declared.told_versions.NamedResult.{NamedResult}, ToldVersions.{named_cmp, IsNamedRow}, Verified.{latest_at}}
+use Rattle.contract_tables.specs.{declared.listings.NumberedName.{NumberedName}, ToldVersions.{named_cmp}, Listings.{IsNumberedName}, Verified.{latest_at}}
 use Rattle.contract_tables.proofs.{ItemLists.{and_tests, last_test, last_text, answers_of, list_pairs}, ResultRows.{key, contents, versions, latest_numbered}}
 
 -- a result by what is told of it
@@ -73,11 +73,11 @@ module _ (db : Database) (s : Broker) (held : Holds db s) (content : ℕ) (p : W
       (and_tests (whole_test (column l in_latest.content) (Int (pos content)) (whole_at in_latest.content l) (pos content) (contents db held.broker l hl) refl)
       (last_test (text_test (column v in_versions.pacticipant) (Text p) (text in_versions.pacticipant v) p (owners db held.broker v hv) refl)))
 
-  abbrev Is : NamedResult → Type 0
-  Is x = (option_map (λ e. e.0) (latest_result s content (version p x.name)) ≡ Some x.result)
+  abbrev Is : NumberedName → Type 0
+  Is x = (option_map (λ e. e.0) (latest_result s content (version p x.name)) ≡ Some x.number)
 
-  pub verifiers_listed : (rows : List Row) (items : List NamedResult) → IsShown (verifiers content p) db rows → AreRead IsNamedRow rows items → Lists named_cmp Is items
-  verifiers_listed = list_pairs db IsNamedRow named_cmp Is exact_texts (λ x. x.name) (λ x y less. less)
+  pub verifiers_listed : (rows : List Row) (items : List NumberedName) → IsShown (verifiers content p) db rows → AreRead IsNumberedName rows items → Lists named_cmp Is items
+  verifiers_listed = list_pairs db IsNumberedName named_cmp Is exact_texts (λ x. x.name) (λ x y less. less)
       (answers_of (verifiers content p) db) IsKept (latest_numbered db held.broker) (versions_numbered db held.broker) joined (record {
         key = λ q. text in_versions.version q.1;
         sorted = λ a b one two. last_text (column a.1 in_versions.version) (column b.1 in_versions.version) (text in_versions.version a.1) (text in_versions.version b.1)
@@ -96,13 +96,13 @@ module _ (db : Database) (s : Broker) (held : Holds db s) (content : ℕ) (p : W
             ap (option_map (λ (e : ℕ × Verification). e.0)) e.1 ∙ (λ i. Some (whole ((sym e.2 ∙ ap id_in read.0) i)));
         complete = λ x there.
             let w = version p x.name in
-            let e = told_as (λ e. e.0) (latest_result s content w) x.result there in
+            let e = told_as (λ e. e.0) (latest_result s content w) x.number there in
             let number = held.latest content w ∙ ap (option_map (λ (e : ℕ × Verification). pos e.0)) e.1 in
             let at = by_number (number_of s.versions w) (λ k. latest_at (db.trees in_latest.tree) content k) (pos e.0.0) number in
             let l = tells_row db s held w at.0 at.1 content e.0 e.1 in
             let v = find_version db held.broker s.versions w at.0 held.versions at.1 in (
               (l.0, v.0),
               (l.1, v.1, (v.4 ∙ sym l.3, (l.2, v.2))),
-              λ y read i. record { name = (sym (ap text_in read.1) ∙ v.3) i; result = whole ((sym (ap id_in read.0) ∙ l.4 ∙ ap pos e.2) i) },
+              λ y read i. record { name = (sym (ap text_in read.1) ∙ v.3) i; number = whole ((sym (ap id_in read.0) ∙ l.4 ∙ ap pos e.2) i) },
             );
       })

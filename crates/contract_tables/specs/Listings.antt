@@ -11,6 +11,7 @@ use Rattle.broker_core.specs.declared.command.Version.{Version}
 use Rattle.broker_core.specs.Text.{text_cmp}
 use Rattle.broker_tables.specs.Names.{IsNameAt}
 use Rattle.contract_tables.specs.declared.listings.Contract.{Contract}
+use Rattle.contract_tables.specs.declared.listings.NumberedName.{NumberedName}
 
 -- ---- the orders
 
@@ -23,6 +24,10 @@ contract_cmp x y = ordering_then (text_cmp x.provider y.provider) (nat_cmp x.con
 -- the columns are the content and the provider
 abbrev pub IsContractRow : Row → Contract → Type 0
 IsContractRow row x = (column row 0 ≡ Int (pos x.content)) × (column row 1 ≡ Text x.provider)
+
+-- the columns are the number and the name
+abbrev pub IsNumberedName : Row → NumberedName → Type 0
+IsNumberedName row x = (column row 0 ≡ Int (pos x.number)) × (column row 1 ≡ Text x.name)
 
 -- the columns are the pacticipant and the version's name
 abbrev pub IsConsumerRow : Row → Version → Type 0

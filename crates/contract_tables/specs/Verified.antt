@@ -25,7 +25,7 @@ use Rattle.broker_tables.specs.Numbers.{number_of}
 use Rattle.broker_tables.specs.Holds.{IsBroker}
 use Rattle.broker_tables.specs.Room.{LeaveNumbers}
 use Rattle.broker_tables.specs.Readable.{IsReadable}
-use Rattle.broker_tables.specs.Refusals.{HaveNumbers}
+use Rattle.broker_tables.specs.ChangeRefusals.{HaveNumbers}
 
 -- the version of this number has no contract with the provider, which is there, as the content is; now the
 -- content is its contract

@@ -1,14 +1,14 @@
 //! The contracts of consumers' versions with providers.
 ghost use Rattle.std.specs.Prelude.{◌≡◌, Some, None, codes, [], ◌∷◌};
 ghost use Rattle.broker_core.specs.declared.command.Version.{Version as VersionModel};
-ghost use Rattle.broker_tables.specs.Numbers.{number_of as number_in};
+ghost use Rattle.broker_tables.specs.Numbers.{number_of};
 ghost use Rattle.broker_tables.specs.Holds.{Changes};
 ghost use Rattle.broker_tables.specs.Calm.{CalmQueriesInPlace, IfNoVersion};
-ghost use Rattle.broker_tables.specs.Refusals.{IsCalmChange};
+ghost use Rattle.broker_tables.specs.ChangeRefusals.{IsCalmChange};
 ghost use Rattle.contract_tables.specs.Verified.{AddsContract};
 
 use sqlite::{Alter, Connection, params};
-use table_access::{StoreFault, change, number_of};
+use table_access::{StoreFault, change, find_number};
 
 /// The number of the content that the version of this number has for the provider, or `None` if it has no contract with
 /// it.
@@ -22,11 +22,11 @@ pub fn contract_of<S: Alter>(
     provider: &str,
 ) -> Result<Option<u32>, StoreFault>
     ensures answers { CalmQueriesInPlace S.Store conn.old conn.new result
-        (λ found s. (v : VersionModel) → number_in s.versions v ≡ Some version_number →
+        (λ found s. (v : VersionModel) → number_of s.versions v ≡ Some version_number →
         found ≡ s.contracts (v, provider.now)) }
     ensures unknown { IfNoVersion S.Store conn.old conn.new result version_number (λ found. found ≡ None) }
 {
-    number_of(
+    find_number(
         conn,
         "SELECT content FROM contracts WHERE version_number = ?1 AND provider = ?2",
         params![version_number, provider],

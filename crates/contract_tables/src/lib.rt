@@ -27,7 +27,7 @@ mod told_versions;
 mod version_results;
 
 pub use contracts::{add_contract, contract_of};
-pub use listings::{Contract, consumers_of, contracts_of};
+pub use listings::{Contract, NumberedName, NumberedNameRow, consumers_of, contracts_of};
 pub use lookups::{ResultRow, latest_of, result_count, result_of_run};
 pub use making::{make_checked_results, make_indexes, make_tables};
 pub use migration::to_format_2;

@@ -1,11 +1,11 @@
 //! Contracts, listed.
-ghost use Rattle.std.specs.Prelude.{◌≡◌, Some, []};
+ghost use Rattle.std.specs.Prelude.{◌≡◌, ℕ, List, Some, None, []};
 ghost use Rattle.broker_core.specs.declared.command.Version.{Version as VersionModel};
 ghost use Rattle.broker_core.specs.Listing.{Lists};
 ghost use Rattle.broker_core.specs.Machine.{version_cmp};
-ghost use Rattle.broker_tables.specs.Numbers.{number_of as number_known};
-ghost use Rattle.broker_tables.specs.Calm.{CalmQueries, IfNoVersion};
-ghost use Rattle.contract_tables.specs.Listings.{contract_cmp, IsContractRow, IsConsumerRow, FailsAsMarked, FailsAsNames};
+ghost use Rattle.broker_tables.specs.Numbers.{number_of};
+ghost use Rattle.broker_tables.specs.Calm.{CalmQueries, IfNoVersion, NeedsNoRoom};
+ghost use Rattle.contract_tables.specs.Listings.{contract_cmp, IsContractRow, IsNumberedName, IsConsumerRow, FailsAsMarked, FailsAsNames};
 
 use broker_core::command::Version;
 use broker_names::name::Name;
@@ -19,6 +19,30 @@ use table_access::{ReadRow, StoreFault, list_of, number_in};
 pub struct Contract {
     pub provider: Name,
     pub content: u32,
+}
+
+/// A number, and the name that stands beside it.
+#[derive(Debug, Drop)]
+pub struct NumberedName {
+    pub number: u32,
+    pub name: Name,
+}
+
+/// A number and a name.
+pub struct NumberedNameRow;
+
+impl ReadRow for NumberedNameRow {
+    type Item = NumberedName;
+
+    ghost reads_as = { IsNumberedName };
+
+    ghost fails_as = { FailsAsMarked };
+
+    fn read(alloc: Global, row: &Row) -> Result<NumberedName, StoreFault> {
+        let number = number_in(row)?;
+        let name = name_in(alloc, row, 1)?;
+        Ok(NumberedName { number, name })
+    }
 }
 
 /// A content and a provider.
@@ -69,9 +93,11 @@ pub fn contracts_of<S: Alter>(
     version_number: u32,
 ) -> Result<Vec<Contract>, StoreFault>
     ensures answers { CalmQueries S.Store conn.old conn.new result
-        (λ found s. (v : VersionModel) → number_known s.versions v ≡ Some version_number →
+        (λ found s. (v : VersionModel) → number_of s.versions v ≡ Some version_number →
         Lists contract_cmp (λ c. s.contracts (v, c.provider) ≡ Some c.content) found.items) }
     ensures unknown { IfNoVersion S.Store conn.old conn.new result version_number (λ found. found.items ≡ []) }
+    ensures missing { NeedsNoRoom S.Store conn.old conn.new result
+        (λ s. (v : VersionModel) × (number_of s.versions v ≡ Some version_number) × ((p : List ℕ) → s.contracts (v, p) ≡ None)) }
 {
     list_of::<ContractRow, S>(
         alloc,
@@ -93,8 +119,10 @@ pub fn consumers_of<S: Alter>(
     provider: &str,
     content: u32,
 ) -> Result<Vec<Version>, StoreFault>
-    ensures { CalmQueries S.Store conn.old conn.new result
+    ensures answers { CalmQueries S.Store conn.old conn.new result
         (λ found s. Lists version_cmp (λ w. s.contracts (w, provider.now) ≡ Some content) found.items) }
+    ensures missing { NeedsNoRoom S.Store conn.old conn.new result
+        (λ s. (w : VersionModel) → ¬ (s.contracts (w, provider.now) ≡ Some content)) }
 {
     list_of::<ConsumerRow, S>(
         alloc,

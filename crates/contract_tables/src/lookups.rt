@@ -6,7 +6,7 @@ ghost use Rattle.table_access.specs.Calls.{HasFailed};
 ghost use Rattle.broker_core.specs.declared.command.Version.{Version as VersionModel};
 ghost use Rattle.broker_core.specs.State.{Verification, latest_result, latest};
 ghost use Rattle.broker_core.specs.Change.{result_of_run as run_result};
-ghost use Rattle.broker_tables.specs.Numbers.{number_of as number_in};
+ghost use Rattle.broker_tables.specs.Numbers.{number_of};
 ghost use Rattle.broker_tables.specs.Calm.{CalmQueriesInPlace, IfNoVersion};
 ghost use Rattle.broker_tables.specs.Asking.{TellsOfAny, CanBeAsked};
 ghost use Rattle.broker_tables.specs.Rows.{IsTruthAt};
@@ -19,7 +19,7 @@ use crate::version_results::{ContentPass, read_latest};
 use broker_core::need::Latest;
 use broker_tables::truth_at;
 use sqlite::{Alter, Connection, Row, params};
-use table_access::{StoreFault, has_row, number_at, number_of, select};
+use table_access::{StoreFault, find_number, has_row, number_at, select};
 
 /// How many results there are: the number of the newest, or 0.
 ///
@@ -29,7 +29,7 @@ use table_access::{StoreFault, has_row, number_at, number_of, select};
 pub fn result_count<S: Alter>(conn: &mut Connection<S>) -> Result<u64, StoreFault>
     ensures { CalmQueriesInPlace S.Store conn.old conn.new result (λ count s. count ≡ length s.results) }
 {
-    let newest = done!(number_of(
+    let newest = done!(find_number(
         conn,
         "SELECT number FROM results ORDER BY number DESC LIMIT 1",
         &[],
@@ -75,7 +75,7 @@ fn latest_pass<S: Alter>(
     provider_version: u32,
 ) -> Result<Option<ContentPass>, StoreFault>
     ensures answers { CalmQueriesInPlace S.Store conn.old conn.new result
-        (λ found s. (v : VersionModel) → number_in s.versions v ≡ Some provider_version →
+        (λ found s. (v : VersionModel) → number_of s.versions v ≡ Some provider_version →
         option_map (λ r. passed_as r.result r.pass) found ≡ option_map passed_of (latest_result s content v)) }
     ensures unknown { IfNoVersion S.Store conn.old conn.new result provider_version (λ found. found ≡ None) }
     ensures mark { TellsOfAny S.Store conn.old conn.new result
@@ -104,7 +104,7 @@ pub fn latest_of<S: Alter>(
     version_number: u32,
 ) -> Result<Option<Latest>, StoreFault>
     ensures answers { CalmQueriesInPlace S.Store conn.old conn.new result
-        (λ found s. (v : VersionModel) → number_in s.versions v ≡ Some version_number →
+        (λ found s. (v : VersionModel) → number_of s.versions v ≡ Some version_number →
         found ≡ latest s content v) }
     ensures unknown { IfNoVersion S.Store conn.old conn.new result version_number (λ found. found ≡ None) }
     ensures mark { TellsOfAny S.Store conn.old conn.new result

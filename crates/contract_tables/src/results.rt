@@ -1,10 +1,10 @@
 //! A result comes in: its row, the mark that the broker checked it, and that it is the latest one for its content and
 //! its version.
-ghost use Rattle.std.specs.Prelude.{option_map, Some, None};
+ghost use Rattle.std.specs.Prelude.{option_map};
 ghost use Rattle.sqlite.specs.Held.{state};
 ghost use Rattle.table_access.specs.Calls.{CallsStore};
 ghost use Rattle.broker_tables.specs.Holds.{IsBroker, Changes, ChangesAndAnswers};
-ghost use Rattle.broker_tables.specs.Refusals.{IsCalmStoring};
+ghost use Rattle.broker_tables.specs.ChangeRefusals.{IsCalmStoring};
 ghost use Rattle.contract_tables.specs.Verified.{RecordsResult, run_of, texts_of, AllowsResult, AllowsNextResult, CanAddResult, PutsRow, result_row, Marks, Points, IsCalmOn, AllowsMark, AllowsPoint};
 ghost use Rattle.std.specs.Prelude.{pos, ◌∷◌, [], codes};
 ghost use Rattle.sqlite.specs.declared.types.Value.TheVariants.{Int, Null};
@@ -14,56 +14,8 @@ use broker_tables::next_number;
 use sqlite::{Alter, Connection, params};
 use table_access::{StoreFault, change};
 
-/// Puts in the row of a result of a run.
+/// Puts in the row of a result: of a run, or of none.
 #[tactic(auto, unfolding(sqlite_tied::specs::Compute::everything))]
-fn put_run<S: Alter>(
-    conn: &mut Connection<S>,
-    number: u32,
-    content: u32,
-    provider: &str,
-    version_number: u32,
-    pass: bool,
-    run: &str,
-) -> Result<(), StoreFault>
-    ensures puts { CallsStore S.Store conn.old conn.new result
-        (λ _ old new. IsBroker old.now →
-        PutsRow 17 (result_row number content provider.now version_number pass (Some run.now))
-        old new) }
-    ensures calm { IsCalmStoring S.Store conn.old conn.new result [] (provider.now ∷ run.now ∷ [])
-        (AllowsResult number content provider.now version_number (Some run.now)) }
-{
-    change(
-        conn,
-        "INSERT INTO results (number, content, provider, provider_version, pass, run) VALUES (?1, ?2, ?3, ?4, ?5, ?6)",
-        params![number, content, provider, version_number, pass, run],
-    )
-}
-
-/// Puts in the row of a result of no run.
-#[tactic(auto, unfolding(sqlite_tied::specs::Compute::everything))]
-fn put_plain<S: Alter>(
-    conn: &mut Connection<S>,
-    number: u32,
-    content: u32,
-    provider: &str,
-    version_number: u32,
-    pass: bool,
-) -> Result<(), StoreFault>
-    ensures puts { CallsStore S.Store conn.old conn.new result
-        (λ _ old new. IsBroker old.now →
-        PutsRow 17 (result_row number content provider.now version_number pass None)
-        old new) }
-    ensures calm { IsCalmStoring S.Store conn.old conn.new result [] (texts_of provider.now None)
-        (AllowsResult number content provider.now version_number None) }
-{
-    change(
-        conn,
-        "INSERT INTO results (number, content, provider, provider_version, pass, run) VALUES (?1, ?2, ?3, ?4, ?5, NULL)",
-        params![number, content, provider, version_number, pass],
-    )
-}
-
-/// Puts in the row of a result.
 fn put_result<S: Alter>(
     conn: &mut Connection<S>,
     number: u32,
@@ -82,10 +34,11 @@ fn put_result<S: Alter>(
         (texts_of provider.now (option_map (λ text. text.now) run.entry))
         (AllowsResult number content provider.now version_number (option_map (λ text. text.now) run.entry)) }
 {
-    match run {
-        Some(run) => put_run(conn, number, content, provider, version_number, pass, run),
-        None => put_plain(conn, number, content, provider, version_number, pass),
-    }
+    change(
+        conn,
+        "INSERT INTO results (number, content, provider, provider_version, pass, run) VALUES (?1, ?2, ?3, ?4, ?5, ?6)",
+        params![number, content, provider, version_number, pass, run],
+    )
 }
 
 /// Marks a result as checked.

@@ -1,5 +1,5 @@
 //! The versions of a provider that have a result for a content, with what the latest of them says.
-ghost use Rattle.std.specs.Prelude.{◌≡◌, IfOk, IfErr, IfSome, IfNone, IsSorted, Some, Err, Contains, option_map, pos};
+ghost use Rattle.std.specs.Prelude.{◌≡◌, IfOk, IfErr, IfSome, IfNone, IsSorted, Some, Err, Contains, option_map};
 ghost use Rattle.std.specs.Ordering.{nat_cmp};
 ghost use Rattle.table_access.specs.Reading.{AreRead};
 ghost use Rattle.broker_core.specs.Listing.{Lists};
@@ -7,69 +7,16 @@ ghost use Rattle.broker_core.specs.Machine.{IsLatest};
 ghost use Rattle.broker_core.specs.State.{latest_result};
 ghost use Rattle.broker_core.specs.Text.{version as version_named};
 ghost use Rattle.broker_tables.specs.Calm.{CalmQueries};
-ghost use Rattle.contract_tables.specs.declared.told_versions.NamedResult.{NamedResult as NamedModel};
-ghost use Rattle.contract_tables.specs.Listings.{FailsAsMarked};
-ghost use Rattle.contract_tables.specs.VersionResults.{FailsAsLatest};
-ghost use Rattle.contract_tables.specs.ToldVersions.{verified_cmp, named_cmp, IsNamedRow, IsNumberedPassRow, TellPasses, TellChecked, ArePassesByNumber, IsUntold, FailsAsTold, IsToldBy, IsTold};
+ghost use Rattle.contract_tables.specs.declared.listings.NumberedName.{NumberedName as NamedModel};
+ghost use Rattle.contract_tables.specs.ToldVersions.{verified_cmp, named_cmp, TellPasses, TellsPass, TellChecked, ArePassesByNumber, IsUntold, FailsAsTold, IsToldBy, IsTold};
 
-use crate::version_results::{NumberRow, is_among, read_latest};
+use crate::listings::{NumberedName, NumberedNameRow};
+use crate::version_results::{ContentPass, PassRow, is_among};
 use broker_core::answer::Verified;
 use broker_core::need::Latest;
-use broker_names::name::Name;
-use broker_tables::name_in;
-use sqlite::{Alter, Connection, Row, params};
+use sqlite::{Alter, Connection, params};
 use std::alloc::Global;
-use table_access::{ReadRow, StoreFault, list_of, number_in};
-
-/// A version that has a result: its name, and the number of the latest result.
-#[derive(Drop)]
-struct NamedResult {
-    name: Name,
-    result: u32,
-}
-
-/// A result by its number, and whether it is a pass.
-#[derive(Clone, Copy)]
-struct NumberedPass {
-    number: u32,
-    pass: bool,
-}
-
-/// A result and a version.
-struct NamedRow;
-
-impl ReadRow for NamedRow {
-    type Item = NamedResult;
-
-    ghost reads_as = { IsNamedRow };
-
-    ghost fails_as = { FailsAsMarked };
-
-    fn read(alloc: Global, row: &Row) -> Result<NamedResult, StoreFault> {
-        let result = number_in(row)?;
-        let name = name_in(alloc, row, 1)?;
-        Ok(NamedResult { name, result })
-    }
-}
-
-/// A latest result, with what it is said to be of.
-struct NumberedRow;
-
-impl ReadRow for NumberedRow {
-    type Item = NumberedPass;
-
-    ghost reads_as = { IsNumberedPassRow };
-
-    ghost fails_as = { FailsAsLatest };
-
-    fn read(_alloc: Global, row: &Row) -> Result<NumberedPass, StoreFault> {
-        let latest = read_latest(row)?;
-        Ok(NumberedPass {
-            number: latest.result,
-            pass: latest.pass,
-        })
-    }
-}
+use table_access::{NumberRow, StoreFault, list_of};
 
 /// The versions of the provider that have a result for this content, each once, in the order of their names, with the
 /// number of the latest result.
@@ -78,13 +25,13 @@ fn named_results<S: Alter>(
     conn: &mut Connection<S>,
     provider: &str,
     content: u32,
-) -> Result<Vec<NamedResult>, StoreFault>
+) -> Result<Vec<NumberedName>, StoreFault>
     ensures { CalmQueries S.Store conn.old conn.new result
         (λ found s. Lists named_cmp
-        (λ x. option_map (λ e. e.0) (latest_result s content (version_named provider.now x.name)) ≡ Some x.result)
+        (λ x. option_map (λ e. e.0) (latest_result s content (version_named provider.now x.name)) ≡ Some x.number)
         found.items) }
 {
-    list_of::<NamedRow, S>(
+    list_of::<NumberedNameRow, S>(
         alloc,
         conn,
         "SELECT l.result, v.version FROM latest l JOIN versions v ON v.number = l.provider_version WHERE l.content = ?1 AND v.pacticipant = ?2 ORDER BY v.version",
@@ -98,17 +45,17 @@ fn passes_for<S: Alter>(
     alloc: Global,
     conn: &mut Connection<S>,
     content: u32,
-) -> Result<Vec<NumberedPass>, StoreFault>
+) -> Result<Vec<ContentPass>, StoreFault>
     ensures { CalmQueries S.Store conn.old conn.new result
         (λ found s. ArePassesByNumber found.items × TellPasses s content found.items) }
 {
-    let mut found = done!(list_of::<NumberedRow, S>(
+    let mut found = done!(list_of::<PassRow, S>(
         alloc,
         conn,
         "SELECT r.number, r.pass, l.content, r.content, l.provider_version, r.provider_version FROM latest l JOIN results r ON r.number = l.result WHERE l.content = ?1",
         params![content],
     ));
-    found.sort_unstable_by_key(|one| one.number);
+    found.sort_unstable_by_key(|one| one.result);
     Ok(found)
 }
 
@@ -133,11 +80,11 @@ fn checked_for<S: Alter>(
 
 /// Whether the result with this number is a pass, or `None` if it isn't one of these, which are in the order of their
 /// numbers.
-fn pass_among(passes: &[NumberedPass], number: u32) -> Option<bool>
-    ensures some { IfSome result (λ pass. Contains passes.now (record { number = number; pass = pass })) }
+fn pass_among(passes: &[ContentPass], number: u32) -> Option<bool>
+    ensures some { IfSome result (TellsPass passes.now number) }
     ensures none { ArePassesByNumber passes.now → IfNone result (IsUntold passes.now number) }
 {
-    match passes.binary_search_by_key(&number, |one| one.number) {
+    match passes.binary_search_by_key(&number, |one| one.result) {
         Ok(at) => Some(passes[at].pass),
         Err(_) => None,
     }
@@ -147,25 +94,25 @@ fn pass_among(passes: &[NumberedPass], number: u32) -> Option<bool>
 /// `StoreFault::Store` comes if no pass says anything of the result, since a row names one that isn't there;
 /// `StoreFault::Memory` for no other cause than that there is none for the name.
 fn told(
-    named: &NamedResult,
-    passes: &[NumberedPass],
+    named: &NumberedName,
+    passes: &[ContentPass],
     checked: &[u32],
 ) -> Result<Verified, StoreFault>
     ensures found { IfOk result
-        (λ found. (found.provider_version ≡ named.now.name) × (found.result ≡ named.now.result)
+        (λ found. (found.provider_version ≡ named.now.name) × (found.result ≡ named.now.number)
         × (IsSorted nat_cmp checked.now → IsToldBy passes.now checked.now found)) }
     ensures cause { ArePassesByNumber passes.now →
-        IfErr result (λ f. FailsAsTold f (IsUntold passes.now named.now.result)) }
-    ensures untold { IsUntold passes.now named.now.result → result ≡ Err StoreFault.Store }
+        IfErr result (λ f. FailsAsTold f (IsUntold passes.now named.now.number)) }
+    ensures untold { IsUntold passes.now named.now.number → result ≡ Err StoreFault.Store }
 {
-    let Some(pass) = pass_among(passes, named.result) else {
+    let Some(pass) = pass_among(passes, named.number) else {
         return Err(StoreFault::Store);
     };
-    let checked = is_among(checked, named.result);
+    let checked = is_among(checked, named.number);
     match named.name.clone() {
         Ok(provider_version) => Ok(Verified {
             provider_version,
-            result: u64::from(named.result),
+            result: u64::from(named.number),
             latest: Latest { pass, checked },
         }),
         Err(_) => Err(StoreFault::Memory),
@@ -175,15 +122,15 @@ fn told(
 /// These versions with what their results say.
 fn all_told(
     alloc: Global,
-    named: &[NamedResult],
-    passes: &[NumberedPass],
+    named: &[NumberedName],
+    passes: &[ContentPass],
     checked: &[u32],
 ) -> Result<Vec<Verified>, StoreFault>
     ensures all { IfOk result
         (λ all. IsSorted nat_cmp checked.now → AreRead (IsTold passes.now checked.now) named.now all.items) }
     ensures cause { ArePassesByNumber passes.now →
         IfErr result (λ f. FailsAsTold f
-        ((x : NamedModel) × Contains named.now x × IsUntold passes.now x.result)) }
+        ((x : NamedModel) × Contains named.now x × IsUntold passes.now x.number)) }
 {
     let mut all = Vec::new(alloc);
     for one in named {

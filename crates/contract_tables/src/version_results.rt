@@ -5,11 +5,11 @@ ghost use Rattle.sqlite.specs.Held.{state};
 ghost use Rattle.sqlite.specs.State.{HasCleanDisk, IsUnchanged};
 ghost use Rattle.sqlite.specs.Order.{column};
 ghost use Rattle.sqlite.specs.declared.types.Value.TheVariants.{Int};
-ghost use Rattle.table_access.specs.Reading.{TellsNumber, AreRead};
+ghost use Rattle.table_access.specs.Reading.{AreRead};
 ghost use Rattle.broker_core.specs.declared.command.Version.{Version as VersionModel};
 ghost use Rattle.broker_core.specs.Listing.{Lists};
 ghost use Rattle.broker_core.specs.State.{State as Broker, latest_result, latest};
-ghost use Rattle.broker_tables.specs.Numbers.{number_of as number_known};
+ghost use Rattle.broker_tables.specs.Numbers.{number_of};
 ghost use Rattle.broker_tables.specs.Calm.{CalmQueries, IfNoVersion};
 ghost use Rattle.broker_tables.specs.Asking.{TellsOfAny, CanBeAsked};
 ghost use Rattle.contract_tables.specs.VersionResults.{pass_cmp, latest_cmp, IsPassOf, IsLatestOf, IsPassRow, AreSame, FailsAsLatest, is_among};
@@ -20,7 +20,7 @@ use broker_core::need::Latest;
 use broker_tables::truth_at;
 use sqlite::{Alter, Connection, Row, params};
 use std::alloc::{AllocError, Global};
-use table_access::{ReadRow, StoreFault, list_of, number_at, number_in};
+use table_access::{NumberRow, ReadRow, StoreFault, list_of, number_at, number_in};
 
 /// A content for which a version has a result: its number, that of the latest result, and what that says.
 #[derive(Clone, Copy, Debug)]
@@ -69,7 +69,7 @@ pub(crate) fn read_latest(row: &Row) -> Result<ContentPass, StoreFault>
 }
 
 /// A latest result, with what it is said to be of.
-struct PassRow;
+pub(crate) struct PassRow;
 
 impl ReadRow for PassRow {
     type Item = ContentPass;
@@ -83,21 +83,6 @@ impl ReadRow for PassRow {
     }
 }
 
-/// A number.
-pub(crate) struct NumberRow;
-
-impl ReadRow for NumberRow {
-    type Item = u32;
-
-    ghost reads_as = { λ row number. column row 0 ≡ Int (pos number) };
-
-    ghost fails_as = { TellsNumber };
-
-    fn read(_alloc: Global, row: &Row) -> Result<u32, StoreFault> {
-        number_in(row)
-    }
-}
-
 /// The contents for which the version of this number has a result, each once, in the order of their numbers, with
 /// the latest one and whether it is a pass.
 fn passes_of<S: Alter>(
@@ -106,7 +91,7 @@ fn passes_of<S: Alter>(
     version_number: u32,
 ) -> Result<Vec<ContentPass>, StoreFault>
     ensures answers { CalmQueries S.Store conn.old conn.new result
-        (λ found s. (v : VersionModel) → number_known s.versions v ≡ Some version_number →
+        (λ found s. (v : VersionModel) → number_of s.versions v ≡ Some version_number →
         Lists pass_cmp (IsPassOf s v) found.items) }
     ensures unknown { IfNoVersion S.Store conn.old conn.new result version_number (λ found. found.items ≡ []) }
     ensures mark { TellsOfAny S.Store conn.old conn.new result
@@ -130,7 +115,7 @@ fn checked_of<S: Alter>(
     version_number: u32,
 ) -> Result<Vec<u32>, StoreFault>
     ensures answers { CalmQueries S.Store conn.old conn.new result
-        (λ found s. (v : VersionModel) → number_known s.versions v ≡ Some version_number →
+        (λ found s. (v : VersionModel) → number_of s.versions v ≡ Some version_number →
         Lists nat_cmp
         (λ content. option_map (λ e. e.1.checked) (latest_result s content v) ≡ Some true) found.items) }
     ensures unknown { IfNoVersion S.Store conn.old conn.new result version_number (λ found. found.items ≡ []) }
@@ -197,7 +182,7 @@ pub fn latest_results<S: Alter>(
     version_number: u32,
 ) -> Result<Vec<LatestResult>, StoreFault>
     ensures answers { CalmQueries S.Store conn.old conn.new result
-        (λ found s. (v : VersionModel) → number_known s.versions v ≡ Some version_number →
+        (λ found s. (v : VersionModel) → number_of s.versions v ≡ Some version_number →
         Lists latest_cmp (IsLatestOf s v) found.items) }
     ensures unknown { IfNoVersion S.Store conn.old conn.new result version_number (λ found. found.items ≡ []) }
     ensures mark { TellsOfAny S.Store conn.old conn.new result

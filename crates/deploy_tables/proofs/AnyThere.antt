@@ -3,8 +3,8 @@
 use Rattle.std.specs.{Prelude.{if◌then◌else◌, is_some, ◌↔◌}, List.{AllZip}}
 use Rattle.std.proofs.Common.{◌≡◌, ◌==◌, ◌∙◌, ℕ, codes, List, [], ◌∷◌, Bool, true, false, IsTrue, Some, None, slice_get, refl, sym, ap, subst, ◌&&◌}
 use Rattle.std.proofs.lemmas.Bool.{and_from}
-use Rattle.sqlite.specs.{declared.types.Value.{Value}, declared.types.Value.TheVariants.{Null, Text}, Order.{Row, column, value_cmp}, Term.{col}, Query.{Query}}
-use Rattle.sqlite.specs.{Table.{Table}, Schema.{Schema}, Collation.TheVariants.{Binary}, State.{State, Shown}, Listing.{understood}}
+use Rattle.sqlite.specs.{declared.types.Value.TheVariants.{Null, Text}, Order.{Row, column, value_cmp}, Term.{col}, Query.{Query}, Table.{Table}}
+use Rattle.sqlite.specs.{Schema.{Schema}, Collation.TheVariants.{Binary}, State.{State, Shown}, Listing.{understood}}
 use Rattle.sqlite_sql.specs.{declared.ops.BinaryOp.TheVariants.{Compare, Is}, declared.ops.CompareOp.TheVariants.{Eq}, Ops.{binary, is_true}}
 use Rattle.sqlite_schema.specs.declared.schema.Column.{Column}
 use Rattle.sqlite_keyed.proofs.RuleLemmas.{first_of_both, second_of_both}
@@ -16,7 +16,7 @@ use Rattle.broker_tables.specs.Asking.{HasColumns, HasBrokerTables}
 use Rattle.broker_tables.proofs.{AnyTables.{laid_out, lays, named_as, set_out, sets_out, AsksOf, is_answer_of, any_kept}, Listed.{has_read}}
 use Rattle.broker_tables.proofs.VersionRows.{text_test}
 use Rattle.deploy_tables.specs.{Listings.{IsDeployedRow, IsReleasedRow}, AnyThere.{HasNull, EachDeployedIsThere, EachReleasedIsThere}}
-use Rattle.deploy_tables.proofs.{LeftRows.{from_left, goes_with}, VersionRows.{on_number, in_environment}, ContractsThere.{unnumbered_terms}}
+use Rattle.deploy_tables.proofs.{LeftRows.{from_left, goes_with}, VersionRows.{on_number, in_environment}, ContractsThere.{unnumbered_terms, null_is}}
 use Rattle.deploy_tables.proofs.DeployedState as deployed_list
 use Rattle.deploy_tables.proofs.ReleasedRows as released_list
 
@@ -132,12 +132,6 @@ module _ (e : List ℕ) (old new : State) (h : HasBrokerTables old.now.schema) (
       goes_with old.now (Text e ∷ []) in_released.tree in_versions.tree (on_number in_released.version_number) in_environment released_list.list_project released_list.list_order rows
       (is_answer_of old new (released_asks old.now.schema h e) rows shown) r is.0 (ap (λ b. b && true) (in_there r is.1))
       (λ has. let it = has_read IsReleasedRow rows items _ read has in let clash : Null ≡ Text it.0.name = it.2.1 in cc)
-
-  -- whether a row has no version
-  null_is : (v : Value) → is_true (binary (Is Binary) v Null) ≡ true → v ≡ Null
-  unfolding binary value_cmp
-  null_is Null h = refl
-  null_is _ h = absurd cc
 
   is_null : is_true (binary (Is Binary) Null Null) ≡ true
   unfolding binary value_cmp lib.Ieee.is_nan lib.Ieee.lt

@@ -1,7 +1,6 @@
 -- The contracts with a provider of the versions that stand in an environment: rows of deployed and of released, each
 -- joined with the contracts of its version.
-use Rattle.std.specs.Prelude.{Contains, ◌↔◌}
-use Rattle.std.proofs.Common.{◌≡◌, ◌++◌, inl, inr, ℕ, ℤ, false, pos, codes, List, [], ◌∷◌, Bool, true, refl, sym, ap, subst, ◌∙◌, Some}
+use Rattle.std.{specs.Prelude.{Contains, ◌↔◌}, proofs.Common.{◌≡◌, ◌++◌, inl, inr, ℕ, pos, codes, List, [], ◌∷◌, Bool, true, refl, sym, ap, subst, ◌∙◌, Some}}
 use Rattle.sqlite_rules.specs.Lists.{Has}
 use Rattle.sqlite_tied.specs.Compute.{everything}
 use Rattle.broker_tables.specs.{Schema.{in_versions, in_contracts, in_deployed, in_released}, Numbers.{number_of}, Holds.{Holds, IsBroker}}
@@ -29,7 +28,7 @@ abbrev terms : ℕ → List Term
 terms place = op2 (Compare Eq Binary) (col 2 in_contracts.version_number) (col 1 place) ∷ op2 (Compare Eq Binary) (col 1 in_deployed.environment) (col 0 0)
     ∷ op2 (Compare Eq Binary) (col 2 in_contracts.provider) (col 0 1) ∷ []
 
-abbrev project : List Term
+abbrev pub project : List Term
 project = col 2 in_contracts.version_number ∷ col 2 in_contracts.content ∷ []
 
 pub of_deployed : (e p : Words)
@@ -54,14 +53,18 @@ pub unnumbered : (e : Words) → Asked (codes "SELECT environment FROM deployed 
 unfolding understood everything
 unnumbered e = record { names = _; means = record { is = refl; plain = (refl, refl); unlisted = refl }; runs = record { whole = refl; typed = refl; sumless = refl } }
 
-never_null : (v : Value) (z : ℤ) → v ≡ Int z → is_true (binary (Is Binary) v Null) ≡ true → ⊥
+-- whether a value is NULL
+pub null_is : (v : Value) → is_true (binary (Is Binary) v Null) ≡ true → v ≡ Null
 unfolding binary value_cmp
-never_null v z is h = let clash : false ≡ true = subst (λ w. is_true (binary (Is Binary) w Null) ≡ true) is h in cc
+null_is Null h = refl
+null_is _ h = absurd cc
 
 -- no held state has one
 pub none_unnumbered : (e : Words) (db : Database) → IsBroker db → EachShown (unnumbered e) db (λ row. ⊥)
 none_unnumbered e db broker = of_table (unnumbered e) db (λ row. ⊥) (λ r has kept.
-    never_null (column r in_deployed.version_number) (whole_at in_deployed.version_number r) (deployed_rows.numbers db broker r has) (first_of_both _ true (second_of_both _ _ kept)))
+    let null = null_is (column r in_deployed.version_number) (first_of_both _ true (second_of_both _ _ kept)) in
+    let clash : Null ≡ Int (whole_at in_deployed.version_number r) = sym null ∙ deployed_rows.numbers db broker r has in
+    cc)
 
 -- ---- rows of a table that name an environment and a version, joined with the contracts
 

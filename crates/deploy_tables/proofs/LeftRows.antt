@@ -10,8 +10,8 @@ use Rattle.sqlite_sql.specs.Query.{left, or_nulls}
 use Rattle.sqlite_value.specs.declared.keys.Key.{Key}
 use Rattle.sqlite_typing.specs.Types.{accepts_program}
 use Rattle.sqlite_rules.specs.Lists.{Has}
-use Rattle.table_access.{specs.Statements.{from_both}, proofs.Members.{has_filter, filter_has, has_map, has_left, has_right, has_contains, contains_has}}
-use Rattle.table_access.proofs.Steps.{bare}
+use Rattle.table_access.{specs.Statements.{from_both}, proofs.{Members.{has_filter, filter_has, has_map, has_contains, contains_has}, Steps.{bare}}}
+use Rattle.broker_core.proofs.Judgement.{Contains-flat_map}
 
 -- SELECT project FROM a table LEFT JOIN another ON on WHERE terms ORDER BY order
 abbrev pub from_left : ℕ → ℕ → Term → List Term → List Term → List (Term × Key) → Query
@@ -78,9 +78,7 @@ module _ (db : Database) (params : Row) (t u : ℕ) (on : Term) (terms project :
 -- ---- what it shows wherever a row names nothing
 
 has_flat : {X Y : Type 0} (f : X → List Y) (xs : List X) (x : X) (y : Y) → Has xs x → Has (f x) y → Has (flat_map f xs) y
-has_flat f [] x y has here = absurd has
-has_flat f (z ∷ xs) x y (inl same) here = subst (λ w. Has (f w ++ flat_map f xs) y) same (has_left (f x) (flat_map f xs) y here)
-has_flat f (z ∷ xs) x y (inr later) here = has_right (f z) (flat_map f xs) y (has_flat f xs x y later here)
+has_flat f xs x y has here = contains_has (flat_map f xs) y (Contains-flat_map f xs x y (has_contains xs x has) (has_contains (f x) y here))
 
 module _ (db : Database) (params : Row) (t u : ℕ) (on : Term) (terms project : List Term) (order : List (Term × Key)) (rows : List Row)
     (h : Answers db (record { lets = []; body = from_left t u on terms project order }) params rows) where

@@ -3,7 +3,6 @@ pub mod DeployedState
 pub mod LeftRows
 pub mod VersionRows
 pub mod ReleasedRows
-pub mod Removals
 pub mod ContractsThere
 pub mod VersionNames
 pub mod PartnerRows

@@ -3,11 +3,11 @@ use Rattle.std.specs.Cmp.{IsTotalOrder, IsEquivalence, eq_by_cmp_equiv, Equal-is
 use Rattle.std.specs.{Prelude.{Option, Some, None, option_map, Contains, IsSomeAnd, MatchOption, ◌↔◌, IsPermutation, IsSorted}, Ordering.{eq_by_cmp}}
 use Rattle.std.specs.{List.{dedup}, declared.cmp.Ordering.{Ordering}, declared.cmp.Ordering.TheVariants.{Equal}}
 use Rattle.std.proofs.Common.{◌≡◌, ◌⊎◌, ℕ, List, [], ◌∷◌, ◌++◌, map, refl, sym, ◌∙◌, ap, subst, inl, inr, Bool}
-use Rattle.std.proofs.lemmas.List.Elements.{Contains-append_cases, Contains-append_left, Contains-append_right}
 use Rattle.std.proofs.lemmas.List.Sorted.{Contains-permutation, IsPermutation-sym}
 use Rattle.std.proofs.lemmas.List.Kept.{Any-dedup, Contains-from_dedup, IsStrictlySortedBy-dedup}
 use Rattle.table_access.proofs.Members.{contains_has, has_contains, has_map, map_has}
 use Rattle.deploy_tables.specs.Matrix.{HasNone, IsOfContract, IsOfSome, IsConsumed, IsProvided, row_with, row_without, rows_with, or_one}
+use Rattle.deploy_tables.proofs.MatrixLoop.{both_ways, both_of}
 use Rattle.broker_core.specs.{Listing.{Lists}, declared.command.Version.{Version}, declared.need.Latest.{Latest}, declared.answer.MatrixRow.{MatrixRow}}
 use Rattle.broker_core.specs.{declared.answer.Verified.{Verified}, Text.{Text, version}, State.{State, Verification, latest_result, said_by}}
 use Rattle.broker_core.{specs.Machine.{matrix_cmp, verified_version, IsLatest, IsMatrixRow}, proofs.Order.{text_tied, option_tied, both_equal}}
@@ -144,16 +144,8 @@ module _ (s : State) (v : Version) where
   -- what both sides tell of is the matrix
   pub both_sides : (own others all : List MatrixRow) → all ≡ own ++ others → ((x : MatrixRow) → Contains own x ↔ IsConsumed s v x)
       → ((x : MatrixRow) → Contains others x ↔ IsProvided s v x) → (x : MatrixRow) → Contains all x ↔ IsMatrixRow s v x
-  both_sides own others all is mine theirs x = (
-    λ c. elim (Contains-append_cases own others x (subst (λ xs. Contains xs x) is c)) [
-      | inl there ↦ consumed_row x ((mine x).0 there)
-      | inr there ↦ provided_row x ((theirs x).0 there)
-    ],
-    λ row. subst (λ xs. Contains xs x) (sym is) (elim (either_side x row) [
-      | inl there ↦ Contains-append_left own others x ((mine x).1 there)
-      | inr there ↦ Contains-append_right own others x ((theirs x).1 there)
-    ]),
-  )
+  both_sides own others all is mine theirs x = both_ways (both_of own others all is x (mine x) (theirs x))
+      (λ found. elim found [ inl one ↦ consumed_row x one | inr two ↦ provided_row x two ], either_side x)
 
   -- a version of the provider has one result for a content
   one_verified : (content : ℕ) (p : Text) (none : Type 0) (side : Text → Type 0) (o u : Option Verified)

@@ -6,10 +6,10 @@ use Rattle.std.proofs.Common.{◌≡◌, ◌≢◌, ◌⊎◌, ℕ, List, [], �
 use Rattle.std.proofs.lemmas.Bool.{eqb-true}
 use Rattle.broker_tables.{specs.Numbers.{number_of}, proofs.NumberLemmas.{one_version}}
 use Rattle.contract_tables.specs.declared.listings.Contract.{Contract}
-use Rattle.deploy_tables.specs.Needs.{AreFaults, AreOfVersions, need_cmp, is_good, is_wanted, is_left_out, need_with, need_used, IsWanted, IsWithPartner, IsNeedOfContract, IsOwnNeed, IsUsed, IsNeedOfOthers}
+use Rattle.deploy_tables.specs.Needs.{AreFaults, need_cmp, is_good, is_wanted, is_left_out, need_with, need_used, IsWanted, IsWithPartner, IsNeedOfContract, IsOwnNeed, IsUsed, IsNeedOfOthers}
 use Rattle.deploy_tables.specs.{declared.contracts_there.NumberedContract.{NumberedContract}, Matrix.{IsOfSome}, ContractsThere.{TellsContracts}}
 use Rattle.deploy_tables.specs.{declared.wanted_needs.Wanted.{Wanted}, declared.wanted_needs.Wanted.TheVariants.{All, Open}}
-use Rattle.deploy_tables.{specs.Partners.{ArePartners, AreNumbered, AreNumbersOfVersions}, proofs.MatrixLoop.{both_ways, both_of, one_is, one_of}}
+use Rattle.deploy_tables.{specs.Partners.{ArePartners, AreNumbered}, proofs.MatrixLoop.{both_ways, both_of, one_is, one_of}}
 use Rattle.broker_core.specs.{declared.command.Version.{Version}, declared.need.Need.{Need}, declared.need.Latest.{Latest}, declared.need.Kind.{Kind}}
 use Rattle.broker_core.specs.{declared.need.PairFault.{PairFault}, Text.{Text, same_text, version}, State.{State, latest}, Gate.{Stands, consumer_of, IsNeed}}
 use Rattle.broker_core.{specs.{Faults.{fault_of, fault_cmp, kind_of, IsFaultAmong}, Listing.{Lists}}, proofs.Lists.{some_is, contains_none, contains_here}}
@@ -37,31 +37,13 @@ absent_wanted : (wanted : Wanted) (v : Version) (p : Text) → IsWanted wanted (
 absent_wanted All v p = refl
 absent_wanted (Open strict) v p = refl
 
--- whether a list is empty, as its length says
-pub when_none : (xs : List ℕ) (b : Bool) → b ≡ (length xs == 0) → b ≡ true → xs ≡ []
-when_none [] b is so = refl
-when_none (x ∷ xs) b is so = absurd (omega (arith, eqb-true (length (x ∷ xs)) 0 (sym is ∙ so)))
-
-pub when_some : (xs : List ℕ) (b : Bool) → b ≡ (length xs == 0) → b ≡ false → xs ≡ [] → ⊥
-when_some [] b is otherwise same = let wrong : true ≡ false = sym is ∙ otherwise in cc
-when_some (x ∷ xs) b is otherwise same = cc
-
 -- ---- a contract with one version, and one with the pacticipant of v, by what the latest result says
 
 module _ (s : State) (v : Version) (wanted : Wanted) (said : Option Latest) (good : Bool) (says_good : good ≡ is_left_out wanted said) where
   lacks : (x : Need) (u : Version) (p w : Text) → x ≡ need_with u p (Some w) said → is_wanted wanted x ≡ not good
   lacks x u p w is = ap (is_wanted wanted) is ∙ left_out_is wanted u p w said ∙ ap not (sym says_good)
 
-  -- one that is left out isn't told
-  pub good_with : (c : Contract) (n : ℕ) → good ≡ true → ((w : Version) → number_of s.versions w ≡ Some n → said ≡ latest s c.content w) → (found : List Need)
-      → found ≡ [] → (x : Need) → Contains found x ↔ IsWithPartner s v c wanted n x
-  good_with c n so says found none x = (
-    λ there. absurd (contains_none x (subst (λ xs. Contains xs x) none there)),
-    λ is. let w = is.0 in absurd (true≢false (sym is.2 ∙ lacks x v c.provider w.name (is.3 ∙ ap (need_with v c.provider (Some w.name)) (sym (says w is.1)))
-        ∙ ap not so)),
-  )
-
-  -- another one is, with the version of this number
+  -- one that isn't left out is told, with the version of this number
   pub open_with : (c : Contract) (n : ℕ) → good ≡ false → ((w : Version) → number_of s.versions w ≡ Some n → said ≡ latest s c.content w)
       → (w : Version) → number_of s.versions w ≡ Some n → (found : List Need) → found ≡ need_with v c.provider (Some w.name) said ∷ [] → (x : Need)
       → Contains found x ↔ IsWithPartner s v c wanted n x
@@ -90,7 +72,7 @@ module _ (s : State) (v : Version) (wanted : Wanted) (said : Option Latest) (goo
 -- ---- a contract with all that stand there
 
 module _ (s : State) (v : Version) (e : Text) (wanted : Wanted) (c : Contract) (numbered : AreNumbered s e) where
-  pub with_some : (there : List ℕ) → ArePartners s c.provider (Stands s e) there → (there ≡ [] → ⊥) → (x : Need) → IsOfSome (λ n. IsWithPartner s v c wanted n x) there ↔ IsNeedOfContract s v e wanted c x
+  pub with_some : (there : List ℕ) → ArePartners s c.provider (Stands s e) there → (length there == 0) ≡ false → (x : Need) → IsOfSome (λ n. IsWithPartner s v c wanted n x) there ↔ IsNeedOfContract s v e wanted c x
   with_some there are some x = (
     λ is.
         let it = (are is.0).0 is.1 in
@@ -103,21 +85,20 @@ module _ (s : State) (v : Version) (e : Text) (wanted : Wanted) (c : Contract) (
     ],
   )
     where
-      never : (ns : List ℕ) → (ns ≡ [] → ⊥) → ArePartners s c.provider (Stands s e) ns → ((w : Text) → ¬ (Stands s e (version c.provider w))) → ⊥
-      never [] some are none = some refl
+      never : (ns : List ℕ) → (length ns == 0) ≡ false → ArePartners s c.provider (Stands s e) ns → ((w : Text) → ¬ (Stands s e (version c.provider w))) → ⊥
+      never [] some are none = absurd cc
       never (n ∷ ns) some are none = let it = (are n).0 (contains_here n ns) in none it.0 it.1
 
-  pub partners_versions : (there : List ℕ) → ArePartners s c.provider (Stands s e) there → AreNumbersOfVersions s there
-  partners_versions there are n c1 = let it = (are n).0 c1 in (version c.provider it.0, it.2)
-
-  pub with_none : (there : List ℕ) → ArePartners s c.provider (Stands s e) there → there ≡ [] → (found : List Need)
+  pub with_none : (there : List ℕ) → ArePartners s c.provider (Stands s e) there → (length there == 0) ≡ true → (found : List Need)
       → found ≡ need_with v c.provider None None ∷ [] → (x : Need) → Contains found x ↔ IsNeedOfContract s v e wanted c x
   with_none there are none found is x = both_ways (one_of found (need_with v c.provider None None) is x)
       (λ same. inr (nobody, same), λ is. elim is [ inl one ↦ absurd (nobody one.0 one.1) | inr none ↦ none.1 ])
     where
       nobody : (w : Text) → Stands s e (version c.provider w) → ⊥
-      nobody w stands = let it = numbered (version c.provider w) stands in contains_none it.0
-          (subst (λ ns. Contains ns it.0) none ((are it.0).1 (w, stands, it.1)))
+      nobody w stands =
+          let it = numbered (version c.provider w) stands in
+          let has = (are it.0).1 (w, stands, it.1) in
+          omega (arith, has.1, eqb-true (length there) 0 none)
 
 -- ---- both sides
 
@@ -187,9 +168,6 @@ module _ (s : State) (v : Version) (e : Text) (wanted : Wanted) where
   ]
 
   -- what is found of the contracts that are there
-  pub are_of_versions : (p : Text) (there : List NumberedContract) → TellsContracts s p (Stands s e) there → AreOfVersions s there
-  are_of_versions p there told c has = let it = (told c).0 has in (it.0, it.2)
-
   pub provided_are : (there : List NumberedContract) (found : List Need) → TellsContracts s v.pacticipant (Stands s e) there → ((x : Need) → Contains found x ↔ IsOfSome (λ c. IsUsed s v wanted c x) there) → (x : Need) → Contains found x ↔ IsNeedOfOthers s v e wanted x
   provided_are there found told here x = (
     λ c. let it = (here x).0 c in (it.0, (told it.0).0 it.1, it.2),
@@ -227,16 +205,13 @@ one_need s v e x y is are tied =
 
 -- ---- their faults
 
-abbrev fault_with : Need → Kind → PairFault
-fault_with x kind = record { consumer = x.consumer; consumer_version = x.consumer_version; provider = x.provider; provider_version = x.provider_version; kind = kind }
-
 -- a need that has a fault isn't good
 faulty : (strict : Bool) (x : Need) (f : PairFault) → fault_of strict x ≡ Some f → IsWanted (Open strict) x
-faulty strict x f is = go (kind_of strict x.provider_version x.latest) is
+faulty strict x f is = go _ (kind_of strict x.provider_version x.latest) is
   where
-    go : (o : Option Kind) → option_map (fault_with x) o ≡ Some f → is_some o ≡ true
-    go None none = absurd cc
-    go (Some k) some = refl
+    go : (fault : Kind → PairFault) (o : Option Kind) → option_map fault o ≡ Some f → is_some o ≡ true
+    go fault None none = absurd cc
+    go fault (Some k) some = refl
 
 pub faults_are : (s : State) (v : Version) (e : Text) (strict : Bool) (needs : List Need) (faults : List PairFault) → ((x : Need) → Contains needs x ↔ IsWantedNeed s v e (Open strict) x) → Lists fault_cmp (IsFaultAmong strict needs) faults → AreFaults s v e strict faults
 faults_are s v e strict needs faults are listed same = record {

@@ -1,15 +1,14 @@
 -- The versions of a provider that are in an environment, by their numbers: rows of deployed and of released.
-use Rattle.std.specs.Prelude.{Contains, ◌↔◌, filter_map, if◌then◌else◌}
+use Rattle.std.specs.Prelude.{◌↔◌, filter_map, if◌then◌else◌}
 use Rattle.std.proofs.Common.{◌≡◌, ◌∙◌, inl, inr, ℕ, pos, codes, List, [], ◌∷◌, ◌++◌, Some, None, true, refl, sym, ap, subst}
 use Rattle.sqlite_rules.specs.Lists.{Has}
 use Rattle.sqlite_tied.specs.Compute.{everything}
 use Rattle.table_access.{specs.{Columns.{text}, Statements.{from_table, keeps}, Reading.{AreRead}}, proofs.Keys.{is_param}}
 use Rattle.broker_tables.{specs.{Schema.{in_deployed}, Numbers.{number_of}, Holds.{Holds}}, proofs.{Asked.{Asked, IsShown}, VersionRows.{text_test}}}
-use Rattle.deploy_tables.specs.{declared.partners.ReleasedNumber.{ReleasedNumber}, ContractsThere.{IsDeployedIn}}
-use Rattle.deploy_tables.{specs.Partners.{ArePartners, AreReleasedNumbers, AreNumbered, number_if}, proofs.DeployedRows.{environments, pacticipants}}
-use Rattle.deploy_tables.proofs.{VersionRows.{same_pos, row_of, item_of}, DeployedState.{row_deployed, deployed_row}, ReleasedRows.{released_numbered}}
-use Rattle.deploy_tables.proofs.MatrixLoop.{both_ways, both_of}
-use Rattle.contract_tables.proofs.ItemLists.{and_tests, last_test}
+use Rattle.contract_tables.{specs.declared.listings.NumberedName.{NumberedName}, proofs.ItemLists.{and_tests, last_test}}
+use Rattle.deploy_tables.specs.{ContractsThere.{IsDeployedIn}, Partners.{ArePartners, AreReleasedNumbers, AreNumbered, number_if}}
+use Rattle.deploy_tables.proofs.{DeployedRows.{environments, pacticipants}, VersionRows.{same_pos, rows_told}, DeployedState.{row_deployed, deployed_row}}
+use Rattle.deploy_tables.proofs.{ReleasedRows.{released_numbered}, MatrixLoop.{both_ways, both_of}}
 use Rattle.sqlite.specs.{Edit.{id_in}, declared.types.Value.TheVariants.{Int, Text}, Order.{Row, column}, Term.{Term, col}, Effect.{Database}}
 use Rattle.sqlite.specs.Listing.{understood}
 use Rattle.broker_core.specs.{Text.{Text as Words, same_text, version}, State.{State as Broker}, Gate.{Stands}}
@@ -37,20 +36,17 @@ module _ (db : Database) (s : Broker) (held : Holds db s) (e p : Words) where
       (last_test (text_test (column r in_deployed.pacticipant) (Text p) (text in_deployed.pacticipant r) p (pacticipants db held.broker r has) refl))
 
   pub deployed_told : (rows : List Row) (items : List ℕ) → IsShown (numbers_of e p) db rows → AreRead (λ row n. column row 0 ≡ Int (pos n)) rows items → ArePartners s p (IsDeployedIn s e) items
-  deployed_told rows items h read n = (
-    λ c.
-        let r = row_of db params by_owner number_project (λ row n. column row 0 ≡ Int (pos n)) rows items read in_deployed.tree h n c in
-        let at = (is_kept r.0 r.1).0 r.2 in
-        let it = row_deployed db s held e r.0 r.1 at.0 in
-        subst (λ q. (name : Words) × IsDeployedIn s e (version q name) × (number_of s.versions (version q name) ≡ Some n)) at.1
-        (it.0, (text in_deployed.instance r.0, it.1), it.2.1 ∙ ap Some (same_pos it.2.0 n (sym it.2.2 ∙ ap id_in r.3))),
-    λ there.
-        let it = deployed_row db s held e p there.1.0 there.0 there.1.1 in
-        let r = it.2 in
-        let y = item_of db params by_owner number_project (λ row n. column row 0 ≡ Int (pos n)) rows items read in_deployed.tree h r.0 r.1 ((is_kept r.0 r.1).1 (r.2, r.3)) in
-        let same : y.0 ≡ n = same_pos y.0 n (sym (ap id_in y.2) ∙ r.5 ∙ ap pos (some_is it.0 n (sym it.1 ∙ there.2))) in
-        subst (Contains items) same y.1,
-  )
+  deployed_told rows items h read = rows_told db params by_owner number_project (λ row n. column row 0 ≡ Int (pos n)) rows items read in_deployed.tree h
+      (λ n. (name : Words) × IsDeployedIn s e (version p name) × (number_of s.versions (version p name) ≡ Some n))
+      (λ r n has kept shown.
+      let at = (is_kept r has).0 kept in
+      let it = row_deployed db s held e r has at.0 in
+      subst (λ q. (name : Words) × IsDeployedIn s e (version q name) × (number_of s.versions (version q name) ≡ Some n)) at.1
+      (it.0, (text in_deployed.instance r, it.1), it.2.1 ∙ ap Some (same_pos it.2.0 n (sym it.2.2 ∙ ap id_in shown))))
+      (λ n there.
+      let it = deployed_row db s held e p there.1.0 there.0 there.1.1 in
+      let r = it.2 in
+      (r.0, r.1, (is_kept r.0 r.1).1 (r.2, r.3), λ y shown. same_pos y n (sym (ap id_in shown) ∙ r.5 ∙ ap pos (some_is it.0 n (sym it.1 ∙ there.2)))))
 
 -- each version that stands there has a number
 pub standing_numbered : (db : Database) (s : Broker) → Holds db s → (e : Words) → AreNumbered s e
@@ -58,7 +54,7 @@ standing_numbered db s held e w (inl there) = let it = deployed_row db s held e 
 standing_numbered db s held e w (inr there) = released_numbered db s held e w there
 
 -- what is deployed and what is released of the provider is what stands there
-pub partners_are : (s : Broker) (e p : Words) (deployed : List ℕ) (released : List ReleasedNumber) → ArePartners s p (IsDeployedIn s e) deployed → AreReleasedNumbers s e released
+pub partners_are : (s : Broker) (e p : Words) (deployed : List ℕ) (released : List NumberedName) → ArePartners s p (IsDeployedIn s e) deployed → AreReleasedNumbers s e released
     → ArePartners s p (Stands s e) (deployed ++ filter_map (number_if p) released)
 partners_are s e p deployed released are_deployed are_released n = both_ways
     (both_of deployed (filter_map (number_if p) released) (deployed ++ filter_map (number_if p) released) refl n (are_deployed n) (λ c. c, λ c. c)) (
@@ -66,7 +62,7 @@ partners_are s e p deployed released are_deployed are_released n = both_ways
         | inl one ↦ (one.0, inl one.1, one.2)
         | inr two ↦
             let x = Contains-from_filter_map (number_if p) released n two in
-            let of = when (same_text x.0.pacticipant p) x.0.number n x.2 in
+            let of = when (same_text x.0.name p) x.0.number n x.2 in
             let it = (are_released x.0).0 x.1 in
             subst (λ q. (name : Words) × Stands s e (version q name) × (number_of s.versions (version q name) ≡ Some n)) (text_is _ _ of.0)
             (it.0, inr it.1, it.2 ∙ ap Some of.1)
@@ -74,7 +70,7 @@ partners_are s e p deployed released are_deployed are_released n = both_ways
       λ is. elim is.1 [
         | inl there ↦ inl (is.0, there, is.2)
         | inr there ↦
-            let x : ReleasedNumber = record { number = n; pacticipant = p } in
+            let x : NumberedName = record { number = n; name = p } in
             inr (Contains-filter_map (number_if p) released x n ((are_released x).1 (is.0, there, is.2)) (ap (λ b. if b then Some n else None) (text_refl p)))
       ],
     )

@@ -1,14 +1,14 @@
 -- The rows of each query of these tables can be read, if the state that the database holds can.
 use Rattle.std.{specs.Prelude.{IsUtf8}, proofs.Common.{◌≡◌, inl, inr, ℕ, List, [], ◌∷◌, true, refl, sym, subst, arith}}
 use Rattle.sqlite_rules.specs.Lists.{Has}
-use Rattle.table_access.{specs.{Columns.{text, whole_at}, Reading.{IsNumberRow}, Statements.{shows, from_both, keeps_both}}, proofs.Answered.{pair_shown}}
+use Rattle.table_access.specs.{Columns.{text, whole_at}, Reading.{IsNumberRow}, Statements.{shows, from_table, from_both, keeps_both}}
+use Rattle.table_access.proofs.Answered.{pair_shown}
 use Rattle.broker_core.specs.State.{State as Broker}
 use Rattle.broker_tables.specs.{Schema.{in_versions, in_contracts, in_deployed, in_released}, Holds.{Holds}, Readable.{IsReadable, IsNamed}}
 use Rattle.broker_tables.proofs.Asked.{Asked, IsShown, EachShown, EachReads, of_both, of_table, number_reads}
 use Rattle.broker_tables.proofs.Placed.{contracts, at_contracts, deployed, at_deployed, released, at_released, listed, wholes_in}
 use Rattle.broker_tables.proofs.{ReadableRows.{number_cell, name_cell, to_version_low, version_named, to_pacticipant_named}, VersionRows.{owners, names}}
-use Rattle.deploy_tables.{specs.Listings.{ReadsAsDeployed, ReadsAsReleased}, proofs.{ContractsThere.{of_deployed, of_released}, PartnerRows.{numbers_of}}}
-use Rattle.deploy_tables.proofs.VersionNames.{names_of, name_project}
+use Rattle.deploy_tables.{specs.Listings.{ReadsAsDeployed, ReadsAsReleased}, proofs.{ContractsThere.{project}, VersionNames.{names_of, name_project}}}
 use Rattle.sqlite.specs.{Order.{Row}, Term.{Term, col, eval_all}, Query.{Query}, Effect.{Database, Answers}}
 use Rattle.sqlite_value.specs.declared.keys.Key.{Key}
 use Rattle.contract_tables.{specs.Listings.{ReadsAsNumbers, ReadsAsMarked}, proofs.ReadableRows.{IsLowAt, contract_content}}
@@ -53,8 +53,9 @@ of_joined {params = params} {terms = terms} {project = project} {order = order} 
 
 -- ---- what is deployed
 
-pub number_at_reads : (e p i : List ℕ) (db : Database) → EachReads (deployed_rows.number_at e p i) db IsNumberRow
-number_at_reads e p i db s held readable = number_reads (deployed_rows.number_at e p i) db (deployed_number db s held readable)
+pub numbers_read : {sql : List ℕ} {params : Row} {terms : List Term}
+    (asked : Asked sql params (from_table in_deployed.tree terms (col 1 in_deployed.version_number ∷ []) [])) (db : Database) → EachReads asked db IsNumberRow
+numbers_read asked db s held readable = number_reads asked db (deployed_number db s held readable)
 
 pub deployments_reads : (e : List ℕ) (db : Database) → EachReads (deployed_list.deployments e) db ReadsAsDeployed
 deployments_reads e db s held readable = of_joined (deployed_list.deployments e) db _ (λ rows h. deployed_list.deployed_joined db s held e rows h) (λ d v hd hv kept.
@@ -63,9 +64,6 @@ deployments_reads e db s held readable = of_joined (deployed_list.deployments e)
       (omega arith, (text in_deployed.instance d, deployed_rows.instances db held.broker d hd, deployed_instance db s held readable d hd)),
       name_cell shown 2 (text in_versions.version v) (omega arith) (names db held.broker v hv) (version_named db s held readable v hv).1,
     ))
-
-pub partners_reads : (e p : List ℕ) (db : Database) → EachReads (numbers_of e p) db IsNumberRow
-partners_reads e p db s held readable = number_reads (numbers_of e p) db (deployed_number db s held readable)
 
 -- ---- what is released
 
@@ -91,16 +89,13 @@ names_reads n db s held readable = of_table (names_of n) db _ (λ v has kept.
 
 -- ---- the contracts of what is there
 
--- a row that a JOIN with contracts shows
-contract_shown : (db : Database) (s : Broker) → Holds db s → IsReadable s → (r c : Row) → Has (db.trees in_contracts.tree) c → ReadsAsNumbers (eval_all (col 2 in_contracts.version_number ∷ col 2 in_contracts.content ∷ []) ([] ∷ r ∷ c ∷ []))
-contract_shown db s held readable r c has =
-    let number = contract_version db s held readable c has in
-    let content = contract_content db s held readable c has in
-    let shown : Row = eval_all (col 2 in_contracts.version_number ∷ col 2 in_contracts.content ∷ []) ([] ∷ r ∷ c ∷ []) in
-    (number_cell shown 0 (whole_at in_contracts.version_number c) (omega arith) number.0 number.1, number_cell shown 1 (whole_at in_contracts.content c) (omega arith) content.0 content.1)
-
-pub of_deployed_reads : (e p : List ℕ) (db : Database) → EachReads (of_deployed e p) db ReadsAsNumbers
-of_deployed_reads e p db s held readable = of_both (of_deployed e p) db _ (λ r c hr hc kept. contract_shown db s held readable r c hc)
-
-pub of_released_reads : (e p : List ℕ) (db : Database) → EachReads (of_released e p) db ReadsAsNumbers
-of_released_reads e p db s held readable = of_both (of_released e p) db _ (λ r c hr hc kept. contract_shown db s held readable r c hc)
+-- each row that a JOIN with contracts shows
+pub contracts_reads : {sql : List ℕ} {params : Row} {terms : List Term} {t : ℕ} (asked : Asked sql params (from_both t in_contracts.tree terms project []))
+    (db : Database) → EachReads asked db ReadsAsNumbers
+contracts_reads asked db s held readable = of_both asked db _ (λ r c hr hc kept.
+    let number = contract_version db s held readable c hc in
+    let content = contract_content db s held readable c hc in
+    let shown : Row = eval_all project ([] ∷ r ∷ c ∷ []) in (
+      number_cell shown 0 (whole_at in_contracts.version_number c) (omega arith) number.0 number.1,
+      number_cell shown 1 (whole_at in_contracts.content c) (omega arith) content.0 content.1,
+    ))

@@ -19,12 +19,13 @@ use Rattle.broker_tables.proofs.{Placed.{released, at_released, listed, numbered
 use Rattle.sqlite.specs.{Listing.{understood}, Edit.{id_in}, declared.types.Value.TheVariants.{Int, Text, Null}, Order.{Row, column}, Term.{Term, col, lit}}
 use Rattle.sqlite.specs.{Collation.TheVariants.{Binary}, Effect.{Database, Answers}, Query.{Query}, State.{State, Executes}}
 use Rattle.sqlite_keyed.proofs.RuleLemmas.{first_of_both, second_of_both}
-use Rattle.deploy_tables.specs.{Releases.{IsVersion, MayBeReleased, RecordsReleased}, declared.partners.ReleasedNumber.{ReleasedNumber}}
-use Rattle.deploy_tables.specs.{Listings.{IsReleasedRow}, ContractsThere.{IsReleasedIn}, Partners.{IsNumberOfReleased, AreReleasedNumbers}}
+use Rattle.deploy_tables.specs.{Releases.{IsVersion, MayBeReleased, RecordsReleased}, Listings.{IsReleasedRow}, ContractsThere.{IsReleasedIn}}
+use Rattle.deploy_tables.specs.Partners.{AreReleasedNumbers}
 use Rattle.deploy_tables.proofs.VersionRows.{joined_by, on_number, in_environment, named_version, same_pos, two_texts, Names, IsOf, joins, has_kept, is_kept, pair_is, is_pair}
 use Rattle.deploy_tables.proofs.LeftRows.{from_left, as_join}
 use Rattle.sqlite_typing.specs.Types.{accepts_program}
-use Rattle.contract_tables.proofs.{ItemLists.{list_pairs}, JoinRows.{pair_of, item_of_pair}}
+use Rattle.contract_tables.{specs.{declared.listings.NumberedName.{NumberedName}, Listings.{IsNumberedName}}, proofs.ItemLists.{list_pairs}}
+use Rattle.contract_tables.proofs.JoinRows.{pair_of, item_of_pair}
 use Rattle.sqlite_value.specs.{declared.keys.Key.{Key}, Keys.{ascending}}
 
 abbrev pub list_order : List (Term × Key)
@@ -145,21 +146,21 @@ module _ (db : Database) (s : Broker) (held : Holds db s) (e : Words) where
 
   -- ---- with the numbers
 
-  pub numbers_told : (rows : List Row) (items : List ReleasedNumber) → IsShown (release_numbers e) db rows → AreRead IsNumberOfReleased rows items → AreReleasedNumbers s e items
+  pub numbers_told : (rows : List Row) (items : List NumberedName) → IsShown (release_numbers e) db rows → AreRead IsNumberedName rows items → AreReleasedNumbers s e items
   numbers_told rows items shown read x = (
     λ c.
         let h = numbers_joined rows shown in
-        let q = pair_of db (Text e ∷ []) (joined_by in_released.version_number) number_project IsNumberOfReleased rows items read in_released.tree in_versions.tree h x c in
+        let q = pair_of db (Text e ∷ []) (joined_by in_released.version_number) number_project IsNumberedName rows items read in_released.tree in_versions.tree h x c in
         let it = pair_is db s held in_released.tree in_released.version_number e (IsReleasedIn s e) released_in q.0 (has_kept db held.broker in_released.tree in_released.version_number (environments db held.broker) (numbers db held.broker) e q.0 q.1) in
         subst (λ p. (name : Words) × IsReleasedIn s e (version p name) × (number_of s.versions (version p name) ≡ Some x.number)) (ap text_in q.2.1)
         (text in_versions.version q.0.1, it.3, it.1 ∙ ap Some (same_pos it.0 x.number (sym it.2 ∙ ap id_in q.2.0))),
     λ there.
         let h = numbers_joined rows shown in
-        let q = is_pair db s held in_released.tree in_released.version_number e (IsReleasedIn s e) released_in (version x.pacticipant there.0) x.number there.2 there.1 in
-        let y = item_of_pair db (Text e ∷ []) (joined_by in_released.version_number) number_project IsNumberOfReleased rows items read in_released.tree in_versions.tree h q.0
+        let q = is_pair db s held in_released.tree in_released.version_number e (IsReleasedIn s e) released_in (version x.name there.0) x.number there.2 there.1 in
+        let y = item_of_pair db (Text e ∷ []) (joined_by in_released.version_number) number_project IsNumberedName rows items read in_released.tree in_versions.tree h q.0
         (is_kept db held.broker in_released.tree in_released.version_number (environments db held.broker) (numbers db held.broker) e q.0 q.1) in
         let number : y.0.number ≡ x.number = same_pos y.0.number x.number (sym (ap id_in y.2.0) ∙ q.4) in
-        let same : y.0 ≡ x = (λ i. record { number = number i; pacticipant = (sym (ap text_in y.2.1) ∙ q.2) i }) in
+        let same : y.0 ≡ x = (λ i. record { number = number i; name = (sym (ap text_in y.2.1) ∙ q.2) i }) in
         subst (Contains items) same y.1,
   )
 
@@ -174,11 +175,6 @@ pub release : (e : Words) (n : ℕ)
 unfolding understood everything
 release e n = record { names = _; means = record { is = refl; plain = (refl, refl); unlisted = refl }; runs = record { whole = refl; typed = refl; sumless = refl } }
 
--- a row is shown just where one has this environment and number
-row_found : (e : Words) (n : ℕ) (db : Database) (rows : List Row) → IsBroker db → IsShown (release e n) db rows
-    → is_some (slice_get rows 0) ≡ stands_at placed place_of (db.trees in_released.tree) (e, pos n)
-row_found e n db rows broker h = finds_row released_by_key db broker (Text e ∷ Int (pos n) ∷ []) (e, pos n) refl rows h
-
 -- no row is shown for a number that no version has
 pub none_released : (e : Words) (n : ℕ) (db : Database) (rows : List Row) (s : Broker) → Holds db s → (¬ IsVersion n s) → IsShown (release e n) db rows
     → slice_get rows 0 ≡ None
@@ -189,7 +185,7 @@ none_released e n db rows s held none h = no_first rows (of_table (release e n) 
 pub release_found : (e : Words) (n : ℕ) (db : Database) (rows : List Row) (s : Broker) (v : Version) → Holds db s → number_of s.versions v ≡ Some n → IsShown (release e n) db rows
     → is_some (slice_get rows 0) ≡ s.released (e, v)
 release_found e n db rows s v held is h =
-    row_found e n db rows held.broker h ∙ stands db s held e v n is
+    finds_row released_by_key db held.broker (Text e ∷ Int (pos n) ∷ []) (e, pos n) refl rows h ∙ stands db s held e v n is
 
 -- ---- a change of one place
 

@@ -1,14 +1,12 @@
 -- The names of a version, by its number.
-use Rattle.std.specs.Prelude.{Contains, ◌↔◌, option_to_list, MatchOption}
-use Rattle.std.proofs.Common.{◌≡◌, ◌∙◌, ℕ, pos, codes, List, [], ◌∷◌, ◌++◌, Option, Some, None, true, refl, sym, ap, subst, length, arith}
-use Rattle.std.proofs.lemmas.List.Elements.{Contains-append_right}
+use Rattle.std.{specs.Prelude.{Contains, ◌↔◌}, proofs.Common.{◌≡◌, ◌∙◌, ℕ, pos, codes, List, [], ◌∷◌, Some, true, refl, sym, ap, subst}}
 use Rattle.sqlite_rules.specs.Lists.{Has}
 use Rattle.sqlite_tied.specs.Compute.{everything}
-use Rattle.broker_core.{specs.{declared.command.Version.{Version}, Text.{version}, State.{State as Broker}}, proofs.Lists.{contains_none, contains_here}}
+use Rattle.broker_core.specs.{declared.command.Version.{Version}, Text.{version}, State.{State as Broker}}
 use Rattle.broker_tables.{specs.{Schema.{in_versions}, Numbers.{number_of}, Holds.{Holds}}, proofs.{Asked.{Asked, IsShown}, NumberLemmas.{one_version}}}
 use Rattle.broker_tables.proofs.VersionRows.{whole_test, version_number, row_number, find_version}
 use Rattle.contract_tables.proofs.ItemLists.{last_test}
-use Rattle.deploy_tables.{specs.{Listings.{IsReleasedRow}, Releases.{IsVersion, IsOfNumber, FindsVersion}}, proofs.VersionRows.{same_pos, row_of, item_of}}
+use Rattle.deploy_tables.{specs.{Listings.{IsReleasedRow}, Releases.{IsOfNumber}}, proofs.VersionRows.{same_pos, rows_told}}
 use Rattle.sqlite.specs.{declared.types.Value.TheVariants.{Int}, Order.{Row, column}, Term.{Term, col, op2}, Collation.TheVariants.{Binary}, Effect.{Database}}
 use Rattle.sqlite.specs.Listing.{understood}
 use Rattle.sqlite_sql.specs.{declared.ops.BinaryOp.TheVariants.{Compare}, declared.ops.CompareOp.TheVariants.{Eq}}
@@ -34,34 +32,17 @@ module _ (db : Database) (s : Broker) (held : Holds db s) (n : ℕ) where
 
   -- the version of this number is listed, and no other
   pub names_told : (rows : List Row) (items : List Version) → IsShown (names_of n) db rows → AreRead IsReleasedRow rows items → (w : Version) → Contains items w ↔ (number_of s.versions w ≡ Some n)
-  names_told rows items h read w = (
-    λ c.
-        let r = row_of db params by_number name_project IsReleasedRow rows items read in_versions.tree h w c in
-        let it = row_number db held.broker s.versions held.versions r.0 r.1 in
-        let number : it.0 ≡ n = same_pos it.0 n (sym it.2 ∙ (is_kept r.0 r.1).0 r.2) in
-        (λ i. number_of s.versions (version (sym (ap text_in r.3.0) i) (sym (ap text_in r.3.1) i))) ∙ it.1 ∙ ap Some number,
-    λ known.
-        let r = find_version db held.broker s.versions w n held.versions known in
-        let y = item_of db params by_number name_project IsReleasedRow rows items read in_versions.tree h r.0 r.1 ((is_kept r.0 r.1).1 r.4) in
-        let same : y.0 ≡ w = (λ i. version ((sym (ap text_in y.2.0) ∙ r.2) i) ((sym (ap text_in y.2.1) ∙ r.3) i)) in
-        subst (Contains items) same y.1,
-  )
+  names_told rows items h read = rows_told db params by_number name_project IsReleasedRow rows items read in_versions.tree h
+      (λ w. number_of s.versions w ≡ Some n) (λ r w has kept shown.
+      let it = row_number db held.broker s.versions held.versions r has in
+      let number : it.0 ≡ n = same_pos it.0 n (sym it.2 ∙ (is_kept r has).0 kept) in
+      (λ i. number_of s.versions (version (sym (ap text_in shown.0) i) (sym (ap text_in shown.1) i))) ∙ it.1 ∙ ap Some number)
+      (λ w known.
+      let r = find_version db held.broker s.versions w n held.versions known in
+      (r.0, r.1, (is_kept r.0 r.1).1 r.4, λ y shown i. version ((sym (ap text_in shown.0) ∙ r.2) i) ((sym (ap text_in shown.1) ∙ r.3) i)))
 
 -- ---- the version of a number
-
--- the last of those that are listed, or none of none
-pub last_is : (Z : Type 0) (Y : Version → Type 0) (s : Broker) (n many : ℕ) (items rest : List Version) (found : Option Version) → ((w : Version) → Contains items w ↔ (number_of s.versions w ≡ Some n)) → items ≡ rest ++ option_to_list found
-    → many ≡ length items → MatchOption found ((many ≡ 0) × Z) Y → FindsVersion n found s
-last_is Z Y s n many items rest None told is counted cases = λ v. none_of items (sym counted ∙ cases.0) v.0 ((told v.0).1 v.1)
-  where
-    none_of : (xs : List Version) → length xs ≡ 0 → (w : Version) → Contains xs w → ⊥
-    none_of [] empty w c = contains_none w c
-    none_of (x ∷ xs) empty w c = omega (arith, empty)
-last_is Z Y s n many items rest (Some v) told is counted cases = (told v).0 (subst (λ xs. Contains xs v) (sym is) (Contains-append_right rest (v ∷ []) v (contains_here v [])))
 
 -- what is so of a version is so of that of its number
 pub of_number : (s : Broker) (n : ℕ) (v : Version) (Is : Version → Type 0) (Otherwise : Type 0) → number_of s.versions v ≡ Some n → Is v → IsOfNumber s n Is Otherwise
 of_number s n v Is Otherwise known is = (λ w also. subst Is (one_version s.versions v w n known also) is, λ none. absurd (none (v, known)))
-
-pub of_no_number : (s : Broker) (n : ℕ) (Is : Version → Type 0) (Otherwise : Type 0) → ¬ IsVersion n s → Otherwise → IsOfNumber s n Is Otherwise
-of_no_number s n Is Otherwise none otherwise = (λ w known. absurd (none (w, known)), λ gone. otherwise)

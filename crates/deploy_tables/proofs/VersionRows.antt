@@ -23,22 +23,25 @@ module _ {Y : Type 0} (db : Database) (params : Row) (terms project : List Term)
     abbrev all : List Row
     all = map (shows project params) (filter (keeps terms params) (db.trees t))
 
-    -- each item is read of a row that WHERE keeps
-    pub row_of : (x : Y) → Contains items x → (r : Row) × Has (db.trees t) r × (keeps terms params r ≡ true) × reads (shows project params r) x
-    row_of x c =
-        let row = read_has reads rows items x read c in
-        let one = map_has (shows project params) (filter (keeps terms params) (db.trees t)) row.0
-        (permuted_has all rows row.0 (answered db params t terms project [] rows h) row.1) in
-        let it = filter_has (keeps terms params) (db.trees t) one.0 one.1 in
-        (one.0, it.0, it.1, subst (λ y. reads y x) one.2 row.2)
-
-    -- and of each row that it keeps an item is read
-    pub item_of : (r : Row) → Has (db.trees t) r → keeps terms params r ≡ true → (y : Y) × Contains items y × reads (shows project params r) y
-    item_of r has kept =
-        has_read reads rows items (shows project params r) read
-        (contains_has rows (shows project params r) (Contains-permutation all rows (shows project params r) (answered db params t terms project [] rows h)
-        (has_contains all (shows project params r) (has_map (shows project params) (filter (keeps terms params) (db.trees t)) r
-        (has_filter (keeps terms params) (db.trees t) r has kept)))))
+    -- the items are those that meet Q: each row that WHERE keeps reads as such, and each such item is read of one
+    pub rows_told : (Q : Y → Type 0) → ((r : Row) (x : Y) → Has (db.trees t) r → keeps terms params r ≡ true → reads (shows project params r) x → Q x)
+        → ((x : Y) → Q x → (r : Row) × Has (db.trees t) r × (keeps terms params r ≡ true) × ((y : Y) → reads (shows project params r) y → y ≡ x))
+        → (x : Y) → Contains items x ↔ Q x
+    rows_told Q sound complete x = (
+      λ c.
+          let row = read_has reads rows items x read c in
+          let one = map_has (shows project params) (filter (keeps terms params) (db.trees t)) row.0
+          (permuted_has all rows row.0 (answered db params t terms project [] rows h) row.1) in
+          let it = filter_has (keeps terms params) (db.trees t) one.0 one.1 in
+          sound one.0 x it.0 it.1 (subst (λ y. reads y x) one.2 row.2),
+      λ is.
+          let r = complete x is in
+          let kept = has_filter (keeps terms params) (db.trees t) r.0 r.1 r.2 in
+          let there = has_map (shows project params) (filter (keeps terms params) (db.trees t)) r.0 kept in
+          let y = has_read reads rows items (shows project params r.0) read (contains_has rows _
+          (Contains-permutation all rows _ (answered db params t terms project [] rows h) (has_contains all _ there))) in
+          subst (Contains items) (r.3 y.0 y.2) y.1,
+    )
 
 -- ---- rows that name an environment and a version
 

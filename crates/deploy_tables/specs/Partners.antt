@@ -1,19 +1,13 @@
 -- For private clauses: the versions of a provider that are in an environment, by their numbers.
-use Rattle.std.specs.Prelude.{Contains, ◌≡◌, ◌↔◌, ℕ, List, Option, Some, None, if◌then◌else◌, pos}
-use Rattle.sqlite.specs.Order.{Row, column}
-use Rattle.sqlite.specs.declared.types.Value.TheVariants.{Int, Text as SqlText}
+use Rattle.std.specs.Prelude.{Contains, ◌≡◌, ◌↔◌, ℕ, List, Option, Some, None, if◌then◌else◌}
 use Rattle.broker_core.specs.declared.command.Version.{Version}
 use Rattle.broker_core.specs.Text.{Text, same_text, version}
 use Rattle.broker_core.specs.State.{State}
 use Rattle.broker_core.specs.Gate.{Stands}
 use Rattle.broker_tables.specs.Numbers.{number_of}
+use Rattle.contract_tables.specs.declared.listings.NumberedName.{NumberedName}
 use Rattle.deploy_tables.specs.ContractsThere.{IsReleasedIn}
 use Rattle.deploy_tables.specs.Releases.{IsVersion}
-use Rattle.deploy_tables.specs.declared.partners.ReleasedNumber.{ReleasedNumber}
-
--- the columns are the version's number and its pacticipant
-abbrev pub IsNumberOfReleased : Row → ReleasedNumber → Type 0
-IsNumberOfReleased row x = (column row 0 ≡ Int (pos x.number)) × (column row 1 ≡ SqlText x.pacticipant)
 
 -- these are the numbers of the pacticipant's versions that are such
 abbrev pub ArePartners : State → Text → (Version → Type 0) → List ℕ → Type 0
@@ -21,27 +15,23 @@ ArePartners s p Is numbers = (n : ℕ) → Contains numbers n
     ↔ ((name : Text) × Is (version p name) × (number_of s.versions (version p name) ≡ Some n))
 
 -- these are the numbers of all versions that are released there, each with its pacticipant
-abbrev pub AreReleasedNumbers : State → Text → List ReleasedNumber → Type 0
-AreReleasedNumbers s e xs = (x : ReleasedNumber) → Contains xs x
-    ↔ ((name : Text) × IsReleasedIn s e (version x.pacticipant name)
-    × (number_of s.versions (version x.pacticipant name) ≡ Some x.number))
+abbrev pub AreReleasedNumbers : State → Text → List NumberedName → Type 0
+AreReleasedNumbers s e xs = (x : NumberedName) → Contains xs x
+    ↔ ((name : Text) × IsReleasedIn s e (version x.name name)
+    × (number_of s.versions (version x.name name) ≡ Some x.number))
 
 -- each version that stands there has a number
 abbrev pub AreNumbered : State → Text → Type 0
 AreNumbered s e = (w : Version) → Stands s e w → (n : ℕ) × (number_of s.versions w ≡ Some n)
-
--- these are the numbers of all its versions that stand there, and all that stands there has numbers
-abbrev pub AreAllPartners : State → Text → Text → List ℕ → Type 0
-AreAllPartners s e p numbers = AreNumbered s e × ArePartners s p (Stands s e) numbers
 
 -- each number is that of a version
 abbrev pub AreNumbersOfVersions : State → List ℕ → Type 0
 AreNumbersOfVersions s numbers = (n : ℕ) → Contains numbers n → IsVersion n s
 
 -- what is released there by numbers, and all that stands there has numbers
-abbrev pub AreReleasedThere : State → Text → List ReleasedNumber → Type 0
+abbrev pub AreReleasedThere : State → Text → List NumberedName → Type 0
 AreReleasedThere s e xs = AreReleasedNumbers s e xs × AreNumbered s e
 
 -- the number of a version of the pacticipant, none of another
-abbrev pub number_if : Text → ReleasedNumber → Option ℕ
-number_if p x = if same_text x.pacticipant p then Some x.number else None
+abbrev pub number_if : Text → NumberedName → Option ℕ
+number_if p x = if same_text x.name p then Some x.number else None

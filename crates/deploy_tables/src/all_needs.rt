@@ -6,7 +6,7 @@ ghost use Rattle.broker_core.specs.Gate.{IsNeed};
 ghost use Rattle.broker_core.specs.Listing.{Lists};
 ghost use Rattle.broker_core.specs.State.{State as Broker};
 ghost use Rattle.broker_core.specs.Text.{Text};
-ghost use Rattle.broker_tables.specs.Numbers.{number_of as number_known};
+ghost use Rattle.broker_tables.specs.Numbers.{number_of};
 ghost use Rattle.broker_tables.specs.Calm.{CalmQueries};
 ghost use Rattle.deploy_tables.specs.Needs.{need_cmp, ListsNeeds};
 
@@ -53,7 +53,7 @@ fn needs_numbered<S: Alter>(
     environment: &str,
 ) -> Result<Vec<Need>, StoreFault>
     ensures { CalmQueries S.Store conn.old conn.new result
-        (λ found s. number_known s.versions version.now ≡ Some number →
+        (λ found s. number_of s.versions version.now ≡ Some number →
         Lists need_cmp (IsNeed s version.now environment.now) found.items) }
 {
     let found = done!(wanted_needs(alloc, conn, number, version, environment, Wanted::All));

@@ -1,5 +1,5 @@
 //! The contracts with one provider of all versions that are in an environment, by the numbers of the versions.
-ghost use Rattle.std.specs.Prelude.{◌≡◌, ◌++◌, ◌↔◌, false, IsTrue, ⊤, IfOk, IfErr};
+ghost use Rattle.std.specs.Prelude.{◌≡◌, ◌↔◌, false, IsTrue};
 ghost use Rattle.table_access.specs.Calls.{HasFailed};
 ghost use Rattle.broker_tables.specs.Asking.{TellsOfAny};
 ghost use Rattle.deploy_tables.specs.AnyThere.{AnswersOnlyIf, HasNull};
@@ -74,19 +74,6 @@ fn released_contracts<S: Alter>(
     )
 }
 
-/// The contracts of both lists. An `Err` is out of memory.
-fn in_one(
-    deployed: Vec<NumberedContract>,
-    released: Vec<NumberedContract>,
-) -> Result<Vec<NumberedContract>, StoreFault>
-    ensures all { IfOk result (λ all. all.items ≡ deployed.items ++ released.items) }
-    ensures cause { IfErr result (λ f. f ≡ StoreFault.Memory) }
-{
-    let mut all = deployed;
-    done!(add(&mut all, released));
-    Ok(all)
-}
-
 /// Whether a row of what is deployed in the environment has NULL in place of a version, as in a table that was declared
 /// without NOT NULL. A JOIN would leave it out.
 fn has_unnumbered<S: Alter>(conn: &mut Connection<S>, environment: &str) -> Result<bool, StoreFault>
@@ -101,17 +88,6 @@ fn has_unnumbered<S: Alter>(conn: &mut Connection<S>, environment: &str) -> Resu
     )
 }
 
-/// That each row of what is deployed in the environment has a version. `StoreFault::Store` if one hasn't.
-fn each_is_numbered<S: Alter>(conn: &mut Connection<S>, environment: &str) -> Result<(), StoreFault>
-    ensures answers { CalmQueries S.Store conn.old conn.new result (λ _ s. ⊤) }
-    ensures null { AnswersOnlyIf S.Store conn.old conn.new result (λ db. ¬ (HasNull environment.now db)) }
-{
-    if done!(has_unnumbered(conn, environment)) {
-        return Err(StoreFault::Store);
-    }
-    Ok(())
-}
-
 /// The contracts with the provider of the versions that are deployed and of those that are released.
 fn both_contracts<S: Alter>(
     alloc: Global,
@@ -122,9 +98,10 @@ fn both_contracts<S: Alter>(
     ensures { CalmQueries S.Store conn.old conn.new result
         (λ found s. TellsContracts s provider.now (Stands s environment.now) found.items) }
 {
-    let deployed = done!(deployed_contracts(alloc, conn, environment, provider));
+    let mut all = done!(deployed_contracts(alloc, conn, environment, provider));
     let released = done!(released_contracts(alloc, conn, environment, provider));
-    in_one(deployed, released)
+    done!(add(&mut all, released));
+    Ok(all)
 }
 
 /// The contracts with the provider of the versions that are in the environment, in no order. That of a version in two
@@ -143,6 +120,8 @@ pub(crate) fn contracts_there<S: Alter>(
         (λ found s. TellsContracts s provider.now (Stands s environment.now) found.items) }
     ensures null { AnswersOnlyIf S.Store conn.old conn.new result (λ db. ¬ (HasNull environment.now db)) }
 {
-    done!(each_is_numbered(conn, environment));
+    if done!(has_unnumbered(conn, environment)) {
+        return Err(StoreFault::Store);
+    }
     both_contracts(alloc, conn, environment, provider)
 }

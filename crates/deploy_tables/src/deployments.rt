@@ -3,11 +3,11 @@ ghost use Rattle.std.specs.Prelude.{◌≡◌, ◌==◌, false, codes, [], ◌�
 ghost use Rattle.std.specs.Option.{option_map_or};
 ghost use Rattle.broker_tables.specs.Holds.{Changes, ChangesAndAnswers};
 ghost use Rattle.broker_tables.specs.Calm.{CalmQueriesInPlace, IsCalmInPlace};
-ghost use Rattle.broker_tables.specs.Refusals.{IsCalmStoring};
+ghost use Rattle.broker_tables.specs.ChangeRefusals.{IsCalmStoring};
 ghost use Rattle.deploy_tables.specs.Deployments.{RecordsDeployed, MayBeDeployed, IsVersionOf, FindsDeployed, TakesOutAndTells, FindsNothing};
 
 use sqlite::{Alter, Connection, params};
-use table_access::{StoreFault, change, change_counted, number_of};
+use table_access::{StoreFault, change, change_counted, find_number};
 
 /// Whether the version of that number, one of the pacticipant, is deployed in the environment as that instance. `false`
 /// if the pacticipant has no version of that number.
@@ -25,7 +25,7 @@ pub fn is_deployed<S: Alter>(
     ensures { CalmQueriesInPlace S.Store conn.old conn.new result
         (FindsDeployed environment.now pacticipant.now instance.now number) }
 {
-    let found = done!(number_of(
+    let found = done!(find_number(
         conn,
         "SELECT version_number FROM deployed WHERE environment = ?1 AND pacticipant = ?2 AND instance = ?3",
         params![environment, pacticipant, instance],

@@ -4,7 +4,7 @@ ghost use Rattle.std.specs.Prelude.{◌≡◌, ◌↔◌, Some, Contains};
 ghost use Rattle.broker_core.specs.declared.answer.MatrixRow.{MatrixRow as RowModel};
 ghost use Rattle.broker_core.specs.Listing.{Lists};
 ghost use Rattle.broker_core.specs.Machine.{IsMatrixRow, matrix_cmp};
-ghost use Rattle.broker_tables.specs.Numbers.{number_of as number_known};
+ghost use Rattle.broker_tables.specs.Numbers.{number_of};
 ghost use Rattle.broker_tables.specs.Calm.{CalmQueries};
 ghost use Rattle.deploy_tables.specs.Matrix.{IsOfContract, IsOfContent, IsOfSome, IsProvided, ListsMatrix};
 
@@ -105,7 +105,7 @@ fn provided<S: Alter>(
     version: &Version,
 ) -> Result<Vec<MatrixRow>, StoreFault>
     ensures { CalmQueries S.Store conn.old conn.new result
-        (λ found s. number_known s.versions version.now ≡ Some number →
+        (λ found s. number_of s.versions version.now ≡ Some number →
         (x : RowModel) → Contains found.items x ↔ IsProvided s version.now x) }
 {
     let results = done!(latest_results(alloc, conn, number));
@@ -120,7 +120,7 @@ fn matrix_numbered<S: Alter>(
     version: &Version,
 ) -> Result<Vec<MatrixRow>, StoreFault>
     ensures { CalmQueries S.Store conn.old conn.new result
-        (λ rows s. number_known s.versions version.now ≡ Some number →
+        (λ rows s. number_of s.versions version.now ≡ Some number →
         Lists matrix_cmp (IsMatrixRow s version.now) rows.items) }
 {
     let contracts = done!(contracts_of(alloc, conn, number));

@@ -1,62 +1,16 @@
 //! The versions of a provider that are in an environment, by their numbers.
-ghost use Rattle.std.specs.Prelude.{◌≡◌, ◌++◌, ◌↔◌, IfOk, filter_map, pos};
-ghost use Rattle.sqlite.specs.Order.{column};
-ghost use Rattle.sqlite.specs.declared.types.Value.TheVariants.{Int};
-ghost use Rattle.table_access.specs.Reading.{TellsNumber};
+ghost use Rattle.std.specs.Prelude.{◌≡◌, ◌++◌, ◌↔◌, IfOk, filter_map};
 ghost use Rattle.broker_core.specs.Gate.{Stands};
 ghost use Rattle.broker_tables.specs.Calm.{CalmQueries};
-ghost use Rattle.contract_tables.specs.Listings.{FailsAsMarked};
 ghost use Rattle.deploy_tables.specs.ContractsThere.{IsDeployedIn};
-ghost use Rattle.deploy_tables.specs.Partners.{IsNumberOfReleased, ArePartners, AreReleasedThere, number_if};
+ghost use Rattle.deploy_tables.specs.Partners.{ArePartners, AreReleasedThere, number_if};
 
 use crate::lists::each_number_once;
 use broker_names::name::Name;
-use broker_tables::name_in;
-use sqlite::{Alter, Connection, Row, params};
+use contract_tables::{NumberedName, NumberedNameRow};
+use sqlite::{Alter, Connection, params};
 use std::alloc::{AllocError, Global};
-use table_access::{ReadRow, StoreFault, list_of, number_in};
-
-/// A version that is released in an environment: its number, and its pacticipant.
-#[derive(Debug, Drop)]
-pub struct ReleasedNumber {
-    pub number: u32,
-    pub pacticipant: Name,
-}
-
-/// A version's number and its pacticipant.
-struct ReleasedNumberRow;
-
-impl ReadRow for ReleasedNumberRow {
-    type Item = ReleasedNumber;
-
-    ghost reads_as = { IsNumberOfReleased };
-
-    ghost fails_as = { FailsAsMarked };
-
-    fn read(alloc: Global, row: &Row) -> Result<ReleasedNumber, StoreFault> {
-        let number = number_in(row)?;
-        let pacticipant = name_in(alloc, row, 1)?;
-        Ok(ReleasedNumber {
-            number,
-            pacticipant,
-        })
-    }
-}
-
-/// A number.
-struct NumberRow;
-
-impl ReadRow for NumberRow {
-    type Item = u32;
-
-    ghost reads_as = { λ row number. column row 0 ≡ Int (pos number) };
-
-    ghost fails_as = { TellsNumber };
-
-    fn read(_alloc: Global, row: &Row) -> Result<u32, StoreFault> {
-        number_in(row)
-    }
-}
+use table_access::{NumberRow, StoreFault, list_of};
 
 /// The versions of the provider that are deployed in the environment, in no order; one that is in two instances is there
 /// twice.
@@ -77,16 +31,16 @@ fn deployed_partners<S: Alter>(
     )
 }
 
-/// The versions that are released in the environment, in no order, without their names.
+/// The versions that are released in the environment, in no order: the number of each, and its pacticipant.
 pub(crate) fn released_numbers<S: Alter>(
     alloc: Global,
     conn: &mut Connection<S>,
     environment: &str,
-) -> Result<Vec<ReleasedNumber>, StoreFault>
+) -> Result<Vec<NumberedName>, StoreFault>
     ensures { CalmQueries S.Store conn.old conn.new result
         (λ found s. AreReleasedThere s environment.now found.items) }
 {
-    list_of::<ReleasedNumberRow, S>(
+    list_of::<NumberedNameRow, S>(
         alloc,
         conn,
         "SELECT r.version_number, v.pacticipant FROM released r LEFT JOIN versions v ON v.number = r.version_number WHERE r.environment = ?1",
@@ -95,10 +49,10 @@ pub(crate) fn released_numbers<S: Alter>(
 }
 
 /// The number of the version, if it is one of the provider.
-fn number_if(released: &ReleasedNumber, provider: &Name) -> Option<u32>
+fn number_if(released: &NumberedName, provider: &Name) -> Option<u32>
     ensures { result ≡ number_if provider.now released.now }
 {
-    if released.pacticipant == *provider {
+    if released.name == *provider {
         Some(released.number)
     } else {
         None
@@ -108,7 +62,7 @@ fn number_if(released: &ReleasedNumber, provider: &Name) -> Option<u32>
 /// These numbers, and behind them those of the provider's versions among the released ones.
 fn with_released(
     deployed: Vec<u32>,
-    released: &[ReleasedNumber],
+    released: &[NumberedName],
     provider: &Name,
 ) -> Result<Vec<u32>, AllocError>
     ensures { IfOk result
@@ -128,7 +82,7 @@ pub(crate) fn partners<S: Alter>(
     alloc: Global,
     conn: &mut Connection<S>,
     environment: &str,
-    released: &[ReleasedNumber],
+    released: &[NumberedName],
     provider: &Name,
 ) -> Result<Vec<u32>, StoreFault>
     ensures { CalmQueries S.Store conn.old conn.new result

@@ -3,8 +3,8 @@ ghost use Rattle.std.specs.Prelude.{◌≡◌, Some, codes, [], ◌∷◌};
 ghost use Rattle.broker_core.specs.declared.command.Version.{Version as VersionModel};
 ghost use Rattle.broker_tables.specs.Holds.{Changes, ChangesAndAnswers};
 ghost use Rattle.broker_tables.specs.Calm.{CalmQueriesInPlace, IsCalmInPlace};
-ghost use Rattle.broker_tables.specs.Refusals.{IsCalmStoring};
-ghost use Rattle.broker_tables.specs.Numbers.{number_of as number_in};
+ghost use Rattle.broker_tables.specs.ChangeRefusals.{IsCalmStoring};
+ghost use Rattle.broker_tables.specs.Numbers.{number_of};
 ghost use Rattle.deploy_tables.specs.Releases.{IsVersion, FindsReleased, RecordsReleased, MayBeReleased, EndsSupport};
 
 use sqlite::{Alter, Connection, params};
@@ -62,7 +62,7 @@ pub fn end_support<S: Alter>(
 ) -> Result<bool, StoreFault>
     ensures ended { ChangesAndAnswers S.Store conn.old conn.new result
         (IsVersion number) (λ stood s t. EndsSupport environment.now number s t
-        × ((v : VersionModel) → number_in s.versions v ≡ Some number →
+        × ((v : VersionModel) → number_of s.versions v ≡ Some number →
         stood ≡ s.released (environment.now, v))) }
     ensures calm { IsCalmInPlace S.Store conn.old conn.new result }
 {

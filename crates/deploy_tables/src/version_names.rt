@@ -1,7 +1,7 @@
 //! The names of a version, by its number.
 ghost use Rattle.std.specs.Prelude.{◌≡◌, ◌↔◌, Some, Contains};
 ghost use Rattle.broker_core.specs.declared.command.Version.{Version as VersionModel};
-ghost use Rattle.broker_tables.specs.Numbers.{number_of as number_known};
+ghost use Rattle.broker_tables.specs.Numbers.{number_of};
 ghost use Rattle.broker_tables.specs.Calm.{CalmQueries, IsCalmFrom};
 ghost use Rattle.broker_tables.specs.Holds.{Queries};
 ghost use Rattle.deploy_tables.specs.Releases.{IsVersion, FindsVersion};
@@ -19,7 +19,7 @@ fn versions_numbered<S: Alter>(
     number: u32,
 ) -> Result<Vec<Version>, StoreFault>
     ensures { CalmQueries S.Store conn.old conn.new result
-        (λ found s. (w : VersionModel) → Contains found.items w ↔ (number_known s.versions w ≡ Some number)) }
+        (λ found s. (w : VersionModel) → Contains found.items w ↔ (number_of s.versions w ≡ Some number)) }
 {
     list_of::<VersionRow, S>(
         alloc,
@@ -54,7 +54,7 @@ pub(crate) fn version_numbered<S: Alter>(
     conn: &mut Connection<S>,
     number: u32,
 ) -> Result<Version, StoreFault>
-    ensures answers { Queries S.Store conn.old conn.new result (λ found s. number_known s.versions found ≡ Some number) }
+    ensures answers { Queries S.Store conn.old conn.new result (λ found s. number_of s.versions found ≡ Some number) }
     ensures calm { IsCalmFrom S.Store conn.old conn.new result (IsVersion number) }
 {
     match done!(find_version(alloc, conn, number)) {

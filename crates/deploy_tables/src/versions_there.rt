@@ -1,5 +1,5 @@
 //! The versions that are in an environment.
-ghost use Rattle.std.specs.Prelude.{◌≡◌, ◌++◌, IfOk, IfErr, Contains, map};
+ghost use Rattle.std.specs.Prelude.{◌≡◌, IfOk, Contains, map};
 ghost use Rattle.broker_core.specs.Gate.{Stands};
 ghost use Rattle.broker_core.specs.Listing.{Lists};
 ghost use Rattle.broker_core.specs.Machine.{version_cmp};
@@ -34,23 +34,6 @@ fn deployed_versions(alloc: Global, deployed: &[DeployedItem]) -> Result<Vec<Ver
         found.push(deployed_version(item)?)?;
     }
     Ok(found)
-}
-
-/// The versions that are deployed, and behind them the released ones. An `Err` is out of memory.
-fn all_versions(
-    alloc: Global,
-    deployed: &[DeployedItem],
-    released: Vec<Version>,
-) -> Result<Vec<Version>, StoreFault>
-    ensures all { IfOk result (λ all. all.items ≡ map deployed_version deployed.now ++ released.items) }
-    ensures cause { IfErr result (λ f. f ≡ StoreFault.Memory) }
-{
-    let mut all = match deployed_versions(alloc, deployed) {
-        Ok(found) => found,
-        Err(_) => return Err(StoreFault::Memory),
-    };
-    done!(add(&mut all, released));
-    Ok(all)
 }
 
 /// The order of two versions, by their names.
@@ -88,6 +71,10 @@ pub fn standing<S: Alter>(
 {
     let deployed = done!(deployed(alloc, conn, environment));
     let released = done!(released(alloc, conn, environment));
-    let all = done!(all_versions(alloc, &deployed, released));
+    let mut all = match deployed_versions(alloc, &deployed) {
+        Ok(found) => found,
+        Err(_) => return Err(StoreFault::Memory),
+    };
+    done!(add(&mut all, released));
     Ok(each_version_once(all))
 }

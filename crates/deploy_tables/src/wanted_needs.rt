@@ -3,24 +3,23 @@
 ghost use Rattle.std.specs.Prelude.{◌≡◌, ◌∷◌, [], ◌↔◌, IfOk, IfErr, Some, None, Contains, option_to_list};
 ghost use Rattle.broker_core.specs.declared.need.Need.{Need as NeedModel};
 ghost use Rattle.broker_core.specs.Gate.{IsNeed};
-ghost use Rattle.broker_core.specs.Text.{Text};
-ghost use Rattle.broker_tables.specs.Numbers.{number_of as number_known};
+ghost use Rattle.broker_tables.specs.Numbers.{number_of};
 ghost use Rattle.broker_tables.specs.Calm.{CalmQueries, IsCalmFrom};
 ghost use Rattle.broker_tables.specs.Holds.{Queries};
 ghost use Rattle.deploy_tables.specs.Matrix.{IsOfSome};
 ghost use Rattle.deploy_tables.specs.Releases.{IsVersion};
-ghost use Rattle.deploy_tables.specs.Partners.{AreNumbersOfVersions, AreAllPartners, AreReleasedThere, AreNumbered};
+ghost use Rattle.deploy_tables.specs.Partners.{AreNumbersOfVersions, AreReleasedThere, AreNumbered};
 ghost use Rattle.deploy_tables.specs.Needs.{AreLatestOf, AreOfVersions, is_good, is_left_out, need_with, need_used, IsWanted, IsWithPartner, IsNeedOfContract, IsOwnNeed, IsUsed, IsNeedOfOthers};
 
 use crate::contracts_there::{NumberedContract, contracts_there};
 use crate::lists::add;
-use crate::partners::{ReleasedNumber, partners, released_numbers};
+use crate::partners::{partners, released_numbers};
 use crate::version_names::version_numbered;
 use broker_core::command::Version;
 use broker_core::need::{Latest, Need};
 use broker_names::name::Name;
 use contract_tables::{
-    Contract, LatestResult, contracts_of, latest_among, latest_of, latest_results,
+    Contract, LatestResult, NumberedName, contracts_of, latest_among, latest_of, latest_results,
 };
 use sqlite::{Alter, Connection};
 use std::alloc::{AllocError, Global};
@@ -167,33 +166,13 @@ fn with_partners<S: Alter>(
     Ok(found)
 }
 
-/// The needs of the contract that are wanted, where these versions of its provider are in the environment.
-fn with_all<S: Alter>(
-    alloc: Global,
-    conn: &mut Connection<S>,
-    version: &Version,
-    contract: &Contract,
-    there: &[u32],
-    wanted: Wanted,
-) -> Result<Vec<Need>, StoreFault>
-    ensures answers { Queries S.Store conn.old conn.new result
-        (λ found s. (e : Text) → AreAllPartners s e contract.now.provider there.now → (x : NeedModel) →
-        Contains found.items x ↔ IsNeedOfContract s version.now e wanted contract.now x) }
-    ensures calm { IsCalmFrom S.Store conn.old conn.new result (λ s. AreNumbersOfVersions s there.now) }
-{
-    if there.is_empty() {
-        return absent(alloc, version, &contract.provider);
-    }
-    with_partners(alloc, conn, version, contract, there, wanted)
-}
-
 /// The needs of the contract that are wanted, where these versions are released in the environment.
 fn needs_of_contract<S: Alter>(
     alloc: Global,
     conn: &mut Connection<S>,
     version: &Version,
     environment: &str,
-    released: &[ReleasedNumber],
+    released: &[NumberedName],
     contract: &Contract,
     wanted: Wanted,
 ) -> Result<Vec<Need>, StoreFault>
@@ -204,7 +183,10 @@ fn needs_of_contract<S: Alter>(
         (λ s. AreReleasedThere s environment.now released.now) }
 {
     let there = done!(partners(alloc, conn, environment, released, &contract.provider));
-    with_all(alloc, conn, version, contract, &there, wanted)
+    if there.is_empty() {
+        return absent(alloc, version, &contract.provider);
+    }
+    with_partners(alloc, conn, version, contract, &there, wanted)
 }
 
 /// The needs of these contracts that are wanted, where these versions are released in the environment.
@@ -213,7 +195,7 @@ fn needs_of_contracts<S: Alter>(
     conn: &mut Connection<S>,
     version: &Version,
     environment: &str,
-    released: &[ReleasedNumber],
+    released: &[NumberedName],
     contracts: &[Contract],
     wanted: Wanted,
 ) -> Result<Vec<Need>, StoreFault>
@@ -249,7 +231,7 @@ fn own_needs<S: Alter>(
     wanted: Wanted,
 ) -> Result<Vec<Need>, StoreFault>
     ensures { CalmQueries S.Store conn.old conn.new result
-        (λ found s. AreNumbered s environment.now × (number_known s.versions version.now ≡ Some number →
+        (λ found s. AreNumbered s environment.now × (number_of s.versions version.now ≡ Some number →
         (x : NeedModel) → Contains found.items x ↔ IsOwnNeed s version.now environment.now wanted x)) }
 {
     let contracts = done!(contracts_of(alloc, conn, number));
@@ -345,7 +327,7 @@ fn needs_of_others<S: Alter>(
     wanted: Wanted,
 ) -> Result<Vec<Need>, StoreFault>
     ensures { CalmQueries S.Store conn.old conn.new result
-        (λ found s. number_known s.versions version.now ≡ Some number → (x : NeedModel) →
+        (λ found s. number_of s.versions version.now ≡ Some number → (x : NeedModel) →
         Contains found.items x ↔ IsNeedOfOthers s version.now environment.now wanted x) }
 {
     let contracts = done!(contracts_there(alloc, conn, environment, version.pacticipant.as_str()));
@@ -363,7 +345,7 @@ pub(crate) fn wanted_needs<S: Alter>(
     wanted: Wanted,
 ) -> Result<Vec<Need>, StoreFault>
     ensures { CalmQueries S.Store conn.old conn.new result
-        (λ found s. number_known s.versions version.now ≡ Some number → (x : NeedModel) →
+        (λ found s. number_of s.versions version.now ≡ Some number → (x : NeedModel) →
         Contains found.items x ↔ (IsNeed s version.now environment.now x × IsWanted wanted x)) }
 {
     let mut found = done!(own_needs(alloc, conn, number, version, environment, wanted));

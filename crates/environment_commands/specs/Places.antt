@@ -14,7 +14,7 @@ use Rattle.broker_core.specs.declared.policy.Caller.{Caller}
 use Rattle.broker_core.specs.declared.policy.Rule.{Rule}
 use Rattle.broker_core.specs.declared.policy.Rule.TheVariants.{A6, A7}
 use Rattle.broker_tables.specs.Numbers.{number_of}
-use Rattle.broker_tables.specs.Refusals.{AreShort}
+use Rattle.broker_tables.specs.ChangeRefusals.{AreShort}
 use Rattle.caller_facts.specs.Owners.{IsOwnerRead}
 use Rattle.deploy_tables.specs.Deployments.{IsEnvironment}
 use Rattle.environment_commands.specs.declared.places.Admitted.{Admitted}

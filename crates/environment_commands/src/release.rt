@@ -3,7 +3,7 @@ ghost use Rattle.std.specs.Prelude.{[], ◌∷◌};
 ghost use Rattle.sqlite.specs.Held.{state};
 ghost use Rattle.table_access.specs.Calls.{TellsMemory};
 ghost use Rattle.broker_core.specs.declared.command.Command.TheVariants.{Release};
-ghost use Rattle.broker_tables.specs.Refusals.{AreShort};
+ghost use Rattle.broker_tables.specs.ChangeRefusals.{AreShort};
 ghost use Rattle.command_facts.specs.Performs.{Carries, CarriesFrom};
 ghost use Rattle.environment_commands.specs.Effects.{CarriesOut, Releases};
 ghost use Rattle.environment_commands.specs.Places.{HasNumber, HasPlace, IsAdmitted};

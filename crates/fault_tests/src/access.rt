@@ -3,7 +3,7 @@ use sqlite::{Alter, Connection, MemStore, Row, params};
 use std::alloc::Global;
 use std::test::Fail;
 use table_access::{
-    ReadRow, StoreFault, begin, change, commit, has_row, list_of, number_of, rollback, text_of,
+    ReadRow, StoreFault, begin, change, commit, find_number, find_text, has_row, list_of, rollback,
 };
 
 fn fail_of(fault: StoreFault) -> Fail {
@@ -71,7 +71,7 @@ fn texts<S: Alter>(alloc: Global, conn: &mut Connection<S>) -> Result<String, Fa
 
 /// The text of the word of this number.
 fn text_by(conn: &mut Connection<MemStore>, number: u32) -> Result<Option<String>, StoreFault> {
-    text_of(
+    find_text(
         conn,
         "SELECT text FROM word WHERE number = ?1",
         params![number],
@@ -80,7 +80,7 @@ fn text_by(conn: &mut Connection<MemStore>, number: u32) -> Result<Option<String
 
 /// The number of the word of this text.
 fn number_by(conn: &mut Connection<MemStore>, text: &str) -> Result<Option<u32>, StoreFault> {
-    number_of(
+    find_number(
         conn,
         "SELECT number FROM word WHERE text = ?1",
         params![text],
@@ -108,7 +108,7 @@ fn reads_and_writes(rt: HostRuntime) -> Result<(), Fail> {
     assert!(rt; is_text(text_by(&mut conn, 4294967295), Some("it's \"x\" é")));
     assert!(rt; number_by(&mut conn, "it's \"x\" é") == Ok(Some(4294967295)));
     assert!(rt;
-        number_of(
+        find_number(
             &mut conn,
             "SELECT number FROM word WHERE text = 'none'",
             &[]
@@ -140,11 +140,13 @@ fn tells_store(rt: HostRuntime) -> Result<(), Fail> {
     put(&mut conn, 1, "a").map_err(fail_of)?;
     assert!(rt; put(&mut conn, 2, "a") == Err(StoreFault::Store));
     assert!(rt; put(&mut conn, 1, "b") == Err(StoreFault::Store));
-    assert!(rt; number_of(&mut conn, "SELECT text FROM word", &[]) == Err(StoreFault::Store));
-    assert!(rt; number_of(&mut conn, "SELECT number - 2 FROM word", &[]) == Err(StoreFault::Store));
-    assert!(rt; number_of(&mut conn, "SELECT 4294967296", &[]) == Err(StoreFault::Store));
+    assert!(rt; find_number(&mut conn, "SELECT text FROM word", &[]) == Err(StoreFault::Store));
     assert!(rt;
-        text_of(&mut conn, "SELECT number FROM word", &[]).map(|_| ()) == Err(StoreFault::Store)
+        find_number(&mut conn, "SELECT number - 2 FROM word", &[]) == Err(StoreFault::Store)
+    );
+    assert!(rt; find_number(&mut conn, "SELECT 4294967296", &[]) == Err(StoreFault::Store));
+    assert!(rt;
+        find_text(&mut conn, "SELECT number FROM word", &[]).map(|_| ()) == Err(StoreFault::Store)
     );
     assert!(rt; has_row(&mut conn, "SELECT number FROM words", &[]) == Err(StoreFault::Store));
     assert!(rt; !conn.is_autocommit());

@@ -2,4 +2,3 @@ mod LinesLemmas
 pub mod MessagesLemmas
 mod OptionsLemmas
 mod ReadingLemmas
-mod WaitLemmas

@@ -7,7 +7,7 @@ ghost use Rattle.http_responses.specs.Responses.{refusal_status, refusal_text, r
 use crate::head::{HEAD_CAPACITY, write_head};
 use crate::whole::write_whole;
 use crate::writing::{FallibleWrite, WriteFault};
-use answer_texts::Answer;
+use answer_texts::RenderedAnswer;
 use http::StatusCode;
 use http_messages::head::Refusal;
 use http_routes::Resource;
@@ -187,7 +187,7 @@ pub fn write_no_method<W: FallibleWrite>(
 pub fn write_answer<W: FallibleWrite>(
     writer: &mut W,
     head_buffer: &mut Vec<u8>,
-    answer: &Answer,
+    answer: &RenderedAnswer,
     closes: bool,
 ) -> Result<bool, WriteFault>
     requires capacity { HEAD_CAPACITY ≤ vec_capacity head_buffer.old }

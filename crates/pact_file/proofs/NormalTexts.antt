@@ -2,8 +2,8 @@
 use Rattle.std.proofs.Common.{◌≡◌, ℕ, zero, suc, ◌+◌, ◌≤◌, ◌<◌, nat_le, List, Bool, ◌∷◌, ◌++◌, map, codes, true, false, Option, Some, None, MatchOption, refl, sym, ap, ap₂, ◌∙◌, length, get_or, drop, append_assoc, length-append, add-one, le-leb, arith}
 use Rattle.std.proofs.{lemmas.Bool.{lt-leb, or_parts}, lemmas.List.{drop_all}}
 use Rattle.json.specs.Print.{quoted, escape_byte}
-use Rattle.serde_json.specs.{Data.{Data, Items, no_items, item}, Read.{read}, View.{items_of}}
-use Rattle.serde_json.{specs.Written.{compact_text, items_text, comma_if, has_float, items_have_float}, proofs.OnLiterals.{serde_json_on_literals}}
+use Rattle.serde_json.specs.{Data.{Data, Items, no_items, item}, Read.{read}, View.{items_of}, Written.{compact_text, items_text, comma_if, has_float}}
+use Rattle.serde_json.proofs.OnLiterals.{serde_json_on_literals}
 use Rattle.pact_file.specs.{File.{most_bytes}, Pact.{State, Interaction, interaction_with, state_data, states_data, interaction_data, pact_with, normal_text}}
 use Rattle.pact_file.{specs.{Sound.{IsSound}, Texts.{text_of_parts, interaction_of_text, interactions_text, item_length, pact_length}}, proofs.Lists.{left_at}}
 use Rattle.pact_file.proofs.{ReadBack.{read-compact_text}, SoundData.{kept, whole, shallow}}
@@ -52,11 +52,6 @@ module _ {A : Type 0} (value : A → Data) where
   pub nothing : (xs : List A) (i : ℕ) → length xs ≤ i → left i (drop i xs) ≡ codes "]"
   nothing xs i all = ap (left i) (drop_all i xs all)
 
--- the next of a list without fractions has none, nor have those behind it
-pub none_next : (xs : List State) (i : ℕ) (x : State) → i < length xs → x ≡ get_or xs i x → items_have_float (items_of (map state_data (drop i xs))) ≡ false
-    → (has_float (state_data x) ≡ false) × (items_have_float (items_of (map state_data (drop (i + 1) xs))) ≡ false)
-none_next xs i x lt is h = or_parts _ _ (sym (ap (λ ys. items_have_float (items_of (map state_data ys))) (left_at xs i x lt is)) ∙ h)
-
 -- ---- a state
 
 pub state_text : (n q : List ℕ) (s : State) → q ≡ quoted n → ◌≡◌ {A = State} (record { name = n; params = None }) s → codes "{\"name\":" ++ (q ++ codes "}") ≡ compact_text (state_data s)
@@ -85,17 +80,6 @@ pact_text c p s xs h =
     ∙ ap (λ t. codes "{\"consumer\":{\"name\":" ++ t) (sym (append_assoc (quoted c) (codes "}") (codes ",\"interactions\":[" ++ (items ++ last))))
 
 -- ---- lengths
-
-pub item_first : (i : ℕ) (text : List ℕ) → i ≡ 0 → item_length i text ≡ length text
-item_first i text h = ap (λ j. item_length j text) h
-
-pub item_later : (i : ℕ) (text : List ℕ) → 0 < i → item_length i text ≡ length text + 1
-item_later zero text h = absurd (omega (arith, h))
-item_later (suc i) text h = omega arith
-
-pub item_least : (i : ℕ) (text : List ℕ) → length text ≤ item_length i text
-item_least zero text = omega arith
-item_least (suc i) text = omega arith
 
 one_more : (n a b : ℕ) → n ≡ a + b → suc n ≡ suc a + b
 one_more n a b h = omega (arith, h)

@@ -4,8 +4,7 @@ use Rattle.std.proofs.Common.{◌≡◌, arith, Bool, true, false, cond, is_some
 use Rattle.std.proofs.lemmas.Str.{is_utf8-from_IsUtf8, IsUtf8-from_is_utf8}
 use Rattle.serde_json.specs.{Data.{Data, depth}, Read.{read}, Find.{as_object}, Written.{has_float}, View.{view}, declared.value.Value.{Value}}
 use Rattle.serde_json.proofs.OnLiterals.{serde_json_on_literals}
-use Rattle.pact_rules.specs.{declared.tree.TreeFault.{TreeFault}, declared.tree.TreeFault.TheVariants.{NotWhole, TooDeep}, Outcome.{guard, Gives}}
-use Rattle.pact_rules.specs.Trees.{checked_tree}
+use Rattle.pact_rules.specs.{declared.tree.TreeFault.TheVariants.{NotWhole, TooDeep}, Outcome.{guard, Gives}, Trees.{checked_tree}}
 use Rattle.pact_file.specs.{File.{as_file_fault}, Objects.{IsSomeText, json_of, tree_or_fault, object_of, with_fault}, Sound.{IsSound}}
 use Rattle.pact_file.specs.{declared.fault.PactFault.{PactFault}, declared.fault.PactFault.TheVariants.{Memory as PactMemory}}
 use Rattle.pact_file.specs.{declared.object.FileFault.{FileFault}, declared.object.FileFault.TheVariants.{NotJson, NotObject, Memory}}
@@ -59,11 +58,6 @@ json_text (b ∷ bs) d e = (IsUtf8-from_is_utf8 (b ∷ bs) (json_case (is_utf8 (
 pub of_text : (bytes text : List ℕ) (r : Result Value FileFault) → text ≡ bytes → IsUtf8 bytes → Gives Memory view r (ok_or (read text) NotJson) → Gives Memory view r (json_of bytes)
 unfolding json_of
 of_text bytes text r is utf8 h = rw (is_utf8-from_IsUtf8 bytes utf8) (subst (λ t. Gives Memory view r (ok_or (read t) NotJson)) is h)
-
--- a value that is no tree isn't told as want of memory
-pub tree_apart : (r : Result ⊤ TreeFault) (e : FileFault) → Err e ≡ tree_or_fault r → e ≡ Memory → ⊥
-tree_apart (Ok x) e h is = absurd cc
-tree_apart (Err f) e h is = absurd cc
 
 -- what follows of want of memory follows where it is the other fault
 pub memory_as : {A B P : Type 0} (e : FileFault) (fault : PactFault) → fault ≡ as_file_fault e → (◌≡◌ {A = Result A FileFault} (Err e) (Err Memory) → P) → ◌≡◌ {A = Result B PactFault} (Err fault) (Err PactMemory) → P

@@ -1,20 +1,19 @@
 -- What a reading that succeeds went through, and that what is read of sound data is sound.
 use Rattle.std.specs.{Prelude.{⊤}, Option.{ok_or}}
-use Rattle.std.proofs.Common.{◌≡◌, inl, inr, ℕ, ◌+◌, nat_le, List, [], ◌∷◌, length, map, codes, Bool, cond, is_some, Some, None, option_and_then, Result, Ok, Err, refl, sym, ap, ◌∙◌, subst, ⊎_elim, arith}
+use Rattle.std.proofs.Common.{◌≡◌, inl, inr, ℕ, ◌+◌, nat_le, List, [], ◌∷◌, length, map, codes, is_some, Some, None, option_and_then, Result, Ok, Err, refl, sym, ap, ◌∙◌, subst, ⊎_elim}
 use Rattle.serde_json.specs.{declared.value.Value.{Value}, Data.{Data, Items, no_items, item}, Events.{items_len}, Find.{get, as_array, as_object}}
 use Rattle.serde_json.specs.View.{view, items_view, items_of}
 use Rattle.pact_rules.specs.{Reading.{◌>>=◌, just, EachRead, GivesOne}, Lists.{IsIn}, Rules.{no_rules, Rules as Table}, RuleReading.{IsReading}}
 use Rattle.pact_rules.specs.{Outcome.{guard, Gives}, declared.rule_fault.RuleFault.{RuleFault}}
 use Rattle.pact_file.specs.declared.fault.Part.TheVariants.{Headers, Whole, Description, States, Request, Response, Status}
-use Rattle.pact_file.specs.{File.{most_bytes, most_interactions, as_file_fault, file_of, sides_of, items_of as items_at, seen_of}, Interactions.{at, parts_at}}
-use Rattle.pact_file.specs.{Headers.{HeadersRead}, Normal.{InteractionRead, InteractionsRead, PactRead, Normal, if_short}}
-use Rattle.pact_file.specs.Pact.{Interaction, Pact, interaction_data, pact_with, normal_text}
+use Rattle.pact_file.specs.{File.{most_bytes, most_interactions, as_file_fault, file_of, items_of as items_at}, Interactions.{at, parts_at}}
+use Rattle.pact_file.specs.{Headers.{HeadersRead}, Normal.{InteractionRead, InteractionsRead, PactRead, Normal}, Pact.{Interaction, Pact, interaction_data}}
 use Rattle.pact_file.specs.{Parts.{text_at, object_at, states_in, status_in, listed, optional_at}, Rules.{TableRead, rules_or_fault, RulesRead, IsRulesOf}}
 use Rattle.pact_file.specs.{Sound.{IsSound, AreSound}, PartsView.{as_pact_fault}, declared.fault.PactFault.{PactFault}}
 use Rattle.pact_file.specs.{declared.fault.PactFault.TheVariants.{Memory, Rules, Shape, TooLong, TooMany}, declared.fault.Place.TheVariants.{Interactions}}
 use Rattle.pact_file.specs.Objects.{IsSomeText, json_of, object_of}
 use Rattle.pact_file.proofs.SoundParts.{of_get, object_there, of_object_at, of_text_at, of_array, of_states, of_parts}
-use Rattle.pact_file.proofs.{Steps.{bind_ok, bind_second, first_of, found_ok, ok_same, then_some}, Objects.{object_ok, object_sound, json_text}}
+use Rattle.pact_file.proofs.{Steps.{bind_ok, found_ok, ok_same, then_some}, Objects.{object_ok, object_sound, json_text}}
 use Rattle.pact_rules.specs.declared.rule_fault.RuleFault.TheVariants as rule_fault
 
 -- ---- rules
@@ -129,10 +128,6 @@ unfolding Normal
 of_file bytes d (Ok p) is h = (Ok d, is, h)
 of_file bytes d (Err e) is h = λ memory. (Ok d, is, h memory)
 
--- what is looked at first
-pub seen_items : (file : Data) (sides : List ℕ × List ℕ) (d : PactFault) → sides_of file ≡ Ok sides → seen_of file ≡ Err d → items_at file ≡ Err d
-seen_items file sides d h k = first_of (items_at file) d (bind_second (sides_of file) _ sides d h k)
-
 pub items_sound : (file : Data) (ds : List Data) → IsSound 100 file → items_at file ≡ Ok ds → AllSound ds
 unfolding items_at
 items_sound file ds h e =
@@ -164,8 +159,3 @@ interactions_sound file xs h r =
     known_sound xs (λ z m. each z (found.2.1.known z m))
 
 -- ---- the length of the normal text
-
--- of a pact whose interactions were passed as a slice
-pub short_is : (c q : List ℕ) (xs ys : List Interaction) (b t : Bool) → ys ≡ xs → b ≡ nat_le (length (normal_text (pact_with c q ys))) most_bytes → b ≡ t
-    → if_short (pact_with c q xs) ≡ cond t (Ok (pact_with c q xs)) (Err TooLong)
-short_is c q xs ys b t same is h = ap (λ u. cond u (Ok (pact_with c q xs)) (Err TooLong)) (ap (λ zs. nat_le (length (normal_text (pact_with c q zs))) most_bytes) (sym same) ∙ sym is ∙ h)

@@ -1,6 +1,5 @@
 -- What a read that succeeds went through.
-use Rattle.std.specs.{Prelude.{⊤}, Option.{ok_or}}
-use Rattle.std.proofs.Common.{◌≡◌, Bool, true, false, Option, Some, None, option_map, option_and_then, Result, Ok, Err, refl, sym, ap, ◌∙◌}
+use Rattle.std.{specs.Option.{ok_or}, proofs.Common.{◌≡◌, Bool, true, false, Option, Some, None, option_map, option_and_then, Result, Ok, Err, refl}}
 use Rattle.std.proofs.lemmas.Option.{same_Some}
 use Rattle.pact_rules.specs.Outcome.{◌>>=◌, guard}
 
@@ -32,19 +31,6 @@ err_same x y h = cc
 
 pub ok_err : {A F : Type 0} {P : Type 0} (x : A) (y : F) (h : Path (Result A F) (Ok x) (Err y)) → P
 ok_err x y h = absurd cc
-
--- where the first step fails, that is the fault of both; where it succeeds, the fault is that of the second
-pub bind_first : {A B F : Type 0} (r : Result A F) (f : A → Result B F) (e d : F) → r ≡ Err e → (r >>= f) ≡ Err d → e ≡ d
-bind_first (Ok x) f e d h k = ok_err x e h
-bind_first (Err c) f e d h k = cc
-
-pub bind_second : {A B F : Type 0} (r : Result A F) (f : A → Result B F) (x : A) (d : F) → r ≡ Ok x → (r >>= f) ≡ Err d → f x ≡ Err d
-bind_second (Ok y) f x d h k = ap f (sym (ok_same y x h)) ∙ k
-bind_second (Err c) f x d h k = absurd cc
-
-pub first_of : {A F : Type 0} (r : Result A F) (d : F) → ◌≡◌ {A = Result ⊤ F} (r >>= (λ x. Ok tt)) (Err d) → r ≡ Err d
-first_of (Ok x) d h = ok_err tt d h
-first_of (Err e) d h = ap Err (err_same e d h)
 
 pub map_some : {A B : Type 0} (f : A → B) (o : Option A) (y : B) → option_map f o ≡ Some y → (x : A) × (o ≡ Some x) × (f x ≡ y)
 map_some f None y h = absurd cc

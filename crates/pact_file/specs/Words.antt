@@ -8,8 +8,14 @@ use Rattle.pact_file.specs.declared.fault.PactFault.{PactFault}
 use Rattle.pact_file.specs.declared.fault.PactFault.TheVariants.{TooLong, NotJson, Shape, Version, Messages, Tree, Rules, SameInteraction, TooMany, SelfContract, Memory}
 use Rattle.pact_file.specs.declared.fault.Place.{Place}
 use Rattle.pact_file.specs.declared.fault.Place.TheVariants.{File, Consumer, ConsumerName, Provider, ProviderName, Interactions, Interaction}
+use Rattle.pact_file.specs.declared.fault.TextParts.{TextParts}
+use Rattle.pact_file.specs.declared.fault.TextParts.TheVariants.{Plain, Numbered}
 use Rattle.pact_file.specs.declared.fault.Part.{Part}
 use Rattle.pact_file.specs.declared.fault.Part.TheVariants.{Whole, Description, States, Request, Response, Status, Headers}
+
+abbrev pub parts_text : TextParts → List ℕ
+parts_text (Plain text) = text.now
+parts_text (Numbered front number behind end) = front.now ++ (decimal number ++ (behind.now ++ end.now))
 
 -- a part of an interaction or of a recorded reply: nothing of it as a whole
 abbrev pub part_text : Part → List ℕ

@@ -1,11 +1,36 @@
 //! Why a pact file is refused.
 
-ghost use Rattle.std.specs.Prelude.{◌≡◌, string_bytes, IfOk};
-ghost use Rattle.pact_file.specs.Words.{rule_number as number_of, number_text};
+ghost use Rattle.std.specs.Prelude.{◌≡◌, ◌++◌, codes, string_bytes, IfOk};
+ghost use Rattle.pact_file.specs.Words.{number_text, part_text, parts_text, place_text};
 
 use pact_rules::{RuleFault, TreeFault};
 use std::alloc::{AllocError, AllocFailed, Global};
 use std::{error, fmt};
+
+/// A text in parts, so that it takes no memory to tell it.
+#[derive(Clone, Copy, Drop)]
+pub enum TextParts<'a> {
+    /// A text without a number.
+    Plain(&'a str),
+    /// What is before a number, the number, what is behind it, and the end.
+    Numbered(&'static str, usize, &'static str, &'a str),
+}
+
+impl fmt::Display for TextParts<'_> {
+    ghost use Rattle.std.specs.Prelude.{Some};
+    ghost use Rattle.pact_file.specs.Words.{parts_text};
+
+    ghost output = { λ parts. Some (parts_text parts) };
+
+    fn fmt<W: fmt::Write>(&self, f: &mut fmt::Formatter<W>) -> fmt::Result {
+        match self {
+            TextParts::Plain(text) => f.write_str(text),
+            TextParts::Numbered(front, number, behind, end) => {
+                write!(f, "{}{}{}{}", *front, *number, *behind, *end)
+            }
+        }
+    }
+}
 
 /// A part of an interaction, or of a recorded reply.
 #[derive(Clone, Copy, Debug, PartialEq, Eq)]
@@ -26,14 +51,12 @@ pub enum Part {
     Headers,
 }
 
-impl fmt::Display for Part {
-    ghost use Rattle.std.specs.Prelude.{Some};
-    ghost use Rattle.pact_file.specs.Words.{part_text};
-
-    ghost output = { λ part. Some (part_text part) };
-
-    fn fmt<W: fmt::Write>(&self, f: &mut fmt::Formatter<W>) -> fmt::Result {
-        f.write_str(match self {
+impl Part {
+    /// The part's name behind a dot; nothing of it as a whole.
+    pub fn text(self) -> &'static str
+        ensures { result.now ≡ part_text self }
+    {
+        match self {
             Part::Whole => "",
             Part::Description => ".description",
             Part::States => ".providerStates",
@@ -41,7 +64,7 @@ impl fmt::Display for Part {
             Part::Response => ".response",
             Part::Status => ".status",
             Part::Headers => ".headers",
-        })
+        }
     }
 }
 
@@ -62,28 +85,6 @@ pub enum Place {
     Interactions,
     /// The interaction at a place in the file, from 0, and its part.
     Interaction(usize, Part),
-}
-
-impl fmt::Display for Place {
-    ghost use Rattle.std.specs.Prelude.{Some};
-    ghost use Rattle.pact_file.specs.Words.{place_text};
-
-    ghost output = { λ place. Some (place_text place) };
-
-    fn fmt<W: fmt::Write>(&self, f: &mut fmt::Formatter<W>) -> fmt::Result {
-        let text = match self {
-            Place::File => "file",
-            Place::Consumer => "consumer",
-            Place::ConsumerName => "consumer.name",
-            Place::Provider => "provider",
-            Place::ProviderName => "provider.name",
-            Place::Interactions => "interactions",
-            Place::Interaction(index, part) => {
-                return write!(f, "interactions[{}]{}", *index, *part);
-            }
-        };
-        f.write_str(text)
-    }
 }
 
 /// The first fault of a pact file, in this order: too long, no JSON, no tree, no object, the version, messages, the
@@ -115,57 +116,41 @@ pub enum PactFault {
     Memory,
 }
 
-/// The number of a fault of rules.
-fn rule_number(fault: &RuleFault) -> &'static str
-    ensures { result.now ≡ number_of fault.now }
+/// The number of a place where a file hasn't the shape of a pact, and the place.
+fn place_parts(place: Place) -> TextParts<'static>
+    ensures { parts_text result ≡ codes "3 " ++ place_text place }
 {
-    match fault {
-        RuleFault::Form => "1",
-        RuleFault::OldRules => "2",
-        RuleFault::BadPath => "3",
-        RuleFault::SamePathTwice => "4",
-        RuleFault::Unsupported(_) => "5",
-        RuleFault::BadBound => "6",
-        RuleFault::Pattern => "7",
-        RuleFault::BadCombine => "8",
-        RuleFault::Memory => "9",
+    match place {
+        Place::File => TextParts::Plain("3 file"),
+        Place::Consumer => TextParts::Plain("3 consumer"),
+        Place::ConsumerName => TextParts::Plain("3 consumer.name"),
+        Place::Provider => TextParts::Plain("3 provider"),
+        Place::ProviderName => TextParts::Plain("3 provider.name"),
+        Place::Interactions => TextParts::Plain("3 interactions"),
+        Place::Interaction(index, part) => {
+            TextParts::Numbered("3 interactions[", index, "]", part.text())
+        }
     }
 }
 
-/// The number of a fault of a pact file, and what follows it.
-#[derive(Drop)]
-struct Number<'a> {
-    fault: &'a PactFault,
-}
-
-impl fmt::Display for Number<'_> {
-    ghost use Rattle.std.specs.Prelude.{Some};
-    ghost use Rattle.pact_file.specs.Words.{number_text};
-
-    ghost output = { λ number. Some (number_text number.fault.now) };
-
-    fn fmt<W: fmt::Write>(&self, f: &mut fmt::Formatter<W>) -> fmt::Result {
-        let number = match self.fault {
-            PactFault::TooLong => "1",
-            PactFault::NotJson => "2",
-            PactFault::Shape(place) => return write!(f, "3 {}", *place),
-            PactFault::Version => "4",
-            PactFault::Messages => "5",
-            PactFault::Tree(TreeFault::NotWhole) => "6.1",
-            PactFault::Tree(TreeFault::TooDeep) => "6.2",
-            PactFault::Rules(index, RuleFault::Unsupported(name)) => {
-                return write!(f, "7.5 interactions[{}] {}", *index, name.as_str());
-            }
-            PactFault::Rules(index, fault) => {
-                return write!(f, "7.{} interactions[{}]", rule_number(fault), *index);
-            }
-            PactFault::SameInteraction => "8",
-            PactFault::TooMany => "9",
-            PactFault::SelfContract => "10",
-            PactFault::Memory => "11",
-        };
-        f.write_str(number)
-    }
+/// The number of a fault of an interaction's rules, the interaction's place, and the name of what isn't supported.
+fn rules_parts(index: usize, fault: &RuleFault) -> TextParts<'_>
+    ensures { parts_text result ≡ number_text (PactFault.Rules index fault.now) }
+{
+    let front = match fault {
+        RuleFault::Form => "7.1 interactions[",
+        RuleFault::OldRules => "7.2 interactions[",
+        RuleFault::BadPath => "7.3 interactions[",
+        RuleFault::SamePathTwice => "7.4 interactions[",
+        RuleFault::Unsupported(name) => {
+            return TextParts::Numbered("7.5 interactions[", index, "] ", name.as_str());
+        }
+        RuleFault::BadBound => "7.6 interactions[",
+        RuleFault::Pattern => "7.7 interactions[",
+        RuleFault::BadCombine => "7.8 interactions[",
+        RuleFault::Memory => "7.9 interactions[",
+    };
+    TextParts::Numbered(front, index, "]", "")
 }
 
 impl fmt::Display for PactFault {
@@ -177,7 +162,7 @@ impl fmt::Display for PactFault {
     fn fmt<W: fmt::Write>(&self, f: &mut fmt::Formatter<W>) -> fmt::Result {
         match self {
             PactFault::Memory => f.write_str("memory"),
-            fault => write!(f, "pact {}", Number { fault }),
+            fault => write!(f, "pact {}", fault.parts()),
         }
     }
 }
@@ -185,12 +170,31 @@ impl fmt::Display for PactFault {
 impl error::Error for PactFault {}
 
 impl PactFault {
-    /// The fault's number and, if it helps, the place after a space: what follows `pact ` in the fault's text. An error
-    /// means out of memory.
+    /// The fault's number and, if it helps, the place after a space: what follows `pact ` in the fault's text.
+    pub fn parts(&self) -> TextParts<'_>
+        ensures { parts_text result ≡ number_text self.now }
+    {
+        match self {
+            PactFault::TooLong => TextParts::Plain("1"),
+            PactFault::NotJson => TextParts::Plain("2"),
+            PactFault::Shape(place) => place_parts(*place),
+            PactFault::Version => TextParts::Plain("4"),
+            PactFault::Messages => TextParts::Plain("5"),
+            PactFault::Tree(TreeFault::NotWhole) => TextParts::Plain("6.1"),
+            PactFault::Tree(TreeFault::TooDeep) => TextParts::Plain("6.2"),
+            PactFault::Rules(index, fault) => rules_parts(*index, fault),
+            PactFault::SameInteraction => TextParts::Plain("8"),
+            PactFault::TooMany => TextParts::Plain("9"),
+            PactFault::SelfContract => TextParts::Plain("10"),
+            PactFault::Memory => TextParts::Plain("11"),
+        }
+    }
+
+    /// The text of the parts. An error means out of memory.
     pub fn number(&self, alloc: Global) -> Result<String, AllocError>
         ensures { IfOk result (λ s. string_bytes s ≡ number_text self.now) }
     {
-        format!(in alloc; "{}", Number { fault: self })
+        format!(in alloc; "{}", self.parts())
     }
 }
 

@@ -13,7 +13,7 @@ mod read;
 mod state;
 mod texts;
 
-pub use fault::{PactFault, Part, Place};
+pub use fault::{PactFault, Part, Place, TextParts};
 pub use headers::read_headers;
 pub use object::{FileFault, read_object};
 pub use pact::{Header, Interaction, Pact};

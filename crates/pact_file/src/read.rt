@@ -116,12 +116,8 @@ fn read_side<'a>(
 ) -> Result<&'a str, PactFault>
     ensures { GivesAlways (λ s. s.now) result (side_of key.now side its_name (view file.now)) }
 {
-    let Some(found) = object_member(file, key) else {
-        return Err(PactFault::Shape(side));
-    };
-    let Some(name) = text_member(found, "name") else {
-        return Err(PactFault::Shape(its_name));
-    };
+    let found = object_member(file, key).ok_or(PactFault::Shape(side))?;
+    let name = text_member(found, "name").ok_or(PactFault::Shape(its_name))?;
     if !Name::is_valid(name) {
         return Err(PactFault::Shape(its_name));
     }
@@ -171,9 +167,7 @@ fn is_few(items: &Vec<Value>) -> bool
 fn items_in(file: &Value) -> Result<&Vec<Value>, PactFault>
     ensures { GivesAlways (λ v. map view v.now.items) result (items_of (view file.now)) }
 {
-    let Some(items) = list_member(file, "interactions") else {
-        return Err(PactFault::Shape(Place::Interactions));
-    };
+    let items = list_member(file, "interactions").ok_or(PactFault::Shape(Place::Interactions))?;
     if !is_few(items) {
         return Err(PactFault::TooMany);
     }
@@ -185,9 +179,7 @@ fn items_in(file: &Value) -> Result<&Vec<Value>, PactFault>
 fn take_items(file: Value) -> Result<Vec<Value>, PactFault>
     ensures { GivesAlways (λ v. map view v.items) result (items_of (view file)) }
 {
-    let Some(items) = take_list(file, "interactions") else {
-        return Err(PactFault::Shape(Place::Interactions));
-    };
+    let items = take_list(file, "interactions").ok_or(PactFault::Shape(Place::Interactions))?;
     if !is_few(&items) {
         return Err(PactFault::TooMany);
     }

@@ -130,18 +130,11 @@ fn room_behind(room: usize, index: usize, item: &str) -> Option<usize>
     ensures { MatchOption result (room < item_length index item.now)
         (λ left. left + item_length index item.now ≡ room) }
 {
-    let length = item.len();
-    if room < length {
-        return None;
-    }
-    let room = room - length;
+    let room = room.checked_sub(item.len())?;
     if index == 0 {
         return Some(room);
     }
-    if room == 0 {
-        return None;
-    }
-    Some(room - 1)
+    room.checked_sub(1)
 }
 
 /// The same after all interactions, with a place of its own for the bracket that ends them.
@@ -174,6 +167,7 @@ fn room_left(consumer: &str, provider: &str, interactions: &[Interaction]) -> Op
 }
 
 /// Whether the normal text of a pact of these parts has at most 1,048,576 bytes; it isn't written for it.
+#[tactic(auto, using(crate::proofs::NormalTexts::has_room, crate::proofs::NormalTexts::lacks_room))]
 pub(crate) fn is_short(
     alloc: Global,
     consumer: &str,

@@ -193,9 +193,6 @@ pub after_none : (left more : List Survivor) (o : Option Survivor) → ((next : 
 after_none left more None none is e = (λ h. inl (subst (λ zs. Contains (map survivor_view zs) e) is h), λ h. ⊎_elim (λ before. subst (λ zs. Contains (map survivor_view zs) e) (sym is) before) (λ now. absurd cc) h)
 after_none left more (Some next) none is e = absurd (none next refl)
 
-pub stays_none : {T : Type 0} (rules : List BodyRule) (xs : List (ℕ × ℕ)) (from : ℕ) (next : Location) (e : ℕ × ℕ) → StaysOf rules xs from from next e → T
-stays_none rules xs from next e h = absurd (omega (arith, h.1, h.2))
-
 pub stays_more : (rules : List BodyRule) (xs : List (ℕ × ℕ)) (from k : ℕ) (next : Location) (e x : ℕ × ℕ) (A B P : Type 0) → from ≤ k → slice_get xs k ≡ Some x
     → (A ↔ StaysOf rules xs from k next e) → (B ↔ (A ⊎ P)) → (P ↔ ((x.0 ≡ e.0) × IsAlive rules next e)) → B ↔ StaysOf rules xs from (k + 1) next e
 stays_more rules xs from k next e x A B P le there before more now = (
@@ -480,14 +477,6 @@ own_by (Some b) rules at index steps n path is e there count len few =
 pub own_walk : (rules : List BodyRule) (at : Location) (index steps n : ℕ) (path : List Token) → Some index ≡ chosen rules at → slice_get (map (λ (r : BodyRule). r.path) rules) index ≡ Some path
     → steps ≡ step_count at → n ≡ length path → n ≤ 60 → eqb n steps ≡ own_place rules at
 own_walk rules at index steps n path e there count len few = own_by (best rules at) rules at index steps n path (best_there rules at) (sym e) there count len few
-
-none_by : (at : Location) (o : Option (ℕ × BodyRule)) → None ≡ option_map (λ (b : ℕ × BodyRule). b.0) o → false ≡ own_place_of at o
-none_by at None e = refl
-none_by at (Some b) e = absurd cc
-
--- there is no own place where no rule is chosen
-pub own_none : (rules : List BodyRule) (at : Location) → None ≡ chosen rules at → false ≡ own_place rules at
-own_none rules at e = none_by at (best rules at) e
 
 equal_lengths : (m n : ℕ) → IsTrue (eqb m n) ↔ (m ≡ n)
 equal_lengths m n = (λ h. grind (arith, nat_tests), λ e. grind (arith, nat_tests))

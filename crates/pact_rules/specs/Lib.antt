@@ -9,7 +9,7 @@ pub mod Choice
 pub mod Matching
 pub mod Tables
 pub mod RuleReading
-pub mod Refusals
+pub mod RegexRefusals
 pub mod Walks
 pub mod Survivors
 pub mod Candidates

@@ -9,7 +9,7 @@ ghost use Rattle.serde_json.specs.Find.{as_number, as_integer};
 ghost use Rattle.pact_rules.specs.Matching.{text_form as text_form_of, within, at_least, at_most, contains};
 ghost use Rattle.pact_rules.specs.Matching.{has_keys_of as has_keys};
 ghost use Rattle.pact_rules.specs.Rules.{IsRegex};
-ghost use Rattle.pact_rules.specs.Refusals.{CanFail};
+ghost use Rattle.pact_rules.specs.RegexRefusals.{CanFail};
 ghost use Rattle.pact_rules.specs.declared.matching.MatchFault.TheVariants.{Memory, Pattern};
 
 use crate::table::{Entry, Matcher};
@@ -46,7 +46,7 @@ impl<T: Drop> From<AllocFailed<T>> for MatchFault {
 }
 
 impl From<regex::Error> for MatchFault {
-    ghost use Rattle.pact_rules.specs.Refusals.{as_match_fault};
+    ghost use Rattle.pact_rules.specs.RegexRefusals.{as_match_fault};
 
     ghost from_gives = { λ error fault. fault ≡ as_match_fault error };
 

@@ -2,7 +2,7 @@
 
 ghost use Rattle.std.specs.Prelude.{◌≡◌, true, IfOk, IfErr};
 ghost use Rattle.pact_rules.specs.Matching.{is_pattern};
-ghost use Rattle.pact_rules.specs.Refusals.{IsRefused};
+ghost use Rattle.pact_rules.specs.RegexRefusals.{IsRefused};
 
 use crate::rule_fault::RuleFault;
 use pact_patterns::parts_of;

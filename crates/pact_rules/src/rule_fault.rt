@@ -98,7 +98,7 @@ impl<T: Drop> From<AllocFailed<T>> for RuleFault {
 }
 
 impl From<regex::Error> for RuleFault {
-    ghost use Rattle.pact_rules.specs.Refusals.{as_rule_fault};
+    ghost use Rattle.pact_rules.specs.RegexRefusals.{as_rule_fault};
 
     ghost from_gives = { λ error fault. fault ≡ as_rule_fault error };
 

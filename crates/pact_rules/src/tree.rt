@@ -1,6 +1,6 @@
 //! JSON values without fractions.
 
-ghost use Rattle.std.specs.Prelude.{◌≡◌, nat_le};
+ghost use Rattle.std.specs.Prelude.{◌≡◌, nat_le, is_some, IfSome};
 ghost use Rattle.serde_json.specs.Data.{depth, items_depth, members_depth};
 ghost use Rattle.serde_json.specs.Written.{has_float, items_have_float, members_have_float};
 ghost use Rattle.serde_json.specs.View.{view, items_view, members_view};
@@ -29,84 +29,48 @@ const MAX_DEPTH: usize = 100;
 pub fn check_tree(value: &Value) -> Result<(), TreeFault>
     ensures { result ≡ checked_tree (view value.now) }
 {
-    if !nests_within(value, MAX_DEPTH) {
-        return Err(TreeFault::TooDeep);
+    match fraction_within(value, MAX_DEPTH) {
+        None => Err(TreeFault::TooDeep),
+        Some(true) => Err(TreeFault::NotWhole),
+        Some(false) => Ok(()),
     }
-    if has_fraction(value) {
-        return Err(TreeFault::NotWhole);
-    }
-    Ok(())
 }
 
-/// Whether a number in the value isn't whole.
-#[cycle(fractions)]
-fn has_fraction(value: &Value) -> bool
-    ensures { result ≡ has_float (view value.now) }
+/// Whether a number in the value isn't whole, or None if the value nests deeper than the limit. Both are found on one
+/// way through it.
+#[cycle(walk)]
+fn fraction_within(value: &Value, limit: usize) -> Option<bool>
+    ensures depth { is_some result ≡ nat_le (depth (view value.now)) limit }
+    ensures fraction { IfSome result (λ found. found ≡ has_float (view value.now)) }
 {
     match value {
-        Value::Null | Value::Bool(_) | Value::String(_) => false,
-        Value::Number(number) => number.as_i128().is_none(),
-        Value::Array(items) => items_have_fraction(items),
-        Value::Object(members) => members_have_fraction(members),
+        Value::Null | Value::Bool(_) | Value::String(_) => Some(false),
+        Value::Number(number) => Some(number.as_i128().is_none()),
+        Value::Array(items) => items_fraction(items, limit.checked_sub(1)?),
+        Value::Object(members) => members_fraction(members, limit.checked_sub(1)?),
     }
 }
 
-#[cycle(fractions)]
-fn items_have_fraction(items: &Vec<Value>) -> bool
-    ensures { result ≡ items_have_float (items_view items.now.items) }
+#[cycle(walk)]
+fn items_fraction(items: &Vec<Value>, limit: usize) -> Option<bool>
+    ensures depth { is_some result ≡ nat_le (items_depth (items_view items.now.items)) limit }
+    ensures fraction { IfSome result (λ found. found ≡ items_have_float (items_view items.now.items)) }
 {
+    let mut found = false;
     for item in items {
-        if has_fraction(item) {
-            return true;
-        }
+        found = fraction_within(item, limit)? || found;
     }
-    false
+    Some(found)
 }
 
-#[cycle(fractions)]
-fn members_have_fraction(members: &Map<String, Value>) -> bool
-    ensures { result ≡ members_have_float (members_view members.now.entries) }
+#[cycle(walk)]
+fn members_fraction(members: &Map<String, Value>, limit: usize) -> Option<bool>
+    ensures depth { is_some result ≡ nat_le (members_depth (members_view members.now.entries)) limit }
+    ensures fraction { IfSome result (λ found. found ≡ members_have_float (members_view members.now.entries)) }
 {
+    let mut found = false;
     for (_, member) in members.iter() {
-        if has_fraction(member) {
-            return true;
-        }
+        found = fraction_within(member, limit)? || found;
     }
-    false
-}
-
-/// Whether the value nests at most so deep.
-#[cycle(nesting)]
-fn nests_within(value: &Value, limit: usize) -> bool
-    ensures { result ≡ nat_le (depth (view value.now)) limit }
-{
-    match value {
-        Value::Null | Value::Bool(_) | Value::Number(_) | Value::String(_) => true,
-        Value::Array(items) => limit > 0 && items_nest_within(items, limit - 1),
-        Value::Object(members) => limit > 0 && members_nest_within(members, limit - 1),
-    }
-}
-
-#[cycle(nesting)]
-fn items_nest_within(items: &Vec<Value>, limit: usize) -> bool
-    ensures { result ≡ nat_le (items_depth (items_view items.now.items)) limit }
-{
-    for item in items {
-        if !nests_within(item, limit) {
-            return false;
-        }
-    }
-    true
-}
-
-#[cycle(nesting)]
-fn members_nest_within(members: &Map<String, Value>, limit: usize) -> bool
-    ensures { result ≡ nat_le (members_depth (members_view members.now.entries)) limit }
-{
-    for (_, member) in members.iter() {
-        if !nests_within(member, limit) {
-            return false;
-        }
-    }
-    true
+    Some(found)
 }

@@ -1,5 +1,5 @@
 -- what standard error shows of a command that failed (the words and numbers are this project's own choice)
-use Rattle.std.specs.Prelude.{ℕ, List, [], ◌++◌, Option, Some, None, codes, decimal}
+use Rattle.std.specs.Prelude.{ℕ, List, ◌++◌, codes, decimal}
 use Rattle.answer_texts.specs.AnswerText.{answer_text}
 use Rattle.broker_http.specs.declared.served.ServeFault.{ServeFault}
 use Rattle.broker_http.specs.declared.served.ServeFault.TheVariants as serving
@@ -7,7 +7,6 @@ use Rattle.broker_database.specs.declared.opening.OpenFault.{OpenFault}
 use Rattle.broker_database.specs.declared.opening.OpenFault.TheVariants as opening
 use Rattle.pact_file.specs.Words.{fault_text as pact_text}
 use Rattle.reply_check.specs.Words.{check_text, replies_text}
-use Rattle.program_io.specs.declared.parts.Parts.{Parts}
 use Rattle.program_io.specs.declared.fault.RunFault.{RunFault}
 use Rattle.program_io.specs.declared.fault.RunFault.TheVariants as fault
 
@@ -37,12 +36,3 @@ fault_text (fault.Replies f) = replies_text f
 fault_text (fault.Check f) = check_text f
 fault_text (fault.Answer answer) = answer_text answer
 fault_text fault.Memory = codes "memory"
-
--- ---- for private clauses: a text in parts
-
-abbrev pub number_text : Option ℕ → List ℕ
-number_text None = []
-number_text (Some number) = decimal number
-
-abbrev pub parts_text : Parts → List ℕ
-parts_text parts = parts.front.now ++ (number_text parts.number ++ (parts.behind.now ++ parts.end.now))

@@ -1,5 +1,5 @@
 //! Why a command fails.
-use answer_texts::Answer;
+use answer_texts::RenderedAnswer;
 use broker_database::OpenFault;
 use broker_http::ServeFault;
 use pact_file::PactFault;
@@ -27,7 +27,7 @@ pub enum RunFault {
     /// The replies can't be checked against the pact.
     Check(CheckFault),
     /// The broker answered otherwise than asked.
-    Answer(Answer),
+    Answer(RenderedAnswer),
     /// There was no memory.
     Memory,
 }

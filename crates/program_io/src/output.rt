@@ -9,6 +9,7 @@ use http_responses::{WriteFault, write_whole};
 use std::io::Write;
 
 /// Writes the text and a newline. If the writer fails, the rest of them is lost.
+#[tactic(auto, using(crate::proofs::ResultLemmas::line_out))]
 pub fn put_line<W: Write>(writer: &mut W, text: &str) -> Result<(), WriteFault>
     ensures { IsLineOut text.now result (W.contents writer.old) (W.contents writer.new) }
 {

@@ -4,7 +4,7 @@ ghost use Rattle.std.specs.Prelude.{◌≡◌, ℕ, List, [], ◌∷◌, Some, I
 ghost use Rattle.broker_core.specs.State.{State as BrokerState};
 ghost use Rattle.broker_core.specs.Machine.{IsCallerOfDigest};
 ghost use Rattle.broker_tables.specs.Calm.{CalmQueries};
-ghost use Rattle.broker_tables.specs.Refusals.{AreShort};
+ghost use Rattle.broker_tables.specs.ChangeRefusals.{AreShort};
 ghost use Rattle.command_facts.specs.Performs.{Carries, CarriesTo};
 ghost use Rattle.registry_commands.specs.Facts.{IsTeamRead, PutsTeam, AnswersPutTeam, AddsNewTeam};
 ghost use Rattle.broker_core.specs.declared.command.Command.TheVariants.{PutTeam};

@@ -13,11 +13,11 @@ use Rattle.sqlite_schema.specs.Rules.{Refers}
 use Rattle.sqlite_rules.{specs.{Lists.{Has}, Calls.{ids_of}}, proofs.TableLemmas.{int_is}}
 use Rattle.sqlite_keyed.proofs.ListLemmas.{IsPermutation-same}
 use Rattle.sqlite_tied.specs.Compute.{everything}
-use Rattle.table_access.{specs.{Columns.{text, whole_at}, Sound.{IsNumbered}, Statements.{from_table, keeps, shows, IsCalm}}, proofs.Creation.{all_front}}
+use Rattle.table_access.{specs.{Sound.{IsNumbered}, Statements.{from_table, keeps, shows, IsCalm}}, proofs.Creation.{all_front}}
 use Rattle.table_access.proofs.{Steps.{Means, updates, went, same_value, shown_one}, SoundLemmas.{at_has, text_at, has_place}, Removal.{left}}
 use Rattle.table_access.proofs.{Answered.{Runs, never_stopped}, Edits.{Suits, goes, refers}, Refused.{stopped, on_rows, in_place, change_fails, caused_by}}
 use Rattle.broker_core.specs.State.{State as Broker}
-use Rattle.registry_tables.{specs.Format.{KeepsFormerRows}, proofs.{MetaRow.{alone, row_of, as_cast}, MetaFails.{TakesMeta, suits}}}
+use Rattle.registry_tables.{specs.Format.{KeepsFormerRows}, proofs.MetaRow.{alone, one_row, row_of, as_cast, TakesMeta, suits}}
 
 abbrev pub set_sql : List ℕ
 set_sql = codes "UPDATE meta SET format = 2"
@@ -43,15 +43,6 @@ set_text = (
   record { whole = refl; typed = refl; sumless = refl },
   λ id. record { apart = refl; calm = all_calm; listed = inl refl; narrow = refl; referred = λ r. refl; alone = inr refl },
 )
-
--- the one row of meta, with its number and the digest of the office's token
-one_row : (n : ℕ) (office : List ℕ) (rows : List Row) → IsMeta n office rows
-    → (r : Row) × (rows ≡ r ∷ []) × (whole_at 0 r ≡ pos 1) × (text in_meta.office_digest r ≡ office)
-one_row n office [] one = absurd cc
-one_row n office (r ∷ []) one =
-    let same : ◌≡◌ {A = ℤ × ℤ × List ℕ} (whole_at 0 r, whole_at in_meta.format r, text in_meta.office_digest r) (pos 1, pos n, office) = cc in
-    (r, refl, ap (λ (x : ℤ × ℤ × List ℕ). x.0) same, ap (λ (x : ℤ × ℤ × List ℕ). x.2) same)
-one_row n office (r ∷ q ∷ rows) one = absurd cc
 
 module _ (old new : State) (s : Broker) (held : HoldsUnmarked former_format added_tables old.now s) where
   abbrev rows : List Row

@@ -1,15 +1,14 @@
 -- The statements on grants.
-use Rattle.std.specs.Prelude.{is_some}
-use Rattle.std.proofs.{Common.{◌≡◌, ℕ, codes, List, [], ◌∷◌, true, false, not, refl, sym, subst, ◌∙◌, cond, slice_get, Ok, None, arith}, Math.Bool.{or-true}}
+use Rattle.std.{specs.Prelude.{is_some}, proofs.Common.{◌≡◌, ℕ, codes, List, [], ◌∷◌, true, false, not, refl, sym, subst, ◌∙◌, cond, slice_get, Ok, arith}}
+use Rattle.std.proofs.Math.Bool.{or-true}
 use Rattle.sqlite.specs.{declared.types.Value.TheVariants.{Null, Text}, Order.{Row}, Term.{col, lit}, Effect.{Database}, State.{State, Executes}}
 use Rattle.sqlite.specs.Listing.{understood}
 use Rattle.sqlite_tied.specs.Compute.{everything}
-use Rattle.table_access.specs.{declared.StoreFault.{StoreFault}, Calls.{HasFailed, FailsToRun}, Columns.{text, pair_cmp}}
-use Rattle.table_access.specs.Statements.{from_table, by_two, keeps}
+use Rattle.table_access.specs.{Columns.{text, pair_cmp}, Statements.{from_table, by_two, keeps}}
 use Rattle.broker_core.specs.State.{State as Broker}
 use Rattle.broker_tables.{specs.{Schema.{in_grants}, Holds.{Holds, HoldsAfter}}, proofs.{Asked.{Asked, IsShown}, Frames.{grants_change}}}
 use Rattle.broker_tables.proofs.{Keyed.{finds_row, grants_by_key, is_free, kept_by}, Orders.{pairs_total, exact_pair}, Ties.{grant_ties}}
-use Rattle.broker_tables.proofs.{Standing.{stands_set, stands_out}, Placed.{at_grants}, Removed.{TakesFrom, held_taken, taking_ends}}
+use Rattle.broker_tables.proofs.{Standing.{stands_set, stands_out}, Placed.{at_grants}, Removed.{TakesFrom, held_taken}}
 use Rattle.broker_tables.proofs.Inserted.{EndsFrom, Adds, held_added, adds_ends, added, team_there, environment_there}
 use Rattle.registry_tables.specs.Registry.{AddsGrant, RemovesGrant}
 
@@ -66,7 +65,3 @@ grant_removed team e old new s held t next count h = held_taken (removing team e
     subst (Holds new.now) (sym next.1) (grants_change old.now new.now s _ held frame (λ u f.
     stands_out pairs_total exact_pair key (team, e) (keeps (by_two in_grants.team in_grants.environment) (Text team ∷ Text e ∷ [])) (old.now.trees in_grants.tree) (new.now.trees in_grants.tree)
     (kept_by grants_by_key old.now held.broker (Text team ∷ Text e ∷ []) (team, e) refl) is (u, f) ∙ (λ i. cond (sym (grant_ties (u, f) (team, e)) i) false (held.grants u f i)))))
-
--- it fails only as the store fails
-pub removal_ends : (team e : List ℕ) (old new : State) (s : Broker) → Holds old.now s → old.step_limit ≡ None → (fault : StoreFault) → FailsToRun remove_sql (Text team ∷ Text e ∷ []) old new fault → HasFailed old new fault
-removal_ends team e old new s held = taking_ends (removing team e) old new held.broker

@@ -1,16 +1,26 @@
--- The one row of meta.
-use Rattle.broker_tables.{specs.{Schema.{in_meta, schema_of, registry_part}, Making.{IsBlank, HasTables}, Holds.{IsMeta}}, proofs.Opening.{blank_kept}}
-use Rattle.broker_tables.proofs.Placed.{meta}
-use Rattle.std.specs.List.{AllByRecursion}
-use Rattle.std.proofs.Common.{◌≡◌, ◌≢◌, ℕ, pos, codes, List, [], ◌∷◌, ◌++◌, fold, map, false, refl, sym, ap, subst, ◌∙◌, slice_get, Some, Ok, arith}
-use Rattle.sqlite.specs.{Edit.{with_rowid}, Rowids.TheVariants.{Chosen}, Cast.{cast_row}, Change.{created}, declared.types.Value.TheVariants.{Null, Int, Text}}
-use Rattle.sqlite.specs.{Order.{Row}, Table.{Table}, Term.{Term, col, lit}, Source.TheVariants.{Values}, Command.{Command}, Command.TheVariants.{Insert}}
-use Rattle.sqlite.specs.{Schema.{Schema}, Effect.{Database}, State.{State, Executes}, Listing.{understood}}
+-- The one row of meta: what putting it in leaves, that it fails only as the store fails, and the digest that is in it.
+use Rattle.broker_tables.specs.{Schema.{in_meta, schema_of, registry_part}, Making.{IsBlank, HasTables}, Holds.{IsMeta, Holds, IsBroker, format}}
+use Rattle.broker_tables.proofs.{Opening.{blank_kept}, Placed.{meta, at_meta, texts_in}, Inserted.{rising, apart_of, PutsInto, row_fails}}
+use Rattle.broker_tables.proofs.Asked.{Asked, IsShown, FirstReads, is_answer, text_reads}
+use Rattle.std.specs.{List.{AllByRecursion, list_all}, Prelude.{option_map, IsUtf8}, List.Sorted.{IsPermutation}}
+use Rattle.std.proofs.Common.{◌≡◌, ◌≢◌, ℕ, pos, codes, List, [], ◌∷◌, ◌++◌, fold, map, false, refl, sym, ap, subst, ◌∙◌, slice_get, Some, Ok, arith, ◌⊎◌, inl, inr, ◌≤◌, ◌^◌, ℤ, length, nat_lt, not, ◌&&◌, true, None, Err, IsTrue, filter}
+use Rattle.sqlite.specs.{Edit.{with_rowid, is_taken, without_all}, Rowids.TheVariants.{Chosen}, Cast.{cast_row}, Change.{created}}
+use Rattle.sqlite.specs.{declared.types.Value.TheVariants.{Null, Int, Text}, Order.{Row}, Table.{Table}, Term.{Term, col, lit}, Source.TheVariants.{Values}}
+use Rattle.sqlite.specs.{Command.{Command}, Command.TheVariants.{Insert}, Schema.{Schema}, Effect.{Database}, State.{State, Executes, Fails}}
+use Rattle.sqlite.{specs.{Listing.{understood}, declared.error.Error.{Error}}, proofs.Callers.{one_permutation}}
 use Rattle.sqlite_tied.specs.Compute.{everything}
-use Rattle.table_access.{specs.Statements.{Makes, IsAdded, new_trees}, proofs.Creation.{made_schema, made_empty, made_kept}}
-use Rattle.table_access.proofs.{Values.{cast_null, cast_int, cast_kept}, Steps.{Means, inserts}}
-use Rattle.broker_core.specs.Text.{same_text}
+use Rattle.table_access.specs.{Statements.{Makes, IsAdded, new_trees, IsCalm, from_table, keeps, shows}, Sound.{IsKept}, declared.StoreFault.{StoreFault}}
+use Rattle.table_access.specs.{declared.StoreFault.TheVariants.{Memory}, Calls.{IsEnded}, Reading.{FailsToTake, TellsText, IsTextAt}, Columns.{text, whole_at}}
+use Rattle.table_access.proofs.{Creation.{made_schema, made_empty, made_kept}, Values.{cast_null, cast_int, cast_kept}, Steps.{Means, inserts, answered}}
+use Rattle.table_access.proofs.{Edits.{Suits, IsAlone, one_unique}, SoundLemmas.{at_has}, Storable.{short_fits}, Maps.{few_permuted}}
+use Rattle.table_access.proofs.CallLemmas.{query_by, refused_memory}
+use Rattle.broker_core.specs.{Text.{same_text}, State.{State as Broker}}
 use Rattle.registry_tables.specs.Registry.{HasEmptyRegistry, PutsMeta}
+use Rattle.sqlite_sql.specs.Ops.{binary}
+use Rattle.sqlite_value.specs.Order.{value_cmp}
+use Rattle.sqlite_rules.specs.{Lists.{Has}, Edit.{IsOversized, is_referred}}
+use Rattle.sqlite_schema.specs.declared.schema.Keys.TheVariants.{Enforced}
+use Rattle.std.specs.Float.Ieee
 
 abbrev pub put_sql : List ℕ
 put_sql = codes "INSERT INTO meta (one, format, office_digest) VALUES (1, ?1, ?2)"
@@ -81,3 +91,107 @@ has_registry n digest old mid new blank makes puts =
       meta = put.2;
       empty = empty_still mid new (schema_of registry_part).tables same none;
     }
+
+-- ---- it is put into the tables of a new registry unless the store fails
+
+abbrev registry : Schema
+registry = schema_of registry_part
+
+-- Meta is one of the tables, which are apart, no foreign key acts, and no index has many columns. If these rows are taken
+-- out of it, no reference leads to it.
+pub record TakesMeta (schema : Schema) (gone : List ℤ) : Type 0 where
+  pub apart : rising schema.tables ≡ true
+  pub calm : IsCalm schema.tables
+  pub listed : Has schema.tables meta
+  pub narrow : list_all (λ i. nat_lt (length i.columns) 12) schema.indexes ≡ true
+  pub referred : (row : Row) → is_referred schema Enforced (record { table = meta; gone = gone; news = row ∷ [] }) ≡ true
+  pub alone : (gone ≡ []) ⊎ IsAlone schema meta.tree
+
+calm : IsCalm registry.tables
+calm = (tt, (tt, (((refl, refl), tt), (((refl, refl), tt), (((refl, refl), tt), (tt, (((refl, refl), ((refl, refl), tt)), tt)))))))
+
+takes_put : TakesMeta registry []
+unfolding everything
+takes_put = record { apart = refl; calm = calm; listed = inl refl; narrow = refl; referred = λ r. refl; alone = inl refl }
+
+module _ (n : ℕ) (digest : List ℕ) where
+  abbrev row : Row
+  row = row_of n digest
+
+  abbrev params : Row
+  params = Int (pos n) ∷ Text digest ∷ []
+
+  -- the text puts the row into the table
+  puts : PutsInto registry 0 put_sql params row
+  unfolding understood everything
+  puts = record { terms = put_terms; width = 4; means = put_text; whole = refl; kinds = refl; one = refl }
+
+  -- the row suits meta if no other row is left there
+  pub suits : (db : Database) (gone : List ℤ) → TakesMeta db.schema gone → IsKept db → without_all (db.trees in_meta.tree) gone ≡ [] → length digest ≤ 10 ^ 7
+      → Suits ⊥ db.schema Enforced db.trees (record { table = meta; gone = gone; news = row ∷ [] })
+  unfolding everything binary value_cmp Ieee.is_nan Ieee.lt
+  suits db gone takes kept none short = record {
+    apart = apart_of db.schema.tables takes.apart;
+    calm = takes.calm;
+    listed = takes.listed;
+    ordered = (at_has _ db.schema.tables meta kept.numbered takes.listed).0;
+    rules = kept.sound.obeys.rules;
+    storable = λ r new_one big. elim new_one [
+      | inl same ↦ short_fits db.schema meta (record { whole = refl; narrow = takes.narrow }) row
+          (record { wide = omega arith; narrow = omega arith; short = (tt, (tt, (tt, (short, tt)))) }) (subst (IsOversized db.schema meta) same big)
+      | inr never ↦ absurd never
+    ];
+    pass = record { typed = refl; present = refl; checked = refl };
+    keyed = refl;
+    fits = refl;
+    fresh = ap (λ rows. not (is_taken rows row) && true) none;
+    unique = one_unique db.schema db.trees meta (without_all (db.trees in_meta.tree) gone) row refl (λ i known _ r has. absurd (subst (λ rows. Has rows r) none has));
+    referred = takes.referred row;
+    parents = λ r new_one ref named. absurd named;
+    alone = takes.alone;
+  }
+
+  module _ (old new : State) (is : old.now.schema ≡ registry) (kept : IsKept old.now) (none : old.now.trees in_meta.tree ≡ []) (short : length digest ≤ 10 ^ 7) where
+    pub meta_fails : old.step_limit ≡ None → (e : Error) → Executes put_sql params old new (Err e) → Fails old new ⊥ e
+    meta_fails = row_fails put_sql params old new meta 0 (ap (λ (s : Schema). slice_get s.tables 0) is) refl row row
+        (subst (λ s. PutsInto s 0 put_sql params row) (sym is) puts) (as_stored n digest (old.now.trees in_meta.tree))
+        ⊥ (suits old.now [] (subst (λ s. TakesMeta s []) (sym is) takes_put) kept none short)
+
+-- ---- the digest of the office's token
+
+abbrev office_sql : List ℕ
+office_sql = codes "SELECT office_digest FROM meta"
+
+pub office : Asked office_sql [] (from_table in_meta.tree [] (col 1 in_meta.office_digest ∷ []) [])
+unfolding understood everything
+office = record { names = _; means = record { is = refl; plain = (refl, refl); unlisted = refl }; runs = record { whole = refl; typed = refl; sumless = refl } }
+
+-- the one row of meta, with its number and the digest of the office's token
+pub one_row : (n : ℕ) (office : List ℕ) (rows : List Row) → IsMeta n office rows
+    → (r : Row) × (rows ≡ r ∷ []) × (whole_at 0 r ≡ pos 1) × (text in_meta.office_digest r ≡ office)
+one_row n office [] one = absurd cc
+one_row n office (r ∷ []) one =
+    let same : ◌≡◌ {A = ℤ × ℤ × List ℕ} (whole_at 0 r, whole_at in_meta.format r, text in_meta.office_digest r) (pos 1, pos n, office) = cc in
+    (r, refl, ap (λ (x : ℤ × ℤ × List ℕ). x.0) same, ap (λ (x : ℤ × ℤ × List ℕ). x.2) same)
+one_row n office (r ∷ q ∷ rows) one = absurd cc
+
+pub office_found : (db : Database) (rows : List Row) (s : Broker) → Holds db s → IsShown office db rows → option_map (text 0) (slice_get rows 0) ≡ Some s.office
+office_found db rows s held h =
+    let one = one_row format s.office (db.trees in_meta.tree) held.meta in
+    let shown = one_permutation _ rows (subst (λ xs. IsPermutation (map (shows (col 1 in_meta.office_digest ∷ []) []) (filter (keeps [] []) xs)) rows) one.1
+    (answered db [] in_meta.tree [] _ [] rows h)) in
+    ap (λ xs. option_map (text 0) (slice_get xs 0)) shown ∙ ap Some one.3
+
+-- where the digest is a text in UTF-8, it can be read
+pub office_reads : (db : Database) → FirstReads office db (IsTextAt 0)
+office_reads db s held readable = text_reads office db (texts_in at_meta db held.broker in_meta.office_digest refl) (λ rows h row head.
+    let is : Some (text 0 row) ≡ Some s.office = sym (ap (option_map (text 0)) head) ∙ office_found db rows s held h in
+    let same : text 0 row ≡ s.office = cc in
+    subst IsUtf8 (sym same) readable.office)
+
+-- where meta has no row, only the store is ever out of memory
+pub no_office : (old new : State) (fault : StoreFault) → IsBroker old.now → old.now.trees in_meta.tree ≡ [] → FailsToTake TellsText office_sql [] old new fault → IsTrue old.in_transaction → fault ≡ Memory → IsEnded old new Memory
+no_office old new fault broker none (inl refused) inside is = refused_memory old new refused.0 fault refused.1 (query_by office_sql [] old new refused.0 refused.2) is
+no_office old new fault broker none (inr (rows, shown, row, first, tells)) inside is =
+    let empty : rows ≡ [] = few_permuted [] rows (omega arith) (subst (λ xs. IsPermutation (map (shows (col 1 in_meta.office_digest ∷ []) []) (filter (keeps [] []) xs)) rows) none (answered old.now [] in_meta.tree [] _ [] rows (is_answer office old new broker rows shown))) in
+    absurd (let clash : None ≡ Some row = ap (λ xs. slice_get xs 0) (sym empty) ∙ first in cc)

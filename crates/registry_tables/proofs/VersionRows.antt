@@ -1,6 +1,6 @@
 -- The statements on versions.
 use Rattle.std.specs.Prelude.{option_map, is_some}
-use Rattle.std.proofs.Common.{◌≡◌, ℕ, pos, ◌+◌, codes, List, [], ◌∷◌, ◌++◌, length, false, refl, sym, ap, subst, ◌∙◌, slice_get, ◌<◌, ◌^◌, arith, Some, Option, Ok, unwrap_or}
+use Rattle.std.proofs.Common.{◌≡◌, ℕ, pos, codes, List, [], ◌∷◌, length, false, refl, sym, ap, subst, ◌∙◌, slice_get, ◌<◌, ◌^◌, arith, Option, Ok, unwrap_or}
 use Rattle.std.proofs.lemmas.Bool.{ltb-true, lt-ltb}
 use Rattle.sqlite.specs.{Edit.{with_rowid}, Rowids.TheVariants.{Chosen}, Cast.{cast_row}, declared.types.Value.TheVariants.{Null, Int, Text}}
 use Rattle.sqlite.specs.{Order.{Row, column}, Term.{col, lit}, Effect.{Database}, State.{State, Shown, Executes}, Listing.{understood}}
@@ -13,10 +13,10 @@ use Rattle.broker_tables.specs.{Schema.{in_versions, in_branches}, Numbers.{numb
 use Rattle.broker_tables.proofs.{Asked.{Asked, IsShown, EachReads, of_first, number_reads}, ReadableRows.{number_cell, version_low}}
 use Rattle.broker_tables.proofs.{Frames.{meant, frame_of, Frame, still_broker}, Growth.{versions_grow}, Newest.{newest as newest_count}, NextRow.{next_row}}
 use Rattle.broker_tables.proofs.{RoomLemmas.{after_one}, VersionRows.{versions_numbered, version_number}}
-use Rattle.broker_tables.proofs.{NumberLemmas.{version_row, known_numbered, newly_numbered, none_numbered}, Keyed.{finds, is_free, versions_by_name}}
+use Rattle.broker_tables.proofs.{NumberLemmas.{version_row, known_numbered, none_numbered}, Keyed.{finds, is_free, versions_by_name}}
 use Rattle.broker_tables.proofs.{Placed.{versions, at_versions}, Standing.{stands_found}}
 use Rattle.broker_tables.proofs.Inserted.{EndsFrom, Puts, inserted, insert_ends, pacticipant_there, next_counted}
-use Rattle.registry_tables.{specs.Registry.{AddsVersion, AllowsVersionAs, PutsVersion}, proofs.BranchRows.{is_on}}
+use Rattle.registry_tables.{specs.Registry.{AllowsVersionAs, PutsVersion}, proofs.BranchRows.{is_on}}
 
 -- ---- the number of a version
 
@@ -26,15 +26,12 @@ pub known : (p name : List ℕ)
 unfolding understood everything
 known p name = record { names = _; means = record { is = refl; plain = (refl, refl); unlisted = refl }; runs = record { whole = refl; typed = refl; sumless = refl } }
 
-row_found : (p name : List ℕ) (db : Database) (rows : List Row) (s : Broker) → Holds db s → IsShown (known p name) db rows → option_map (whole_at 0) (slice_get rows 0) ≡ option_map pos (number_of s.versions (version p name))
-row_found p name db rows s held h =
-    finds versions_by_name db held.broker (Text p ∷ Text name ∷ []) (p, name) refl (whole_at in_versions.number) (whole_at 0) (λ r. refl) rows h
-    ∙ version_row (db.trees in_versions.tree) s.versions p name held.versions
-
 pub known_found : (p name : List ℕ) (db : Database) (rows : List Row) (s : Broker) (found : Option ℕ) → Holds db s → IsShown (known p name) db rows
     → option_map (λ n. Int (pos n)) found ≡ option_map (λ row. column row 0) (slice_get rows 0) → (found ≡ number_of s.versions (version p name)) × (is_some found ≡ is_known s (version p name))
 known_found p name db rows s found held h read =
-    let same = same_numbers found (number_of s.versions (version p name)) (number_found found rows read ∙ row_found p name db rows s held h) in
+    let same = same_numbers found (number_of s.versions (version p name)) (number_found found rows read
+    ∙ finds versions_by_name db held.broker (Text p ∷ Text name ∷ []) (p, name) refl (whole_at in_versions.number) (whole_at 0) (λ r. refl) rows h
+    ∙ version_row (db.trees in_versions.tree) s.versions p name held.versions) in
     (same, ap is_some same ∙ known_numbered s (version p name))
 
 -- where the versions are few enough, the number can be read
@@ -102,10 +99,3 @@ module _ (number : ℕ) (p name : List ℕ) (old new : State) where
 pub no_branch : (db : Database) (s : Broker) (v : Version) → Holds db s → is_known s v ≡ false → (branch : List ℕ) → s.branches (v, branch) ≡ false
 no_branch db s v held free branch =
     sym (held.branches v branch) ∙ ap (is_on (db.trees in_branches.tree) branch) (none_numbered s.versions v free)
-
--- what add_version promises, of the state after it
-pub version_added : (s : Broker) (v : Version) (number : ℕ) (old new : State) → is_known s v ≡ false → ((branch : List ℕ) → s.branches (v, branch) ≡ false) → number ≡ length s.versions + 1 → HoldsAfter 2 old new (record s { versions = s.versions ++ v ∷ [] })
-    → (t : Broker) × AddsVersion v number s t × HoldsAfter 2 old new t
-version_added s v number old new free off is held =
-    let t = record s { versions = s.versions ++ v ∷ [] } in
-    (t, (refl, is, newly_numbered s.versions v free ∙ ap Some (sym is), off), held)

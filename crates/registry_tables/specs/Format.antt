@@ -18,7 +18,7 @@ use Rattle.broker_tables.specs.Schema.{meta, in_meta, schema_of}
 use Rattle.broker_core.specs.State.{State as Broker}
 use Rattle.broker_tables.specs.Holds.{format}
 use Rattle.broker_tables.specs.Former.{HoldsUnmarked, former_format, former_tables, added_tables}
-use Rattle.broker_tables.specs.Refusals.{AreShort}
+use Rattle.broker_tables.specs.ChangeRefusals.{AreShort}
 
 -- a column has this name and this kind: with STRICT, NOT NULL, a default and a collation, or without
 abbrev pub IsColumn : List ℕ × Kind → Column → Type 0

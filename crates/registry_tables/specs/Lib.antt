@@ -1,5 +1,4 @@
 pub mod Registry
 pub mod Format
-pub mod Missing
 pub mod Marks
 pub mod Form

@@ -1,20 +1,17 @@
 //! The branches that versions are on.
-ghost use Rattle.std.specs.Prelude.{◌≡◌, [], ◌∷◌, codes, Some, false, pos};
+ghost use Rattle.std.specs.Prelude.{◌≡◌, ℕ, [], ◌∷◌, codes, Some, false};
 ghost use Rattle.std.specs.Ordering.{nat_cmp, flip_args};
-ghost use Rattle.sqlite.specs.Order.{column};
-ghost use Rattle.sqlite.specs.declared.types.Value.TheVariants.{Int};
-ghost use Rattle.table_access.specs.Reading.{TellsNumber};
 ghost use Rattle.broker_core.specs.Listing.{Lists};
 ghost use Rattle.broker_core.specs.declared.command.Version.{Version as VersionModel};
-ghost use Rattle.broker_tables.specs.Numbers.{number_of as number_at};
+ghost use Rattle.broker_tables.specs.Numbers.{number_of};
 ghost use Rattle.broker_tables.specs.Holds.{Changes};
-ghost use Rattle.broker_tables.specs.Calm.{CalmQueries, CalmQueriesInPlace, IfNoVersion};
-ghost use Rattle.broker_tables.specs.Refusals.{IsCalmChange};
+ghost use Rattle.broker_tables.specs.Calm.{CalmQueries, CalmQueriesInPlace, IfNoVersion, NeedsNoRoom};
+ghost use Rattle.broker_tables.specs.ChangeRefusals.{IsCalmChange};
 ghost use Rattle.registry_tables.specs.Registry.{AddsBranch, IsBranchNumber, IsNewestBelow};
 
-use sqlite::{Alter, Connection, Row, params};
+use sqlite::{Alter, Connection, params};
 use std::alloc::Global;
-use table_access::{ReadRow, StoreFault, change, has_row, list_of, number_in, number_of};
+use table_access::{NumberRow, StoreFault, change, find_number, has_row, list_of};
 
 /// Whether the version with this number is on the branch; none is that no version has.
 ///
@@ -26,7 +23,7 @@ pub fn on_branch<S: Alter>(
     branch: &str,
 ) -> Result<bool, StoreFault>
     ensures answers { CalmQueriesInPlace S.Store conn.old conn.new result
-        (λ has s. (v : VersionModel) → number_at s.versions v ≡ Some number →
+        (λ has s. (v : VersionModel) → number_of s.versions v ≡ Some number →
         has ≡ s.branches (v, branch.now)) }
     ensures unknown { IfNoVersion S.Store conn.old conn.new result number (λ has. has ≡ false) }
 {
@@ -58,21 +55,6 @@ pub fn add_branch<S: Alter>(
     )
 }
 
-/// A row that shows a number.
-struct NumberRow;
-
-impl ReadRow for NumberRow {
-    type Item = u32;
-
-    ghost reads_as = { λ row number. column row 0 ≡ Int (pos number) };
-
-    ghost fails_as = { TellsNumber };
-
-    fn read(_alloc: Global, row: &Row) -> Result<u32, StoreFault> {
-        number_in(row)
-    }
-}
-
 /// The numbers of the pacticipant's versions that are on the branch, each once, the greatest first.
 ///
 /// # Errors
@@ -84,9 +66,11 @@ pub fn branch_numbers<S: Alter>(
     pacticipant: &str,
     branch: &str,
 ) -> Result<Vec<u32>, StoreFault>
-    ensures { CalmQueries S.Store conn.old conn.new result
+    ensures answers { CalmQueries S.Store conn.old conn.new result
         (λ numbers s. Lists (flip_args nat_cmp)
         (IsBranchNumber s pacticipant.now branch.now) numbers.items) }
+    ensures missing { NeedsNoRoom S.Store conn.old conn.new result
+        (λ s. (n : ℕ) → ¬ (IsBranchNumber s pacticipant.now branch.now n)) }
 {
     list_of::<NumberRow, S>(
         alloc,
@@ -111,7 +95,7 @@ pub fn branch_number_below<S: Alter>(
     ensures { CalmQueriesInPlace S.Store conn.old conn.new result
         (λ found s. IsNewestBelow s pacticipant.now branch.now below found) }
 {
-    number_of(
+    find_number(
         conn,
         "SELECT v.number FROM versions v JOIN branches b ON b.version_number = v.number WHERE v.pacticipant = ?1 AND b.branch = ?2 AND v.number < ?3 ORDER BY v.number DESC LIMIT 1",
         params![pacticipant, branch, below],

@@ -7,13 +7,13 @@ ghost use Rattle.broker_tables.specs.Holds.{Changes, ChangesTaking};
 ghost use Rattle.broker_tables.specs.Rows.{mark_of};
 ghost use Rattle.broker_tables.specs.Calm.{CalmQueriesInPlace};
 ghost use Rattle.registry_tables.specs.Marks.{TellsMark, FitsMark};
-ghost use Rattle.broker_tables.specs.Refusals.{IsCalmStoring, IsCalmChange};
+ghost use Rattle.broker_tables.specs.ChangeRefusals.{IsCalmStoring, IsCalmChange};
 ghost use Rattle.registry_tables.specs.Registry.{AddsEnvironment, IsLenient, KeepsStrict, marks, MakesStrict};
 
 use broker_core::command::Marks;
 use broker_tables::truth_of;
 use sqlite::{Alter, Connection, params};
-use table_access::{StoreFault, change, has_row, number_of};
+use table_access::{StoreFault, change, find_number, has_row};
 
 /// Whether the environment is gated, or `None` if there is no such environment. A mark that is neither 0 nor 1 is never
 /// taken for one of both, whatever CHECKs the tables have.
@@ -29,7 +29,7 @@ pub fn gated<S: Alter>(
         (λ found s. found ≡ option_map (λ m. m.gated) (s.environments environment.now)) }
     ensures mark { TellsMark environment.now (state S.Store conn.old) (state S.Store conn.new) result }
 {
-    let found = done!(number_of(
+    let found = done!(find_number(
         conn,
         "SELECT gated FROM environments WHERE name = ?1",
         params![environment],

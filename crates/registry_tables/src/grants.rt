@@ -2,7 +2,7 @@
 ghost use Rattle.std.specs.Prelude.{◌≡◌, codes, [], ◌∷◌};
 ghost use Rattle.broker_tables.specs.Holds.{Changes};
 ghost use Rattle.broker_tables.specs.Calm.{CalmQueriesInPlace, IsCalmInPlace};
-ghost use Rattle.broker_tables.specs.Refusals.{IsCalmChange};
+ghost use Rattle.broker_tables.specs.ChangeRefusals.{IsCalmChange};
 ghost use Rattle.registry_tables.specs.Registry.{AddsGrant, RemovesGrant};
 
 use sqlite::{Alter, Connection, params};

@@ -5,7 +5,7 @@ ghost use Rattle.std.specs.Prelude.{◌≡◌, ◌++◌, ◌∷◌, []};
 ghost use Rattle.table_access.specs.Calls.{CallsStore};
 ghost use Rattle.table_access.specs.Statements.{Creates, Makes, Indexes, indexed_by};
 ghost use Rattle.broker_tables.specs.Making.{IsBlank, HasTables, HasShortKeys, IsCalmOver};
-ghost use Rattle.broker_tables.specs.Refusals.{AreShort};
+ghost use Rattle.broker_tables.specs.ChangeRefusals.{AreShort};
 ghost use Rattle.broker_tables.specs.Schema.{registry_part, contract_part, deploy_part, schema_of, contents, checked_results, strict_environments, all_tables, contents_by_digest, contract_indexes, versions_by_pacticipant};
 ghost use Rattle.registry_tables.specs.Registry.{HasEmptyRegistry, PutsMeta};
 

@@ -8,7 +8,7 @@ ghost use Rattle.broker_tables.specs.Calm.{CalmQueries};
 ghost use Rattle.broker_tables.specs.Rows.{rows_of};
 
 use sqlite::{Alter, Connection};
-use table_access::{StoreFault, text_of};
+use table_access::{StoreFault, find_text};
 
 /// The digest of the office's token.
 ///
@@ -21,7 +21,7 @@ pub fn office_digest<S: Alter>(conn: &mut Connection<S>) -> Result<String, Store
         rows_of (state S.Store conn.old).now (codes "meta") ≡ [] →
         TellsMemory (state S.Store conn.old) (state S.Store conn.new) result }
 {
-    match done!(text_of(conn, "SELECT office_digest FROM meta", &[])) {
+    match done!(find_text(conn, "SELECT office_digest FROM meta", &[])) {
         Some(digest) => Ok(digest),
         None => Err(StoreFault::Store),
     }

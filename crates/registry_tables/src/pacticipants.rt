@@ -1,13 +1,12 @@
 //! Pacticipants, and the teams that own them.
 ghost use Rattle.std.specs.Prelude.{◌≡◌, [], ◌∷◌, codes, None, option_map, string_bytes};
 ghost use Rattle.broker_tables.specs.Holds.{Changes};
-ghost use Rattle.broker_tables.specs.Calm.{CalmQueries};
-ghost use Rattle.registry_tables.specs.Missing.{NeedsNoRoom};
-ghost use Rattle.broker_tables.specs.Refusals.{IsCalmChange};
+ghost use Rattle.broker_tables.specs.Calm.{CalmQueries, NeedsNoRoom};
+ghost use Rattle.broker_tables.specs.ChangeRefusals.{IsCalmChange};
 ghost use Rattle.registry_tables.specs.Registry.{AddsPacticipant};
 
 use sqlite::{Alter, Connection, params};
-use table_access::{StoreFault, change, text_of};
+use table_access::{StoreFault, change, find_text};
 
 /// The team that owns a pacticipant, or `None` if there is no such pacticipant.
 ///
@@ -22,7 +21,7 @@ pub fn owner_of<S: Alter>(
         (λ owner s. option_map string_bytes owner ≡ s.pacticipants pacticipant.now) }
     ensures missing { NeedsNoRoom S.Store conn.old conn.new result (λ s. s.pacticipants pacticipant.now ≡ None) }
 {
-    text_of(
+    find_text(
         conn,
         "SELECT team FROM pacticipants WHERE name = ?1",
         params![pacticipant],

@@ -1,13 +1,12 @@
 //! Teams, and the digests of their tokens.
 ghost use Rattle.std.specs.Prelude.{◌≡◌, ℕ, List, [], ◌∷◌, codes, Some, None, MatchOption, option_map, string_bytes, is_some};
 ghost use Rattle.broker_tables.specs.Holds.{Changes};
-ghost use Rattle.broker_tables.specs.Calm.{CalmQueries, CalmQueriesInPlace};
-ghost use Rattle.registry_tables.specs.Missing.{NeedsNoRoom};
-ghost use Rattle.broker_tables.specs.Refusals.{IsCalmChange};
+ghost use Rattle.broker_tables.specs.Calm.{CalmQueries, CalmQueriesInPlace, NeedsNoRoom};
+ghost use Rattle.broker_tables.specs.ChangeRefusals.{IsCalmChange};
 ghost use Rattle.registry_tables.specs.Registry.{AddsTeam};
 
 use sqlite::{Alter, Connection, params};
-use table_access::{StoreFault, change, has_row, text_of};
+use table_access::{StoreFault, change, find_text, has_row};
 
 const DIGEST_OF_TEAM: &str = "SELECT token_digest FROM teams WHERE name = ?1";
 
@@ -24,7 +23,7 @@ pub fn digest_of<S: Alter>(
         (λ digest s. option_map string_bytes digest ≡ s.teams team.now) }
     ensures missing { NeedsNoRoom S.Store conn.old conn.new result (λ s. s.teams team.now ≡ None) }
 {
-    text_of(conn, DIGEST_OF_TEAM, params![team])
+    find_text(conn, DIGEST_OF_TEAM, params![team])
 }
 
 /// Whether there is such a team.
@@ -53,7 +52,7 @@ pub fn team_of_digest<S: Alter>(
     ensures missing { NeedsNoRoom S.Store conn.old conn.new result
         (λ s. (t : List ℕ) → ¬ (s.teams t ≡ Some digest.now)) }
 {
-    text_of(
+    find_text(
         conn,
         "SELECT name FROM teams WHERE token_digest = ?1",
         params![digest],

@@ -2,31 +2,31 @@
 ghost use Rattle.std.specs.Prelude.{◌≡◌, [], ◌∷◌, length, is_some};
 ghost use Rattle.broker_core.specs.Text.{version as version_named};
 ghost use Rattle.broker_core.specs.Request.{is_known};
-ghost use Rattle.broker_tables.specs.Numbers.{number_of as number_in};
+ghost use Rattle.broker_tables.specs.Numbers.{number_of};
 ghost use Rattle.broker_tables.specs.Holds.{Changes, ChangesAndAnswers};
 ghost use Rattle.broker_tables.specs.Calm.{CalmQueriesInPlace};
-ghost use Rattle.broker_tables.specs.Refusals.{IsCalmStoring};
+ghost use Rattle.broker_tables.specs.ChangeRefusals.{IsCalmStoring};
 ghost use Rattle.registry_tables.specs.Registry.{AllowsVersion, AllowsVersionAs, CanAddVersion, AddsVersion, PutsVersion};
 
 use broker_tables::next_number;
 use sqlite::{Alter, Connection, params};
-use table_access::{StoreFault, change, number_of};
+use table_access::{StoreFault, change, find_number};
 
 /// The number of a version, by its pacticipant and its name, or `None` if there is no such version.
 ///
 /// # Errors
 /// `StoreFault::Memory` if the database is out of memory; `StoreFault::Store` if it refused the query or holds no
 /// number there.
-pub fn version_of<S: Alter>(
+pub fn version_number<S: Alter>(
     conn: &mut Connection<S>,
     pacticipant: &str,
     version: &str,
 ) -> Result<Option<u32>, StoreFault>
     ensures { CalmQueriesInPlace S.Store conn.old conn.new result
-        (λ found s. (found ≡ number_in s.versions (version_named pacticipant.now version.now))
+        (λ found s. (found ≡ number_of s.versions (version_named pacticipant.now version.now))
         × (is_some found ≡ is_known s (version_named pacticipant.now version.now))) }
 {
-    number_of(
+    find_number(
         conn,
         "SELECT number FROM versions WHERE pacticipant = ?1 AND version = ?2",
         params![pacticipant, version],
@@ -41,7 +41,7 @@ pub fn version_of<S: Alter>(
 pub fn version_count<S: Alter>(conn: &mut Connection<S>) -> Result<u64, StoreFault>
     ensures { CalmQueriesInPlace S.Store conn.old conn.new result (λ count s. count ≡ length s.versions) }
 {
-    let newest = done!(number_of(
+    let newest = done!(find_number(
         conn,
         "SELECT number FROM versions ORDER BY number DESC LIMIT 1",
         &[],

@@ -34,12 +34,6 @@ so_meets rules order at x y h = (rule_met (rule_for rules at) at x y).1 (subst (
 
 -- ---- members
 
-same_key : (k l : List ℕ) → bytes_eq k l ≡ true → k ≡ l
-same_key k l h = (bytes_eq-Decides k l).0 h
-
-key_itself : (k : List ℕ) → bytes_eq k k ≡ true
-key_itself k = (bytes_eq-Decides k k).1 refl
-
 by_order : {A : Type 0} (o : Ordering) (x y : A) → match_ordering o x y x ≡ cond (is_eq o) y x
 by_order Equal x y = refl
 by_order o x y = refl
@@ -57,13 +51,13 @@ there k l u fs isnt = looked_up k l u fs ∙ rw isnt refl
 found_member : (k : List ℕ) (fs : Members) (t : Data) → get_member k fs ≡ Some t → IsMember fs k t
 found_member k no_members t h = absurd (none-some t h)
 found_member k (member l u fs) t h = by_test (bytes_eq k l)
-    (λ is. inl (sym (same_key k l is), same_Some u t (sym (here k l u fs is) ∙ h)))
+    (λ is. inl (sym ((bytes_eq-Decides k l).0 is), same_Some u t (sym (here k l u fs is) ∙ h)))
     (λ isnt. inr (found_member k fs t (sym (there k l u fs isnt) ∙ h)))
 
 -- a member is looked up
 member_found : (k : List ℕ) (fs : Members) (t : Data) → IsMember fs k t → is_some (get_member k fs) ≡ true
 member_found k no_members t h = absurd h
-member_found k (member l u fs) t (inl h) = ap is_some (here k l u fs (ap (bytes_eq k) h.0 ∙ key_itself k))
+member_found k (member l u fs) t (inl h) = ap is_some (here k l u fs (ap (bytes_eq k) h.0 ∙ (bytes_eq-Decides k k).1 refl))
 member_found k (member l u fs) t (inr h) = by_test (bytes_eq k l)
     (λ is. ap is_some (here k l u fs is))
     (λ isnt. ap is_some (there k l u fs isnt) ∙ member_found k fs t h)
@@ -76,7 +70,7 @@ value_of (Some t) h = (t, refl)
 keys_so : (fs gs : Members) → has_keys_of fs gs ≡ true → (k : List ℕ) (e : Data) → get_member k fs ≡ Some e → is_some (get_member k gs) ≡ true
 keys_so no_members gs h k e is_there = absurd (none-some e is_there)
 keys_so (member l u fs) gs h k e is_there = let both = and_parts (is_some (get_member l gs)) (has_keys_of fs gs) h in by_test (bytes_eq k l)
-    (λ is. ap (λ m. is_some (get_member m gs)) (same_key k l is) ∙ both.0)
+    (λ is. ap (λ m. is_some (get_member m gs)) ((bytes_eq-Decides k l).0 is) ∙ both.0)
     (λ isnt. keys_so fs gs both.1 k e (sym (there k l u fs isnt) ∙ is_there))
 
 so_keys : (all fs gs : Members) → ((k : List ℕ) (t : Data) → IsMember fs k t → is_some (get_member k all) ≡ true) → ((k : List ℕ) (e : Data) → get_member k all ≡ Some e → is_some (get_member k gs) ≡ true) → has_keys_of fs gs ≡ true

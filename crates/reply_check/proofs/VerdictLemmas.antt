@@ -3,7 +3,7 @@ use Rattle.std.specs.List.{AllByRecursion}
 use Rattle.std.proofs.Common.{◌≡◌, ◌⊎◌, inl, inr, ◌↔◌, ℕ, zero, suc, ◌+◌, ◌<◌, List, [], ◌∷◌, ◌++◌, length, get_or, Some, slice_get, refl, sym, ap, ◌∙◌, subst, ⊎_elim, arith}
 use Rattle.std.proofs.{lemmas.Option.{same_Some, slice_get_within, slice_get_read}, lemmas.Bool.{cases_lt}}
 use Rattle.pact_file.{specs.Pact.{Interaction}, proofs.SetLemmas.{each_such}}
-use Rattle.pact_rules.specs.Lists.{OneOf, IsIn}
+use Rattle.pact_rules.{specs.Lists.{OneOf, IsIn}, proofs.ChoiceLemmas.{get_member}}
 use Rattle.reply_check.specs.Verdicts.{BelongsTo, IsKnown, AreKnown, IsFirstUnknown, Passes, InteractionFails, IsAscending, AreFailing, UsesPattern}
 use Rattle.reply_check.{specs.{Meeting.{HasPattern}, Recorded.{Reply}}, proofs.Deciding.{one_between, one_more, one_or_last, all_and_last}}
 
@@ -56,20 +56,6 @@ module _ (interactions : List Interaction) (replies : List Reply) where
     );
   }
 
--- ---- replies that are known
-
-pub known_one : (interactions : List Interaction) (replies : List Reply) (n : ℕ) (x : Reply) → slice_get replies n ≡ Some x → IsKnown interactions x
-    → ((j : ℕ) (r : Reply) → j < n → slice_get replies j ≡ Some r → IsKnown interactions r) → (j : ℕ) (r : Reply) → j < n + 1 → slice_get replies j ≡ Some r → IsKnown interactions r
-known_one interactions replies n x stands known before j r l is =
-    ⊎_elim (λ k. before j r k is) (λ same. subst (IsKnown interactions) (same_Some x r (sym stands ∙ ap (slice_get replies) (sym same) ∙ is)) known) (up_to n j l)
-
-known_all : (interactions : List Interaction) (replies : List Reply) → ((j : ℕ) (r : Reply) → slice_get replies j ≡ Some r → IsKnown interactions r) → AreKnown interactions replies
-known_all interactions [] h = tt
-known_all interactions (r ∷ rs) h = (h 0 r refl, known_all interactions rs (λ j s is. h (suc j) s is))
-
-pub all_known : (interactions : List Interaction) (replies : List Reply) (n : ℕ) → n ≡ length replies → ((j : ℕ) (r : Reply) → j < n → slice_get replies j ≡ Some r → IsKnown interactions r) → AreKnown interactions replies
-all_known interactions replies n all before = known_all interactions replies (λ j r is. before j r (subst (λ k. j < k) (sym all) (slice_get_within replies j r is)) is)
-
 -- ---- the first that is unknown
 
 module _ (interactions : List Interaction) (replies : List Reply) where
@@ -79,16 +65,11 @@ module _ (interactions : List Interaction) (replies : List Reply) where
       ⊎_elim (λ l. absurd (h.unknown (k.first i h.reply l h.stands)))
       (λ le. ⊎_elim (λ l. absurd (k.unknown (h.first j k.reply l k.stands))) (λ ge. omega (arith, le, ge)) (cases_lt j i)) (cases_lt i j)
 
-known_at : (interactions : List Interaction) (replies : List Reply) (i : ℕ) (r : Reply) → AreKnown interactions replies → slice_get replies i ≡ Some r → IsKnown interactions r
-known_at interactions [] i r all h = absurd cc
-known_at interactions (q ∷ replies) zero r all h = subst (IsKnown interactions) (same_Some _ _ h) all.0
-known_at interactions (q ∷ replies) (suc i) r all h = known_at interactions replies i r all.1 h
-
 -- and none where each is known
 pub none_first : (interactions : List Interaction) (replies : List Reply) (i : ℕ) → AreKnown interactions replies → ¬ IsFirstUnknown interactions replies i
-none_first interactions replies i all first = first.unknown (known_at interactions replies i first.reply all first.stands)
+none_first interactions replies i all first = first.unknown (get_member (IsKnown interactions) replies i first.reply all first.stands)
 
--- ---- what stands at a index
+-- ---- what stands at an index
 
 pub read_at : {A : Type 0} (xs : List A) (n : ℕ) (x : A) → n < length xs → x ≡ get_or xs n x → slice_get xs n ≡ Some x
 read_at xs n x l is = slice_get_read xs (length xs) n x refl l is

@@ -7,6 +7,7 @@ use Rattle.pact_rules.specs.{Matching.{entry_holds}, Walks.{Walk, HasReached, ow
 use Rattle.pact_rules.specs.{Rules.{Rules, IsInOrder, BodyRule, Entry, is_regex, has_regex}, RuleViews.{matcher_view}, Choice.{best, chosen}}
 use Rattle.pact_rules.proofs.{ChoiceLemmas.{got}, WalkLemmas.{IsThere, best_there}}
 use Rattle.serde_json.specs.Data.{Data}
+use Rattle.pact_file.proofs.Steps.{map_some}
 use Rattle.reply_check.{specs.{Computed.{meets_here, meets_rule, fits}, Fitting.{Fits}}, proofs.FittingLemmas.{fits_decides}}
 use Rattle.pact_rules.specs.declared.table.Matcher as code
 
@@ -36,14 +37,12 @@ any_at p (y ∷ ys) (suc i) x is h = or_right (p y) (list_any p ys) (any_at p ys
 pub regex_among : (ms : List code.Matcher) (i : ℕ) (m : code.Matcher) → i < length ms → m ≡ get_or ms i m → is_regex (matcher_view m) ≡ true → list_any is_regex (map matcher_view ms) ≡ true
 regex_among ms i m within is h = any_at is_regex (map matcher_view ms) i (matcher_view m) (got matcher_view ms i m within is) h
 
-regex_in_body : (bs : List BodyRule) (i : ℕ) (e : Entry) → slice_get (map (λ (r : BodyRule). r.entry) bs) i ≡ Some e → list_any is_regex e.matchers ≡ true → list_any (λ (r : BodyRule). list_any is_regex r.entry.matchers) bs ≡ true
-regex_in_body [] i e is h = absurd cc
-regex_in_body (b ∷ bs) zero e is h = rw (ap (λ (e : Entry). list_any is_regex e.matchers) (same_Some b.entry e is) ∙ h) refl
-regex_in_body (b ∷ bs) (suc i) e is h = or_right (list_any is_regex b.entry.matchers) (list_any (λ (r : BodyRule). list_any is_regex r.entry.matchers) bs) (regex_in_body bs i e is h)
-
 -- a body entry with a pattern is in the table
 pub regex_chosen : (rules : Rules) (index : ℕ) (e : Entry) → slice_get (map (λ (r : BodyRule). r.entry) rules.body) index ≡ Some e → list_any is_regex e.matchers ≡ true → has_regex rules ≡ true
-regex_chosen rules index e is h = rw (regex_in_body rules.body index e is h) refl
+regex_chosen rules index e is h =
+    let at = map_some (λ (r : BodyRule). r.entry) (slice_get rules.body index) e (sym (slice_get-map (λ (r : BodyRule). r.entry) rules.body index) ∙ is) in
+    let any = any_at (λ (r : BodyRule). list_any is_regex r.entry.matchers) rules.body index at.0 at.1 (ap (λ e. list_any is_regex e.matchers) at.2 ∙ h) in
+    rw any refl
 
 -- ---- the relation
 

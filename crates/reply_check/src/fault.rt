@@ -1,9 +1,10 @@
 //! Why replies are refused, or can't be checked.
 
 ghost use Rattle.std.specs.Prelude.{◌≡◌, string_bytes, IfOk};
-ghost use Rattle.reply_check.specs.Words.{number_text};
+ghost use Rattle.pact_file.specs.Words.{parts_text};
+ghost use Rattle.reply_check.specs.Words.{check_text, number_text};
 
-use pact_file::Part;
+use pact_file::{Part, TextParts};
 use pact_rules::{MatchFault, TreeFault};
 use std::alloc::{AllocError, AllocFailed, Global};
 use std::fmt;
@@ -17,21 +18,6 @@ pub enum Place {
     Replies,
     /// The reply at an index of the list, from 0, and its part, which is never `Request`.
     Reply(usize, Part),
-}
-
-impl fmt::Display for Place {
-    ghost use Rattle.std.specs.Prelude.{Some};
-    ghost use Rattle.reply_check.specs.Words.{place_text};
-
-    ghost output = { λ place. Some (place_text place) };
-
-    fn fmt<W: fmt::Write>(&self, f: &mut fmt::Formatter<W>) -> fmt::Result {
-        match self {
-            Place::File => f.write_str("file"),
-            Place::Replies => f.write_str("replies"),
-            Place::Reply(index, part) => write!(f, "replies[{}]{}", *index, *part),
-        }
-    }
 }
 
 /// The first fault of a file of replies, in this order: no JSON, no tree, no object, no list, reply by reply its
@@ -50,30 +36,6 @@ pub enum RepliesFault {
     Memory,
 }
 
-/// The number of a fault of replies, and what follows it.
-#[derive(Drop)]
-struct Number {
-    fault: RepliesFault,
-}
-
-impl fmt::Display for Number {
-    ghost use Rattle.std.specs.Prelude.{Some};
-    ghost use Rattle.reply_check.specs.Words.{number_text};
-
-    ghost output = { λ number. Some (number_text number.fault) };
-
-    fn fmt<W: fmt::Write>(&self, f: &mut fmt::Formatter<W>) -> fmt::Result {
-        match self.fault {
-            RepliesFault::NotJson => f.write_str("1"),
-            RepliesFault::Shape(place) => write!(f, "2 {}", place),
-            RepliesFault::Tree(TreeFault::NotWhole) => f.write_str("3.1"),
-            RepliesFault::Tree(TreeFault::TooDeep) => f.write_str("3.2"),
-            RepliesFault::SameReplyTwice => f.write_str("4"),
-            RepliesFault::Memory => f.write_str("5"),
-        }
-    }
-}
-
 impl fmt::Display for RepliesFault {
     ghost use Rattle.std.specs.Prelude.{Some};
     ghost use Rattle.reply_check.specs.Words.{replies_text};
@@ -83,18 +45,35 @@ impl fmt::Display for RepliesFault {
     fn fmt<W: fmt::Write>(&self, f: &mut fmt::Formatter<W>) -> fmt::Result {
         match self {
             RepliesFault::Memory => f.write_str("memory"),
-            fault => write!(f, "replies {}", Number { fault: *fault }),
+            fault => write!(f, "replies {}", fault.parts()),
         }
     }
 }
 
 impl RepliesFault {
-    /// The fault's number and, if it helps, the place after a space: what follows `replies ` in the fault's text. An
-    /// error means out of memory.
+    /// The fault's number and, if it helps, the place after a space: what follows `replies ` in the fault's text.
+    pub fn parts(&self) -> TextParts<'static>
+        ensures { parts_text result ≡ number_text self.now }
+    {
+        match self {
+            RepliesFault::NotJson => TextParts::Plain("1"),
+            RepliesFault::Shape(Place::File) => TextParts::Plain("2 file"),
+            RepliesFault::Shape(Place::Replies) => TextParts::Plain("2 replies"),
+            RepliesFault::Shape(Place::Reply(index, part)) => {
+                TextParts::Numbered("2 replies[", *index, "]", part.text())
+            }
+            RepliesFault::Tree(TreeFault::NotWhole) => TextParts::Plain("3.1"),
+            RepliesFault::Tree(TreeFault::TooDeep) => TextParts::Plain("3.2"),
+            RepliesFault::SameReplyTwice => TextParts::Plain("4"),
+            RepliesFault::Memory => TextParts::Plain("5"),
+        }
+    }
+
+    /// The text of the parts. An error means out of memory.
     pub fn number(&self, alloc: Global) -> Result<String, AllocError>
         ensures { IfOk result (λ s. string_bytes s ≡ number_text self.now) }
     {
-        format!(in alloc; "{}", Number { fault: *self })
+        format!(in alloc; "{}", self.parts())
     }
 }
 
@@ -136,10 +115,19 @@ impl fmt::Display for CheckFault {
     ghost output = { λ fault. Some (check_text fault) };
 
     fn fmt<W: fmt::Write>(&self, f: &mut fmt::Formatter<W>) -> fmt::Result {
+        f.write_str(self.text())
+    }
+}
+
+impl CheckFault {
+    /// The fault's text. It doesn't name the reply.
+    pub fn text(&self) -> &'static str
+        ensures { result.now ≡ check_text self.now }
+    {
         match self {
-            CheckFault::UnknownInteraction(_) => f.write_str("check 1"),
-            CheckFault::Pattern => f.write_str("check 2"),
-            CheckFault::Memory => f.write_str("memory"),
+            CheckFault::UnknownInteraction(_) => "check 1",
+            CheckFault::Pattern => "check 2",
+            CheckFault::Memory => "memory",
         }
     }
 }

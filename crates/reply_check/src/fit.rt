@@ -1,15 +1,14 @@
 //! Whether a value fits an expected one, in one walk down both.
 
-ghost use Rattle.std.specs.Prelude.{◌≡◌, ◌++◌, ◌∷◌, ◌↔◌, true, [], MatchOption, IfOk, IfErr, IsTrue, map, option_map};
-ghost use Rattle.std.specs.List.{list_any, list_all};
+ghost use Rattle.std.specs.Prelude.{◌≡◌, ◌++◌, ◌∷◌, ◌↔◌, true, [], MatchOption, IfOk, IfErr, IsTrue, option_map};
 ghost use Rattle.serde_json.specs.Data.{no_items, no_members};
 ghost use Rattle.pact_paths.specs.Paths.{Location};
 ghost use Rattle.pact_paths.specs.Locations.{step_view};
-ghost use Rattle.pact_rules.specs.Rules.{is_regex, entry_has_regex, has_regex};
-ghost use Rattle.pact_rules.specs.RuleViews.{matcher_view, entry_view};
+ghost use Rattle.pact_rules.specs.Rules.{entry_has_regex, has_regex};
+ghost use Rattle.pact_rules.specs.RuleViews.{entry_view};
 ghost use Rattle.serde_json.specs.View.{view, items_view, members_view};
 ghost use Rattle.pact_rules.specs.Walks.{HasReached, WasStarted};
-ghost use Rattle.pact_rules.specs.Matching.{holds as holds_of, entry_holds as entry_holds_of};
+ghost use Rattle.pact_rules.specs.Matching.{entry_holds as entry_holds_of};
 ghost use Rattle.pact_rules.specs.declared.matching.MatchFault.TheVariants.{Pattern};
 ghost use Rattle.reply_check.specs.Fitting.{Fits};
 ghost use Rattle.reply_check.specs.Computed.{fits as fits_of, items_fit as items_fit_of};
@@ -17,8 +16,7 @@ ghost use Rattle.reply_check.specs.Computed.{members_fit as members_fit_of, meet
 ghost use Rattle.reply_check.specs.Computed.{expected_items, expected_members};
 
 use pact_rules::{
-    Alive, Entry, MatchFault, Matcher, RuleTable, Searches, Step, are_alike, has_keys_of,
-    holds_with,
+    Alive, Entry, MatchFault, RuleTable, Searches, Step, are_alike, has_keys_of, holds_with,
 };
 use serde_json::{Map, Value};
 use std::alloc::Global;
@@ -220,67 +218,10 @@ pub(crate) fn entry_holds(
         (view expected.now) (view actual.now) own_place) }
     ensures pattern { IfErr result (λ e. e ≡ Pattern → entry_has_regex (entry_view entry.now) ≡ true) }
 {
-    if entry.any {
-        any_holds(
-            alloc,
-            searches,
-            &entry.matchers,
-            expected,
-            actual,
-            own_place,
-        )
-    } else {
-        all_hold(
-            alloc,
-            searches,
-            &entry.matchers,
-            expected,
-            actual,
-            own_place,
-        )
-    }
-}
-
-fn any_holds(
-    alloc: Global,
-    searches: &mut Searches<'_>,
-    matchers: &[Matcher],
-    expected: &Value,
-    actual: &Value,
-    own_place: bool,
-) -> Result<bool, MatchFault>
-    ensures value { IfOk result (λ b. b ≡ list_any
-        (λ m. holds_of m (view expected.now) (view actual.now) own_place)
-        (map matcher_view matchers.now)) }
-    ensures pattern { IfErr result (λ e. e ≡ Pattern
-        → list_any is_regex (map matcher_view matchers.now) ≡ true) }
-{
-    for matcher in matchers {
-        if holds_with(alloc, searches, matcher, expected, actual, own_place)? {
-            return Ok(true);
+    for matcher in &entry.matchers {
+        if holds_with(alloc, searches, matcher, expected, actual, own_place)? == entry.any {
+            return Ok(entry.any);
         }
     }
-    Ok(false)
-}
-
-fn all_hold(
-    alloc: Global,
-    searches: &mut Searches<'_>,
-    matchers: &[Matcher],
-    expected: &Value,
-    actual: &Value,
-    own_place: bool,
-) -> Result<bool, MatchFault>
-    ensures value { IfOk result (λ b. b ≡ list_all
-        (λ m. holds_of m (view expected.now) (view actual.now) own_place)
-        (map matcher_view matchers.now)) }
-    ensures pattern { IfErr result (λ e. e ≡ Pattern
-        → list_any is_regex (map matcher_view matchers.now) ≡ true) }
-{
-    for matcher in matchers {
-        if !holds_with(alloc, searches, matcher, expected, actual, own_place)? {
-            return Ok(false);
-        }
-    }
-    Ok(true)
+    Ok(!entry.any)
 }

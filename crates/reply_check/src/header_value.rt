@@ -47,6 +47,7 @@ fn in_lower_case(alloc: Global, text: &str) -> Result<String, AllocError>
 }
 
 /// Whether what counts of two values is the same.
+#[tactic(auto, using(crate::proofs::ValueLemmas::same_counting_parts))]
 fn are_same(alloc: Global, expected: &[u8], sent: &[u8]) -> Result<bool, AllocError>
     ensures { IfOk result (λ b. IsTrue b ↔ (counting_parts expected.now ≡ counting_parts sent.now)) }
 {

@@ -63,6 +63,7 @@ fn read_list(alloc: Global, items: Vec<Value>) -> Result<Vec<Reply>, RepliesFaul
 }
 
 /// Whether two replies are for one interaction. An error means out of memory.
+#[tactic(auto, using(crate::proofs::RivalLemmas::none_seen))]
 fn have_rivals(alloc: Global, replies: &[Reply]) -> Result<bool, AllocError>
     ensures { IfOk result (λ b. IsTrue b ↔ HasRivals replies.now) }
 {

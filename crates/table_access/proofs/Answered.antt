@@ -14,9 +14,9 @@ use Rattle.sqlite_resolve.specs.{declared.compiled.Compiled.{Compiled}, declared
 use Rattle.sqlite_rules.{specs.Lists.{Has}, proofs.ListLemmas.{has_front}}
 use Rattle.table_access.specs.{declared.StoreFault.{StoreFault}, declared.StoreFault.TheVariants.{Memory}, Calls.{HasFailed, fault_of}}
 use Rattle.table_access.specs.Reading.{IsRefusedAs, FailsToRead, FailsToTake, TellsText, TellsNumber, IsTextAt, IsNumberRow}
-use Rattle.table_access.specs.Statements.{from_table, from_both, up_to, keeps, keeps_both, shows}
-use Rattle.table_access.proofs.{Members.{has_either, contains_has, has_contains, map_has, filter_has}, SoundLemmas.{has_place}, Newest.{first_joined}}
-use Rattle.table_access.proofs.{Joins.{joined}, Steps.{Means, selects}}
+use Rattle.table_access.specs.Statements.{from_table, from_both, keeps, keeps_both, shows}
+use Rattle.table_access.proofs.{Members.{has_either, contains_has, has_contains, map_has, filter_has}, SoundLemmas.{has_place}, Joins.{joined}}
+use Rattle.table_access.proofs.Steps.{Means, selects}
 
 -- the whole text is one statement, with so many parameters
 abbrev pub is_whole : List ℕ → ℕ → Result Compiled CompileError → Bool
@@ -146,9 +146,3 @@ pair_shown db params t u terms project order rows h row has =
     let two = map_has (λ s. eval_all project (params ∷ one.0 ∷ s ∷ [])) (filter (keeps_both terms params one.0) (db.trees u)) row one.2 in
     let kept = filter_has (keeps_both terms params one.0) (db.trees u) two.0 two.1 in
     (one.0, two.0, one.1, kept.0, two.2, kept.1)
-
-pub first_pair_shown : (db : Database) (params : Row) (n t u : ℕ) (terms project : List Term) (order : List (Term × Key)) (rows : List Row) → Answers db (record { lets = []; body = up_to n (from_both t u terms project order) }) params rows
-    → (row : Row) → Has rows row → (r s : Row) × Has (db.trees t) r × Has (db.trees u) s × (row ≡ eval_all project (params ∷ r ∷ s ∷ [])) × (keeps_both terms params r s ≡ true)
-first_pair_shown db params n t u terms project order rows h row has =
-    let all = first_joined db params t u terms project order n rows h in
-    pair_shown db params t u terms project order all.0 all.1 row (take_has n all.0 row (subst (λ xs. Has xs row) all.2 has))

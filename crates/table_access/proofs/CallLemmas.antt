@@ -9,7 +9,7 @@ use Rattle.sqlite_resolve.specs.declared.compiled.Compiled.{Compiled}
 use Rattle.sqlite_trees.specs.{declared.error.StoreError.{StoreError}, declared.error.StoreError.TheVariants.{OutOfMemory, Broken, Unstorable}}
 use Rattle.table_access.specs.{Unit.{IsLeft}, declared.StoreFault.{StoreFault}, declared.StoreFault.TheVariants.{Memory, Store}}
 use Rattle.table_access.specs.Calls.{KeepsLastCommit, CallsBetween, CallsTablesBetween, CallsStoreBetween, GoesOn, EndsBy, IsEnded, FailsAs, TellsMemoryUnless, fault_of}
-use Rattle.table_access.proofs.{Refusals.{read_told}, Texts.{IsRefused, caused_more, no_statement_told, command_told}}
+use Rattle.table_access.proofs.{StatementRefusals.{read_told}, Texts.{IsRefused, caused_more, no_statement_told, command_told}}
 
 -- where nothing changed, or the transaction was rolled back, nothing is committed
 pub left_commit : (a b : State) → IsLeft a b → KeepsLastCommit a b
@@ -38,10 +38,6 @@ unfolding FailsToQuery IsNotRun
 query_by sql params old new e (inl (inl h)) = inl (h.1, no_statement_told old sql params e h.0)
 query_by sql params old new e (inl (inr h)) = inr (h.0, h.1, caused_more old new h.0 (λ big. tt) h.2, h.3, h.4)
 query_by sql params old new e (inr h) = fails_by old new sql h.0 _ e h.0.returning h.2
-
-refused_left : (old new : State) (e : Error) → IsRefused old new e → IsLeft old new
-refused_left old new e (inl same) = inl same.0
-refused_left old new e (inr fails) = inr fails.3
 
 -- a statement that is refused leaves the transaction, or the store failed
 refused_fails : (old new : State) (e : Error) (fault : StoreFault) → fault ≡ fault_of e → IsRefused old new e → IsTrue old.in_transaction → FailsAs old new fault
@@ -132,10 +128,6 @@ ended_since {TooBig} a b c e on up ended = record { cause = ended.cause; fault_i
 pub ended_with : {A B : Type 0} (a b : State) (e : StoreFault) → (A → B) → EndsBy A a b e → EndsBy B a b e
 ended_with {A} {B} a b e more ended = record { cause = ended.cause; fault_is = ended.fault_is; has = caused_more a b ended.cause more ended.has; over = ended.over; blamed = ended.blamed }
 
-fails_since : (a b c : State) (e : StoreFault) → GoesOn a b → a.faults ≤ b.faults → FailsAs b c e → FailsAs a c e
-fails_since a b c e on up (inl goes) = inl (goes.0, λ h. goes.1 (on.1 h))
-fails_since a b c e on up (inr ended) = inr (ended_since a b c e on up ended)
-
 -- one call after another: Q of the last answer is had from P of the first
 pub seq : {A B : Type 0} {any takes : Bool} (old mid new : State) (a : A) (r : Result B StoreFault) (P : A → Type 0) (Q R : B → Type 0) → (P a → (b : B) → Q b → R b) → CallsBetween any old mid (Ok a) P → CallsBetween takes mid new r Q → CallsBetween takes old new r R
 seq {A} {B} {takes} old mid new a r P Q R more one two = record {
@@ -156,7 +148,7 @@ seq {A} {B} {takes} old mid new a r P Q R more one two = record {
 
     stops : (x : Result B StoreFault) → GoesOn old mid → IfErr x (FailsAs mid new) → IfErr x (FailsAs old new)
     stops (Ok b) first second = tt
-    stops (Err e) first second = fails_since old mid new e first one.survives.counts second
+    stops (Err e) first second = elim second [ inl goes ↦ inl (goes.0, λ h. goes.1 (first.1 h)) | inr ended ↦ inr (ended_since old mid new e first one.survives.counts ended) ]
 
     tells : (t : Bool) → TellsMemoryUnless t mid new r → TellsMemoryUnless t old new r
     tells true short = tt
@@ -190,7 +182,7 @@ refused old new e fault P is why survives = record {
   ok = λ _. tt;
   goes_on = λ _ _. tt;
   fails = λ clean inside. refused_fails old new e fault is (why clean) inside;
-  commits = λ clean inside. left_commit old new (refused_left old new e (why clean));
+  commits = λ clean inside. left_commit old new (elim (why clean) [ inl same ↦ inl same.0 | inr fails ↦ inr fails.3 ]);
   survives = survives;
   memory = λ clean inside short. refused_memory old new e fault is (why clean) (let same : fault ≡ Memory = (let h = short in cc) in same);
 }

@@ -36,9 +36,6 @@ all_back : {X : Type 0} (P : X → Type 0) (xs ys : List X) → AllByRecursion P
 all_back P [] ys all = all
 all_back P (x ∷ xs) ys all = all_back P xs ys all.1
 
-pub keeps_then : (tables : List Table) (a b c : Trees) → KeepsRows tables a b → KeepsRows tables b c → KeepsRows tables a c
-keeps_then tables a b c = all_both (λ t. b t.tree ≡ a t.tree) (λ t. c t.tree ≡ b t.tree) (λ t. c t.tree ≡ a t.tree) (λ t one two. two ∙ one) tables
-
 -- one after another
 pub each_then : {X : Type 0} (One : Database → Database → X → Type 0) (front back : List X) (old mid new : Database) → MakesEach One front old mid → MakesEach One back mid new → MakesEach One (front ++ back) old new
 each_then One [] back old mid new one two = subst (λ db. MakesEach One back db new) one two
@@ -64,7 +61,8 @@ pub each_keeps : {X : Type 0} (One : Database → Database → X → Type 0) →
     → (xs : List X) (old new : Database) → MakesEach One xs old new → KeepsRows old.schema.tables old.trees new.trees
 each_keeps One keeps back [] old new h = all_of _ old.schema.tables (λ t has. ap (λ (db : Database). db.trees t.tree) h)
 each_keeps One keeps back (x ∷ xs) old new h =
-    keeps_then old.schema.tables old.trees h.0.trees new.trees (keeps old h.0 x h.1) (back old h.0 x h.1 new.trees (each_keeps One keeps back xs h.0 new h.2))
+    all_both (λ t. h.0.trees t.tree ≡ old.trees t.tree) (λ t. new.trees t.tree ≡ h.0.trees t.tree) (λ t. new.trees t.tree ≡ old.trees t.tree)
+    (λ t one two. two ∙ one) old.schema.tables (keeps old h.0 x h.1) (back old h.0 x h.1 new.trees (each_keeps One keeps back xs h.0 new h.2))
 
 pub made_keeps : (tables : List Table) (old new : Database) → Makes tables old new → KeepsRows old.schema.tables old.trees new.trees
 made_keeps = each_keeps Creates (λ old new table made. made.others) (λ old new table made later rows.

@@ -1,4 +1,4 @@
-pub mod Refusals
+pub mod StatementRefusals
 pub mod Texts
 pub mod WriteLemmas
 pub mod Values

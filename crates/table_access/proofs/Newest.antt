@@ -1,6 +1,6 @@
 -- ORDER BY with LIMIT: the first rows of what the same query shows without it; and the row with the greatest number.
 use Rattle.std.specs.{Prelude.{option_map}, List.{AllByRecursion}, Ordering.{ordering_reverse}}
-use Rattle.std.proofs.Common.{◌≡◌, ℕ, pos, List, [], ◌∷◌, ◌++◌, map, filter, take, reverse, false, cond, refl, sym, ap, ◌∙◌, Option, slice_get, Less, Greater, is_gt, is_eq}
+use Rattle.std.proofs.Common.{◌≡◌, ℕ, pos, List, [], ◌∷◌, ◌++◌, map, filter, take, reverse, cond, refl, sym, ap, ◌∙◌, Option, slice_get, Less, Greater, is_gt, is_eq}
 use Rattle.std.proofs.{lemmas.Grind.{reverse_onto}, lemmas.Option.{slice_get-map}, lemmas.List.Sorted.{IsPermutation-reverse}}
 use Rattle.sqlite_trees.proofs.ListLemmas.{all-permutation}
 use Rattle.sqlite_keyed.{specs.Lists.{insert_sorted, sort_by}, proofs.ListLemmas.{ascending_weaker, ascending-filter, first_taken, filter_all}}
@@ -22,11 +22,6 @@ module _ (db : Database) (params : Row) (t : ℕ) (terms project : List Term) (o
       let a : IsAnswer (up_to n (from_table t terms project order)) (overlay db.trees []) params rows = h.answer Null in
       let all = map (λ o. o.1) a.ordered in
       (all, record { typed = h.typed; answer = λ lost. record { staged = a.staged; grouped = a.grouped; kept = a.kept; distinct = a.distinct; ordered = a.ordered; same = a.same; sorted = a.sorted; shown = refl } }, a.shown)
-
-  -- SELECT project FROM a table WHERE terms ORDER BY order LIMIT n, where no two rows tie
-  pub selects_first : IsAscending (λ a b. is_eq (sort_cmp order (params ∷ a ∷ []) (params ∷ b ∷ [])) ≡ false) (filter (keeps terms params) (db.trees t))
-      → rows ≡ take n (map (shows project params) (sort_by (λ a b. sort_cmp order (params ∷ a ∷ []) (params ∷ b ∷ [])) (filter (keeps terms params) (db.trees t))))
-  selects_first apart = first_rows.2 ∙ ap (take n) (selects_in_order db params t terms project order first_rows.0 first_rows.1 apart)
 
 -- the first rows of an answer of the query of two tables without LIMIT
 pub first_joined : (db : Database) (params : Row) (t u : ℕ) (terms project : List Term) (order : List (Term × Key)) (n : ℕ) (rows : List Row) → Answers db (record { lets = []; body = up_to n (from_both t u terms project order) }) params rows
@@ -60,10 +55,11 @@ module _ (params : Row) where
   selects_newest db t terms project n rows numbered h =
       let kept = filter (keeps terms params) (db.trees t) in
       let down : IsAscending (λ a b. sort_cmp newest (params ∷ a ∷ []) (params ∷ b ∷ []) ≡ Greater) kept = ascending_weaker _ _ falls kept (ascending-filter _ (keeps terms params) (db.trees t) numbered.0) in
-      selects_first db params t terms project newest n rows h (ascending_weaker _ _ (λ a b e. ap is_eq e) kept down)
+      let all = first_rows db params t terms project newest n rows h in
+      all.2 ∙ ap (take n) (selects_in_order db params t terms project newest all.0 all.1 (ascending_weaker _ _ (λ a b e. ap is_eq e) kept down))
       ∙ ap (λ l. take n (map (shows project params) l)) (turns (λ a b. sort_cmp newest (params ∷ a ∷ []) (params ∷ b ∷ [])) kept down)
 
--- SELECT number FROM a table ORDER BY number DESC LIMIT 1, as `number_of` reads it
+-- SELECT number FROM a table ORDER BY number DESC LIMIT 1, as `find_number` reads it
 pub newest_number : (sql : List ℕ) (old new : State) (t : ℕ) (names : List (List ℕ)) → Means old.now.schema sql (Select (record { lets = []; body = up_to 1 (from_table t [] (col 1 0 ∷ []) newest) }) names) → IsNumbered (old.now.trees t)
     → (rows : List Row) → Shown sql [] old new rows → (found : Option ℕ) → option_map (λ n. Int (pos n)) found ≡ option_map (λ row. column row 0) (slice_get rows 0)
     → option_map pos found ≡ option_map (whole_at 0) (slice_get (reverse (old.now.trees t)) 0)

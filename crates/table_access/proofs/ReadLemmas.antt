@@ -35,6 +35,6 @@ whole_pos (Some n) = refl
 pub same_numbers : (a b : Option ℕ) → option_map pos a ≡ option_map pos b → a ≡ b
 same_numbers a b e = sym (whole_pos a) ∙ ap (option_map whole) e ∙ whole_pos b
 
--- what `number_of` found, as a whole number
+-- what `find_number` found, as a whole number
 pub number_found : (found : Option ℕ) (rows : List Row) → option_map (λ n. Int (pos n)) found ≡ option_map (λ r. column r 0) (slice_get rows 0) → option_map pos found ≡ option_map (λ r. id_in (column r 0)) (slice_get rows 0)
 number_found found rows is = sym (option_map_twice id_in (λ n. Int (pos n)) found) ∙ ap (option_map id_in) is ∙ option_map_twice id_in (λ r. column r 0) (slice_get rows 0)

@@ -1,7 +1,7 @@
 -- A row with a few columns, whose texts have ten million bytes each at most, can be stored, and so can its entries in
 -- indexes.
 use Rattle.sqlite.specs.{Order.{Row, bytes, column, number}, Schema.{Schema}, Table.{Table}, declared.types.Value.{Value}}
-use Rattle.sqlite.specs.declared.types.Value.TheVariants.{Blob, Int, Null, Real, Text}
+use Rattle.sqlite.specs.declared.types.Value.TheVariants.{Blob, Int, Real, Text}
 use Rattle.sqlite_rules.{specs.Edit.{IsOversized}, proofs.ListLemmas.{test_has}}
 use Rattle.sqlite_schema.specs.{Rules.{index_reals, table_reals}, declared.schema.Index.{Index}}
 use Rattle.sqlite_sql.specs.Catalog.{entry_of}

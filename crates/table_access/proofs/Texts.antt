@@ -8,8 +8,8 @@ use Rattle.sqlite.proofs.Callers.{IsPlain, command_of}
 use Rattle.sqlite_tied.specs.Compute.{everything}
 use Rattle.sqlite_resolve.specs.declared.compiled.Compiled.{Compiled}
 use Rattle.sqlite_trees.specs.{declared.error.StoreError.{StoreError}, declared.error.StoreError.TheVariants.{Unstorable}}
-use Rattle.table_access.{specs.{Unit.{IsLeft}, Calls.{fault_of}, declared.StoreFault.TheVariants.{Store}}, proofs.{Refusals.{does_told}, Steps.{Means}}}
-use Rattle.table_access.proofs.Answered.{is_whole}
+use Rattle.table_access.{specs.{Unit.{IsLeft}, Calls.{fault_of}, declared.StoreFault.TheVariants.{Store}}, proofs.StatementRefusals.{does_told}}
+use Rattle.table_access.proofs.{Steps.{Means}, Answered.{is_whole}}
 
 pub begin_is : (schema : Schema) → Means schema (codes "BEGIN") Begin × (is_whole (codes "BEGIN") 0 (understood schema (codes "BEGIN")) ≡ true)
 unfolding understood everything
@@ -31,12 +31,9 @@ pub no_statement_told : (s : State) (sql : List ℕ) (params : Row) (e : Error) 
 no_statement_told s sql params e (inl h) = ap fault_of h.2
 no_statement_told s sql params e (inr h) = elim h.2 [ inl many ↦ ap fault_of many.1 | inr more ↦ elim more [ inl count ↦ ap fault_of count.1 | inr clock ↦ ap fault_of clock.1 ] ]
 
-misplaced_told : (s : State) (command : Command) (e : Error) → IsMisplaced s command e → fault_of e ≡ Store
-misplaced_told s command e (inl h) = ap fault_of h.0
-misplaced_told s command e (inr h) = ap fault_of h.0
-
 pub command_told : (old : State) (c : Compiled) (text : List ℕ) (params : Row) (e : Error) → IsMisplaced old c.command e ⊎ (MayChange c × Does old.step_limit (mode_of old) params old.now text c.returning c.command (Err (Some e))) → fault_of e ≡ Store
-command_told old c text params e (inl h) = misplaced_told old c.command e h
+command_told old c text params e (inl (inl h)) = ap fault_of h.0
+command_told old c text params e (inl (inr h)) = ap fault_of h.0
 command_told old c text params e (inr h) = does_told old.step_limit (mode_of old) params old.now text c.returning c.command e h.1
 
 -- what is so where a row was too big is so of more

@@ -38,7 +38,9 @@ mod rows;
 
 pub use committing::CommitRefused;
 pub use counted::change_counted;
-pub use rows::{ReadRow, has_row, list_of, number_at, number_in, number_of, text_at, text_of};
+pub use rows::{
+    NumberRow, ReadRow, find_number, find_text, has_row, list_of, number_at, number_in, text_at,
+};
 
 /// Why a call on the tables failed.
 #[derive(Clone, Copy, Debug, PartialEq, Eq)]

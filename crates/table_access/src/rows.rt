@@ -139,6 +139,21 @@ pub fn number_at(row: &Row, place: usize) -> Result<u32, StoreFault>
     }
 }
 
+/// A row that is read as the number in its first column.
+pub struct NumberRow;
+
+impl ReadRow for NumberRow {
+    type Item = u32;
+
+    ghost reads_as = { λ row number. column row 0 ≡ Int (pos number) };
+
+    ghost fails_as = { TellsNumber };
+
+    fn read(_alloc: Global, row: &Row) -> Result<u32, StoreFault> {
+        number_in(row)
+    }
+}
+
 /// The whole number in the first column of the first row, if there is a row. `StoreFault::Store` if there is no number
 /// from 0 to 2^32 - 1.
 fn first_number(rows: &[Row]) -> Result<Option<u32>, StoreFault>
@@ -154,7 +169,7 @@ fn first_number(rows: &[Row]) -> Result<Option<u32>, StoreFault>
 
 /// The text in the first column of the first row that a query shows. None if it shows no row; `StoreFault::Store` if
 /// there is NULL, a number or no UTF-8.
-pub fn text_of<S: Alter>(
+pub fn find_text<S: Alter>(
     conn: &mut Connection<S>,
     sql: &str,
     params: &[ValueRef<'_>],
@@ -174,7 +189,7 @@ pub fn text_of<S: Alter>(
 
 /// The whole number in the first column of the first row that a query shows. None if it shows no row;
 /// `StoreFault::Store` if there is no number from 0 to 2^32 - 1.
-pub fn number_of<S: Alter>(
+pub fn find_number<S: Alter>(
     conn: &mut Connection<S>,
     sql: &str,
     params: &[ValueRef<'_>],

@@ -3,7 +3,7 @@ ghost use Rattle.std.specs.Prelude.{◌≡◌};
 ghost use Rattle.sqlite.specs.Held.{state};
 ghost use Rattle.uses.specs.Asking.{is_question, IsAsked};
 
-use answer_texts::Answer;
+use answer_texts::RenderedAnswer;
 use broker_core::command::Command;
 use broker_service::Broker;
 use sqlite::Alter;
@@ -31,7 +31,7 @@ pub fn ask<S: Alter>(
     broker: &mut Broker<S>,
     token: &str,
     command: &Command,
-) -> Option<Answer>
+) -> Option<RenderedAnswer>
     ensures { IsAsked (state S.Store) broker.old token.now command.now result broker.new }
 {
     if !is_question(command) {

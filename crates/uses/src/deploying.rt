@@ -5,8 +5,8 @@ ghost use Rattle.broker_core.specs.Text.{version};
 ghost use Rattle.broker_core.specs.declared.command.Command.TheVariants.{Deploy};
 ghost use Rattle.uses.specs.Deploying.{is_accepted, IsDeployedOrRefused};
 
-use answer_texts::Answer;
-use broker_core::answer::Answer as Outcome;
+use answer_texts::RenderedAnswer;
+use broker_core::answer::Answer;
 use broker_core::command::{Command, Version};
 use broker_names::name::{Name, NameFault};
 use broker_service::Broker;
@@ -33,13 +33,13 @@ pub fn deployment(
 }
 
 /// Whether a command was done, or had been done before.
-fn is_accepted(outcome: &Outcome) -> bool
-    ensures { result ≡ is_accepted outcome.now }
+fn is_accepted(answer: &Answer) -> bool
+    ensures { result ≡ is_accepted answer.now }
 {
-    matches!(outcome, Outcome::Done(_) | Outcome::Already(_))
+    matches!(answer, Answer::Done(_) | Answer::Already(_))
 }
 
-/// Records a deployment, or hands on what the broker answers in its place. The outcome of that answer lists every pair
+/// Records a deployment, or hands on what the broker answers in its place. That answer lists every pair
 /// at fault, or says which name isn't known or which rule denies; its body says the same as JSON; and nothing has
 /// changed, but that the broker is stopped if its store failed.
 pub fn deploy<S: Alter>(
@@ -47,11 +47,11 @@ pub fn deploy<S: Alter>(
     broker: &mut Broker<S>,
     token: &str,
     deployment: &Command,
-) -> Result<(), Answer>
+) -> Result<(), RenderedAnswer>
     ensures { IsDeployedOrRefused (state S.Store) broker.old token.now deployment.now result broker.new }
 {
     let answer = broker.apply(alloc, Some(token), deployment);
-    if is_accepted(answer.outcome()) {
+    if is_accepted(answer.answer()) {
         return Ok(());
     }
     Err(answer)

@@ -4,7 +4,7 @@ ghost use Rattle.broker_core.specs.declared.command.Version.{Version};
 ghost use Rattle.broker_core.specs.Gate.{Stands};
 ghost use Rattle.broker_tables.specs.Calm.{CalmQueries};
 ghost use Rattle.broker_tables.specs.Holds.{ChangesAndAnswers};
-ghost use Rattle.broker_tables.specs.Refusals.{IsCalmStoring};
+ghost use Rattle.broker_tables.specs.ChangeRefusals.{IsCalmStoring};
 ghost use Rattle.contract_tables.specs.Verified.{AllowsNextResult, CanAddResult, RecordsResult, texts_of};
 ghost use Rattle.uses.specs.Tables.{IsAlone, IsVerified};
 

@@ -1,4 +1,4 @@
-use Rattle.std.proofs.Common.{◌≡◌, ◌≤◌, inl, inr, false, Ok, Err, Result, arith}
+use Rattle.std.proofs.Common.{◌≤◌, inl, inr, Ok, Err, Result, arith}
 use Rattle.sqlite.specs.{Held.{state}, State.{State, HasCleanDisk}}
 use Rattle.table_access.{specs.{Calls.{HasFailed}, Unit.{TellsRollback}, declared.StoreFault.{StoreFault}}, proofs.CallLemmas.{commits_then, left_commit}}
 use Rattle.table_access.proofs.RefusedEnds.{failed_idle}
@@ -12,12 +12,9 @@ still_failed a b c f (Err e) failed up refused = absurd (let clash = failed.over
 
 pub returns-in-Err-clause-refused : goal.returns-in-Err-clause-refused
 returns-in-Err-clause-refused g c clean =
-    let old = state g.S.Store c.args.conn.now in
-    let mid = state g.S.Store c.run_commit.new.conn in
-    let new = state g.S.Store c.rollback.new.conn in
-    let mid_clean : HasCleanDisk mid = omega (arith, c.rollback.ensures.survives.clean, clean) in
+    let mid_clean : HasCleanDisk (state g.S.Store c.run_commit.new.conn) = omega (arith, c.rollback.ensures.survives.clean, clean) in
     let why = c.in-Err.ensures.cause mid_clean in (
-      commits_then old mid new (left_commit old mid (c.in-Err.ensures.refused mid_clean)) (c.rollback.ensures.commit clean),
+      commits_then _ _ _ (left_commit _ _ (c.in-Err.ensures.refused mid_clean)) (c.rollback.ensures.commit clean),
       c.rollback.ensures.over clean,
       record {
         tried = c.run_commit.new.conn;
@@ -25,7 +22,7 @@ returns-in-Err-clause-refused g c clean =
         survives = c.run_commit.ensures.survives;
         over = c.rollback.ensures.survives;
         failed = λ inside. elim why.1 [
-          | inl failed ↦ still_failed old mid new _ c.rollback.result failed c.rollback.ensures.survives.counts (c.rollback.ensures.tells clean)
+          | inl failed ↦ still_failed _ _ _ _ c.rollback.result failed c.rollback.ensures.survives.counts (c.rollback.ensures.tells clean)
           | inr outside ↦ absurd (let clash = outside in cc)
         ];
       },

@@ -1,5 +1,4 @@
 use Rattle.std.proofs.Common.{◌≡◌, Bool, true, false, not, IsTrue, refl, sym, subst}
-use Rattle.sqlite.specs.Held.{state}
 use Rattle.table_access.specs.Unit.{FailsToRollBack}
 use Rattle.table_access.proofs.rollback.Goals as goal
 
@@ -9,6 +8,5 @@ is_inside false autocommit is none = absurd (cc)
 
 pub returns-in-Err-clause-tells : goal.returns-in-Err-clause-tells
 returns-in-Err-clause-tells g c clean =
-    let old = state g.S.Store c.args.conn.now in
-    let inside = is_inside old.in_transaction c.is_autocommit.result c.is_autocommit.ensures.value c.if-is_autocommit.false in
-    subst (FailsToRollBack old (state g.S.Store c.run_rollback.new.conn)) (sym c.fault_of.ensures) (c.in-Err.ensures.cause clean inside)
+    let inside = is_inside _ c.is_autocommit.result c.is_autocommit.ensures.value c.if-is_autocommit.false in
+    subst (FailsToRollBack _ _) (sym c.fault_of.ensures) (c.in-Err.ensures.cause clean inside)

@@ -11,6 +11,3 @@ pub returns-in-Err-clause-leaves : goal.returns-in-Err-clause-leaves
 returns-in-Err-clause-leaves g c =
     refused _ _ _ _ _ c.fault_of.ensures (λ clean. query_by _ _ _ _ _ (c.in-Err.ensures.err clean))
     (survives_weaker _ _ _ _ (λ _ db h. shows_outside _ _ _ db h) c.query_all.ensures.survives)
-
-pub returns-in-Err-clause-cause : goal.returns-in-Err-clause-cause
-returns-in-Err-clause-cause g c clean = (c.in-Err.error, c.fault_of.ensures, c.in-Err.ensures.err clean)

@@ -17,4 +17,4 @@ returns-in-Store c = sym (ap answer_text c.in-Store.is)
 
 pub returns-in_default : goal.returns-in_default
 unfolding escape_byte
-returns-in_default c = sym (ap answer_text (only_stopped c.args.outcome.now c.requires c.in_default.not-Pattern c.in_default.not-Memory c.in_default.not-Store))
+returns-in_default c = sym (ap answer_text (only_stopped c.args.answer.now c.requires c.in_default.not-Pattern c.in_default.not-Memory c.in_default.not-Store))

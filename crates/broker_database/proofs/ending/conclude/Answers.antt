@@ -1,5 +1,5 @@
 use Rattle.std.proofs.Common.{◌≡◌, ◌∙◌, Ok, Err, Result, Bool, false, IsTrue, IfErr, refl}
-use Rattle.sqlite.specs.{Held.{Held, state}, State.{State}}
+use Rattle.sqlite.specs.{Held.{Held}, State.{State}}
 use Rattle.table_access.specs.{declared.StoreFault.{StoreFault}, declared.StoreFault.TheVariants.{Memory, Store}}
 use Rattle.broker_database.{specs.Transaction.{EndsFor, Finishes, called, conclusion, told}, proofs.Transaction.{outlives_as}}
 use Rattle.broker_database.proofs.ending.conclude.Goals as goal
@@ -22,16 +22,14 @@ called_ends shown keeps worked (Err fault) old new same = λ kept ok. let clash 
 
 pub returns-in-Err-clause-concludes : goal.returns-in-Err-clause-concludes
 returns-in-Err-clause-concludes g c =
-    let old = state g.S.Store c.args.conn.now in
-    let new = state g.S.Store c.commit.new.conn in
-    let ends : Finishes old new c.args.keeps (Err Store) = record {
+    let ends : Finishes _ _ c.args.keeps (Err Store) = record {
       committed = λ _ _. tt;
       over = λ clean undone. let it = c.in-Err.ensures.refused clean in (it.0, it.1);
       told = λ _ unkept. absurd (cc);
       unsure = λ _. refl;
       live = λ _. c.commit.ensures.live;
       settled = λ trees now may. g.met.S.Store.settled _ trees now may;
-      survives = outlives_as old new (λ trees is. (c.if-not-keeps.false, is)) c.commit.ensures.survives;
+      survives = outlives_as _ _ (λ trees is. (c.if-not-keeps.false, is)) c.commit.ensures.survives;
     } in
     record { ended = Err Store; ends = ends; answer = store_at_worst c.args.worked }
 

@@ -9,11 +9,10 @@ use Rattle.broker_database.proofs.migration.bring_up.Goals as goal
 pub returns-in-Ok-add_all-clause-brings : goal.returns-in-Ok-add_all-clause-brings
 returns-in-Ok-add_all-clause-brings g c =
     let old = state g.S.Store c.args.conn.now in
-    let mid = state g.S.Store c.format_to_migrate.new.conn in
     let new = state g.S.Store c.add_all.new.conn in
     let is : c.in-Ok.value ≡ Some 1 = cc in
     then_ok old new c.in-Ok-add_all.value (Some 1) (λ _. FindsFormer old.now (Some 1) × BringsUp old.now new.now) _ (λ it. (it.0, λ _. it.1))
-    (seq old mid new c.in-Ok.value (Ok c.in-Ok-add_all.value) _ _ (λ _. FindsFormer old.now (Some 1) × BringsUp old.now new.now)
+    (seq old _ new c.in-Ok.value (Ok c.in-Ok-add_all.value) _ _ (λ _. FindsFormer old.now (Some 1) × BringsUp old.now new.now)
     (λ found _ up. (subst (FindsFormer old.now) is found.0, subst (λ (db : Database). BringsUp db new.now) found.1 up)) c.in-Ok.ensures.finds c.in-Ok-add_all.ensures.brings)
 
 pub returns-in-Err-clause-calm : goal.returns-in-Err-clause-calm

@@ -2,7 +2,7 @@ use Rattle.std.proofs.Common.{◌≡◌, ◌⊎◌, ◌∷◌, [], ◌∙◌, �
 use Rattle.sqlite.specs.{Held.{state}, State.{State}}
 use Rattle.broker_core.specs.{State.{opening}, Text.{Text}}
 use Rattle.table_access.specs.{Calls.{HasFailed}, declared.StoreFault.{StoreFault}}
-use Rattle.broker_tables.specs.{Making.{IsBlank}, Refusals.{AreShort}, Schema.{no_schema}}
+use Rattle.broker_tables.specs.{Making.{IsBlank}, ChangeRefusals.{AreShort}, Schema.{no_schema}}
 use Rattle.command_facts.{specs.Primitives.{broker_primitives}, proofs.ShortTexts.{digest_short}}
 use Rattle.broker_database.specs.{Ends.{IsUnchangedUnless}, Opening.{Refuses, IsUncommitted, IsUnchangedUnlessStore, open_fault}, Stored.{Stores}}
 use Rattle.broker_database.{specs.{Transaction.{fault_of}, declared.opening.OpenFault.{OpenFault}}, proofs.MakeLemmas.{only_if_failed, refuses_as}}

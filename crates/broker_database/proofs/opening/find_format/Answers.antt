@@ -1,10 +1,9 @@
 use Rattle.std.proofs.{Common.{inl, inr}, lemmas.Result.{IfErr-weaker}}
-use Rattle.sqlite.specs.Held.{state}
 use Rattle.broker_database.proofs.{MakeLemmas.{looked}, OpenFailures.{looking_fails}}
 use Rattle.broker_database.proofs.opening.find_format.Goals as goal
 
 pub returns-clause-calm : goal.returns-clause-calm
 returns-clause-calm g c clean fresh is =
-    elim (looking_fails (state g.S.Store c.args.conn.now) (state g.S.Store c.begin.new.conn) (state g.S.Store c.format_of-found.new.conn) (state g.S.Store c.undo.new.conn) _ _ c.undo.result
-    (looked (state g.S.Store c.args.conn.now) (state g.S.Store c.begin.new.conn) (state g.S.Store c.format_of-found.new.conn) (state g.S.Store c.undo.new.conn) _ c.format_of-found.result c.undo.result c.in-Ok.ensures.begun c.begin.ensures.survives c.format_of-found.ensures.finds c.undo.ensures) clean fresh
+    elim (looking_fails _ _ _ _ _ _ c.undo.result
+    (looked _ _ _ _ _ c.format_of-found.result c.undo.result c.in-Ok.ensures.begun c.begin.ensures.survives c.format_of-found.ensures.finds c.undo.ensures) clean fresh
     (λ _. ⊥) (λ worked unlimited. IfErr-weaker c.format_of-found.result _ _ (λ fault why. inl why) (c.format_of-found.ensures.cause worked unlimited)) (λ found it never. never) is) [ inl why ↦ why | inr never ↦ absurd never ]

@@ -1,4 +1,4 @@
-use Rattle.broker_tables.specs.{Holds.{format}, Making.{HasShortKeys, HasTables, IsBlank}, Refusals.{AreShort}, Schema.{all_tables, schema_of}}
+use Rattle.broker_tables.specs.{Holds.{format}, Making.{HasShortKeys, HasTables, IsBlank}, ChangeRefusals.{AreShort}, Schema.{all_tables, schema_of}}
 use Rattle.broker_tables.proofs.{MakingFails.{calm_then, none_short}, Opening.{has_all, opens, opens_with_room}}
 use Rattle.sqlite.specs.Held.{state}
 use Rattle.std.proofs.Common.{Ok, [], ◌∷◌, ◌≡◌}
@@ -19,19 +19,14 @@ returns-clause-makes g c =
 
 pub returns-in-Err-make_rest-clause-makes : goal.returns-in-Err-make_rest-clause-makes
 returns-in-Err-make_rest-clause-makes g c =
-    let old = state g.S.Store c.args.conn.now in
-    let first = state g.S.Store c.make_first.new.conn in
-    let second = state g.S.Store c.make_rest.new.conn in
-    failed_then old first second c.in-Ok.value c.in-Err-make_rest.fault _ _ _ c.in-Ok.ensures.makes c.in-Err-make_rest.ensures.makes
+    failed_then _ _ _ c.in-Ok.value c.in-Err-make_rest.fault _ _ _ c.in-Ok.ensures.makes c.in-Err-make_rest.ensures.makes
 
 pub returns-clause-calm : goal.returns-clause-calm
 returns-clause-calm g c =
     let old = state g.S.Store c.args.conn.now in
-    let first = state g.S.Store c.make_first.new.conn in
     let second = state g.S.Store c.make_rest.new.conn in
-    let new = state g.S.Store c.make_indexes.new.conn in
     let digest = c.args.digest.now in
-    calm_then (λ db. IsBlank db × AreShort (digest ∷ [])) (λ db. (db.schema ≡ schema_of all_tables) × HasShortKeys db) old second new c.in-Ok-make_rest.value c.make_indexes.result
+    calm_then (λ db. IsBlank db × AreShort (digest ∷ [])) (λ db. (db.schema ≡ schema_of all_tables) × HasShortKeys db) old second _ c.in-Ok-make_rest.value c.make_indexes.result
     (λ _. IsBlank old.now → HasTables all_tables format digest second.now) _
-    (seq old first second c.in-Ok.value (Ok c.in-Ok-make_rest.value) _ _ (λ _. IsBlank old.now → HasTables all_tables format digest second.now) (λ has u rest blank. rest digest (has blank)) c.in-Ok.ensures.makes c.in-Ok-make_rest.ensures.makes)
+    (seq old _ second c.in-Ok.value (Ok c.in-Ok-make_rest.value) _ _ (λ _. IsBlank old.now → HasTables all_tables format digest second.now) (λ has u rest blank. rest digest (has blank)) c.in-Ok.ensures.makes c.in-Ok-make_rest.ensures.makes)
     c.make_indexes.ensures.makes c.make_indexes.ensures.calm (λ has it. let all = has it.0 in (all.schema, none_short format digest second.now all))

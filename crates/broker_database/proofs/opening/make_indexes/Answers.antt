@@ -24,9 +24,8 @@ returns-clause-calm g c =
     let old = state g.S.Store c.args.conn.now in
     let first = state g.S.Store c.make_index.new.conn in
     let second = state g.S.Store c.make_indexes.new.conn in
-    let new = state g.S.Store c.make_index-2.new.conn in
     calm_then (λ db. (db.schema ≡ schema_of all_tables) × HasShortKeys db) (λ db. (db.schema ≡ indexed_by (schema_of all_tables) (contents_by_digest ∷ contract_indexes)) × HasShortKeys db)
-    old second new c.in-Ok-make_indexes.value c.make_index-2.result (λ _. old.now.schema ≡ schema_of all_tables → MakesIndexes (contents_by_digest ∷ contract_indexes) old.now second.now) _
+    old second _ c.in-Ok-make_indexes.value c.make_index-2.result (λ _. old.now.schema ≡ schema_of all_tables → MakesIndexes (contents_by_digest ∷ contract_indexes) old.now second.now) _
     (seq old first second c.in-Ok.value (Ok c.in-Ok-make_indexes.value) _ _ (λ _. old.now.schema ≡ schema_of all_tables → MakesIndexes (contents_by_digest ∷ contract_indexes) old.now second.now)
     (λ one u rest is. let made = one is in (first.now, made, rest (made.schema ∙ ap (λ s. indexed s contents_by_digest.0 contents_by_digest.1) is))) c.in-Ok.ensures.makes c.in-Ok-make_indexes.ensures.makes)
     c.make_index-2.ensures.makes c.make_index-2.ensures.calm
@@ -39,9 +38,8 @@ pub returns-in-Err-make_indexes-clause-calm : goal.returns-in-Err-make_indexes-c
 returns-in-Err-make_indexes-clause-calm g c =
     let old = state g.S.Store c.args.conn.now in
     let first = state g.S.Store c.make_index.new.conn in
-    let second = state g.S.Store c.make_indexes.new.conn in
     calm_then (λ db. (db.schema ≡ schema_of all_tables) × HasShortKeys db) (λ db. (db.schema ≡ indexed_by (schema_of all_tables) (contents_by_digest ∷ [])) × HasShortKeys db)
-    old first second c.in-Ok.value (Err c.in-Err-make_indexes.fault) _ _ c.in-Ok.ensures.makes c.in-Err-make_indexes.ensures.makes c.in-Err-make_indexes.ensures.calm
+    old first _ c.in-Ok.value (Err c.in-Err-make_indexes.fault) _ _ c.in-Ok.ensures.makes c.in-Err-make_indexes.ensures.makes c.in-Err-make_indexes.ensures.calm
     (λ makes it. let made = makes it.0 in (
       made.schema ∙ ap (λ s. indexed s contents_by_digest.0 contents_by_digest.1) it.0,
       still_short [] (contents_by_digest ∷ []) old.now first.now it.0 (first.now, made, refl) it.1,

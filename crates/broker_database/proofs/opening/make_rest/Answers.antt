@@ -23,9 +23,8 @@ returns-clause-calm g c =
     let old = state g.S.Store c.args.conn.now in
     let first = state g.S.Store c.make_tables.new.conn in
     let second = state g.S.Store c.make_checked_results.new.conn in
-    let new = state g.S.Store c.make_strict_environments.new.conn in
     calm_then (λ db. (office : List ℕ) × HasTables (registry_part ++ contents ∷ contract_part) format office db) (λ db. db.schema ≡ schema_of (registry_part ++ contents ∷ contract_part ++ deploy_part ++ checked_results ∷ []))
-    old second new c.in-Ok-make_checked_results.value c.make_strict_environments.result
+    old second _ c.in-Ok-make_checked_results.value c.make_strict_environments.result
     (λ _. (office : List ℕ) → HasTables (registry_part ++ contents ∷ contract_part) format office old.now → HasTables (registry_part ++ contents ∷ contract_part ++ deploy_part ++ checked_results ∷ []) format office second.now) _
     (seq old first second c.in-Ok.value (Ok c.in-Ok-make_checked_results.value) (λ _. (office : List ℕ) → HasTables (registry_part ++ contents ∷ contract_part) format office old.now → HasTables (registry_part ++ contents ∷ contract_part ++ deploy_part) format office first.now) _ (λ _. (office : List ℕ) → HasTables (registry_part ++ contents ∷ contract_part) format office old.now → HasTables (registry_part ++ contents ∷ contract_part ++ deploy_part ++ checked_results ∷ []) format office second.now)
     (λ has u makes office was. let before = has office was in has_more (registry_part ++ contents ∷ contract_part ++ deploy_part) (checked_results ∷ []) format office first.now second.now (inl refl) before (second.now, makes before.schema, refl))
@@ -36,7 +35,6 @@ pub returns-in-Err-make_checked_results-clause-calm : goal.returns-in-Err-make_c
 returns-in-Err-make_checked_results-clause-calm g c =
     let old = state g.S.Store c.args.conn.now in
     let first = state g.S.Store c.make_tables.new.conn in
-    let second = state g.S.Store c.make_checked_results.new.conn in
     calm_then (λ db. (office : List ℕ) × HasTables (registry_part ++ contents ∷ contract_part) format office db) (λ db. db.schema ≡ schema_of (registry_part ++ contents ∷ contract_part ++ deploy_part))
-    old first second c.in-Ok.value (Err c.in-Err-make_checked_results.fault) _ _ c.in-Ok.ensures.makes c.in-Err-make_checked_results.ensures.makes c.in-Err-make_checked_results.ensures.calm
+    old first _ c.in-Ok.value (Err c.in-Err-make_checked_results.fault) _ _ c.in-Ok.ensures.makes c.in-Err-make_checked_results.ensures.makes c.in-Err-make_checked_results.ensures.calm
     (λ makes it. (has_more (registry_part ++ contents ∷ contract_part) deploy_part format it.0 old.now first.now (inl refl) it.1 (makes it.1.schema)).schema)

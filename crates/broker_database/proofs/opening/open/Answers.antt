@@ -17,7 +17,6 @@ unless_store old new (Err told.Store) it = it.commit
 pub returns-in-Ok : goal.returns-in-Ok
 returns-in-Ok g c =
     let old = state g.S.Store c.args.conn.now in
-    let new = state g.S.Store c.find_format.new.conn in
     record {
       judges = λ clean. subst (OpensOrRefuses format old.now) (sym c.judge.ensures) (judged format old.now c.in-Ok.found (c.in-Ok.ensures.found clean).1);
       calm = λ clean fresh is. absurd (judgement_is_none format c.in-Ok.found (sym c.judge.ensures ∙ is));
@@ -27,8 +26,8 @@ returns-in-Ok g c =
       marked = λ clean n office keeps.
           let it = c.in-Ok.ensures.found clean in
           inl (c.judge.ensures ∙ ap (judgement format) (marked_some n office old.now c.in-Ok.found (held_now (IsMarked n office) old keeps it.0) it.1));
-      kept = λ clean. always c.judge.result (IsAsBefore old new) (c.find_format.ensures.same clean);
-      unchanged = λ clean. unless_store old new c.judge.result (c.find_format.ensures.same clean);
+      kept = λ clean. always c.judge.result (IsAsBefore old _) (c.find_format.ensures.same clean);
+      unchanged = λ clean. unless_store old _ c.judge.result (c.find_format.ensures.same clean);
       over = c.find_format.ensures.over;
       survives = c.find_format.ensures.survives;
     }

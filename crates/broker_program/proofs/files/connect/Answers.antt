@@ -4,7 +4,7 @@ use Rattle.sqlite_disk.specs.{Events.{Event, replay, settled}, History.{MayLeave
 use Rattle.sqlite.specs.{Recovery.{Image}, WalFiles.{image_at}, declared.error.Error.{Error}, declared.error.Error.TheVariants.{SqliteFailure}}
 use Rattle.sqlite.specs.declared.error.ErrorCode.TheVariants.{OutOfMemory}
 use Rattle.program_io.specs.Reported.{IsFromOutside}
-use Rattle.broker_program.{specs.{Files.{OpensOn}, Refusals.{FailsToConnect, left_of, told_of}}, proofs.ResultLemmas.{handed_err, handed_ok}}
+use Rattle.broker_program.{specs.{Files.{OpensOn}, FileRefusals.{FailsToConnect, left_of, told_of}}, proofs.ResultLemmas.{handed_err, handed_ok}}
 use Rattle.broker_program.proofs.files.connect.Goals as goal
 
 -- five facts of what was opened

@@ -1,6 +1,6 @@
 use Rattle.std.proofs.Common.{arith}
 use Rattle.sqlite.specs.{State.{HasCleanDisk}, Files.{file_state}}
-use Rattle.broker_program.{specs.Refusals.{MakesNone}, proofs.RefusalLemmas.{fails_there}}
+use Rattle.broker_program.{specs.FileRefusals.{MakesNone}, proofs.RefusalLemmas.{fails_there}}
 use Rattle.broker_program.proofs.init.create.Goals as goal
 
 pub returns-in-Ok-clause-made : goal.returns-in-Ok-clause-made

@@ -1,6 +1,6 @@
 use Rattle.std.proofs.Common.{arith}
 use Rattle.sqlite.specs.{State.{HasCleanDisk}, Files.{file_state}}
-use Rattle.broker_program.{specs.Refusals.{MigratesNone}, proofs.RefusalLemmas.{fails_there}}
+use Rattle.broker_program.{specs.FileRefusals.{MigratesNone}, proofs.RefusalLemmas.{fails_there}}
 use Rattle.broker_program.proofs.migrate.migrated.Goals as goal
 
 pub returns-in-Ok-clause-ok : goal.returns-in-Ok-clause-ok

@@ -1,5 +1,5 @@
 use Rattle.std.proofs.{Common.{Err, Ok, ap, is_none}, lemmas.Result.{err_from_is_err_and}}
-use Rattle.broker_program.{specs.Refusals.{IsReopeningFault}, proofs.ResultLemmas.{left_none, left_some, told_err}}
+use Rattle.broker_program.{specs.FileRefusals.{IsReopeningFault}, proofs.ResultLemmas.{left_none, left_some, told_err}}
 use Rattle.broker_program.proofs.ServingLemmas.{any_between, between_then, none_between}
 use Rattle.broker_program.proofs.serve.serve_reopened.Goals as goal
 

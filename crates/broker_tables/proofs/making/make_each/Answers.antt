@@ -20,13 +20,10 @@ loop-text-preserved g c =
 
 pub returns-in-Err-clause-calm : goal.returns-in-Err-clause-calm
 returns-in-Err-clause-calm g c clean inside unlimited can =
-    let old = state g.S.Store c.args.conn.now in
-    let mid = state g.S.Store c.loop-text.conn in
-    let new = state g.S.Store c.change.new.conn in
     let so_far = c.loop-text.invariant in
-    let mid_clean : HasCleanDisk mid = omega (arith, c.change.ensures.leaves.survives.clean, clean) in
+    let mid_clean : HasCleanDisk (state g.S.Store c.loop-text.conn) = omega (arith, c.change.ensures.leaves.survives.clean, clean) in
     let texts = c.args.texts.now in
-    ended_since old mid new c.in-Err.fault (so_far.goes_on mid_clean inside) so_far.survives.counts
-    (text_fails (map (λ (text : Bor (List ℕ)). text.now) texts) _ (c.loop-text.text-index + 1) _ old.now mid new c.in-Err.fault
+    ended_since _ _ _ c.in-Err.fault (so_far.goes_on mid_clean inside) so_far.survives.counts
+    (text_fails (map (λ (text : Bor (List ℕ)). text.now) texts) _ (c.loop-text.text-index + 1) _ _ _ _ c.in-Err.fault
     (take-map (λ (text : Bor (List ℕ)). text.now) (c.loop-text.text-index + 1) texts ∙ texts_more texts c.loop-text.text-index _ c.loop-text-test.true)
     can (so_far.ok mid_clean) (c.in-Err.ensures.cause clean))

@@ -1,10 +1,7 @@
-use Rattle.std.{specs.Prelude.{fold}, proofs.{Common.{◌+◌, ◌∙◌, ap, sym, drop, map, refl}, lemmas.List.{at_drop_more, drop_all}}}
+use Rattle.std.{specs.Prelude.{fold}, proofs.{Common.{◌+◌, ◌∙◌, ap, sym, drop, map}, lemmas.List.{at_drop_more, drop_all}}}
 use Rattle.clap.specs.Words.{App, app_of, with_subcommand}
 use Rattle.command_line.{specs.Lines.{command_named, with_command}, proofs.LineLemmas.{named_is_plain, no_globals}}
 use Rattle.command_line.proofs.commands.with_commands.Goals as goal
-
-pub loop-name-init : goal.loop-name-init
-loop-name-init c = refl
 
 pub loop-name-preserved : goal.loop-name-preserved
 loop-name-preserved c =

@@ -1,10 +1,7 @@
-use Rattle.std.{specs.Prelude.{fold}, proofs.{Common.{◌+◌, ◌∙◌, ap, sym, drop, refl}, lemmas.List.{at_drop_more, drop_all}}}
+use Rattle.std.{specs.Prelude.{fold}, proofs.{Common.{◌+◌, ◌∙◌, ap, sym, drop}, lemmas.List.{at_drop_more, drop_all}}}
 use Rattle.clap.specs.Words.{app_of, with_rule}
 use Rattle.command_line.specs.Lines.{with_option}
 use Rattle.command_line.proofs.commands.with_options.Goals as goal
-
-pub loop-option-init : goal.loop-option-init
-loop-option-init c = refl
 
 pub loop-option-preserved : goal.loop-option-preserved
 loop-option-preserved c =

@@ -1,5 +1,4 @@
 use Rattle.std.proofs.Common.{◌∙◌}
-use Rattle.sqlite.specs.Held.{state}
 use Rattle.table_access.proofs.CallLemmas.{then_ok}
 use Rattle.broker_tables.proofs.Asked.{still, why_number}
 use Rattle.content_store.proofs.{ContentRows.{highest, contents_counted}, ReadableRows.{highest_reads}}
@@ -7,10 +6,8 @@ use Rattle.content_store.proofs.contents.content_count.Goals as goal
 
 pub returns-clause-call : goal.returns-clause-call
 returns-clause-call g c =
-    let old = state g.S.Store c.args.conn.now in
-    let new = state g.S.Store c.number_of.new.conn in
-    then_ok old new c.in-Ok.value _ _ _
-    (λ h digest texts held. (c.unwrap_or.ensures ∙ contents_counted digest old new h.0 texts c.in-Ok.value held h.1 h.2, still highest old new held.broker h.0 h.1))
+    then_ok _ _ c.in-Ok.value _ _ _
+    (λ h digest texts held. (c.unwrap_or.ensures ∙ contents_counted digest _ _ h.0 texts c.in-Ok.value held h.1 h.2, still highest _ _ held.broker h.0 h.1))
     c.in-Ok.ensures.leaves
 
 pub returns-in-Err-clause-calm : goal.returns-in-Err-clause-calm

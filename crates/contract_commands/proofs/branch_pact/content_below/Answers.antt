@@ -1,16 +1,12 @@
 use Rattle.std.{specs.Prelude.{ℕ, Option}, proofs.Common.{false, ◌≡◌, Ok, Some, None, ap, ◌∙◌, subst}}
 use Rattle.sqlite.specs.Held.{state}
-use Rattle.broker_tables.{specs.Calm.{CalmQueriesBetween}, proofs.QueryLemmas.{query_failed, both_held, calm_both}}
-use Rattle.contract_tables.proofs.QueryLemmas.{calm_known}
+use Rattle.broker_tables.{specs.Calm.{CalmQueriesBetween}, proofs.QueryLemmas.{both_held, calm_both}}
 use Rattle.contract_commands.specs.{BranchPact.{IsNextBelow}, declared.branch_pact.BranchVersion.{BranchVersion}}
 use Rattle.contract_commands.proofs.BranchLast.{none_there, none_shown, found_shown}
 use Rattle.contract_commands.proofs.branch_pact.content_below.Goals as goal
 
 abbrev found_next : ℕ → Option ℕ → Option BranchVersion
 found_next number content = Some (record { number = number; content = content })
-
-pub loop-value-init : goal.loop-value-init
-loop-value-init g c = calm_known _ c.args.bound _ (λ s none. none)
 
 pub loop-value-preserved : goal.loop-value-preserved
 loop-value-preserved g c =
@@ -44,6 +40,3 @@ returns-in-None g c =
     both_held (state g.S.Store c.args.conn.now) mid new c.loop-value.bound None None _ _ _
     (λ s held none next start. none_shown s c.args.provider.now c.args.consumer.now c.args.branch.now new.now held c.loop-value.bound (none start) next) c.loop-value.invariant
     (subst (λ (found : Option BranchVersion). CalmQueriesBetween false mid new (Ok found) (λ found s. IsNextBelow s c.args.provider.now c.args.consumer.now c.args.branch.now c.loop-value.bound found)) c.in-None.is c.in-Ok.ensures.read)
-
-pub returns-in-Err : goal.returns-in-Err
-returns-in-Err g c = query_failed (state g.S.Store c.args.conn.now) (state g.S.Store c.loop-value.conn) (state g.S.Store c.next_below.new.conn) c.loop-value.bound c.in-Err.fault _ _ _ c.loop-value.invariant c.in-Err.ensures.read

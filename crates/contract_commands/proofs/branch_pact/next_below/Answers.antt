@@ -1,5 +1,4 @@
 use Rattle.std.proofs.Common.{Some, None, ap, ◌∙◌, subst}
-use Rattle.sqlite.specs.Held.{state}
 use Rattle.broker_core.specs.Text.{Text}
 use Rattle.registry_tables.specs.Registry.{IsNewestBelow}
 use Rattle.broker_tables.proofs.QueryLemmas.{calm_answers, calm_both}
@@ -9,7 +8,7 @@ pub returns-in-Ok-contract_of-clause-read : goal.returns-in-Ok-contract_of-claus
 returns-in-Ok-contract_of-clause-read g c =
     let number = c.in-Some.number in
     let content = c.in-Ok-contract_of.value in
-    calm_both (state g.S.Store c.args.conn.now) (state g.S.Store c.branch_number_below.new.conn) (state g.S.Store c.contract_of.new.conn) (Some number) content (Some (record { number = number; content = content })) _ _ _
+    calm_both _ _ _ (Some number) content (Some (record { number = number; content = content })) _ _ _
     (λ s newest contract. (
       subst (λ (b : Text). IsNewestBelow s c.args.consumer.now b c.args.bound (Some number)) c.as_str-2.ensures
           (subst (λ (p : Text). IsNewestBelow s p c.as_str-2.result.now c.args.bound (Some number)) c.as_str.ensures newest),
@@ -18,6 +17,6 @@ returns-in-Ok-contract_of-clause-read g c =
 
 pub returns-in-None-clause-read : goal.returns-in-None-clause-read
 returns-in-None-clause-read g c =
-    calm_answers (state g.S.Store c.args.conn.now) (state g.S.Store c.branch_number_below.new.conn) None None _ _
+    calm_answers _ _ None None _ _
     (λ s newest. subst (λ (b : Text). IsNewestBelow s c.args.consumer.now b c.args.bound None) c.as_str-2.ensures
     (subst (λ (p : Text). IsNewestBelow s p c.as_str-2.result.now c.args.bound None) c.as_str.ensures newest)) (rw c.in-None.is at c.in-Ok.ensures)

@@ -1,12 +1,9 @@
-use Rattle.sqlite.specs.Held.{state}
 use Rattle.broker_tables.proofs.QueryLemmas.{calm_then}
 use Rattle.contract_commands.{specs.BranchPact.{IsBranchContent}, proofs.BranchLast.{above_all}}
 use Rattle.contract_commands.proofs.branch_pact.read_branch.Goals as goal
 
 pub returns : goal.returns
 returns g c =
-    let mid = state g.S.Store c.read_bound.new.conn in
-    let new = state g.S.Store c.content_below.new.conn in
-    calm_then (state g.S.Store c.args.conn.now) mid new c.in-Ok.value c.content_below.result _ _
+    calm_then _ _ _ c.in-Ok.value c.content_below.result _ _
     (λ content s. IsBranchContent s c.args.provider.now c.args.consumer.now c.args.branch.now content)
     (λ s is content shown. shown (above_all s c.args.provider.now c.args.consumer.now c.args.branch.now c.in-Ok.value is)) c.in-Ok.ensures c.content_below.ensures

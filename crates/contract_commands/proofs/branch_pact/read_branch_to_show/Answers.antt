@@ -1,6 +1,5 @@
-use Rattle.std.proofs.Common.{Err}
 use Rattle.sqlite.specs.Held.{state}
-use Rattle.broker_tables.proofs.QueryLemmas.{in_place, query_failed, calm_both}
+use Rattle.broker_tables.proofs.QueryLemmas.{calm_both}
 use Rattle.contract_commands.proofs.BranchLast.{reaches_branch}
 use Rattle.contract_commands.proofs.branch_pact.read_branch_to_show.Goals as goal
 
@@ -11,8 +10,3 @@ returns g c =
     calm_both (state g.S.Store c.args.conn.now) (state g.S.Store c.read_sides_to_show.new.conn) (state g.S.Store c.read_branch.new.conn) sides content c.admit_branch_pact.result _ _ _
     (λ s h is. reaches_branch s c.args.caller.now c.args.provider.now c.args.consumer.now c.args.branch.now sides content h is c.admit_branch_pact.result c.admit_branch_pact.ensures)
     c.in-Ok.ensures c.in-Ok-read_branch.ensures
-
-pub returns-in-Err-read_branch : goal.returns-in-Err-read_branch
-returns-in-Err-read_branch g c =
-    query_failed (state g.S.Store c.args.conn.now) (state g.S.Store c.read_sides_to_show.new.conn) (state g.S.Store c.read_branch.new.conn) c.in-Ok.value c.in-Err-read_branch.fault _ _ _
-    c.in-Ok.ensures (in_place (state g.S.Store c.read_sides_to_show.new.conn) (state g.S.Store c.read_branch.new.conn) (Err c.in-Err-read_branch.fault) _ c.in-Err-read_branch.ensures)

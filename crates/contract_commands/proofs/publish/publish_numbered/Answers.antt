@@ -22,7 +22,7 @@ returns-in-None-clause-answers g c =
     let path = c.args.path.now in
     let v = consumer_version path in
     let text = c.args.text.now in
-    where_told 2 (omega arith) (state g.S.Store c.args.conn.now) (state g.S.Store c.put_text.new.conn) None Full (CanPublish path c.args.version) (λ s. ⊤) (StoresIfRoom text) (λ s out. out ≡ put_pact s v path.provider text)
+    where_told 2 (omega arith) _ _ None Full (CanPublish path c.args.version) (λ s. ⊤) (StoresIfRoom text) (λ s out. out ≡ put_pact s v path.provider text)
     (λ s can. (
       tt,
       λ t next.
@@ -37,7 +37,7 @@ returns-in-Ok-record_contract-clause-answers g c =
     let v = consumer_version path in
     let text = c.args.text.now in
     let content = c.in-Some.content in
-    where_told_then (state g.S.Store c.args.conn.now) (state g.S.Store c.put_text.new.conn) (state g.S.Store c.record_contract.new.conn) (Some content) c.in-Ok-record_contract.value (Done (Content content)) 4 (omega arith)
+    where_told_then _ _ _ (Some content) c.in-Ok-record_contract.value (Done (Content content)) 4 (omega arith)
     (CanPublish path c.args.version) (λ s. ⊤) (CanRecord path c.args.version content) (StoresIfRoom text) (RecordsContract path content) (λ s out. out ≡ put_pact s v path.provider text)
     (λ s can. (
       tt,

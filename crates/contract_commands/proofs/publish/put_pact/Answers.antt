@@ -1,5 +1,4 @@
 use Rattle.std.specs.Prelude.{⊤}
-use Rattle.sqlite.specs.Held.{state}
 use Rattle.command_facts.{specs.Performs.{IsStepOf, IsToChange}, proofs.{CarryLemmas.{anywhere, carries_more}, ShortTexts.{name_short, pact_short}}}
 use Rattle.broker_core.specs.declared.command.Command.TheVariants.{PutPact}
 use Rattle.contract_commands.proofs.{PactLemmas.{form_fault}, Unread.{unread, unread_fails}}
@@ -7,11 +6,10 @@ use Rattle.contract_commands.proofs.publish.put_pact.Goals as goal
 
 pub returns-in-Err : goal.returns-in-Err
 returns-in-Err g c =
-    let here = state g.S.Store c.args.conn.now in
     let steps = IsStepOf c.args.caller.now (PutPact c.args.path.now c.args.file.now) in
     record {
-      answers = anywhere here here c.tell_unread.result (λ _. ⊤) steps (unread here c.in-Err.fault c.tell_unread.result steps c.tell_unread.ensures (λ found is s. form_fault s c.args.caller.now c.args.path.now c.args.file.now found (c.in-Err.ensures.fault found is)));
-      calm = unread_fails _ here c.in-Err.fault c.tell_unread.result (λ s. ⊤) (IsToChange steps) c.tell_unread.ensures;
+      answers = anywhere _ _ c.tell_unread.result (λ _. ⊤) steps (unread _ c.in-Err.fault c.tell_unread.result steps c.tell_unread.ensures (λ found is s. form_fault s c.args.caller.now c.args.path.now c.args.file.now found (c.in-Err.ensures.fault found is)));
+      calm = unread_fails _ _ c.in-Err.fault c.tell_unread.result (λ s. ⊤) (IsToChange steps) c.tell_unread.ensures;
     }
 
 pub returns-in-Ok : goal.returns-in-Ok

@@ -9,7 +9,7 @@ use Rattle.contract_commands.proofs.publish.record_contract.Goals as goal
 pub returns-clause-answers : goal.returns-clause-answers
 returns-clause-answers g c =
     let old = state g.S.Store c.args.conn.now in
-    let mid = state g.S.Store c.name_version.new.conn in
+    let mid = state g.S.Store c.ensure_named.new.conn in
     let new = state g.S.Store c.add_contract.new.conn in
     let path = c.args.path.now in
     let v = consumer_version path in
@@ -25,13 +25,10 @@ returns-clause-answers g c =
 
 pub returns-clause-calm : goal.returns-clause-calm
 returns-clause-calm g c =
-    let old = state g.S.Store c.args.conn.now in
-    let mid = state g.S.Store c.name_version.new.conn in
-    let new = state g.S.Store c.add_contract.new.conn in
     let number = c.in-Ok.value in
     let content = c.args.content in
-    taking_then _ old mid new number c.add_contract.result 2 1 _ _ (NamesAs (consumer_version c.args.path.now)) _ (λ s can t names. (_, adds_contract s t c.args.path.now c.as_str.result.now c.args.version number content c.as_str.ensures can names))
-    (call_with old mid (Ok number) _ _ (λ n name s held can. name s held can.0.0) c.in-Ok.ensures.answers) c.add_contract.ensures.changes (taking _ mid new c.add_contract.result (codes "contracts" ∷ []) (refl, tt) 1 (omega arith) _ (calm_with _ _ _ _ c.add_contract.result (codes "contracts" ∷ []) _ (λ long are. long (subst (λ (t : List ℕ). length t ≤ 10 ^ 7) (sym c.as_str.ensures) are.1.1.0, tt)) c.add_contract.ensures.calm))
+    taking_then _ _ _ _ number c.add_contract.result 2 1 _ _ (NamesAs (consumer_version c.args.path.now)) _ (λ s can t names. (_, adds_contract s t c.args.path.now c.as_str.result.now c.args.version number content c.as_str.ensures can names))
+    (call_with _ _ (Ok number) _ _ (λ n name s held can. name s held can.0.0) c.in-Ok.ensures.answers) c.add_contract.ensures.changes (taking _ _ _ c.add_contract.result (codes "contracts" ∷ []) (refl, tt) 1 (omega arith) _ (calm_with _ _ _ _ c.add_contract.result (codes "contracts" ∷ []) _ (λ long are. long (subst (λ (t : List ℕ). length t ≤ 10 ^ 7) (sym c.as_str.ensures) are.1.1.0, tt)) c.add_contract.ensures.calm))
 
 pub returns-in-Err-clause-calm : goal.returns-in-Err-clause-calm
 returns-in-Err-clause-calm g c clean s here can room = ended_with _ _ _ (λ long are. long (are.0, (are.1.0, tt))) (c.in-Err.ensures.calm clean s here can.0.0 tt)

@@ -1,5 +1,4 @@
-use Rattle.std.proofs.Common.{subst, inl}
-use Rattle.sqlite.specs.Held.{state}
+use Rattle.std.proofs.Common.{subst}
 use Rattle.command_facts.{specs.{Readings.{Tells}, Performs.{IsToChange}}, proofs.PerformLemmas.{where_then}}
 use Rattle.contract_commands.{specs.Checks.{Leads, Checks, CanLead, CanCheck}, proofs.CheckLemmas.{pact_told}}
 use Rattle.broker_tables.proofs.FailLemmas.{fails_after}
@@ -10,14 +9,12 @@ returns-in-Ok-compare-clause-answers g c =
     let text = c.in-Ok.value in
     let told = c.in-Ok-compare.told in
     let tells = subst (λ t. Tells t c.args.replies.now told) c.as_str.ensures c.in-Ok-compare.ensures in
-    where_then (state g.S.Store c.args.conn.now) (state g.S.Store c.read_text.new.conn) (state g.S.Store c.tell_compared.new.conn) text c.tell_compared.result _ _ _ _ (λ s out. Checks s c.args.provider.now c.args.report.now c.args.content c.args.replies.now out)
+    where_then _ _ _ text c.tell_compared.result _ _ _ _ (λ s out. Checks s c.args.provider.now c.args.report.now c.args.content c.args.replies.now out)
     (λ s has stored. (has, λ out leads. (text, stored, (told, tells, leads))))
     c.in-Ok.ensures.answers c.tell_compared.ensures.answers
 
 pub returns-in-Ok-compare-clause-calm : goal.returns-in-Ok-compare-clause-calm
 returns-in-Ok-compare-clause-calm g c =
-    let old = state g.S.Store c.args.conn.now in
-    let mid = state g.S.Store c.read_text.new.conn in
     let provider = c.args.provider.now in
     let r = c.args.report.now in
     let content = c.args.content in
@@ -25,10 +22,7 @@ returns-in-Ok-compare-clause-calm g c =
     let text = c.in-Ok.value in
     let told = c.in-Ok-compare.told in
     let tells = subst (λ t. Tells t replies told) c.as_str.ensures c.in-Ok-compare.ensures in
-    fails_after _ old mid (state g.S.Store c.tell_compared.new.conn) text c.tell_compared.result _ _ (CanCheck provider content) (CanLead provider content told)
+    fails_after _ _ _ _ text c.tell_compared.result _ _ (CanCheck provider content) (CanLead provider content told)
     (IsToChange (λ s out. Checks s provider r content replies out)) (IsToChange (λ s out. Leads s provider r content told out))
     (λ s held can stored. (((can.0, (text, stored)), pact_told s content text replies told stored can.1 tells), λ made. (made.0, made.1, (text, stored, (told, tells, made.2)))))
     c.in-Ok.ensures.answers c.tell_compared.ensures.answers c.tell_compared.ensures.calm
-
-pub returns-in-Err-clause-calm : goal.returns-in-Err-clause-calm
-returns-in-Err-clause-calm g c = λ clean s here can. inl (c.in-Err.ensures.calm clean s here (can.1.0, can.1.1))

@@ -1,5 +1,4 @@
 use Rattle.std.proofs.Common.{◌∷◌, [], refl, subst}
-use Rattle.sqlite.specs.Held.{state}
 use Rattle.broker_core.specs.{declared.command.Command.TheVariants.{PostReplies}, declared.policy.Rule.TheVariants.{A4}, Contents.{HasSoundContents}}
 use Rattle.contract_commands.specs.{Pacts.{Reaches}, Checks.{Checks, CanCheck}}
 use Rattle.contract_commands.proofs.{CheckLemmas.{replies_refused, replies_checked, step_checked, pact_there}, ResultLemmas.{provider_there}}
@@ -14,7 +13,7 @@ returns-in-Ok-2-clause-answers g c = λ body reads.
     let path = c.args.path.now in
     let r = c.args.report.now in
     let command = PostReplies path r body in
-    performs_where (state g.S.Store c.args.conn.now) (state g.S.Store c.read_contract_to_verify.new.conn) (state g.S.Store c.check_content.new.conn) c.in-Ok.value c.check_content.result _ _ _ (CallersStep caller command)
+    performs_where _ _ _ c.in-Ok.value c.check_content.result _ _ _ (CallersStep caller command)
     (λ s reach.
     let reached = subst (λ q. Reaches s caller path A4 (path.provider ∷ []) q) c.in-Ok-2.is reach in
     let none = reached.1 command refl in
@@ -30,7 +29,7 @@ returns-in-Ok-2-clause-calm g c = λ body reads.
     let content = c.in-Ok-2.content in
     let command = PostReplies path r body in
     fails_more _ _ _ _ c.check_content.result _ _ (λ long named. long (name_short _ named.0.0, (name_short _ named.1.0, (optional_short _ named.1.1, tt))))
-    (fails_after _ (state g.S.Store c.args.conn.now) (state g.S.Store c.read_contract_to_verify.new.conn) (state g.S.Store c.check_content.new.conn) c.in-Ok.value c.check_content.result _ _ (HasSoundContents broker_primitives) (CanCheck path.provider content)
+    (fails_after _ _ _ _ c.in-Ok.value c.check_content.result _ _ (HasSoundContents broker_primitives) (CanCheck path.provider content)
     (IsToChange (IsStepOf caller command)) (IsToChange (λ s out. Checks s path.provider r content replies out))
     (λ s held sound reach.
     let reached = subst (λ q. Reaches s caller path A4 (path.provider ∷ []) q) c.in-Ok-2.is reach in
@@ -43,6 +42,6 @@ returns-in-Err-2-clause-answers g c = λ body reads.
     let caller = c.args.caller.now in
     let path = c.args.path.now in
     let r = c.args.report.now in
-    answered_then (state g.S.Store c.args.conn.now) (state g.S.Store c.read_contract_to_verify.new.conn) c.in-Ok.value c.in-Err-2.answer _ (CallersStep caller (PostReplies path r body))
+    answered_then _ _ c.in-Ok.value c.in-Err-2.answer _ (CallersStep caller (PostReplies path r body))
     (λ s reach. replies_refused s caller path r body c.args.replies.now reads c.in-Err-2.answer (subst (λ q. Reaches s caller path A4 (path.provider ∷ []) q) c.in-Err-2.is reach (PostReplies path r body) refl))
     c.in-Ok.ensures.call

@@ -17,7 +17,7 @@ returns-clause-answers g c =
     let run = c.args.report.now.run in
     let pass = c.is_empty-pass.result in
     let passes : pass ≡ is_empty failing = c.is_empty-pass.ensures ∙ ap (λ (xs : List ℕ). length xs == 0) c.as_slice.ensures ∙ empty_is failing in
-    where_told 4 (omega arith) (state g.S.Store c.args.conn.now) (state g.S.Store c.receive.new.conn) it c.tell_replies.result _ _ _ (λ s out. out ≡ report_replies s content v run (Some failing))
+    where_told 4 (omega arith) _ _ it c.tell_replies.result _ _ _ (λ s out. out ≡ report_replies s content v run (Some failing))
     (λ s may. (
       may,
       λ t reports.
@@ -34,7 +34,7 @@ returns-in-Err-clause-calm g c =
     let content = c.args.content in
     let pass = c.is_empty-pass.result in
     let passes : pass ≡ is_empty failing = c.is_empty-pass.ensures ∙ ap (λ (xs : List ℕ). length xs == 0) c.as_slice.ensures ∙ empty_is failing in
-    fails_as _ Reported Answer (state g.S.Store c.args.conn.now) (state g.S.Store c.receive.new.conn) c.in-Err.fault (CanReceive provider content) (IsToChange (λ s out. Leads s provider r content (Failing failing) out))
+    fails_as _ Reported Answer _ _ c.in-Err.fault (CanReceive provider content) (IsToChange (λ s out. Leads s provider r content (Failing failing) out))
     (IsToReport provider r (record { content = content; pass = pass; checked = true }))
     (λ s has made. (
       Replies failing made.0 pass,

@@ -1,7 +1,7 @@
-use Rattle.std.proofs.Common.{◌∷◌, [], refl, subst}
+use Rattle.std.proofs.Common.{refl}
 use Rattle.sqlite.specs.Held.{state}
-use Rattle.broker_core.specs.{Request.{consumer_version}, declared.command.Command.TheVariants.{PostResult}, declared.policy.Rule.TheVariants.{A4}}
-use Rattle.contract_commands.{specs.Pacts.{Reaches}, proofs.{ContentThere.{contract_text}, ResultLemmas.{provider_there}}}
+use Rattle.broker_core.specs.{Request.{consumer_version}, declared.command.Command.TheVariants.{PostResult}}
+use Rattle.contract_commands.proofs.{ContentThere.{contract_text}, ResultLemmas.{provider_there}}
 use Rattle.command_facts.proofs.{CallerSteps.{acts, refuses}, CarryLemmas.{carries_from, carries_more, tells}, ShortTexts.{name_short, optional_short}}
 use Rattle.contract_commands.proofs.results.post_result.Goals as goal
 

@@ -1,5 +1,5 @@
 use Rattle.std.{specs.Prelude.{option_map}, proofs.Common.{false, ◌≡◌, ℕ, Ok, Option, is_some}}
-use Rattle.sqlite.specs.{Held.{state}, State.{State as Connection}}
+use Rattle.sqlite.specs.State.{State as Connection}
 use Rattle.broker_core.specs.{State.{State}, Text.{Text, version}, Change.{result_of_run}, Request.{is_known}, declared.command.Report.{Report}}
 use Rattle.broker_tables.{specs.{Calm.{CalmQueriesBetween}, Numbers.{number_of}}, proofs.{QueryLemmas.{calm_then}, FailLemmas.{fails_after}}}
 use Rattle.contract_tables.specs.{Verified.{told_of}, declared.lookups.ResultRow.{ResultRow}}
@@ -20,42 +20,33 @@ found_both old mid new provider report p name number row is called =
 
 pub returns-in-Some-clause-answers : goal.returns-in-Some-clause-answers
 returns-in-Some-clause-answers g c =
-    let old = state g.S.Store c.args.conn.now in
-    let mid = state g.S.Store c.version_of.new.conn in
-    let new = state g.S.Store c.read_run.new.conn in
     let provider = c.args.provider.now in
     let report = c.args.report.now in
     let number = c.in-Ok.value in
     let found = c.in-Ok-read_run.value in
-    told_read old new found c.tell_again.result (IsFound provider report number) _ _
+    told_read _ _ found c.tell_again.result (IsFound provider report number) _ _
     (λ s has first. let used = row_told s (result_of_run s provider report.run) found c.in-Some.row c.in-Some.is first.1 in c.tell_again.ensures s provider report used.0 used.2 first.0.number_is used.1)
-    (found_both old mid new provider report _ _ number found c.as_str.ensures c.as_str-2.ensures c.in-Ok.ensures c.in-Ok-read_run.ensures)
+    (found_both _ _ _ provider report _ _ number found c.as_str.ensures c.as_str-2.ensures c.in-Ok.ensures c.in-Ok-read_run.ensures)
 
 pub returns-in-None-clause-answers : goal.returns-in-None-clause-answers
 returns-in-None-clause-answers g c =
-    let old = state g.S.Store c.args.conn.now in
-    let two = state g.S.Store c.read_run.new.conn in
     let provider = c.args.provider.now in
     let report = c.args.report.now in
     let number = c.in-Ok.value in
     let found = c.in-Ok-read_run.value in
-    then_taken old two (state g.S.Store c.receive_new.new.conn) found c.receive_new.result (IsFound provider report number) _ _ _ _
+    then_taken _ _ _ found c.receive_new.result (IsFound provider report number) _ _ _ _
     (λ s has first. (record { version = first.0; owned = has; unused = none_told s (result_of_run s provider report.run) found c.in-None.is first.1 }, λ b t made. made))
-    (found_both old (state g.S.Store c.version_of.new.conn) two provider report _ _ number found c.as_str.ensures c.as_str-2.ensures c.in-Ok.ensures c.in-Ok-read_run.ensures)
+    (found_both _ _ _ provider report _ _ number found c.as_str.ensures c.as_str-2.ensures c.in-Ok.ensures c.in-Ok-read_run.ensures)
     c.receive_new.ensures.answers
 
 pub returns-in-None-clause-calm : goal.returns-in-None-clause-calm
 returns-in-None-clause-calm g c =
-    let old = state g.S.Store c.args.conn.now in
-    let one = state g.S.Store c.version_of.new.conn in
-    let two = state g.S.Store c.read_run.new.conn in
-    let new = state g.S.Store c.receive_new.new.conn in
     let provider = c.args.provider.now in
     let report = c.args.report.now in
     let number = c.in-Ok.value in
     let found = c.in-Ok-read_run.value in
     let to = IsToReport provider report c.args.found in
-    fails_after _ old two new found c.receive_new.result (IsFound provider report number) _ (CanReceive provider c.args.found.content) (λ s. IsUnused s provider report number × HasContent s c.args.found.content) to to
+    fails_after _ _ _ _ found c.receive_new.result (IsFound provider report number) _ (CanReceive provider c.args.found.content) (λ s. IsUnused s provider report number × HasContent s c.args.found.content) to to
     (λ s held can first. ((record { version = first.0; owned = can.0; unused = none_told s (result_of_run s provider report.run) found c.in-None.is first.1 }, can.1), λ made. made))
-    (found_both old one two provider report _ _ number found c.as_str.ensures c.as_str-2.ensures c.in-Ok.ensures c.in-Ok-read_run.ensures).call
+    (found_both _ _ _ provider report _ _ number found c.as_str.ensures c.as_str-2.ensures c.in-Ok.ensures c.in-Ok-read_run.ensures).call
     c.receive_new.ensures.answers c.receive_new.ensures.calm

@@ -1,5 +1,4 @@
 use Rattle.std.proofs.Common.{◌&&◌, None, Some, ap}
-use Rattle.sqlite.specs.Held.{state}
 use Rattle.broker_core.specs.Limit.{has_room}
 use Rattle.contract_commands.specs.{Pacts.{HasContent}, Results.{reported_version, reported_result, CanReport, IsUnused, IsToReport}}
 use Rattle.contract_commands.{specs.declared.results.Reported.TheVariants.{Full}, proofs.NumberingLemmas.{may_not_be_named, as_numbered}}
@@ -11,25 +10,23 @@ pub returns-in-None-clause-answers : goal.returns-in-None-clause-answers
 returns-in-None-clause-answers g c =
     let provider = c.args.provider.now in
     let report = c.args.report.now in
-    told_read (state g.S.Store c.args.conn.now) (state g.S.Store c.number_version.new.conn) None Full _ _ _
+    told_read _ _ None Full _ _ _
     (λ s unused none. no_place s (reported_result provider report c.args.found) unused.unused (ap (λ b. b && has_room s.results) (may_not_be_named s (reported_version provider report) c.args.number unused.version.known_is none)))
     (rw c.in-None.is at c.in-Ok.ensures)
 
 pub returns-in-Some-clause-answers : goal.returns-in-Some-clause-answers
 returns-in-Some-clause-answers g c =
     let v = reported_version c.args.provider.now c.args.report.now in
-    then_taken (state g.S.Store c.args.conn.now) (state g.S.Store c.number_version.new.conn) (state g.S.Store c.receive_numbered.new.conn) (Some c.in-Some.version) c.receive_numbered.result _ _ _ _ _
+    then_taken _ _ _ (Some c.in-Some.version) c.receive_numbered.result _ _ _ _ _
     (λ s unused first. ((as_numbered s v c.args.number c.in-Some.version unused.version.number_is unused.version.known_is unused.owned first, unused.unused), λ b t made. made))
     (rw c.in-Some.is at c.in-Ok.ensures) c.receive_numbered.ensures.answers
 
 pub returns-in-Some-clause-calm : goal.returns-in-Some-clause-calm
 returns-in-Some-clause-calm g c =
-    let old = state g.S.Store c.args.conn.now in
-    let mid = state g.S.Store c.number_version.new.conn in
     let provider = c.args.provider.now in
     let report = c.args.report.now in
     let version = c.in-Some.version in
     let to = IsToReport provider report c.args.found in
-    fails_after _ old mid (state g.S.Store c.receive_numbered.new.conn) (Some version) c.receive_numbered.result _ _ (λ s. IsUnused s provider report c.args.number × HasContent s c.args.found.content) (λ s. CanReport provider report version s × HasContent s c.args.found.content) to to
+    fails_after _ _ _ _ (Some version) c.receive_numbered.result _ _ (λ s. IsUnused s provider report c.args.number × HasContent s c.args.found.content) (λ s. CanReport provider report version s × HasContent s c.args.found.content) to to
     (λ s held can first. (((as_numbered s (reported_version provider report) c.args.number version can.0.version.number_is can.0.version.known_is can.0.owned first, can.0.unused), can.1), λ made. made))
     (rw c.in-Some.is at c.in-Ok.ensures.call) c.receive_numbered.ensures.answers c.receive_numbered.ensures.calm

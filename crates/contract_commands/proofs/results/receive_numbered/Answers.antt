@@ -1,5 +1,4 @@
 use Rattle.std.proofs.Common.{◌&&◌, Ok, Err, None, Some, refl, arith}
-use Rattle.sqlite.specs.Held.{state}
 use Rattle.table_access.proofs.CallLemmas.{then_ok}
 use Rattle.contract_commands.specs.{Pacts.{HasContent}, Results.{reported_version, reported_result, recorded, AllowsReport, CanReport, IsToReport, Receives}}
 use Rattle.contract_commands.{specs.declared.results.Reported.TheVariants.{Recorded, Full}, proofs.NumberingLemmas.{may_be_named}}
@@ -11,21 +10,18 @@ pub returns-in-None-clause-answers : goal.returns-in-None-clause-answers
 returns-in-None-clause-answers g c =
     let provider = c.args.provider.now in
     let report = c.args.report.now in
-    told_read (state g.S.Store c.args.conn.now) (state g.S.Store c.next_result.new.conn) None Full _ _ _
+    told_read _ _ None Full _ _ _
     (λ s can none. no_place s (reported_result provider report c.args.found) can.1 (λ i. may_be_named s (reported_version provider report) c.args.version can.0 i && none i))
     (rw c.in-None.is at c.in-Ok.ensures)
 
 pub returns-in-Ok-record_report-clause-answers : goal.returns-in-Ok-record_report-clause-answers
 returns-in-Ok-record_report-clause-answers g c =
-    let old = state g.S.Store c.args.conn.now in
-    let mid = state g.S.Store c.next_result.new.conn in
-    let new = state g.S.Store c.record_report.new.conn in
     let provider = c.args.provider.now in
     let report = c.args.report.now in
     let found = c.args.found in
     let next = c.in-Some.next in
-    then_ok old new c.in-Ok-record_report.value (Recorded next) _ _ (λ h. h)
-    (then_taken old mid new (Some next) (Ok c.in-Ok-record_report.value) _ (CanReport provider report c.args.version) _ _ (λ u s t. Receives provider report found (Recorded next) s t)
+    then_ok _ _ c.in-Ok-record_report.value (Recorded next) _ _ (λ h. h)
+    (then_taken _ _ _ (Some next) (Ok c.in-Ok-record_report.value) _ (CanReport provider report c.args.version) _ _ (λ u s t. Receives provider report found (Recorded next) s t)
     (λ s can first. (
       (can.0, first.1),
       λ u t made. newly_recorded s (reported_result provider report found) can.1 next t (λ i. may_be_named s (reported_version provider report) c.args.version can.0 i && first.0 i) first.1 made,
@@ -38,7 +34,7 @@ returns-in-Err-record_report-clause-calm g c =
     let found = c.args.found in
     let r = reported_result provider report found in
     let next = c.in-Some.next in
-    fails_changing _ (state g.S.Store c.args.conn.now) (state g.S.Store c.next_result.new.conn) (state g.S.Store c.record_report.new.conn) (Some next) (Err c.in-Err-record_report.fault) _ _ 3 (omega arith)
+    fails_changing _ _ _ _ (Some next) (Err c.in-Err-record_report.fault) _ _ 3 (omega arith)
     (AllowsReport provider report found c.args.version next) (λ s. CanReport provider report c.args.version s × HasContent s found.content) (IsToReport provider report found)
     (λ s held can first. (
       (can.0, first.1, can.1),

@@ -1,6 +1,6 @@
 use Rattle.std.{specs.Prelude.{unwrap_or}, proofs.Common.{Ok, ◌∷◌, [], codes, refl, arith, ◌≤◌, ◌^◌, ℕ, List, length, subst, sym, Option}}
 use Rattle.sqlite.specs.Held.{state}
-use Rattle.table_access.proofs.CallLemmas.{call_with, seq, ended_with}
+use Rattle.table_access.proofs.CallLemmas.{call_with, seq}
 use Rattle.broker_tables.proofs.{FailLemmas.{taking, taking_then, calm_with}, RoomLemmas.{takes_then}}
 use Rattle.contract_commands.{specs.{Numbering.{NamesAs}, Results.{reported_version}}, proofs.ResultLemmas.{records, now_recorded, allows}}
 use Rattle.contract_commands.proofs.results.record_report.Goals as goal
@@ -8,7 +8,7 @@ use Rattle.contract_commands.proofs.results.record_report.Goals as goal
 pub returns-clause-answers : goal.returns-clause-answers
 returns-clause-answers g c =
     let old = state g.S.Store c.args.conn.now in
-    let mid = state g.S.Store c.name_version.new.conn in
+    let mid = state g.S.Store c.ensure_named.new.conn in
     let new = state g.S.Store c.record_result.new.conn in
     let next = c.args.next in
     let number = c.in-Ok.value in
@@ -20,13 +20,7 @@ returns-clause-answers g c =
 
 pub returns-clause-calm : goal.returns-clause-calm
 returns-clause-calm g c =
-    let old = state g.S.Store c.args.conn.now in
-    let mid = state g.S.Store c.name_version.new.conn in
-    let new = state g.S.Store c.record_result.new.conn in
     let number = c.in-Ok.value in
-    taking_then _ old mid new number c.record_result.result 2 1 _ _ (NamesAs (reported_version c.args.provider.now c.args.report.now)) _
+    taking_then _ _ _ _ number c.record_result.result 2 1 _ _ (NamesAs (reported_version c.args.provider.now c.args.report.now)) _
     (λ s can t names. allows s t c.args.provider.now c.args.report.now c.args.found c.as_str.result.now _ c.args.next number c.as_str.ensures c.run_text.ensures names c.args.version can)
-    (call_with old mid (Ok number) _ _ (λ n name s held can. name s held can.0.0) c.in-Ok.ensures.answers) c.record_result.ensures.changes (taking _ mid new c.record_result.result (codes "latest" ∷ []) (refl, tt) 1 (omega arith) _ (calm_with _ _ _ _ c.record_result.result (codes "latest" ∷ []) _ (λ long are. long (subst (λ (t : List ℕ). length t ≤ 10 ^ 7) (sym c.as_str.ensures) are.0, (subst (λ (o : Option (List ℕ)). length (unwrap_or o []) ≤ 10 ^ 7) (sym c.run_text.ensures) are.1.1.0, tt))) c.record_result.ensures.calm))
-
-pub returns-in-Err-clause-calm : goal.returns-in-Err-clause-calm
-returns-in-Err-clause-calm g c clean s here can room = ended_with _ _ _ (λ long are. long (are.0, (are.1.0, tt))) (c.in-Err.ensures.calm clean s here can.0.0 tt)
+    (call_with _ _ (Ok number) _ _ (λ n name s held can. name s held can.0.0) c.in-Ok.ensures.answers) c.record_result.ensures.changes (taking _ _ _ c.record_result.result (codes "latest" ∷ []) (refl, tt) 1 (omega arith) _ (calm_with _ _ _ _ c.record_result.result (codes "latest" ∷ []) _ (λ long are. long (subst (λ (t : List ℕ). length t ≤ 10 ^ 7) (sym c.as_str.ensures) are.0, (subst (λ (o : Option (List ℕ)). length (unwrap_or o []) ≤ 10 ^ 7) (sym c.run_text.ensures) are.1.1.0, tt))) c.record_result.ensures.calm))

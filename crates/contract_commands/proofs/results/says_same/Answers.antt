@@ -1,10 +1,7 @@
 use Rattle.std.proofs.Common.{◌∙◌}
-use Rattle.contract_commands.proofs.ResultLemmas.{same_numbered, not_numbered}
+use Rattle.contract_commands.proofs.ResultLemmas.{same_numbered}
 use Rattle.contract_commands.proofs.results.says_same.Goals as goal
 
 pub returns-in-Some : goal.returns-in-Some
 returns-in-Some c = λ s provider report e row is.
     c.has_outcome.ensures ∙ same_numbered s provider report c.args.found c.args.row e row c.in-Some.number (is ∙ c.in-Some.is)
-
-pub returns-in-None : goal.returns-in-None
-returns-in-None c = λ s provider report e row is. not_numbered s provider report c.args.found c.args.row e row (is ∙ c.in-None.is)

@@ -1,5 +1,4 @@
 use Rattle.std.proofs.Common.{◌∷◌, []}
-use Rattle.sqlite.specs.Held.{state}
 use Rattle.broker_core.specs.declared.policy.Rule.TheVariants.{A5}
 use Rattle.broker_tables.proofs.QueryLemmas.{calm_both}
 use Rattle.contract_commands.proofs.PactLemmas.{asker_reaches}
@@ -11,6 +10,6 @@ returns g c =
     let sides = c.in-Ok.value in
     let contract = c.in-Ok-read_contract.value in
     let found = c.admit_contract.result in
-    calm_both (state g.S.Store c.args.conn.now) (state g.S.Store c.read_sides_to_show.new.conn) (state g.S.Store c.read_contract.new.conn) sides contract found _ _ _
+    calm_both _ _ _ sides contract found _ _ _
     (λ s h k. asker_reaches s c.args.caller.now path A5 (path.provider ∷ path.consumer ∷ []) (record { sides = sides; contract = contract }) (h, k) found c.admit_contract.ensures)
     c.in-Ok.ensures c.in-Ok-read_contract.ensures

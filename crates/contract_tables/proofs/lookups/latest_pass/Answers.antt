@@ -3,7 +3,7 @@ use Rattle.sqlite.specs.Held.{state}
 use Rattle.table_access.proofs.Answered.{first_has}
 use Rattle.broker_tables.proofs.{QueryLemmas.{read_result, read_err}, Asked.{reads, still, why_refused}, NoVersion.{no_answer}}
 use Rattle.broker_tables.proofs.AnyTables.{refused_ends, leaves_all}
-use Rattle.contract_tables.{specs.Verified.{pass_of, pass_cells}, proofs.{VersionResults.{join, join_found}, ReadableRows.{join_reads, join_none}}}
+use Rattle.contract_tables.{specs.Verified.{pass_of, pass_cells}, proofs.{VersionResults.{join, join_found}, ReadableRows.{pairs_read, join_none}}}
 use Rattle.contract_tables.proofs.{AnyTexts.{pair_asks}, AnyLatest.{pair_found, pair_lost, ok_both}}
 use Rattle.contract_tables.proofs.lookups.latest_pass.Goals as goal
 
@@ -17,7 +17,7 @@ returns-clause-answers g c =
     )) (rw c.deref.ensures.value at c.first_pass.ensures.ok))
     (λ none. IfErr-weaker c.first_pass.result _ _ (λ fault why. why.0) c.first_pass.ensures.cause)
     (λ s here shown. IfErr-weaker c.first_pass.result _ _
-    (λ fault why. why.3 (join_reads c.args.content c.args.provider_version _ s here.held here.readable _ (reads asked _ _ s here.held _ shown).0 why.1 (first_has _ why.1 why.2)))
+    (λ fault why. why.3 (pairs_read asked _ s here.held here.readable _ (reads asked _ _ s here.held _ shown).0 why.1 (first_has _ why.1 why.2)))
     (rw c.deref.ensures.value at c.first_pass.ensures.cause))
     (rw (c.params-to_sql.ensures, c.params-to_sql-2.ensures) at c.in-Ok.ensures.leaves)
 

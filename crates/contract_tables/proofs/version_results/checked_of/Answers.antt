@@ -1,7 +1,7 @@
 use Rattle.std.proofs.lemmas.Result.{IfOk-weaker, IfErr-weaker, MatchResult-from_both}
 use Rattle.sqlite.specs.Held.{state}
 use Rattle.broker_tables.proofs.Asked.{lists, lists_none}
-use Rattle.contract_tables.proofs.{VersionResults.{marks, marks_listed}, ReadableRows.{marks_reads, marks_none}, AnyLatest.{marks_found, marks_fail}}
+use Rattle.contract_tables.proofs.{VersionResults.{marks, marks_listed}, ReadableRows.{marks_reads, version_none}, AnyLatest.{marks_found, marks_fail}}
 use Rattle.contract_tables.proofs.version_results.checked_of.Goals as goal
 
 pub returns-clause-answers : goal.returns-clause-answers
@@ -11,7 +11,7 @@ returns-clause-answers g c =
 
 pub returns-clause-unknown : goal.returns-clause-unknown
 returns-clause-unknown g c =
-    lists_none (marks c.args.version_number) _ _ (marks_none c.args.version_number _) (rw c.params-to_sql.ensures at c.list_of.ensures.leaves)
+    lists_none (marks c.args.version_number) _ _ (version_none (marks c.args.version_number) _) (rw c.params-to_sql.ensures at c.list_of.ensures.leaves)
 
 pub returns-clause-mark : goal.returns-clause-mark
 returns-clause-mark g c clean asked =

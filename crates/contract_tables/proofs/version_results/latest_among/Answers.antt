@@ -6,24 +6,18 @@ use Rattle.contract_tables.proofs.VersionResults.{said_at, none_said}
 use Rattle.contract_tables.proofs.version_results.latest_among.Goals as goal
 
 -- the closure gives a result's content
-pub returns-in-Ok-clause-answers : goal.returns-in-Ok-clause-answers
-returns-in-Ok-clause-answers c s v listed =
+pub returns-in-Ok : goal.returns-in-Ok
+returns-in-Ok c =
     let results = c.args.results.now in
     let at = c.in-Ok.at in
     let by_content : IsBinarySearchResult (λ y. nat_cmp y.content c.args.content) results (Ok at) = c.in-Ok.ensures.position (λ x. x.content) (answers_always _ _ _ (λ f a r g called. search rules)) in
     let none : LatestResult = record { content = 0; result = 0; latest = record { pass = false; checked = false } } in
-    said_at s v results listed c.args.content _ (has_contains results _ (has_get results at none c.in-Ok.ensures.bound)) (found_at (λ x. x.content) c.args.content results at none by_content)
+    let here = has_contains results _ (has_get results at none c.in-Ok.ensures.bound) in
+    let same = found_at (λ x. x.content) c.args.content results at none by_content in
+    record { answers = λ s v listed. said_at s v results listed c.args.content _ here same; found = (_, here, same, refl) }
 
 pub returns-in-Err-clause-answers : goal.returns-in-Err-clause-answers
 returns-in-Err-clause-answers c s v listed =
     let results = c.args.results.now in
     let by_content : IsBinarySearchResult (λ y. nat_cmp y.content c.args.content) results (Err c.in-Err.field-0) = c.in-Err.ensures.position (λ x. x.content) (answers_always _ _ _ (λ f a r g called. search rules)) in
     none_said s v results listed c.args.content (missing (λ x. x.content) c.args.content results c.in-Err.field-0 by_content (sorted (λ x. x.content) results listed.sorted))
-
-pub returns-in-Ok-clause-found : goal.returns-in-Ok-clause-found
-returns-in-Ok-clause-found c =
-    let results = c.args.results.now in
-    let at = c.in-Ok.at in
-    let by_content : IsBinarySearchResult (λ y. nat_cmp y.content c.args.content) results (Ok at) = c.in-Ok.ensures.position (λ x. x.content) (answers_always _ _ _ (λ f a r g called. search rules)) in
-    let none : LatestResult = record { content = 0; result = 0; latest = record { pass = false; checked = false } } in
-    (_, has_contains results _ (has_get results at none c.in-Ok.ensures.bound), found_at (λ x. x.content) c.args.content results at none by_content, refl)

@@ -1,18 +1,18 @@
 use Rattle.std.proofs.lemmas.Result.{IfOk-weaker, IfErr-weaker, MatchResult-from_both}
 use Rattle.sqlite.specs.Held.{state}
 use Rattle.broker_tables.proofs.{Asked.{lists, lists_none}, AnyTables.{leaves_all}}
-use Rattle.contract_tables.proofs.{VersionResults.{passes, passes_listed}, ReadableRows.{passes_reads, passes_none}, AnyTexts.{passes_asks}}
+use Rattle.contract_tables.proofs.{VersionResults.{passes, passes_listed}, ReadableRows.{pairs_read, version_none}, AnyTexts.{passes_asks}}
 use Rattle.contract_tables.proofs.AnyLatest.{passes_found, passes_fail}
 use Rattle.contract_tables.proofs.version_results.passes_of.Goals as goal
 
 pub returns-clause-answers : goal.returns-clause-answers
 returns-clause-answers g c =
     let said = rw c.params-to_sql.ensures at c.list_of.ensures in
-    lists (passes c.args.version_number) _ _ (λ row fault why is. why.1) (λ s held rows h list are v is. passes_listed _ s held v c.args.version_number is rows list.items h are) (passes_reads c.args.version_number _) said.leaves said.cause
+    lists (passes c.args.version_number) _ _ (λ row fault why is. why.1) (λ s held rows h list are v is. passes_listed _ s held v c.args.version_number is rows list.items h are) (pairs_read (passes c.args.version_number) _) said.leaves said.cause
 
 pub returns-clause-unknown : goal.returns-clause-unknown
 returns-clause-unknown g c =
-    lists_none (passes c.args.version_number) _ _ (passes_none c.args.version_number _) (rw c.params-to_sql.ensures at c.list_of.ensures.leaves)
+    lists_none (passes c.args.version_number) _ _ (version_none (passes c.args.version_number) _) (rw c.params-to_sql.ensures at c.list_of.ensures.leaves)
 
 pub returns-clause-mark : goal.returns-clause-mark
 returns-clause-mark g c clean asked =

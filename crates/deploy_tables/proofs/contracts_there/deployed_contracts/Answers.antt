@@ -1,9 +1,9 @@
 use Rattle.broker_tables.proofs.Asked.{lists}
-use Rattle.deploy_tables.proofs.{ContractsThere.{of_deployed, deployed_told}, ReadableRows.{of_deployed_reads}}
+use Rattle.deploy_tables.proofs.{ContractsThere.{of_deployed, deployed_told}, ReadableRows.{contracts_reads}}
 use Rattle.deploy_tables.proofs.contracts_there.deployed_contracts.Goals as goal
 
 pub returns : goal.returns
 returns g c =
     let said = rw (c.params-to_sql.ensures, c.params-to_sql-2.ensures) at c.list_of.ensures in
     lists (of_deployed c.args.environment.now c.args.provider.now) _ _ (λ row fault why is. why.1) (λ s held rows h list are. deployed_told _ s held c.args.environment.now c.args.provider.now rows list.items h are)
-    (of_deployed_reads c.args.environment.now c.args.provider.now _) said.leaves said.cause
+    (contracts_reads (of_deployed c.args.environment.now c.args.provider.now) _) said.leaves said.cause

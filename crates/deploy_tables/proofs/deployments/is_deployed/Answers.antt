@@ -1,8 +1,7 @@
 use Rattle.std.proofs.Common.{◌∙◌}
 use Rattle.table_access.proofs.ReadLemmas.{number_found as found_number}
 use Rattle.broker_tables.proofs.{Asked.{is_answer, still, why_number}, QueryLemmas.{read_ok, read_err}}
-use Rattle.deploy_tables.proofs.{DeployedRows.{number_at, number_found}, DeployedState.{found_is, is_number_there, none_is_there}}
-use Rattle.deploy_tables.proofs.ReadableRows.{number_at_reads}
+use Rattle.deploy_tables.proofs.{DeployedRows.{number_at, number_found}, DeployedState.{found_is, is_number_there, none_is_there}, ReadableRows.{numbers_read}}
 use Rattle.deploy_tables.proofs.deployments.is_deployed.Goals as goal
 
 pub returns : goal.returns
@@ -25,4 +24,4 @@ returns g c =
 pub returns-in-Err : goal.returns-in-Err
 returns-in-Err g c =
     let said = rw (c.params-to_sql.ensures, c.params-to_sql-2.ensures, c.params-to_sql-3.ensures) at c.in-Err.ensures in
-    read_err _ _ c.in-Err.fault _ _ _ (why_number (number_at c.args.environment.now c.args.pacticipant.now c.args.instance.now) _ _ (number_at_reads c.args.environment.now c.args.pacticipant.now c.args.instance.now _)) said.leaves said.cause
+    read_err _ _ c.in-Err.fault _ _ _ (why_number (number_at c.args.environment.now c.args.pacticipant.now c.args.instance.now) _ _ (numbers_read (number_at c.args.environment.now c.args.pacticipant.now c.args.instance.now) _)) said.leaves said.cause

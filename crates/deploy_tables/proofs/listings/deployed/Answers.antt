@@ -1,6 +1,7 @@
-use Rattle.std.proofs.lemmas.Result.{IfOk-weaker}
+use Rattle.std.proofs.{Common.{sym, ◌∙◌}, lemmas.Result.{IfOk-weaker}}
+use Rattle.broker_core.proofs.Lists.{none_some}
 use Rattle.sqlite.specs.Held.{state}
-use Rattle.broker_tables.proofs.Asked.{lists}
+use Rattle.broker_tables.proofs.Asked.{lists, lists_in_place}
 use Rattle.deploy_tables.proofs.{DeployedState.{deployments, deployed_listed}, ReadableRows.{deployments_reads}, AnyThere.{deployed_there}}
 use Rattle.deploy_tables.proofs.listings.deployed.Goals as goal
 
@@ -15,3 +16,11 @@ returns-clause-named g c clean asked =
     let old = state g.S.Store c.args.conn.now in
     let new = state g.S.Store c.list_of.new.conn in
     IfOk-weaker c.list_of.result _ _ (λ list told. deployed_there c.args.environment.now old new asked.1 told.0 list.items told.1 told.2) ((rw c.params-to_sql.ensures at c.list_of.ensures.leaves).ok clean)
+
+pub returns-clause-missing : goal.returns-clause-missing
+returns-clause-missing g c =
+    let said = rw c.params-to_sql.ensures at c.list_of.ensures in
+    lists_in_place (deployments c.args.environment.now) _ _ c.list_of.result _
+    (λ row is. (record { pacticipant = is.0.1.0; instance = is.1.1.0; version = is.2.1.0 }, (is.0.1.1, is.1.1.1, is.2.1.1)))
+    (λ s held none rows h items are x has. none_some _ (sym (none x.pacticipant x.instance) ∙ ((deployed_listed _ s held c.args.environment.now rows items h are).exactly x).0 has))
+    (deployments_reads c.args.environment.now _) said.cause

@@ -1,5 +1,5 @@
-use Rattle.std.proofs.Common.{None, Some}
-use Rattle.deploy_tables.proofs.{MatrixLoop.{calm_then, calm_answers}, VersionNames.{of_number, of_no_number}}
+use Rattle.std.proofs.Common.{Some}
+use Rattle.deploy_tables.proofs.{MatrixLoop.{calm_then}, VersionNames.{of_number}}
 use Rattle.deploy_tables.proofs.matrix_rows.matrix.Goals as goal
 
 pub returns-in-Some : goal.returns-in-Some
@@ -7,8 +7,3 @@ returns-in-Some g c =
     let v = c.in-Some.version in
     calm_then _ _ _ (Some v) c.matrix_numbered.result _ _ _ (λ s known rows listed. of_number s c.args.number v _ _ known (listed known))
     (rw c.in-Some.is at c.in-Ok.ensures) c.matrix_numbered.ensures
-
-pub returns-in-None : goal.returns-in-None
-returns-in-None g c =
-    calm_answers _ _ None c.new.result _ _ (λ s none. of_no_number s c.args.number _ _ none c.new.ensures.items)
-    (rw c.in-None.is at c.in-Ok.ensures)

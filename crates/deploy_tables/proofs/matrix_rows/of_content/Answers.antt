@@ -10,4 +10,4 @@ returns-in-Ok-rows_used g c =
     let is = c.in-Ok-rows_used.ensures ∙ ap (map (row_used v latest)) c.deref.ensures.value in
     calm_answers _ _ _ c.in-Ok-rows_used.rows _ _ (λ s listed x.
     let named = subst (λ p. Lists version_cmp (λ w. s.contracts (w, p) ≡ Some latest.content) c.in-Ok.value.items) c.as_str.ensures listed in
-    subst (λ xs. Contains xs x ↔ IsOfContent s v latest x) (sym is) (mapped_is (row_used v latest) _ named x)) c.in-Ok.ensures
+    subst (λ xs. Contains xs x ↔ IsOfContent s v latest x) (sym is) (mapped_is (row_used v latest) _ named x)) c.in-Ok.ensures.answers

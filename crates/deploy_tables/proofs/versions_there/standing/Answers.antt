@@ -6,7 +6,8 @@ pub returns : goal.returns
 returns g c =
     calm_answers _ _ _ c.each_version_once.result _ _
     (λ s both. stand_is s c.args.environment.now _ _ _ _ both.0 both.1
-    (c.in-Ok-all_versions.ensures.all ∙ ap (λ items. map deployed_version items ++ c.in-Ok-released.value.items) c.deref.ensures.value) c.each_version_once.ensures)
+    (c.in-Ok-add.ensures.added ∙ ap (λ xs. xs ++ c.in-Ok-released.value.items)
+    (c.in-Ok-deployed_versions.ensures ∙ ap (map deployed_version) c.deref.ensures.value)) c.each_version_once.ensures)
     (both_told _ _ _ _ _ _ _ c.in-Ok.ensures.answers c.in-Ok-released.ensures.answers)
 
 pub returns-in-Err-released : goal.returns-in-Err-released

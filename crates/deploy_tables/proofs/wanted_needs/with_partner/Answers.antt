@@ -1,13 +1,7 @@
 use Rattle.std.proofs.Common.{Err}
 use Rattle.broker_tables.proofs.FailLemmas.{calm_after}
-use Rattle.deploy_tables.{specs.Releases.{IsVersion}, proofs.{NeedLemmas.{good_with, open_with}, AllowedQueries.{answers_more, answers_both}}}
+use Rattle.deploy_tables.{specs.Releases.{IsVersion}, proofs.{NeedLemmas.{open_with}, AllowedQueries.{answers_both}}}
 use Rattle.deploy_tables.proofs.wanted_needs.with_partner.Goals as goal
-
-pub returns-then-is_left_out-clause-answers : goal.returns-then-is_left_out-clause-answers
-returns-then-is_left_out-clause-answers g c =
-    answers_more _ _ c.in-Ok.value c.new.result _ _
-    (λ s says. good_with s _ _ _ _ c.is_left_out.ensures c.args.contract.now c.args.partner c.if-is_left_out.true says _ c.new.ensures.items)
-    c.in-Ok.ensures.answers.call
 
 pub returns-in-Ok-named_with-clause-answers : goal.returns-in-Ok-named_with-clause-answers
 returns-in-Ok-named_with-clause-answers g c =

@@ -66,13 +66,3 @@ returns-else-branch-clause-ok g c =
       end = λ _. short.1;
       wanted = search rules;
     }
-
-pub returns-in_err-head_len-clause-failed : goal.returns-in_err-head_len-clause-failed
-returns-in_err-head_len-clause-failed g c =
-    let p = err_from_is_err_and c.from_residual.result c.from_residual.ensures.1 in
-    rw (p.1, p.2) c.in_err-head_len.ensures.failed
-
-pub returns-in_err-read_up_to-clause-failed : goal.returns-in_err-read_up_to-clause-failed
-returns-in_err-read_up_to-clause-failed g c =
-    let p = err_from_is_err_and c.from_residual-in_err-read_up_to.result c.from_residual-in_err-read_up_to.ensures.1 in
-    rw (p.1, p.2) c.in_err-read_up_to.ensures.failed

@@ -12,9 +12,6 @@ parts_text-requires-clause-request c = whole 97 (view c.args.parts.now.request.n
 pub parts_text-requires-clause-response : goal.parts_text-requires-clause-response
 parts_text-requires-clause-response c = whole 97 (view c.args.parts.now.response.now) c.requires.2.2.2.1
 
-pub returns-clause-states : goal.returns-clause-states
-returns-clause-states c = c.in_ok-states.ensures ∙ ap (λ ss. compact_text (states_data ss)) c.as_slice.ensures.value
-
 pub returns-clause-whole : goal.returns-clause-whole
 returns-clause-whole c =
     let states : string_bytes c.in_ok-states.states ≡ compact_text (states_data c.args.parts.now.states.items) = c.in_ok-states.ensures

@@ -3,9 +3,6 @@ use Rattle.pact_file.specs.{Pact.{key_cmp}, declared.fault.PactFault.TheVariants
 use Rattle.pact_file.proofs.{Steps.{found_ok, lacks_err}, OrderedSets.{key_total}, SetLemmas.{stays}, SortingSteps.{order_goes, order_ends, order_done}}
 use Rattle.pact_file.proofs.order.in_key_order.Goals as goal
 
-pub insert_interaction-requires : goal.insert_interaction-requires
-insert_interaction-requires c = c.loop-new.invariant.0
-
 pub loop-new-preserved : goal.loop-new-preserved
 loop-new-preserved c =
     let l = c.loop-new in

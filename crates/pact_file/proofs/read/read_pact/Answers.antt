@@ -1,7 +1,7 @@
 use Rattle.serde_json.specs.View.{view}
-use Rattle.std.proofs.{Common.{◌≡◌, ◌<◌, false, Err, length, nat_le, refl, sym, ap, ◌∙◌}, lemmas.Bool.{lt-leb}, lemmas.Result.{err_from_is_err_and}}
+use Rattle.std.proofs.{Common.{◌≡◌, ◌<◌, false, Err, length, nat_le, refl}, lemmas.Bool.{lt-leb}, lemmas.Result.{err_from_is_err_and}}
 use Rattle.pact_file.specs.{File.{most_bytes, file_of}, Normal.{Normal}, declared.fault.PactFault.TheVariants.{TooLong}}
-use Rattle.pact_file.proofs.{ReadLemmas.{file_sound, file_text, of_file}, Steps.{err_same}}
+use Rattle.pact_file.proofs.ReadLemmas.{file_sound, file_text, of_file}
 use Rattle.pact_file.proofs.read.read_pact.Goals as goal
 
 pub returns-then-bytes-gt-MOST_BYTES-clause-reading : goal.returns-then-bytes-gt-MOST_BYTES-clause-reading
@@ -16,11 +16,6 @@ unfolding Normal
 returns-in_err-file-clause-reading c =
     let p = err_from_is_err_and c.from_residual.result c.from_residual.ensures.1 in
     rw (p.1, p.2) (λ memory. (Err c.in_err-file.field-0.0, c.in_err-file.ensures.value memory, refl))
-
-pub returns-in_err-file-clause-memory : goal.returns-in_err-file-clause-memory
-returns-in_err-file-clause-memory c =
-    let p = err_from_is_err_and c.from_residual.result c.from_residual.ensures.1 in
-    λ memory. c.in_err-file.ensures.memory (ap Err (sym p.2 ∙ err_same _ _ (sym p.1 ∙ memory)))
 
 pub pact_of-requires : goal.pact_of-requires
 pact_of-requires c = file_sound c.args.bytes.now (view c.in_ok-file.file) c.in_ok-file.ensures.value

@@ -1,9 +1,6 @@
 use Rattle.std.{specs.List.{Contains}, proofs.Common.{◌≡◌, ◌<◌, ◌↔◌, length, map, subst, arith}}
-use Rattle.pact_rules.{specs.Survivors.{survivor_view}, proofs.WalkLemmas.{start_push, none_there}}
+use Rattle.pact_rules.{specs.Survivors.{survivor_view}, proofs.WalkLemmas.{start_push}}
 use Rattle.pact_rules.proofs.walk.first_survivors.Goals as goal
-
-pub loop-index-init : goal.loop-index-init
-loop-index-init c = (omega arith, λ e. (λ h. none_there e c.new-entries.result.items c.new-entries.ensures.items h, λ h. absurd (omega (arith, h.0))))
 
 pub loop-index-preserved : goal.loop-index-preserved
 loop-index-preserved c = (

@@ -1,13 +1,10 @@
-use Rattle.std.{specs.List.{Contains}, proofs.Common.{◌≡◌, ◌↔◌, ◌⊎◌, inl, inr, ◌∙◌, ◌++◌, [], ◌∷◌, Some, map, get_or, option_map, refl, sym, ap, arith}}
+use Rattle.std.{specs.List.{Contains}, proofs.Common.{◌≡◌, ◌↔◌, ◌⊎◌, inl, ◌∙◌, ◌++◌, [], ◌∷◌, Some, map, get_or, option_map, sym, ap, arith}}
 use Rattle.std.proofs.{lemmas.List.{length-map}, lemmas.Option.{slice_get_within}}
 use Rattle.pact_rules.specs.{RuleViews.{rule_view}, Walks.{survivor}, Survivors.{survivor_view}}
-use Rattle.pact_rules.proofs.WalkLemmas.{entry_at, exact_within, none_there, stays_none, stays_more, stays_all, one_stays, after_push, after_none}
+use Rattle.pact_rules.proofs.WalkLemmas.{entry_at, exact_within, stays_more, stays_all, one_stays, after_push, after_none}
 use Rattle.pact_rules.proofs.walk.survivors_of_run.Goals.{in-Some+in_ok-push, in_default}
 use Rattle.pact_paths.specs.{Locations.{step_view}, Weights.{is_alive, exact_tokens}}
 use Rattle.pact_rules.proofs.walk.survivors_of_run.Goals as goal
-
-pub loop-index-init : goal.loop-index-init
-loop-index-init c = (omega arith, inr refl, λ at h e. (λ x. none_there e c.new-left.result.items c.new-left.ensures.items x, λ s. stays_none _ _ _ _ e s))
 
 pub path_at-path-requires : goal.path_at-path-requires
 path_at-path-requires c =

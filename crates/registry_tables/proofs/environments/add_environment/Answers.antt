@@ -2,7 +2,7 @@ use Rattle.std.proofs.{Common.{◌≡◌, refl, sym, ap, subst, ◌∙◌, Some,
 use Rattle.sqlite.specs.{State.{HasCleanDisk}, Held.{state}}
 use Rattle.broker_core.specs.{declared.command.Marks.{Marks}, Text.{put_at, same_text}, State.{State}}
 use Rattle.table_access.proofs.CallLemmas.{call_with, seq, ended_since}
-use Rattle.broker_tables.{specs.{Holds.{HoldsAfter}, Room.{LeaveNumbers}, Refusals.{HoldsOpen}}, proofs.RoomLemmas.{takes_more, takes_then}}
+use Rattle.broker_tables.{specs.{Holds.{HoldsAfter}, Room.{LeaveNumbers}, ChangeRefusals.{HoldsOpen}}, proofs.RoomLemmas.{takes_more, takes_then}}
 use Rattle.registry_tables.{specs.Registry.{marks}, proofs.EnvironmentRows.{put_both, there_now}}
 use Rattle.registry_tables.proofs.environments.add_environment.Goals as goal
 
@@ -14,7 +14,7 @@ returns-then-strict-clause-changes g c =
     let e = c.args.environment.now in
     let first = marks c.args.gated false in
     let last = marks c.args.gated true in
-    seq old mid new c.in-Ok.value c.put_strict.result _ _ _ (λ one _ two s held t next.
+    seq _ _ _ c.in-Ok.value c.put_strict.result _ _ _ (λ one _ two s held t next.
     let between : State = record s { environments = put_at same_text s.environments e (Some first) } in
     let same : last ≡ marks c.args.gated c.args.strict = ap (marks c.args.gated) (sym c.if-strict.true) in
     let before = one s held between (next.0, refl) in
@@ -25,9 +25,7 @@ returns-then-strict-clause-changes g c =
 
 pub returns-then-strict-clause-calm : goal.returns-then-strict-clause-calm
 returns-then-strict-clause-calm g c =
-    let old = state g.S.Store c.args.conn.now in
     let mid = state g.S.Store c.put_environment.new.conn in
-    let new = state g.S.Store c.put_strict.new.conn in
     let e = c.args.environment.now in
     let first = marks c.args.gated false in
     λ clean s here next numbers.
@@ -40,7 +38,7 @@ returns-then-strict-clause-calm g c =
       held = (call.ok mid_clean s here.held between (next.1.0, refl)).0;
     } in
     let room = subst (LeaveNumbers 1) (sym (c.in-Ok.ensures.strict mid_clean s here.held next.1.0)) numbers.1.0 in
-    IfErr-weaker c.put_strict.result _ _ (λ e why. ended_since old mid new e (call.goes_on mid_clean here.inside) call.survives.counts why)
+    IfErr-weaker c.put_strict.result _ _ (λ e why. ended_since _ _ _ e (call.goes_on mid_clean here.inside) call.survives.counts why)
     (c.put_strict.ensures.calm clean between now (first, there_now s.environments e first, refl) (room, tt))
 
 pub returns-else-strict-clause-changes : goal.returns-else-strict-clause-changes
@@ -49,7 +47,7 @@ returns-else-strict-clause-changes g c =
     let new = state g.S.Store c.put_environment.new.conn in
     let e = c.args.environment.now in
     let first = marks c.args.gated false in
-    call_with old new (Ok c.in-Ok.value) _ _ (λ _ one s held t next.
+    call_with _ _ (Ok c.in-Ok.value) _ _ (λ _ one s held t next.
     let same : first ≡ marks c.args.gated c.args.strict = ap (marks c.args.gated) (sym c.if-strict.false) in
     let after = one s held _ (next.0, refl) in
     subst (HoldsAfter 2 old new) (ap (λ (m : Marks). record s { environments = put_at same_text s.environments e (Some m) }) same ∙ sym next.1)

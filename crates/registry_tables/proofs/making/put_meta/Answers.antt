@@ -1,8 +1,7 @@
 use Rattle.std.proofs.lemmas.Result.{IfErr-weaker}
-use Rattle.sqlite.specs.Held.{state}
 use Rattle.table_access.proofs.CallLemmas.{call_with}
 use Rattle.broker_tables.proofs.MakingFails.{has_failed}
-use Rattle.registry_tables.proofs.{MetaRow.{put_sql, meta_put}, MetaFails.{meta_fails}}
+use Rattle.registry_tables.proofs.MetaRow.{put_sql, meta_put, meta_fails}
 use Rattle.registry_tables.proofs.making.put_meta.Goals as goal
 
 pub returns-clause-puts : goal.returns-clause-puts
@@ -11,7 +10,5 @@ returns-clause-puts g c =
 
 pub returns-clause-calm : goal.returns-clause-calm
 returns-clause-calm g c clean inside unlimited it =
-    let old = state g.S.Store c.args.conn.now in
-    let new = state g.S.Store c.change.new.conn in
-    IfErr-weaker c.change.result _ _ (λ fault refused. has_failed put_sql _ old new fault refused (meta_fails c.args.format c.args.digest.now old new it.0.0 it.0.1 it.0.2 it.1.0 unlimited))
+    IfErr-weaker c.change.result _ _ (λ fault refused. has_failed put_sql _ _ _ fault refused (meta_fails c.args.format c.args.digest.now _ _ it.0.0 it.0.1 it.0.2 it.1.0 unlimited))
     (rw (c.params-to_sql.ensures, c.params-to_sql-2.ensures) at c.change.ensures.cause clean)

@@ -7,17 +7,12 @@ use Rattle.registry_tables.proofs.migration.to_format_2.Goals as goal
 
 pub returns-clause-makes : goal.returns-clause-makes
 returns-clause-makes g c =
-    let old = state g.S.Store c.args.conn.now in
-    let mid = state g.S.Store c.make_strict_environments.new.conn in
     let new = state g.S.Store c.set_format.new.conn in
     seq _ _ _ c.in-Ok.value c.set_format.result _ _ _
-    (λ made _ sets s held. let it = sets s (strict_made former_format _ _ s held (made held.schema)) in (it.0, rows_stay_strict old.now mid.now new.now held.schema (made held.schema) it.1))
+    (λ made _ sets s held. let it = sets s (strict_made former_format _ _ s held (made held.schema)) in (it.0, rows_stay_strict _ _ new.now held.schema (made held.schema) it.1))
     c.in-Ok.ensures.makes c.set_format.ensures.sets
 
 pub returns-clause-calm : goal.returns-clause-calm
 returns-clause-calm g c =
     calm_then (CanBecomeFormat2 (checked_results ∷ [])) (CanBecomeFormat2 added_tables) _ _ _ c.in-Ok.value c.set_format.result _ _ c.in-Ok.ensures.makes c.set_format.ensures.sets c.set_format.ensures.calm
     (λ made it. (it.0, strict_made former_format _ _ it.0 it.1 (made it.1.schema), it.2))
-
-pub returns-in-Err-clause-calm : goal.returns-in-Err-clause-calm
-returns-in-Err-clause-calm g c clean inside unlimited it = c.in-Err.ensures.calm clean inside unlimited it.1.schema

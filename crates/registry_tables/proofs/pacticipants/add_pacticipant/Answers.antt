@@ -1,5 +1,5 @@
 use Rattle.broker_tables.proofs.Alters.{alters, calmly}
-use Rattle.registry_tables.proofs.PacticipantRows.{pacticipant_added, pacticipant_ends}
+use Rattle.registry_tables.proofs.TeamRows.{pacticipant_added, pacticipant_ends}
 use Rattle.registry_tables.proofs.pacticipants.add_pacticipant.Goals as goal
 
 pub returns-clause-changes : goal.returns-clause-changes

@@ -1,9 +1,6 @@
 use Rattle.std.proofs.Common.{arith}
-use Rattle.reply_check.proofs.{Deciding.{decides_true, decides_false}, RivalLemmas.{IsKeyOf, none_seen, rival_found, one_seen, all_seen}}
+use Rattle.reply_check.proofs.{Deciding.{decides_true}, RivalLemmas.{IsKeyOf, rival_found, one_seen}}
 use Rattle.reply_check.proofs.read.have_rivals.Goals as goal
-
-pub loop-reply-init : goal.loop-reply-init
-loop-reply-init c = none_seen c.new-seen.result c.new-seen.ensures.empty
 
 pub returns-then-not-branch : goal.returns-then-not-branch
 returns-then-not-branch c =
@@ -19,6 +16,3 @@ loop-reply-preserved c =
     let key : IsKeyOf c.reply-item.result (c.description.result, c.states_text.result) = record { description = c.description.ensures; states_text = c.states_text.ensures.text; sound = c.states_text.ensures.sound } in
     one_seen c.args.replies.now l.reply-index c.reply-item.result (c.description.result, c.states_text.result) l.seen c.in_ok-insert.field-0 (omega arith) c.reply-item.is key c.in_ok-insert.ensures.added l.invariant
     c.insert.new.self c.if-not-branch.false c.in_ok-insert.ensures.updates
-
-pub returns : goal.returns
-returns c = decides_false (all_seen c.args.replies.now c.loop-reply.reply-index c.loop-reply.seen (omega arith) c.loop-reply.invariant)

@@ -1,17 +1,9 @@
 use Rattle.serde_json.specs.View.{view, items_view}
 use Rattle.pact_file.specs.Sound.{AreSound}
 use Rattle.reply_check.specs.Replies.{ReplyRead}
-use Rattle.pact_rules.proofs.Each.{Completes, goes_on, ends, is_done, begins}
+use Rattle.pact_rules.proofs.Each.{Completes, goes_on, ends, is_done}
 use Rattle.std.proofs.{Common.{Ok, Err, sym, ◌∙◌, subst}, lemmas.List.{nil_from_length}, lemmas.Result.{err_from_is_err_and}}
 use Rattle.reply_check.proofs.read.read_list.Goals as goal
-
-pub loop-item-init : goal.loop-item-init
-loop-item-init c =
-    let all = sym c.into_iter-item-iterator.ensures.into_iter_gives.0 in
-    (subst (Completes ReplyRead view c.args.items.items c.new-found.result.items) all (begins ReplyRead view c.args.items.items c.new-found.result.items c.new-found.ensures.items), subst (λ vs. AreSound 98 (items_view vs)) all c.requires)
-
-pub read_reply-requires : goal.read_reply-requires
-read_reply-requires c = (subst (λ vs. AreSound 98 (items_view vs)) c.in-Some.ensures.steps.0 c.loop-item.invariant.1).0
 
 pub returns-in_err-read_reply : goal.returns-in_err-read_reply
 returns-in_err-read_reply c =

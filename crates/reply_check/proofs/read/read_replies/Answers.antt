@@ -1,7 +1,6 @@
 use Rattle.serde_json.specs.View.{view}
-use Rattle.pact_file.proofs.Steps.{err_same}
 use Rattle.reply_check.{specs.Replies.{RepliesRead}, proofs.ReadLemmas.{file_sound, file_text, of_file}}
-use Rattle.std.proofs.{Common.{Err, refl, sym, ap, ◌∙◌}, lemmas.Result.{err_from_is_err_and}}
+use Rattle.std.proofs.{Common.{Err, refl}, lemmas.Result.{err_from_is_err_and}}
 use Rattle.reply_check.proofs.read.read_replies.Goals as goal
 
 pub returns-in_err-file-clause-reading : goal.returns-in_err-file-clause-reading
@@ -9,11 +8,6 @@ unfolding RepliesRead
 returns-in_err-file-clause-reading c =
     let p = err_from_is_err_and c.from_residual.result c.from_residual.ensures.1 in
     rw (p.1, p.2) (λ memory. (Err c.in_err-file.field-0.0, c.in_err-file.ensures.value memory, refl))
-
-pub returns-in_err-file-clause-memory : goal.returns-in_err-file-clause-memory
-returns-in_err-file-clause-memory c =
-    let p = err_from_is_err_and c.from_residual.result c.from_residual.ensures.1 in
-    λ memory. c.in_err-file.ensures.memory (ap Err (sym p.2 ∙ err_same _ _ (sym p.1 ∙ memory)))
 
 pub replies_of-requires : goal.replies_of-requires
 replies_of-requires c = file_sound c.args.bytes.now (view c.in_ok-file.file) c.in_ok-file.ensures.value

@@ -1,5 +1,5 @@
 use Rattle.std.proofs.Common.{Ok, Err, Result, ℕ, OnOk, OnErr, IsTrue, [], refl, codes, sym, subst}
-use Rattle.sqlite.{specs.{State.{State, Executes, Commits}, Command.TheVariants.{Commit}, declared.error.Error.{Error}, Held.{state}}, proofs.Callers.{runs_as}}
+use Rattle.sqlite.{specs.{State.{State, Executes, Commits}, Command.TheVariants.{Commit}, declared.error.Error.{Error}}, proofs.Callers.{runs_as}}
 use Rattle.sqlite.proofs.StateLemmas.{survives_weaker}
 use Rattle.table_access.{specs.Unit.{IsLeft, FailsToCommit}, proofs.{Texts.{commit_is, refused_leaves, commit_commits}, RefusedEnds.{commit_refused}}}
 use Rattle.table_access.proofs.committing.run_commit.Goals as goal
@@ -19,9 +19,7 @@ returns-in-Err-clause-refused g c clean = (committed _ _ _ (c.in-Err.ensures.run
 
 pub returns-in-Err-clause-cause : goal.returns-in-Err-clause-cause
 returns-in-Err-clause-cause g c clean =
-    let old = state g.S.Store c.args.conn.now in
-    let new = state g.S.Store c.execute.new.self in
-    subst (FailsToCommit old new) (sym c.fault_of.ensures) (commit_refused old new c.in-Err.error (c.in-Err.ensures.runs clean))
+    subst (FailsToCommit _ _) (sym c.fault_of.ensures) (commit_refused _ _ c.in-Err.error (c.in-Err.ensures.runs clean))
 
 pub returns-in-Err-clause-survives : goal.returns-in-Err-clause-survives
 returns-in-Err-clause-survives g c = survives_weaker _ _ _ _ (λ _ db h. commit_commits _ db h) c.execute.ensures.survives

@@ -11,6 +11,3 @@ pub returns-in-Err-clause-leaves : goal.returns-in-Err-clause-leaves
 returns-in-Err-clause-leaves g c =
     refused _ _ _ _ _ c.fault_of.ensures (λ clean. refused_by _ _ _ _ _ (c.in-Err.ensures.runs clean))
     (survives_weaker _ _ _ _ (λ _ db h. commits_outside _ _ _ db c.requires h) c.execute.ensures.survives)
-
-pub returns-in-Err-clause-cause : goal.returns-in-Err-clause-cause
-returns-in-Err-clause-cause g c clean = (c.in-Err.error, c.fault_of.ensures, c.in-Err.ensures.runs clean)

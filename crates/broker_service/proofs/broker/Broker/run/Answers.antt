@@ -28,6 +28,6 @@ returns g c running sound =
 
     stops : IsTrue c.match-matches.self ↔ (c.match-transact.answer ≡ answers.Store)
     stops = elim c.match-matches.branch [
-      | in-Store w ↦ (λ _. sym c.outcome.ensures ∙ w.in-Store.is, λ _. w.self-is)
-      | in_default w ↦ (λ yes. absurd (let no = w.self-is in cc), λ store. absurd (w.in_default.not-Store (c.outcome.ensures ∙ store)))
+      | in-Store w ↦ (λ _. sym c.answer.ensures ∙ w.in-Store.is, λ _. w.self-is)
+      | in_default w ↦ (λ yes. absurd (let no = w.self-is in cc), λ store. absurd (w.in_default.not-Store (c.answer.ensures ∙ store)))
     ]

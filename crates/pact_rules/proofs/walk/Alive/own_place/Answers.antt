@@ -1,5 +1,5 @@
 use Rattle.std.proofs.Common.{◌∙◌, sym, ap}
-use Rattle.pact_rules.{specs.Walks.{Walk}, proofs.WalkLemmas.{own_walk, own_none, own_place_is}}
+use Rattle.pact_rules.{specs.Walks.{Walk}, proofs.WalkLemmas.{own_walk, own_place_is}}
 use Rattle.pact_rules.proofs.walk.Alive.own_place.Goals as goal
 
 pub returns-in-Some-clause-computed : goal.returns-in-Some-clause-computed
@@ -9,8 +9,3 @@ returns-in-Some-clause-computed c = λ at e.
 pub returns-in-Some-clause-place : goal.returns-in-Some-clause-place
 returns-in-Some-clause-place c = λ at e.
     own_place_is c.args.table.now.body at c.chosen.result _ (c.chosen.ensures.computed at e) (c.chosen.ensures.choice at e) (returns-in-Some-clause-computed c at e)
-
-pub returns-in-None-clause-place : goal.returns-in-None-clause-place
-returns-in-None-clause-place c = λ at e.
-    own_place_is c.args.table.now.body at c.chosen.result _ (c.chosen.ensures.computed at e) (c.chosen.ensures.choice at e)
-    (own_none c.args.table.now.body at (sym c.in-None.is ∙ c.chosen.ensures.computed at e))
