@@ -6,6 +6,7 @@ from definitions import TOP, files_of, text_of
 from sources import Function, functions_in
 
 BODIES, DEFINITIONS = f"{TOP}/wrong-bodies", f"{TOP}/wrong-definitions"
+PRELUDE = {"Err", "None", "Ok", "Option", "Result", "Self", "Some", "String", "Vec"}
 
 
 def in_folder(folder):
@@ -70,6 +71,17 @@ def not_read(edit):
     return [line for line in lines[first:] if line and not line.startswith(("file: ", "old: ", "new:", "seen: "))]
 
 
+def unknown_types(crate, edit):
+    """The types by which a path or a value of its new texts begins, and that neither the file nor the edit names: such
+    an edit is refused by the compiler, and says nothing of a contract."""
+    found = set()
+    for path, _, new in pairs_of(edit):
+        code = re.sub(r'"(?:\\.|[^"\\])*"|//.*', "", new)
+        used = set(re.findall(r"(?<![\w:])([A-Z]\w*)(?=::|\(| *\{)", code))
+        found |= used - PRELUDE - set(re.findall(r"\w+", text_of(f"{TOP}/crates/{crate}/{path}")))
+    return found - set(re.findall(r"\b(?:struct|enum) (\w+)", text_of(edit)))
+
+
 def why_not(crate, edit, home):
     """Why the edit can't be made, if it can't."""
     if unread := not_read(edit):
@@ -78,7 +90,10 @@ def why_not(crate, edit, home):
         return "an old text is the new one"
     if home == BODIES and f"{TOP}/crates/{crate}/must-fail/{os.path.basename(edit)}" in in_gate(crate):
         return "the crate's must-fail/ has one of this name"
-    return texts_with(crate, [edit])[1]
+    why = texts_with(crate, [edit])[1]
+    if not why and home == BODIES and (unknown := unknown_types(crate, edit)):
+        why = f"its file doesn't know the type {min(unknown)}"
+    return why
 
 
 def faults_in(home, crates):
