@@ -1,14 +1,58 @@
 -- The text of a normal form, made of the texts of its parts, and what it says.
-use Rattle.std.proofs.Common.{◌≡◌, ℕ, zero, suc, ◌+◌, ◌≤◌, ◌<◌, nat_le, List, Bool, ◌∷◌, ◌++◌, map, codes, true, false, Option, Some, None, MatchOption, refl, sym, ap, ap₂, ◌∙◌, length, get_or, drop, append_assoc, length-append, add-one, le-leb, arith}
-use Rattle.std.proofs.{lemmas.Bool.{lt-leb, or_parts}, lemmas.List.{drop_all}}
-use Rattle.json.specs.Print.{quoted, escape_byte}
+use Rattle.std.proofs.Common.{◌≡◌, ℕ, zero, suc, ◌+◌, ◌≤◌, ◌<◌, nat_le, List, Bool, ◌∷◌, ◌++◌, map, codes, true, false, Option, Some, None, MatchOption, refl, sym, ap, ap₂, ◌∙◌, length, get_or, drop, append_assoc, length-append, add-one, le-leb, arith, [], ◌==◌, not, Result, Ok, Err, OnOk, is_ok, if◌then◌else◌}
+use Rattle.std.proofs.{lemmas.Bool.{lt-leb, or_parts, and_parts, not-true, leb-true, le-ltb, ne_eqb}, lemmas.List.{drop_all}}
+use Rattle.std.proofs.lemmas.List.Concat.{flat_map-cons}
+use Rattle.json.specs.Print.{quoted, escape, escape_byte}
 use Rattle.serde_json.specs.{Data.{Data, Items, no_items, item}, Read.{read}, View.{items_of}, Written.{compact_text, items_text, comma_if, has_float}}
 use Rattle.serde_json.proofs.OnLiterals.{serde_json_on_literals}
 use Rattle.pact_file.specs.{File.{most_bytes}, Pact.{State, Interaction, interaction_with, state_data, states_data, interaction_data, pact_with, normal_text}}
-use Rattle.pact_file.{specs.{Sound.{IsSound}, Texts.{text_of_parts, interaction_of_text, interactions_text, item_length, pact_length}}, proofs.Lists.{left_at}}
-use Rattle.pact_file.proofs.{ReadBack.{read-compact_text}, SoundData.{kept, whole, shallow}}
+use Rattle.pact_file.specs.{Sound.{IsSound}, Texts.{are_plain, text_of_parts, interaction_of_text, interactions_text, item_length, pact_length}}
+use Rattle.pact_file.proofs.{Lists.{left_at}, ReadBack.{read-compact_text}, SoundData.{kept, whole, shallow}}
+
+-- ---- a text in quotes
+
+stands : (b : ℕ) → nat_le 32 b ≡ true → (b == 34) ≡ false → (b == 92) ≡ false → escape_byte b ≡ b ∷ []
+unfolding escape_byte
+stands b low quote slash =
+    let least : 32 ≤ b = leb-true 32 b low in
+    let other : (n : ℕ) → n < 32 → (b == n) ≡ false = λ n lt. ne_eqb b n (λ e. omega (arith, least, lt, e)) in
+    rw (quote, slash, other 8 (omega arith), other 12 (omega arith), other 10 (omega arith), other 13 (omega arith), other 9 (omega arith), le-ltb b 32 least) refl
+
+pub plain_stands : (s : List ℕ) → are_plain s ≡ true → escape s ≡ s
+plain_stands [] h = refl
+plain_stands (b ∷ s) h =
+    let low = and_parts (nat_le 32 b) _ h in
+    let quote = and_parts (not (b == 34)) _ low.1 in
+    let slash = and_parts (not (b == 92)) _ quote.1 in
+    flat_map-cons escape_byte b s ∙ ap₂ (λ x y. x ++ y) (stands b low.0 (not-true _ quote.0) (not-true _ slash.0)) (plain_stands s slash.1)
+
+pub plain_quoted : (text s : List ℕ) → are_plain s ≡ true → ((text ++ codes "\"") ++ s) ++ codes "\"" ≡ text ++ quoted s
+plain_quoted text s h =
+    append_assoc (text ++ codes "\"") s (codes "\"") ∙ append_assoc text (codes "\"") (s ++ codes "\"")
+    ∙ ap (λ e. text ++ (34 ∷ (e ++ 34 ∷ []))) (sym (plain_stands s h))
+
+in_order : (t a b c : List ℕ) → ((t ++ a) ++ b) ++ c ≡ t ++ (a ++ (b ++ c))
+in_order t a b c = append_assoc (t ++ a) b c ∙ append_assoc t a (b ++ c)
+
+seven_parts : (a b c d e f g : List ℕ) → ((((((a ++ b) ++ c) ++ d) ++ e) ++ f) ++ g) ≡ a ++ (b ++ (c ++ (d ++ (e ++ (f ++ g)))))
+seven_parts a b c d e f g = in_order (((a ++ b) ++ c) ++ d) e f g ∙ in_order (a ++ b) c d (e ++ (f ++ g)) ∙ append_assoc a b (c ++ (d ++ (e ++ (f ++ g))))
+
+-- what a push that is done leaves
+pub pushed : {A E : Type 0} (r : Result A E) (new done kept wanted : List ℕ) → new ≡ (if is_ok r then done else kept) → done ≡ wanted → OnOk r (new ≡ wanted)
+pushed (Ok a) new done kept wanted h is = h ∙ is
+pushed (Err e) new done kept wanted h is = tt
 
 -- ---- an interaction
+
+-- its text, one part pushed after another
+pub parts_pushed : (d s : List ℕ) (q r : Data)
+    → (((((((codes "{\"description\":" ++ quoted d) ++ codes ",\"providerStates\":") ++ s) ++ codes ",\"request\":") ++ compact_text q) ++ codes ",\"response\":") ++ compact_text r) ++ codes "}" ≡ text_of_parts d s q r
+parts_pushed d s q r =
+    let request = codes ",\"request\":" in
+    let response = codes ",\"response\":" in
+    let behind = ((((codes "{\"description\":" ++ quoted d) ++ codes ",\"providerStates\":") ++ s) ++ request) ++ compact_text q in
+    append_assoc (behind ++ response) (compact_text r) (codes "}") ∙ append_assoc behind response (compact_text r ++ codes "}")
+    ∙ seven_parts (codes "{\"description\":") (quoted d) (codes ",\"providerStates\":") s request (compact_text q) (response ++ (compact_text r ++ codes "}"))
 
 pub parts_text : (d : List ℕ) (ss : List State) (q r : Data) → text_of_parts d (compact_text (states_data ss)) q r ≡ compact_text (interaction_data (interaction_with d ss q r))
 unfolding escape_byte serde_json_on_literals
@@ -54,30 +98,37 @@ module _ {A : Type 0} (value : A → Data) where
 
 -- ---- a state
 
-pub state_text : (n q : List ℕ) (s : State) → q ≡ quoted n → ◌≡◌ {A = State} (record { name = n; params = None }) s → codes "{\"name\":" ++ (q ++ codes "}") ≡ compact_text (state_data s)
+pub state_text : (t n : List ℕ) (s : State) → ◌≡◌ {A = State} (record { name = n; params = None }) s → ((t ++ codes "{\"name\":") ++ quoted n) ++ codes "}" ≡ t ++ compact_text (state_data s)
 unfolding escape_byte serde_json_on_literals
-state_text n q s h is = ap (λ t. codes "{\"name\":" ++ (t ++ codes "}")) h ∙ ap (λ x. compact_text (state_data x)) is
+state_text t n s is = in_order t (codes "{\"name\":") (quoted n) (codes "}") ∙ ap (λ x. t ++ compact_text (state_data x)) is
 
-pub state_text_with : (n q p : List ℕ) (d : Data) (s : State) → q ≡ quoted n → p ≡ compact_text d → ◌≡◌ {A = State} (record { name = n; params = Some d }) s
-    → codes "{\"name\":" ++ (q ++ (codes ",\"params\":" ++ (p ++ codes "}"))) ≡ compact_text (state_data s)
+pub state_text_with : (t n : List ℕ) (d : Data) (s : State) → ◌≡◌ {A = State} (record { name = n; params = Some d }) s
+    → ((((t ++ codes "{\"name\":") ++ quoted n) ++ codes ",\"params\":") ++ compact_text d) ++ codes "}" ≡ t ++ compact_text (state_data s)
 unfolding escape_byte serde_json_on_literals
-state_text_with n q p d s h k is = ap₂ (λ t u. codes "{\"name\":" ++ (t ++ (codes ",\"params\":" ++ (u ++ codes "}")))) h k ∙ ap (λ x. compact_text (state_data x)) is
+state_text_with t n d s is =
+    let end = codes ",\"params\":" ++ (compact_text d ++ codes "}") in
+    in_order ((t ++ codes "{\"name\":") ++ quoted n) (codes ",\"params\":") (compact_text d) (codes "}") ∙ in_order t (codes "{\"name\":") (quoted n) end
+    ∙ ap (λ x. t ++ compact_text (state_data x)) is
 
 pub none_param : (n : List ℕ) (d : Data) (s : State) → ◌≡◌ {A = State} (record { name = n; params = Some d }) s → has_float (state_data s) ≡ false → has_float d ≡ false
 none_param n d s is h = (or_parts (has_float d) false (ap (λ x. has_float (state_data x)) is ∙ h)).0
 
 -- ---- a pact
 
-pub pact_text : (c p s : List ℕ) (xs : List Interaction) → s ++ codes "]" ≡ items_text false (items_of (map interaction_data xs))
-    → codes "{\"consumer\":{\"name\":" ++ (quoted c ++ (codes "},\"interactions\":[" ++ (s ++ (codes "],\"provider\":{\"name\":" ++ (quoted p ++ codes "}}"))))) ≡ normal_text (pact_with c p xs)
+pact_text : (c p : List ℕ) (xs : List Interaction)
+    → codes "{\"consumer\":{\"name\":" ++ (quoted c ++ (codes "},\"interactions\":[" ++ (interactions_text xs ++ (codes ",\"provider\":{\"name\":" ++ (quoted p ++ codes "}}"))))) ≡ normal_text (pact_with c p xs)
 unfolding escape_byte serde_json_on_literals
-pact_text c p s xs h =
-    let items = items_text false (items_of (map interaction_data xs)) in
-    let last = codes ",\"provider\":{\"name\":" ++ ((quoted p ++ codes "}") ++ codes "}") in
-    let end = ap (λ t. codes ",\"provider\":{\"name\":" ++ t) (sym (append_assoc (quoted p) (codes "}") (codes "}"))) in
-    let middle = ap (λ t. s ++ (codes "]" ++ t)) end ∙ sym (append_assoc s (codes "]") last) ∙ ap (λ t. t ++ last) h in
-    ap (λ t. codes "{\"consumer\":{\"name\":" ++ (quoted c ++ (codes "},\"interactions\":[" ++ t))) middle
-    ∙ ap (λ t. codes "{\"consumer\":{\"name\":" ++ t) (sym (append_assoc (quoted c) (codes "}") (codes ",\"interactions\":[" ++ (items ++ last))))
+pact_text c p xs =
+    let behind = λ (end : List ℕ). codes ",\"interactions\":[" ++ (interactions_text xs ++ (codes ",\"provider\":{\"name\":" ++ end)) in
+    let end = (quoted p ++ codes "}") ++ codes "}" in
+    ap (λ t. codes "{\"consumer\":{\"name\":" ++ (quoted c ++ (codes "}" ++ behind t))) (sym (append_assoc (quoted p) (codes "}") (codes "}")))
+    ∙ ap (λ t. codes "{\"consumer\":{\"name\":" ++ t) (sym (append_assoc (quoted c) (codes "}") (behind end)))
+
+-- the same, one part pushed after another
+pub pact_pushed : (c p : List ℕ) (xs : List Interaction)
+    → (((((codes "{\"consumer\":{\"name\":" ++ quoted c) ++ codes "},\"interactions\":[") ++ interactions_text xs) ++ codes ",\"provider\":{\"name\":") ++ quoted p) ++ codes "}}" ≡ normal_text (pact_with c p xs)
+pact_pushed c p xs =
+    seven_parts (codes "{\"consumer\":{\"name\":") (quoted c) (codes "},\"interactions\":[") (interactions_text xs) (codes ",\"provider\":{\"name\":") (quoted p) (codes "}}") ∙ pact_text c p xs
 
 -- ---- lengths
 

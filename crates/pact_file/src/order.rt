@@ -72,7 +72,7 @@ pub(crate) fn in_key_order(
     ensures { Gives Memory (λ v. v.items) result
         (ok_or (insert_all_sorted key_cmp same_text [] found.items) SameInteraction) }
 {
-    let mut list = Vec::new(alloc);
+    let mut list = Vec::with_capacity(alloc, found.len())?;
     for new in found {
         insert_interaction(&mut list, new)?;
     }

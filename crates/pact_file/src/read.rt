@@ -1,6 +1,6 @@
 //! Reading a pact file.
 
-ghost use Rattle.std.specs.Prelude.{◌≡◌, ◌<◌, ◌≤◌, Err, length, map, option_map, nat_le, string_bytes};
+ghost use Rattle.std.specs.Prelude.{◌≡◌, ◌<◌, ◌≤◌, Err, length, map, nat_le, string_bytes};
 ghost use Rattle.serde_json.specs.Events.{items_len};
 ghost use Rattle.serde_json.specs.View.{view, items_view};
 ghost use Rattle.pact_file.specs.declared.fault.PactFault.{PactFault as PactFaultModel};
@@ -148,7 +148,7 @@ fn read_list(alloc: Global, items: Vec<Value>) -> Result<Vec<Interaction>, PactF
         (EachRead InteractionRead 0 (map view items.items)) }
 {
     let mut patterns = Patterns::new(alloc);
-    let mut found = Vec::new(alloc);
+    let mut found = Vec::with_capacity(alloc, items.len())?;
     for item in items {
         let index = found.len();
         found.push(read_interaction(alloc, &mut patterns, index, item)?)?;

@@ -1,13 +1,13 @@
 //! Normal forms as JSON values, and their compact texts.
 
-ghost use Rattle.std.specs.Prelude.{◌≡◌, ◌+◌, ◌<◌, ◌≤◌, ◌++◌, codes, length, map, nat_le, false, string_bytes};
+ghost use Rattle.std.specs.Prelude.{◌≡◌, ◌+◌, ◌<◌, ◌≤◌, ◌++◌, length, nat_le, false, string_bytes};
 ghost use Rattle.std.specs.Prelude.{IfOk, OnOk, MatchOption};
 ghost use Rattle.json.specs.Print.{quoted};
 ghost use Rattle.serde_json.specs.View.{view};
 ghost use Rattle.serde_json.specs.Written.{has_float, compact_text};
 ghost use Rattle.pact_file.specs.File.{most_bytes};
 ghost use Rattle.pact_file.specs.Pact.{state_data, states_data, pact_with, normal_text};
-ghost use Rattle.pact_file.specs.Texts.{text_of_parts, interactions_text, item_length, pact_length};
+ghost use Rattle.pact_file.specs.Texts.{are_plain, text_of_parts, interactions_text, item_length, pact_length};
 
 use crate::pact::{Interaction, Pact};
 use crate::state::State;
@@ -32,27 +32,62 @@ pub(crate) fn push_separated(
     text.push_str(part)
 }
 
-/// A state's compact text.
-fn state_text(alloc: Global, state: &State) -> Result<String, AllocError>
-    requires { has_float (state_data state.now) ≡ false }
-    ensures { IfOk result (λ s. string_bytes s ≡ compact_text (state_data state.now)) }
+/// Whether JSON writes each character of a text as it is.
+fn is_plain(text: &str) -> bool
+    ensures { result ≡ are_plain text.now }
 {
-    let name = quoted_text(alloc, state.name.as_str())?;
+    for byte in text.as_bytes() {
+        if *byte < 32 || *byte == b'"' || *byte == b'\\' {
+            return false;
+        }
+    }
+    true
+}
+
+/// Adds a text as JSON writes it.
+fn push_quoted(text: &mut String, part: &str) -> Result<(), AllocError>
+    ensures { OnOk result (string_bytes text.new ≡ string_bytes text.old ++ quoted part.now) }
+{
+    if is_plain(part) {
+        text.push_str("\"")?;
+        text.push_str(part)?;
+        return text.push_str("\"");
+    }
+    let value = Value::String(String::from_str(*text.allocator(), part)?);
+    let quoted = value.to_string(*text.allocator())?;
+    text.push_str(quoted.as_str())
+}
+
+/// A text as JSON writes it.
+fn quoted_text(alloc: Global, text: &str) -> Result<String, AllocError>
+    ensures { IfOk result (λ s. string_bytes s ≡ quoted text.now) }
+{
+    let mut quoted = String::with_capacity(alloc, text.len().saturating_add(2))?;
+    push_quoted(&mut quoted, text)?;
+    Ok(quoted)
+}
+
+/// Adds a state's compact text.
+fn push_state(text: &mut String, state: &State) -> Result<(), AllocError>
+    requires { has_float (state_data state.now) ≡ false }
+    ensures { OnOk result (string_bytes text.new
+        ≡ string_bytes text.old ++ compact_text (state_data state.now)) }
+{
+    text.push_str("{\"name\":")?;
+    push_quoted(text, state.name.as_str())?;
     match &state.params {
-        None => ["{\"name\":", name.as_str(), "}"].concat(alloc),
+        None => text.push_str("}"),
         Some(params) => {
-            let params = params.to_string(alloc)?;
-            [
-                "{\"name\":",
-                name.as_str(),
-                ",\"params\":",
-                params.as_str(),
-                "}",
-            ]
-            .concat(alloc)
+            let params = params.to_string(*text.allocator())?;
+            text.push_str(",\"params\":")?;
+            text.push_str(params.as_str())?;
+            text.push_str("}")
         }
     }
 }
+
+/// As many bytes have the texts of most lists of states at most; that of a longer one grows.
+const STATES_ROOM: usize = 64;
 
 /// The compact JSON text of provider states, each with its name and, if they are given, its params. Two lists of states
 /// that were read are equal if their texts are. An error means out of memory.
@@ -60,22 +95,20 @@ pub fn states_text(alloc: Global, states: &[State]) -> Result<String, AllocError
     requires { has_float (states_data states.now) ≡ false }
     ensures { IfOk result (λ s. string_bytes s ≡ compact_text (states_data states.now)) }
 {
-    let mut text = String::from_str(alloc, "[")?;
+    let mut text = String::with_capacity(alloc, STATES_ROOM)?;
+    text.push_str("[")?;
     for (index, state) in states.iter().enumerate() {
-        let next = state_text(alloc, state)?;
-        push_separated(&mut text, index, ",", next.as_str())?;
+        if index > 0 {
+            text.push_str(",")?;
+        }
+        push_state(&mut text, state)?;
     }
     text.push_str("]")?;
     Ok(text)
 }
 
-/// A text as JSON writes it.
-fn quoted_text(alloc: Global, text: &str) -> Result<String, AllocError>
-    ensures { IfOk result (λ s. string_bytes s ≡ quoted text.now) }
-{
-    let value = Value::String(String::from_str(alloc, text)?);
-    value.to_string(alloc)
-}
+/// As many bytes has an interaction's text beside its parts, if its description is written as it is; else it grows.
+const PARTS_ROOM: usize = 64;
 
 /// The compact text of an interaction's normal form, made of the text of its states.
 pub(crate) fn parts_text(
@@ -90,38 +123,65 @@ pub(crate) fn parts_text(
     ensures { IfOk result (λ s. string_bytes s
         ≡ text_of_parts description.now states_text.now (view request.now) (view response.now)) }
 {
-    let description = quoted_text(alloc, description)?;
     let request = request.to_string(alloc)?;
     let response = response.to_string(alloc)?;
-    format!(in alloc;
-        "{{\"description\":{},\"providerStates\":{},\"request\":{},\"response\":{}}}",
-        description, states_text, request, response
-    )
+    let room = PARTS_ROOM
+        .saturating_add(description.len())
+        .saturating_add(states_text.len())
+        .saturating_add(request.len())
+        .saturating_add(response.len());
+    let mut text = String::with_capacity(alloc, room)?;
+    text.push_str("{\"description\":")?;
+    push_quoted(&mut text, description)?;
+    text.push_str(",\"providerStates\":")?;
+    text.push_str(states_text)?;
+    text.push_str(",\"request\":")?;
+    text.push_str(request.as_str())?;
+    text.push_str(",\"response\":")?;
+    text.push_str(response.as_str())?;
+    text.push_str("}")?;
+    Ok(text)
 }
 
-/// The interactions' texts, with a comma between each two.
-fn joined_texts(alloc: Global, interactions: &[Interaction]) -> Result<String, AllocError>
-    ensures { IfOk result (λ s. string_bytes s ++ codes "]" ≡ interactions_text interactions.now) }
+/// Adds the interactions' texts, with a comma between each two, and the bracket that ends the list.
+fn push_interactions(text: &mut String, interactions: &[Interaction]) -> Result<(), AllocError>
+    ensures { OnOk result (string_bytes text.new
+        ≡ string_bytes text.old ++ interactions_text interactions.now) }
 {
-    let mut texts = String::new(alloc);
     for (index, interaction) in interactions.iter().enumerate() {
-        push_separated(&mut texts, index, ",", interaction.text())?;
+        push_separated(text, index, ",", interaction.text())?;
     }
-    Ok(texts)
+    text.push_str("]")
 }
 
 /// The normal text of a pact, made of the texts of its interactions.
 pub(crate) fn text_of_pact(pact: &Pact) -> Result<String, AllocError>
     ensures { IfOk result (λ s. string_bytes s ≡ normal_text pact.now) }
 {
-    let alloc = *pact.consumer.allocator();
-    let consumer = quoted_text(alloc, pact.consumer.as_str())?;
-    let provider = quoted_text(alloc, pact.provider.as_str())?;
-    let texts = joined_texts(alloc, pact.interactions.as_slice())?;
-    format!(in alloc;
-        "{{\"consumer\":{{\"name\":{}}},\"interactions\":[{}],\"provider\":{{\"name\":{}}}}}",
-        consumer, texts, provider
-    )
+    let mut text = String::with_capacity(*pact.consumer.allocator(), room_for_pact(pact))?;
+    text.push_str("{\"consumer\":{\"name\":")?;
+    push_quoted(&mut text, pact.consumer.as_str())?;
+    text.push_str("},\"interactions\":[")?;
+    push_interactions(&mut text, pact.interactions.as_slice())?;
+    text.push_str(",\"provider\":{\"name\":")?;
+    push_quoted(&mut text, pact.provider.as_str())?;
+    text.push_str("}}")?;
+    Ok(text)
+}
+
+/// As many bytes has the normal text of a pact beside its names and its interactions.
+const PACT_ROOM: usize = 64;
+
+/// As many bytes as the normal text of a pact has, if its names are written as they are; else it grows.
+fn room_for_pact(pact: &Pact) -> usize {
+    let mut room = PACT_ROOM;
+    for interaction in &pact.interactions {
+        room = room
+            .saturating_add(interaction.text().len())
+            .saturating_add(1);
+    }
+    room.saturating_add(pact.consumer.len())
+        .saturating_add(pact.provider.len())
 }
 
 /// What is left of so much room after an item's text, and after the comma before it if it isn't the first; None if it

@@ -14,7 +14,7 @@ loop-new-preserved c =
 pub returns-in_err-insert_interaction : goal.returns-in_err-insert_interaction
 returns-in_err-insert_interaction c =
     let l = c.loop-new in
-    let p = err_from_is_err_and c.from_residual.result c.from_residual.ensures.1 in
+    let p = err_from_is_err_and c.from_residual-in_err-insert_interaction.result c.from_residual-in_err-insert_interaction.ensures.1 in
     rw (p.1, p.2) (λ memory.
     let h = lacks_err (insert_sorted key_cmp same_text c.in-Some.new l.list.items) SameInteraction _ (c.in_err-insert_interaction.ensures memory) in
     ap (λ o. ok_or o SameInteraction) (order_ends key_cmp same_text l.list.items l.new-iterator.rest.items c.in-Some.new c.next.new.self.rest.items _ c.in-Some.ensures.steps.0 h.0 l.invariant.1)

@@ -9,7 +9,7 @@ returns-in_err-read_interaction c =
     let l = c.loop-item in
     let e = c.in_err-read_interaction.field-0.0 in
     let index = c.len-index.ensures ∙ l.found.ok.0 in
-    let p = err_from_is_err_and c.from_residual.result c.from_residual.ensures.1 in
+    let p = err_from_is_err_and c.from_residual-in_err-read_interaction.result c.from_residual-in_err-read_interaction.ensures.1 in
     rw (p.1, p.2) (λ memory.
     ends InteractionRead view c.args.items.items l.found.items c.in-Some.item c.next.new.self.rest.items e (subst (λ i. InteractionRead i (view c.in-Some.item) (Err e)) index (c.in_err-read_interaction.ensures memory))
     (subst (Completes InteractionRead view c.args.items.items l.found.items) c.in-Some.ensures.steps.0 l.invariant.0))
