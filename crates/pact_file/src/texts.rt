@@ -169,21 +169,6 @@ pub(crate) fn text_of_pact(pact: &Pact) -> Result<String, AllocError>
     Ok(text)
 }
 
-/// As many bytes has the normal text of a pact beside its names and its interactions.
-const PACT_ROOM: usize = 64;
-
-/// As many bytes as the normal text of a pact has, if its names are written as they are; else it grows.
-fn room_for_pact(pact: &Pact) -> usize {
-    let mut room = PACT_ROOM;
-    for interaction in &pact.interactions {
-        room = room
-            .saturating_add(interaction.text().len())
-            .saturating_add(1);
-    }
-    room.saturating_add(pact.consumer.len())
-        .saturating_add(pact.provider.len())
-}
-
 /// What is left of so much room after an item's text, and after the comma before it if it isn't the first; None if it
 /// doesn't fit.
 fn room_behind(room: usize, index: usize, item: &str) -> Option<usize>
@@ -224,6 +209,20 @@ fn room_left(consumer: &str, provider: &str, interactions: &[Interaction]) -> Op
     let room = room_behind(ROOM, 0, consumer)?;
     let room = room_behind(room, 0, provider)?;
     room_behind_all(room, interactions)
+}
+
+/// How many bytes a normal text has beside its two names without quotes and its interactions, with the last bracket.
+const BESIDE: usize = 65;
+
+/// As many bytes as the normal text of a pact has, if its names are written as they are; else it grows.
+fn room_for_pact(pact: &Pact) -> usize {
+    let left = room_left(
+        pact.consumer.as_str(),
+        pact.provider.as_str(),
+        pact.interactions.as_slice(),
+    );
+    ROOM.saturating_sub(left.unwrap_or(0))
+        .saturating_add(BESIDE)
 }
 
 /// Whether the normal text of a pact of these parts has at most 1,048,576 bytes; it isn't written for it.
