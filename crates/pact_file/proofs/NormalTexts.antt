@@ -1,35 +1,14 @@
 -- The text of a normal form, made of the texts of its parts, and what it says.
-use Rattle.std.proofs.Common.{◌≡◌, ℕ, zero, suc, ◌+◌, ◌≤◌, ◌<◌, nat_le, List, Bool, ◌∷◌, ◌++◌, map, codes, true, false, Option, Some, None, MatchOption, refl, sym, ap, ap₂, ◌∙◌, length, get_or, drop, append_assoc, length-append, add-one, le-leb, arith, [], ◌==◌, not, Result, Ok, Err, OnOk, is_ok, if◌then◌else◌}
-use Rattle.std.proofs.{lemmas.Bool.{lt-leb, or_parts, and_parts, not-true, leb-true, le-ltb, ne_eqb}, lemmas.List.{drop_all}}
-use Rattle.std.proofs.lemmas.List.Concat.{flat_map-cons}
-use Rattle.json.specs.Print.{quoted, escape, escape_byte}
+use Rattle.std.proofs.Common.{◌≡◌, ℕ, zero, suc, ◌+◌, ◌≤◌, ◌<◌, nat_le, List, Bool, ◌∷◌, ◌++◌, map, codes, true, false, Option, Some, None, MatchOption, refl, sym, ap, ap₂, ◌∙◌, length, get_or, drop, append_assoc, length-append, add-one, le-leb, arith, Result, Ok, Err, OnOk, is_ok, if◌then◌else◌}
+use Rattle.std.proofs.{lemmas.Bool.{lt-leb, or_parts}, lemmas.List.{drop_all}}
+use Rattle.json.specs.Print.{quoted, escape_byte}
 use Rattle.serde_json.specs.{Data.{Data, Items, no_items, item}, Read.{read}, View.{items_of}, Written.{compact_text, items_text, comma_if, has_float}}
 use Rattle.serde_json.proofs.OnLiterals.{serde_json_on_literals}
 use Rattle.pact_file.specs.{File.{most_bytes}, Pact.{State, Interaction, interaction_with, state_data, states_data, interaction_data, pact_with, normal_text}}
-use Rattle.pact_file.specs.{Sound.{IsSound}, Texts.{are_plain, text_of_parts, interaction_of_text, interactions_text, item_length, pact_length}}
-use Rattle.pact_file.proofs.{Lists.{left_at}, ReadBack.{read-compact_text}, SoundData.{kept, whole, shallow}}
+use Rattle.pact_file.{specs.{Sound.{IsSound}, Texts.{text_of_parts, interaction_of_text, interactions_text, item_length, pact_length}}, proofs.Lists.{left_at}}
+use Rattle.pact_file.proofs.{ReadBack.{read-compact_text}, SoundData.{kept, whole, shallow}}
 
--- ---- a text in quotes
-
-stands : (b : ℕ) → nat_le 32 b ≡ true → (b == 34) ≡ false → (b == 92) ≡ false → escape_byte b ≡ b ∷ []
-unfolding escape_byte
-stands b low quote slash =
-    let least : 32 ≤ b = leb-true 32 b low in
-    let other : (n : ℕ) → n < 32 → (b == n) ≡ false = λ n lt. ne_eqb b n (λ e. omega (arith, least, lt, e)) in
-    rw (quote, slash, other 8 (omega arith), other 12 (omega arith), other 10 (omega arith), other 13 (omega arith), other 9 (omega arith), le-ltb b 32 least) refl
-
-pub plain_stands : (s : List ℕ) → are_plain s ≡ true → escape s ≡ s
-plain_stands [] h = refl
-plain_stands (b ∷ s) h =
-    let low = and_parts (nat_le 32 b) _ h in
-    let quote = and_parts (not (b == 34)) _ low.1 in
-    let slash = and_parts (not (b == 92)) _ quote.1 in
-    flat_map-cons escape_byte b s ∙ ap₂ (λ x y. x ++ y) (stands b low.0 (not-true _ quote.0) (not-true _ slash.0)) (plain_stands s slash.1)
-
-pub plain_quoted : (text s : List ℕ) → are_plain s ≡ true → ((text ++ codes "\"") ++ s) ++ codes "\"" ≡ text ++ quoted s
-plain_quoted text s h =
-    append_assoc (text ++ codes "\"") s (codes "\"") ∙ append_assoc text (codes "\"") (s ++ codes "\"")
-    ∙ ap (λ e. text ++ (34 ∷ (e ++ 34 ∷ []))) (sym (plain_stands s h))
+-- ---- one text after another
 
 in_order : (t a b c : List ℕ) → ((t ++ a) ++ b) ++ c ≡ t ++ (a ++ (b ++ c))
 in_order t a b c = append_assoc (t ++ a) b c ∙ append_assoc t a (b ++ c)

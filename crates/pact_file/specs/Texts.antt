@@ -1,6 +1,5 @@
 -- For private clauses: the text of an interaction's normal form, and what it says; and how long that of a pact is.
-use Rattle.std.specs.Prelude.{List, [], ◌∷◌, ℕ, zero, suc, ◌+◌, ◌++◌, ◌==◌, ◌&&◌, Bool, true, false, not, nat_le, codes, length, map}
-use Rattle.std.specs.Prelude.{unwrap_or, option_and_then}
+use Rattle.std.specs.Prelude.{List, ℕ, zero, suc, ◌+◌, ◌++◌, false, codes, length, map, unwrap_or, option_and_then}
 use Rattle.json.specs.Print.{quoted}
 use Rattle.serde_json.specs.Data.{Data, null}
 use Rattle.serde_json.specs.Find.{get}
@@ -8,11 +7,6 @@ use Rattle.serde_json.specs.Read.{read}
 use Rattle.serde_json.specs.View.{items_of}
 use Rattle.serde_json.specs.Written.{compact_text, items_text}
 use Rattle.pact_file.specs.Pact.{State, Interaction, interaction_with, interaction_data}
-
--- whether JSON writes each byte of a text as it is
-abbrev pub are_plain : List ℕ → Bool
-are_plain [] = true
-are_plain (b ∷ bs) = nat_le 32 b && (not (b == 34) && (not (b == 92) && are_plain bs))
 
 -- the text, where that of the states is given
 abbrev pub text_of_parts : List ℕ → List ℕ → Data → Data → List ℕ

@@ -7,7 +7,7 @@ ghost use Rattle.serde_json.specs.View.{view};
 ghost use Rattle.serde_json.specs.Written.{has_float, compact_text};
 ghost use Rattle.pact_file.specs.File.{most_bytes};
 ghost use Rattle.pact_file.specs.Pact.{state_data, states_data, pact_with, normal_text};
-ghost use Rattle.pact_file.specs.Texts.{are_plain, text_of_parts, interactions_text, item_length, pact_length};
+ghost use Rattle.pact_file.specs.Texts.{text_of_parts, interactions_text, item_length, pact_length};
 
 use crate::pact::{Interaction, Pact};
 use crate::state::State;
@@ -32,39 +32,20 @@ pub(crate) fn push_separated(
     text.push_str(part)
 }
 
-/// Whether JSON writes each character of a text as it is.
-fn is_plain(text: &str) -> bool
-    ensures { result ≡ are_plain text.now }
+/// A text as JSON writes it.
+fn quoted_text(alloc: Global, text: &str) -> Result<String, AllocError>
+    ensures { IfOk result (λ s. string_bytes s ≡ quoted text.now) }
 {
-    for byte in text.as_bytes() {
-        if *byte < 32 || *byte == b'"' || *byte == b'\\' {
-            return false;
-        }
-    }
-    true
+    let value = Value::String(String::from_str(alloc, text)?);
+    value.to_string(alloc)
 }
 
 /// Adds a text as JSON writes it.
 fn push_quoted(text: &mut String, part: &str) -> Result<(), AllocError>
     ensures { OnOk result (string_bytes text.new ≡ string_bytes text.old ++ quoted part.now) }
 {
-    if is_plain(part) {
-        text.push_str("\"")?;
-        text.push_str(part)?;
-        return text.push_str("\"");
-    }
-    let value = Value::String(String::from_str(*text.allocator(), part)?);
-    let quoted = value.to_string(*text.allocator())?;
+    let quoted = quoted_text(*text.allocator(), part)?;
     text.push_str(quoted.as_str())
-}
-
-/// A text as JSON writes it.
-fn quoted_text(alloc: Global, text: &str) -> Result<String, AllocError>
-    ensures { IfOk result (λ s. string_bytes s ≡ quoted text.now) }
-{
-    let mut quoted = String::with_capacity(alloc, text.len().saturating_add(2))?;
-    push_quoted(&mut quoted, text)?;
-    Ok(quoted)
 }
 
 /// Adds a state's compact text.
@@ -107,7 +88,7 @@ pub fn states_text(alloc: Global, states: &[State]) -> Result<String, AllocError
     Ok(text)
 }
 
-/// As many bytes has an interaction's text beside its parts, if its description is written as it is; else it grows.
+/// As many bytes has an interaction's text beside its parts, if nothing in its description is escaped; else it grows.
 const PARTS_ROOM: usize = 64;
 
 /// The compact text of an interaction's normal form, made of the text of its states.
@@ -214,7 +195,7 @@ fn room_left(consumer: &str, provider: &str, interactions: &[Interaction]) -> Op
 /// How many bytes a normal text has beside its two names without quotes and its interactions, with the last bracket.
 const BESIDE: usize = 65;
 
-/// As many bytes as the normal text of a pact has, if its names are written as they are; else it grows.
+/// As many bytes as the normal text of a pact has, if nothing in its names is escaped; else it grows.
 fn room_for_pact(pact: &Pact) -> usize {
     let left = room_left(
         pact.consumer.as_str(),
