@@ -1,6 +1,6 @@
 #!/usr/bin/env python3
 """Asks the program the questions of checks/cases/, about pact files and recorded replies, by its `normalise` and its
-`check`. `.ci/program` runs it. It takes a few seconds.
+`check`. `ci/program` runs it. It takes a few seconds.
 
     checks/cases.py PROGRAM [FILE..]     PROGRAM is the path of `broker`; with files only the cases of these
 

@@ -1,5 +1,5 @@
 #!/usr/bin/env python3
-"""Tries client/holzhebo on the program, and the builds of examples/builds. `.ci/program` runs it. It takes a minute.
+"""Tries client/holzhebo on the program, and the builds of examples/builds. `ci/program` runs it. It takes a minute.
 
     checks/client.py PROGRAM [WORD]     PROGRAM is the path of `broker`; with a WORD only what has it in its name is run
 

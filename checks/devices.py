@@ -1,6 +1,6 @@
 #!/usr/bin/env python3
 """Peers of the program that fail at one byte, or make it wait: exactly, and at a clock of their own, so that an hour
-takes no time (devices.c). `.ci/program` runs it on both builds. It takes seconds.
+takes no time (devices.c). `ci/program` runs it on both builds. It takes seconds.
 
     checks/devices.py PROGRAM [WORD]     PROGRAM is the path of `broker`; with a WORD only the lines that hold it
 

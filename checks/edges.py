@@ -1,5 +1,5 @@
 #!/usr/bin/env python3
-"""The edges of the program: sockets, files, statuses, streams that fail. `.ci/program` runs it. It takes a quarter of a
+"""The edges of the program: sockets, files, statuses, streams that fail. `ci/program` runs it. It takes a quarter of a
 minute.
 
     checks/edges.py PROGRAM [WORD]     PROGRAM is the path of `broker`; with a WORD only the lines that hold it

@@ -1,5 +1,5 @@
 #!/usr/bin/env python3
-"""Plays command lines on a program: what it reads, writes and ends with. `.ci/program` runs it.
+"""Plays command lines on a program: what it reads, writes and ends with. `ci/program` runs it.
 
     checks/lines.py PROGRAM [FILE..]     PROGRAM is the path of `broker`; with FILEs only these of checks/lines
 

@@ -1,6 +1,6 @@
 #!/usr/bin/env python3
 """Tries the package of packaging/deb: made, read by lintian, installed, served, upgraded, removed and purged, as root.
-`.ci/program` runs it.
+`ci/program` runs it.
 
     checks/package.py PROGRAM     PROGRAM is the path of `broker`
 

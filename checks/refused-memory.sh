@@ -9,7 +9,7 @@
 #                                                                `open 4`, with `serve 3` and, as the COMMIT of the making
 #                                                                is refused, with `open 5`, and has answered 503 to a
 #                                                                command that changes nothing, each once: seconds
-# Takes minutes: one run of the program for each time that it asks for memory, on each processor. `.ci/program` runs it
+# Takes minutes: one run of the program for each time that it asks for memory, on each processor. `ci/program` runs it
 # with `once`; the whole is run by hand.
 # Needs a C compiler (cc), the GNU C library, and python3. Ends with 77 if cc or python3 isn't there.
 set -eu

@@ -1,5 +1,5 @@
 #!/usr/bin/env python3
-"""Tries tools/report, the second reading of the tables, against the program. `.ci/program` runs it.
+"""Tries tools/report, the second reading of the tables, against the program. `ci/program` runs it.
 
     checks/report.py PROGRAM [SEED]     PROGRAM is the path of `broker`; SEED begins the random histories, 1 if none
 

@@ -1,6 +1,6 @@
 #!/usr/bin/env python3
 """Peers that make a serving broker wait, and what others get meanwhile. Takes a minute and a half, nearly all of it waiting;
-`.ci/program` runs it beside the rest.
+`ci/program` runs it beside the rest.
 
     checks/slow-peers.py PROGRAM           serves a new file on a free port, and tries each kind of peer
     checks/slow-peers.py PROGRAM nginx     2,000 requests by 16 clients through nginx (the Debian package), which keeps
@@ -166,7 +166,7 @@ def pipelined(broker):
 
 
 def peers():
-    """The short limits first: beside the plays of `.ci/program` are only those that the wait for a peer makes long."""
+    """The short limits first: beside the plays of `ci/program` are only those that the wait for a peer makes long."""
     with Broker() as broker:
         held(broker, "idle after an answer", 1, idle)
         kept(broker)

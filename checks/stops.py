@@ -1,5 +1,5 @@
 #!/usr/bin/env python3
-"""Stops the program at every call on its files, and looks whether anything is lost. `.ci/program` runs it on both
+"""Stops the program at every call on its files, and looks whether anything is lost. `ci/program` runs it on both
 builds. It takes half a minute.
 
     checks/stops.py PROGRAM [NAME..]     PROGRAM is the path of `broker`; with NAMEs only these files of stops

@@ -1,5 +1,5 @@
 #!/usr/bin/env python3
-"""Plays stories of requests and their answers on a program, byte for byte. `.ci/program` runs it.
+"""Plays stories of requests and their answers on a program, byte for byte. `ci/program` runs it.
 
     checks/stories.py PROGRAM [STORY..]     PROGRAM is the path of `broker`; with STORYs only these
 

@@ -1,7 +1,7 @@
-"""What the gate took when it was last measured: .ci/times.tsv, whose lines `.ci/times` explains."""
+"""What the gate took when it was last measured: ci/times.tsv, whose lines `ci/times` explains."""
 from definitions import TOP
 
-MEASURED = f"{TOP}/.ci/times.tsv"
+MEASURED = f"{TOP}/ci/times.tsv"
 
 
 def measured():

@@ -78,7 +78,7 @@ def words(crates):
             yield f"{len(found)} crates define {name}: {', '.join(found.values())}"
         if len(found) > 1:
             left.discard(name)
-    yield from (f".ci/rules/names.py: TWICE has {it}, which one crate defines" for it in sorted(left))
+    yield from (f"ci/rules/names.py: TWICE has {it}, which one crate defines" for it in sorted(left))
 
 
 def faults(product, checks):

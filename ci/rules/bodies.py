@@ -6,7 +6,7 @@
   wrong-definitions/, and changes files of specs/ alone.
 - Only the crates of KIT have edits in must-fail/, which `rt ci` proves once more for them; all others are in
   wrong-bodies/.
-- Each public function is called by another crate of the product or by `uses`, or by a law. .ci/UNCALLED has the others.
+- Each public function is called by another crate of the product or by `uses`, or by a law. ci/UNCALLED has the others.
 
 A line of either list is `CRATE::NAME: why`."""
 import os, re
@@ -32,7 +32,7 @@ def in_must_fail(crates):
     for it in crates:
         has = bool(in_gate(it.name))
         if has != (it.name in KIT):
-            yield f"crates/{it.name}/must-fail: it has {'an' if has else 'no'} edit, against .ci/rules/bodies.py"
+            yield f"crates/{it.name}/must-fail: it has {'an' if has else 'no'} edit, against ci/rules/bodies.py"
 
 
 def turned(crate):
@@ -136,4 +136,4 @@ def faults(product, checks):
     lacking = ((crate, it) for crate in product for it in without_wrong_body(crate))
     yield from against("wrong-bodies/WITHOUT", lacking, "has no wrong body", "has one")
     lacking = uncalled(product, checks)
-    yield from against(".ci/UNCALLED", lacking, "is called by no other crate of the product", "is called")
+    yield from against("ci/UNCALLED", lacking, "is called by no other crate of the product", "is called")
