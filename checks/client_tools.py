@@ -1,10 +1,10 @@
 """What the checks of the client share: the client as a build runs it, a provider that answers by a table, the tests.
 
 The callers of a test are those of hub.py. No test prints a token: what the client prints is looked through."""
-import contextlib, http.server, importlib.machinery, importlib.util, json, os, subprocess, sys, threading, time
+import contextlib, http.server, json, os, subprocess, sys, threading, time
 from types import ModuleType
 from typing import Any, Callable, Dict, Iterator, List, NamedTuple, Tuple
-from hub import BLUE, OFFICE, RED, TOP, Server, Wrong, new_file, register, same, verify
+from hub import BLUE, OFFICE, RED, TOP, Server, Wrong, functions_of, new_file, register, same, verify
 
 CLIENT = f"{TOP}/client/holzhebo"
 PYTHON = [sys.executable, "-S", "-W", "error"]  # without the machine's own packages
@@ -76,13 +76,7 @@ def fleet(room: str) -> Iterator[Tuple[Server, Client]]:
 
 def client_module() -> ModuleType:
     """The client's own functions."""
-    loader = importlib.machinery.SourceFileLoader("holzhebo", CLIENT)
-    spec = importlib.util.spec_from_loader("holzhebo", loader)
-    if spec is None:
-        raise Wrong("there is no client")
-    module = importlib.util.module_from_spec(spec)
-    loader.exec_module(module)
-    return module
+    return functions_of(CLIENT)
 
 
 # A provider

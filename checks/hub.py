@@ -4,6 +4,7 @@ broker that serves, its tokens, and a fleet of two services.
 A check takes the path of `broker` as its first word, crates/broker/out/broker if there is none, and imports this."""
 import contextlib, http.client, os, re, shutil, signal, socket, subprocess, sys, time
 from collections.abc import Callable, Mapping, Sequence
+from types import ModuleType
 from typing import Any, NoReturn
 
 TOP = os.path.dirname(os.path.dirname(os.path.abspath(__file__)))
@@ -160,6 +161,14 @@ def verify(server: Caller) -> None:
     server.do(BLUE, f"POST {path}/1/results", '{"providerApplicationVersion":"1","success":true}')
     replies = '{"providerApplicationVersion":"1","replies":[{"description":"a pen","response":{"status":200}}]}'
     server.do(BLUE, f"POST {path}/3/replies", replies)
+
+
+def functions_of(script: str) -> ModuleType:
+    """What a script of this repository defines, without running it as a program."""
+    module = ModuleType(os.path.basename(script))
+    with open(script, encoding="utf-8") as it:
+        exec(compile(it.read(), script, "exec"), module.__dict__)
+    return module
 
 
 # How a check goes

@@ -19,10 +19,10 @@ import sys
 sys.dont_write_bytecode = True
 import collections, hashlib, html.parser, json, os, random, re, resource, sqlite3, subprocess, tempfile
 from concurrent.futures import ThreadPoolExecutor
-from importlib.machinery import SourceFileLoader
 from typing import Any
 from urllib.parse import quote
-from hub import BLUE, OFFICE, PROGRAM, RED, TOP, Server, Wrong, new_file, pact, register, run, same, verify
+from hub import BLUE, OFFICE, PROGRAM, RED, TOP, Server, Wrong
+from hub import functions_of, new_file, pact, register, run, same, verify
 from browser import Browser, Unseen
 from report_shown import Picture, looked_at
 import plays, stories
@@ -30,7 +30,7 @@ import plays, stories
 SEED = int(sys.argv[2]) if sys.argv[2:] else 1
 HISTORIES, STEPS = 6, 160
 TOOL = f"{TOP}/tools/report"
-report: Any = SourceFileLoader("report", TOOL).load_module()
+report: Any = functions_of(TOOL)
 Kinds = collections.Counter[str]
 GREEN = "green-team-token-1"
 # The pages of the tests, for the browser.

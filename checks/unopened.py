@@ -10,7 +10,7 @@ root."""
 import sys
 
 sys.dont_write_bytecode = True
-import os, pwd, re, subprocess, tempfile
+import os, pwd, re, shutil, subprocess, tempfile
 from hub import OFFICE, PROGRAM, TOP, NotRun, Server, Wrong
 from hub import end_with, free_port, needs, run, same
 
@@ -30,19 +30,29 @@ def as_nobody(*words: str) -> list[str]:
     return ["runuser", "-u", "nobody", "--", *words]
 
 
+def program_beside(folder: str) -> str:
+    """Its copy beside this folder, which nobody can run: PROGRAM may be below a folder that is root's alone."""
+    copy = f"{os.path.dirname(folder)}/broker"
+    if not os.path.exists(copy):
+        shutil.copy(PROGRAM, copy)
+        os.chmod(copy, 0o755)
+    return copy
+
+
 def broker_file(folder: str) -> str:
     """A broker's file in a folder of its own, both nobody's."""
     os.mkdir(folder, 0o700)
     os.chown(folder, NOBODY.pw_uid, NOBODY.pw_gid)
     file = f"{folder}/broker.db"
-    run(as_nobody("sh", "-c", 'umask 077; exec "$@"', "sh", PROGRAM, "init", "--file", file, "--office-token", OFFICE))
+    words = [program_beside(folder), "init", "--file", file, "--office-token", OFFICE]
+    run(as_nobody("sh", "-c", 'umask 077; exec "$@"', "sh", *words))
     return file
 
 
 def refused(file: str) -> None:
     """The program, as nobody, doesn't open it."""
-    listen = f"127.0.0.1:{free_port()}"
-    words = as_nobody("timeout", "60", PROGRAM, "serve", "--file", file, "--listen", listen, "--connections", "1")
+    listen, program = f"127.0.0.1:{free_port()}", program_beside(os.path.dirname(file))
+    words = as_nobody("timeout", "60", program, "serve", "--file", file, "--listen", listen, "--connections", "1")
     it = subprocess.run(words, capture_output=True, text=True, check=False)
     same(f"serve of {file}", (it.returncode, it.stderr), (3, "file\n"))
 
