@@ -304,10 +304,11 @@ def random_failures():
     if not shutil.which("fiu-run"):
         raise NotRun("fiu-run isn't installed (the Debian package fiu-utils)")
     least, most, seconds = (3, 6, 4) if IS_SHORT else (9, 130, 45)
-    runs, end = [], time.monotonic() + seconds
-    while len(runs) < least or (len(runs) < most and time.monotonic() < end):
+    runs, end, has_failed = [], time.monotonic() + seconds, False
+    while len(runs) < least or (len(runs) < most and time.monotonic() < end) or (not has_failed and len(runs) < 60):
         runs.append(at_random(PROBABILITIES[len(runs) % len(PROBABILITIES)], 60 if IS_SHORT else 150))
-    if not any(EITHER in told for told in runs):
+        has_failed = has_failed or EITHER in runs[-1]
+    if not has_failed:
         raise Wrong("no call has failed")
     return f"{len(runs)} brokers whose calls of the system fail at random", runs
 
