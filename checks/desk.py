@@ -204,11 +204,11 @@ def lines_of_the_client(world: World) -> None:
     same("what is in live afterwards", told, AFTER)
 
 
-def readme(world: World) -> None:
-    """The block of README that ends with the board in a browser, pasted."""
-    block = re.search(r"(?m)^# look at it.*?\n(room=.*?)(?=^\n|^```$)", text_of("README.md"), re.S)
+def pasted_caddy(world: World) -> None:
+    """The block of docs/DESK.md that serves the demo by Caddy, pasted, with the board in a browser."""
+    block = re.search(r"(?m)^```\n(room=.*?)^```$", text_of("docs/DESK.md"), re.S)
     if not block:
-        raise Wrong("README has no block to look at it")
+        raise Wrong("docs/DESK.md has no block that serves the demo")
     ports = {"127.0.0.1:9292": f"127.0.0.1:{free_port()}", "127.0.0.1:9393": f"127.0.0.1:{free_port()}"}
     lines = block[1].replace("crates/broker/out/broker", PROGRAM)
     for usual, other in ports.items():
@@ -224,10 +224,10 @@ def readme(world: World) -> None:
     pasted = subprocess.Popen(["bash", "-c", lines], cwd=TOP, env=env, **pipes)
     try:
         await_port(int(env["ADDRESS"].rsplit(":", 1)[1]), pasted)
-        with Browser(f"{world.room}/readme") as page:
+        with Browser(f"{world.room}/pasted") as page:
             world.url = env["ADDRESS"] + "/desk/"
             signs_in(page, world, READER)
-            same("the board of README's block", cells(page), BOARD)
+            same("the board of the block", cells(page), BOARD)
     finally:
         os.killpg(pasted.pid, signal.SIGTERM)
         pasted.wait(30)
@@ -241,7 +241,7 @@ def main() -> int:
         wrong_pages,
         lines_over_a_copy,
         lines_of_the_client,
-        readme,
+        pasted_caddy,
     ]
     wrong = 0
     with tempfile.TemporaryDirectory() as room, World(room) as world:

@@ -2,6 +2,7 @@
 world in which the page is served."""
 import json, os, re, shutil, time
 from collections.abc import Callable
+from typing import Protocol
 
 from browser import Answer, Browser, Unseen
 from desk_shown import ASKED, BOARD, INSTEAD, LIVE, LONG, MARKUP, MATRIX, SLASH, STRICT, TODAY, TURNED
@@ -13,6 +14,12 @@ ROUTES = (
     r"/desk/(desk\.(js|css|json))?|/environments/[^/?]+|/matrix\?pacticipant=[^&]+&version=[^&]+"
     r"|/can-i-deploy\?pacticipant=[^&]+&version=[^&]+&environment=[^&]+"
 )
+
+
+class Served(Protocol):
+    """Where a page is served."""
+
+    url: str
 
 
 # What a page shows
@@ -49,7 +56,7 @@ def cells(page: Browser) -> list[list[str]]:
     return rows
 
 
-def signs_in(page: Browser, world: World, token: str) -> None:
+def signs_in(page: Browser, world: Served, token: str) -> None:
     page.go("about:blank")
     page.go(world.url)
     page.wait("document.activeElement.id === 'token'", "the field for a token")
@@ -62,14 +69,14 @@ def signs_in(page: Browser, world: World, token: str) -> None:
 # The scenes: each is tried on the page, and those of a page without failures on each wrong one
 
 
-def board(page: Browser, world: World) -> None:
+def board(page: Browser, world: Served) -> None:
     signs_in(page, world, READER)
     same("the board", cells(page), BOARD)
     shows(page, "board/today")
     same("the board of today", cells(page), TODAY)
 
 
-def questions(page: Browser, world: World) -> None:
+def questions(page: Browser, world: Served) -> None:
     for view in "ask", "ask/shop/1.4", "matrix", "matrix/shop", "environment":
         shows(page, view)
         same(f"an answer's time in the form {view}", texts(page, ".when"), [])

@@ -1,5 +1,6 @@
 #!/usr/bin/env bash
 # A demo to look at: four services of two teams in three environments, each kind of fault once. The broker runs on.
+# ./run makes such a broker, fills it with this and serves the page. By hand:
 # Usage: examples/demo.sh URL     over a new broker whose office has the token office-token-0001, as
 #   file=$(mktemp -d)/broker.db
 #   crates/broker/out/broker init --file "$file" --office-token office-token-0001
@@ -119,8 +120,8 @@ ask 409 red POST environments/live/deployments '{"pacticipant":"shop","version":
 echo "$answer"
 cat << END
 
-Look at it with the page: by README's lines at http://127.0.0.1:9393/desk/, with the token desk-token-000001
-(docs/DESK.md says how else it is served). Or with curl, and \`authorization: Bearer office-token-0001\`.
+Look at it with the page, by the token desk-token-000001: ./run serves it, and docs/DESK.md says how else it is served.
+Or with curl, and \`authorization: Bearer office-token-0001\`. Of the page:
   #/board                    what is where; "today" beside it asks the gate again: the canary and shop 1.3 are refused
   #/ask/shop/1.4/live        refused: absent, failed, missing and claimed, once each, and who has to act
   #/ask/web/6/live           may go: its contract is that of web 5, so nothing had to be verified again
