@@ -1,8 +1,8 @@
 """The wrong bodies: where they are, what each changes, and which of them one check can try."""
-import os, re, sys
+import os, re
 
-sys.dont_write_bytecode = True
 from definitions import TOP, files_of, text_of
+from judge import named_by
 from sources import Function, functions_in
 
 BODIES, DEFINITIONS = f"{TOP}/wrong-bodies", f"{TOP}/wrong-definitions"
@@ -128,14 +128,6 @@ def users_of(crate, text):
 
 def only_functions(changed):
     return {it for it in changed if isinstance(it, Function)}
-
-
-def named_by(function):
-    """How a check calls the function, without the modules of its type: `rows::number_at`, `Path::len`."""
-    if function.type:
-        return f"{function.type}{function.trait or ''}::{function.name}"
-    inside = re.sub(r"^.*/src/|\.rt$", "", function.path)
-    return "::".join([*(it for it in inside.split("/") if it not in ("lib", "main", "mod")), function.name])
 
 
 def taken_as_proved(crate, changed):

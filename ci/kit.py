@@ -1,83 +1,39 @@
-"""The kit's rt as a module, and checks of crates in a copy of the repository, over libraries that are proved."""
-import contextlib, importlib.machinery, importlib.util, os, re, shutil, subprocess, sys, tempfile
+"""The kit, by the commands that `rt help` documents: each is a process of its own, judged by its status and by what it
+prints. What holds for every kit that was met: 0 is proved and passed, 1 is not, 2 says that `rt` judged nothing."""
+import os, subprocess, tempfile
 from collections import namedtuple
+from functools import lru_cache
 
-sys.dont_write_bytecode = True
-from definitions import TOP
-
-# What `rt ci` says of a crate that is proved.
-BUILT = re.compile(r"^rt: (\w+) (?:proved|is kept: .*)$")
-# What a check said, the status that it ended with, the seconds of the processors, and the most memory in KB.
+# What a command printed, the status that it ended with, the seconds of the processors, and the most memory of one of
+# its processes, in bytes.
 Said = namedtuple("Said", "text status seconds memory")
 
 
-def rt_module():
-    """The kit's `rt`, as a module."""
-    loader = importlib.machinery.SourceFileLoader("rt_gate", os.path.realpath(shutil.which("rt")))
-    module = importlib.util.module_from_spec(importlib.util.spec_from_loader("rt_gate", loader))
-    loader.exec_module(module)
-    return module
+def rt(words, folder, yields=0):
+    """Runs `rt` with these words in this folder; `yields` is how much it yields the processors to others, of 19."""
+    with tempfile.TemporaryFile("w+", errors="replace") as said:
+        how = {"stdin": subprocess.DEVNULL, "stdout": said, "stderr": subprocess.STDOUT}
+        ran = subprocess.Popen(["nice", "-n", str(yields), "rt", *words], cwd=folder, **how)
+        _, ended, used = os.wait4(ran.pid, 0)
+        ran.returncode = os.waitstatus_to_exitcode(ended)
+        said.seek(0)
+        return Said(said.read(), ran.returncode, used.ru_utime + used.ru_stime, used.ru_maxrss << 10)
 
 
-class Copy:
-    """A copy of the crates. What `rt ci` builds here in the repository is given to it as second names of the same
-    files, which `rt` never writes into: so they stay as they are, whatever it does here next."""
+@lru_cache(None)
+def version():
+    """The kit's one line: its name and the sum of its logic."""
+    said = rt(["version"], "/")
+    if said.status:
+        raise SystemExit(f"the kit doesn't answer: {said.text.strip()}")
+    return said.text.strip()
 
-    def __init__(self, anew):
-        self.rt = rt_module()
-        self.sweep()
-        self.room = tempfile.mkdtemp(prefix=f"wrong-bodies-{os.getpid()}-")
-        self.at = f"{self.room}/copy"
-        self.rt.copy_crates(TOP, self.at)
-        os.mkdir(f"{self.at}/.git")
-        self.rt.Crate.allowed = self.rt.handles_of(self.at)
-        self.guard = self.rt.rtlib.guarded()
-        self.crates = {it.name: it for it in self.rt.crates_of(self.at)}
-        self.kept = self.rt.Kept([*self.crates.values()], anew)
-        self.placed = set()
 
-    def sweep(self):
-        """Removes what runs that were killed left."""
-        for it in os.listdir(tempfile.gettempdir()):
-            of = re.match(r"wrong-bodies-(\d+)-", it)
-            if of and not os.path.exists(f"/proc/{of[1]}"):
-                shutil.rmtree(f"{tempfile.gettempdir()}/{it}", ignore_errors=True)
+def processors():
+    return len(os.sched_getaffinity(0))
 
-    def remove(self):
-        shutil.rmtree(self.room, ignore_errors=True)
 
-    def place(self, name):
-        """Gives the copy the library of this crate, and says whether there is one."""
-        crate, built = self.crates[name], f"{TOP}/crates/{name}/out/rlib/{name}.rlib"
-        if name not in self.placed and not crate.is_program and os.path.isfile(f"{built}/format"):
-            shutil.copytree(built, crate.rlib, copy_function=self.rt.link_or_copy)
-            self.kept.is_built(crate)
-            self.placed.add(name)
-        return name in self.placed
-
-    def has_below(self, name):
-        """Whether the libraries below the crate are there."""
-        return all(it.name in self.placed for it in self.crates[name].below())
-
-    def check(self, name, texts, words, kept):
-        """Checks the crate with these texts in the place of its own, over what earlier checks left in `kept`."""
-        crate = self.crates[name]
-        with tempfile.TemporaryDirectory(prefix=f"{name}-", dir=self.room) as at:
-            for part in self.rt.rtlib.PARTS:
-                if os.path.isdir(f"{crate.folder}/{part}"):
-                    shutil.copytree(f"{crate.folder}/{part}", f"{at}/{part}")
-            for path, text in texts.items():
-                os.makedirs(os.path.dirname(f"{at}/{path}"), exist_ok=True)
-                for it in ("Invariants", "Answers") if path.endswith("/Proof.antt") else ():
-                    with contextlib.suppress(FileNotFoundError):
-                        os.remove(f"{at}/{os.path.dirname(path)}/{it}.antt")
-                with open(f"{at}/{path}", "w", encoding="utf-8") as it:
-                    it.write(text)
-            line = ["check", *crate.words(["--jobs", "1", *words], keeps=False), "--incremental", kept]
-            with open(f"{at}/said", "w+", errors="replace") as said:
-                how = {"cwd": at, "stdin": subprocess.DEVNULL, "stdout": said, "stderr": subprocess.STDOUT}
-                ran = subprocess.Popen([*self.guard, self.rt.rtlib.RATTLE, *line], **how)
-                _, ended, used = os.wait4(ran.pid, 0)
-                ran.returncode = os.waitstatus_to_exitcode(ended)
-                said.seek(0)
-                return Said(said.read(), ran.returncode, used.ru_utime + used.ru_stime, used.ru_maxrss)
+def free():
+    """The memory that is free, in bytes."""
+    with open("/proc/meminfo", encoding="ascii") as it:
+        return next(int(line.split()[1]) << 10 for line in it if line.startswith("MemAvailable:"))

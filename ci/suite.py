@@ -1,0 +1,233 @@
+"""Everything that is tried before a merge, part by part. `./test` says how it is called."""
+import argparse, filecmp, os, re, subprocess, sys, threading, time
+
+import ledger, measured
+from bodies import Sample, Tries, left_of, tasks_of, unconfirmed, waits_of
+from build import COMPILERS, OUT, PROGRAM, USUAL, Build
+from definitions import TOP
+from edits import edits_of, in_gate, kept
+from kit import free, processors, version
+from lanes import Lanes, Task
+from rooms import Kept, below, listed
+
+# What is tried of the text, each part a script of ci/.
+STATIC = {
+    "what the checks need of Debian": ["ci/needs", "--install"],
+    "the places that documents name": ["ci/links"],
+    "the words of documents": ["ci/words"],
+    "the rules of the project": ["ci/house"],
+    "the imports": ["ci/imports"],
+    "the lists of what has to be believed": ["ci/believed"],
+    "the table of times": ["ci/times"],
+    "the edits can be made": ["ci/wrong-bodies", "--read"],
+    "the judge and the ledger": ["ci/trials"],
+}
+# What needs a kit.
+VERDICT, BUILT, SAME, LINES = "rt ci", "./build", "./build beside rt ci", "the command lines of documents"
+BODIES, SAMPLE = "wrong bodies of ", "by rt must-fail, one of "
+# What a check of `rt ci` may still grow to while it goes on beside the others, in bytes.
+LARGEST = 5_000_000_000
+
+
+class Suite:
+    """The parts that are run, and how each ended."""
+
+    def __init__(self, given):
+        self.given, self.ends, self.began, self.printing = given, {}, time.time(), threading.Lock()
+        self.memory = self.tried = 0
+
+    def chosen(self, names):
+        return [it for it in names if not self.given.k or self.given.k in it]
+
+    def tell(self, word, name, more=""):
+        """Says how a part ended: `ok`, `FAILED` or `not run`. Gives whether it went well."""
+        with self.printing:
+            self.ends[name] = word
+            print(f"{word:<7} {name}{more and f': {more}'}\n", end="", flush=True)
+        return word != "FAILED"
+
+    def named(self, word):
+        return [name for name, ended in self.ends.items() if ended == word]
+
+    def script(self, name, words):
+        """A part that is a script, which has to end with 0."""
+        began = time.time()
+        ran = subprocess.run(words, cwd=TOP, capture_output=True, text=True, errors="replace", check=False)
+        if ran.returncode:
+            print(ran.stdout + ran.stderr, end="", flush=True)
+            return self.tell("FAILED", name, f"{' '.join(words)} ends with {ran.returncode}")
+        return self.tell("ok", name, f"{time.time() - began:.1f} s")
+
+    def end(self):
+        failed, skipped = self.named("FAILED"), self.named("not run")
+        if failed:
+            print("FAILED:", "; ".join(failed))
+        took, count = round(time.time() - self.began), processors()
+        if self.tried and not self.given.k and self.given.record:
+            measured.record({("./test", str(count)): measured.Row(took, 0, self.memory, self.tried)})
+        most = f", and {self.memory / 1000:.1f} GB of memory" if self.memory else ""
+        print(f"it took {took} seconds on {count} processors{most}")
+        more = f", {len(skipped)} skipped" if skipped else ""
+        print(f"{len(self.named('ok'))} passed, {len(failed)} failed{more}", flush=True)
+        return 1 if failed or not self.ends else 0
+
+
+class Verdict(threading.Thread):
+    """`rt ci`, whose last line has to count every crate and every edit of must-fail/."""
+
+    def __init__(self, suite):
+        super().__init__()
+        self.suite, self.said = suite, []
+
+    def run(self):
+        began = time.time()
+        how = {"cwd": TOP, "stdin": subprocess.DEVNULL, "stdout": subprocess.PIPE, "stderr": subprocess.STDOUT}
+        ran = subprocess.Popen(["rt", "ci"], text=True, errors="replace", **how)
+        for line in ran.stdout:
+            self.said.append(line)
+            if line.startswith("rt: "):
+                print(f"{time.time() - began:6.0f} s  {line}", end="", flush=True)
+        count = re.fullmatch(r"(\d+) passed, 0 failed\n?", self.said[-1] if self.said else "")
+        wanted = len(listed()) + sum(len(in_gate(it)) for it in listed())
+        if ran.wait() == 0 and count and int(count[1]) == wanted:
+            self.suite.tell("ok", VERDICT, f"{count[1]} passed, {time.time() - began:.0f} s")
+        else:
+            print("".join(self.said[-300:]), end="")
+            self.suite.tell("FAILED", VERDICT, f"status {ran.returncode}; {wanted} have to pass: {self.said[-1:]}")
+
+
+class OnKit:
+    """The parts that need a kit, side by side: `rt ci`; what ./build does; and wrong bodies, over the libraries that it
+    makes."""
+
+    def __init__(self, suite, names):
+        self.suite, self.names, self.store = suite, names, Kept()
+        self.bodies = [Tries(self.store, it, left_of(it, suite.given.anew)) for it in self.crates(BODIES)]
+        self.samples = [Sample(self.store, it) for it in self.crates(SAMPLE)]
+        tried = {*self.crates(BODIES), *self.crates(SAMPLE)}
+        wanted = {it for name in tried for it in (*below(name), name) if it in below(PROGRAM)}
+        self.build = Build(self.store, [*sorted(wanted), *([PROGRAM] if BUILT in names or SAME in names else [])])
+
+    def crates(self, kind):
+        return [it for it in kept() if kind + it in self.names]
+
+    def tasks(self):
+        builds = self.build.tasks()
+        tasks = {**builds, **tasks_of(self.bodies, builds)}
+        for it in self.bodies:
+            key = "bodies", it.name
+            tasks[key] = tasks[key]._replace(call=lambda _, it=it: self.try_bodies(it))
+        for it in self.samples:
+            call = lambda _, it=it: self.try_sample(it)
+            took, waits = self.build.took.get(it.name, USUAL), waits_of(it.name, builds)
+            tasks["sample", it.name] = Task(waits, took.elapsed, took.memory << 20, call, yields=True)
+        if LINES in self.names:
+            tasks["lines", ""] = Task([], 0, 2 << 30, lambda _: self.suite.script(LINES, ["ci/commands"]), yields=True)
+        return tasks
+
+    def try_bodies(self, tries):
+        tries.run()
+        name, recorded = tries.name, self.suite.given.record
+        spared = len(edits_of(name)) - len(tries.edits)
+        wrong = [f"{ledger.name_of(it)}: {why}" for it, why in tries.lost.items()]
+        wrong += [] if recorded else unconfirmed(tries)
+        if recorded:
+            with self.suite.printing:
+                ledger.write(tries.lines())
+                measured.record({} if spared else {("bodies", name): tries.row()})
+        said = f"{len(tries.refused)} refused, {spared} by the ledger; {tries.checks} checks, {tries.seconds:.0f} s"
+        return self.suite.tell("FAILED" if wrong else "ok", BODIES + name, "; ".join(wrong) or said)
+
+    def try_sample(self, sample):
+        well, name = sample.run(), SAMPLE + sample.name
+        said = f"{os.path.basename(sample.edit)}, {sample.seconds:.0f} s"
+        return self.suite.tell("ok" if well else "FAILED", name, sample.why or said)
+
+    def run(self):
+        verdict = Verdict(self.suite)
+        if VERDICT in self.names:
+            verdict.start()
+        lanes = Lanes(self.tasks(), lambda: LARGEST if verdict.is_alive() else 0)
+        ends = lanes.run(lambda: self.build.tells_of(lanes))
+        lost = [name for (kind, name), well in ends.items() if kind == "build" and not well]
+        if BUILT in self.names:
+            self.suite.tell("FAILED" if lost else "ok", BUILT, " ".join(lost) or f"{len(self.build.names)} crates")
+        if VERDICT in self.names:
+            verdict.join()
+        if SAME in self.names:
+            self.compare()
+        if self.suite.given.record:
+            measured.record({("proof", name): row for name, row in self.build.rows.items()})
+        self.suite.memory, self.suite.tried = lanes.memory, sum(len(it.edits) for it in self.bodies)
+        for it in [it for it in self.names if it not in self.suite.ends]:
+            self.suite.tell("FAILED", it, "NOT TRIED: what it needs isn't proved, or it stopped in the middle")
+
+    def compare(self):
+        """Whether the program that ./build keeps is what `rt ci` built, to the byte."""
+        pairs = [(f"{self.store.at}/{PROGRAM}{it}", f"{OUT}/{PROGRAM}{it}") for it in COMPILERS]
+        lost = [it for pair in pairs for it in pair if not os.path.isfile(it)]
+        differ = [] if lost else [it for it, other in pairs if not filecmp.cmp(it, other, shallow=False)]
+        why = "; ".join([*(f"there is no {it}" for it in lost), *(f"{it} differs" for it in differ)])
+        self.suite.tell("FAILED" if why else "ok", SAME, why)
+
+
+class OnProgram:
+    """The parts that try a built program: those of ci/program."""
+
+    def __init__(self, suite):
+        given = suite.given
+        self.suite, self.words = suite, ["ci/program", *(["--allow-not-run"] if given.allow_not_run else [])]
+        self.words += [given.program or f"{OUT}/{PROGRAM}"]
+        said = subprocess.run([*self.words, "--list"], cwd=TOP, capture_output=True, text=True, check=True).stdout
+        self.names = said.split("\n")[:-1]
+
+    def run(self):
+        words = [*self.words, *([self.suite.given.k] if self.suite.given.k else [])]
+        ran = subprocess.Popen(words, cwd=TOP, stdout=subprocess.PIPE, text=True)
+        for line in ran.stdout:
+            if found := re.match(r"(ok|FAILED|not run) +(\S.*?)(?:: (.*))?$", line.rstrip("\n")):
+                self.suite.tell(*(it or "" for it in found.groups()))
+            else:
+                print(line, end="", flush=True)
+        ran.wait()
+        for it in [it for it in self.suite.chosen(self.names) if it not in self.suite.ends]:
+            self.suite.tell("FAILED", it, "it wasn't run")
+
+
+def words_given():
+    read = argparse.ArgumentParser(prog="./test", description="Tries everything before a merge.")
+    read.add_argument("--program", metavar="PATH", type=os.path.abspath, help="only what tries this built program")
+    read.add_argument("-k", metavar="WORD", help="only the parts that have WORD in their names")
+    read.add_argument("--list", action="store_true", help="the names of the parts")
+    read.add_argument("--anew", action="store_true", help="tries also the wrong bodies that the ledger has")
+    read.add_argument("--record", action="store_true", help="writes the ledger, and what the parts took, into the tree")
+    read.add_argument("--allow-not-run", action="store_true", help="what can't be run is skipped, and doesn't fail")
+    return read.parse_args()
+
+
+def main():
+    given = words_given()
+    suite = Suite(given)
+    os.environ["PATH"] = f"{TOP}/ci/documented:{os.environ['PATH']}"
+    on_program = OnProgram(suite)
+    static = dict(list(STATIC.items())[: 1 if given.program else None])
+    by_crate = [kind + it for kind in (BODIES, SAMPLE) for it in kept()]
+    on_kit = [] if given.program else [VERDICT, BUILT, SAME, LINES, *by_crate]
+    chosen = suite.chosen([*static, *on_kit, *on_program.names])
+    if given.list or not chosen:
+        print("\n".join(chosen) or f"no part has {given.k} in its name: ./test --list has the names")
+        return 0 if chosen else 2
+    for name in suite.chosen(static):
+        suite.script(name, static[name])
+    if suite.named("FAILED") and not given.allow_not_run:
+        return suite.end()
+    if names := suite.chosen(on_kit):
+        print(f"{version()}; {processors()} processors, {free() / 1e9:.0f} GB of memory free", flush=True)
+        OnKit(suite, names).run()
+    if suite.chosen(on_program.names):
+        on_program.run()
+    return suite.end()
+
+
+if __name__ == "__main__":
+    sys.exit(main())
