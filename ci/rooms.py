@@ -5,7 +5,7 @@ with one crate's sources and with those below it as they are kept, as second nam
 writes into a library that is built. So a change of one crate in a room is seen nowhere else, and many rooms can be in
 use at once, where in one tree a command of `rt` would wait for another."""
 import contextlib, fcntl, hashlib, os, re, shutil, tempfile
-from functools import cached_property, lru_cache
+from functools import lru_cache
 
 from definitions import TOP, crates_in, text_of
 from kit import version
