@@ -8,6 +8,7 @@ from definitions import TOP
 from edits import edits_of, in_gate, kept
 from kit import free, processors, version
 from lanes import Lanes, Task
+from pytests import OnProgram
 from rooms import Kept, below, listed
 
 # What is tried of the text, each part a script of ci/.
@@ -69,6 +70,8 @@ class Suite:
         print(f"it took {took} seconds on {count} processors{most}")
         more = f", {len(skipped)} skipped" if skipped else ""
         print(f"{len(self.named('ok'))} passed, {len(failed)} failed{more}", flush=True)
+        if not self.ends:
+            print(f"no part and no test has {self.given.k} in its name: ./test --list has the names", file=sys.stderr)
         return 1 if failed or not self.ends else 0
 
 
@@ -171,52 +174,31 @@ class OnKit:
         self.suite.tell("FAILED" if why else "ok", SAME, why)
 
 
-class OnProgram:
-    """The parts that try a built program: those of ci/program."""
-
-    def __init__(self, suite):
-        given = suite.given
-        self.suite, self.words = suite, ["ci/program", *(["--allow-not-run"] if given.allow_not_run else [])]
-        self.words += [given.program or f"{OUT}/{PROGRAM}"]
-        said = subprocess.run([*self.words, "--list"], cwd=TOP, capture_output=True, text=True, check=True).stdout
-        self.names = said.split("\n")[:-1]
-
-    def run(self):
-        words = [*self.words, *([self.suite.given.k] if self.suite.given.k else [])]
-        ran = subprocess.Popen(words, cwd=TOP, stdout=subprocess.PIPE, text=True)
-        for line in ran.stdout:
-            if found := re.match(r"(ok|FAILED|not run) +(\S.*?)(?:: (.*))?$", line.rstrip("\n")):
-                self.suite.tell(*(it or "" for it in found.groups()))
-            else:
-                print(line, end="", flush=True)
-        ran.wait()
-        for it in [it for it in self.suite.chosen(self.names) if it not in self.suite.ends]:
-            self.suite.tell("FAILED", it, "it wasn't run")
-
-
 def words_given():
     read = argparse.ArgumentParser(prog="./test", description="Tries everything before a merge.")
     read.add_argument("--program", metavar="PATH", type=os.path.abspath, help="only what tries this built program")
-    read.add_argument("-k", metavar="WORD", help="only the parts that have WORD in their names")
+    read.add_argument("-k", metavar="WORD", help="only the parts and the tests that have WORD in their names")
     read.add_argument("--list", action="store_true", help="the names of the parts")
     read.add_argument("--anew", action="store_true", help="tries also the wrong bodies that the ledger has")
     read.add_argument("--record", action="store_true", help="writes the ledger, and what the parts took, into the tree")
     read.add_argument("--allow-not-run", action="store_true", help="what can't be run is skipped, and doesn't fail")
-    return read.parse_args()
+    return read.parse_known_args()
 
 
 def main():
-    given = words_given()
+    given, more = words_given()
     suite = Suite(given)
     os.environ["PATH"] = f"{TOP}/ci/documented:{os.environ['PATH']}"
-    on_program = OnProgram(suite)
-    static = dict(list(STATIC.items())[: 1 if given.program else None])
+    os.environ["PYTHONDONTWRITEBYTECODE"] = "1"
+    only_tests = bool(given.program or more)
+    on_program = OnProgram(suite, given.program or f"{OUT}/{PROGRAM}", more)
+    static = dict(list(STATIC.items())[: 1 if only_tests else None])
     by_crate = [kind + it for kind in (BODIES, SAMPLE) for it in kept()]
-    on_kit = [] if given.program else [VERDICT, BUILT, SAME, LINES, *by_crate]
-    chosen = suite.chosen([*static, *on_kit, *on_program.names])
-    if given.list or not chosen:
-        print("\n".join(chosen) or f"no part has {given.k} in its name: ./test --list has the names")
-        return 0 if chosen else 2
+    on_kit = [] if only_tests else [VERDICT, BUILT, SAME, LINES, *by_crate]
+    chosen = suite.chosen([*static, *on_kit])
+    if given.list:
+        print("\n".join([*chosen, *on_program.files()]))
+        return 0
     for name in suite.chosen(static):
         suite.script(name, static[name])
     if suite.named("FAILED") and not given.allow_not_run:
@@ -224,8 +206,7 @@ def main():
     if names := suite.chosen(on_kit):
         print(f"{version()}; {processors()} processors, {free() / 1e9:.0f} GB of memory free", flush=True)
         OnKit(suite, names).run()
-    if suite.chosen(on_program.names):
-        on_program.run()
+    on_program.run()
     return suite.end()
 
 

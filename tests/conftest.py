@@ -4,8 +4,8 @@
 
 PATH is a build of `broker` (crates/broker/out/broker if none is given); PATH.by-rattle is the build by Rattle's own
 compiler, which tests that are marked by_both are run on too. Marks: needs("nginx", ..) says which commands a test
-needs; root that it needs to be root; timing that it measures times, and is run while nothing else is. What can't be
-run fails, or with --allow-not-run is skipped and said."""
+needs; root that it needs to be root; timing that it measures times, and is run while nothing else is; by_hand that it
+takes minutes, and is run with --by-hand. What can't be run fails, or with --allow-not-run is skipped and said."""
 import os, shutil, sys
 from collections.abc import Iterator
 from typing import Any
@@ -13,6 +13,7 @@ import pytest
 
 sys.dont_write_bytecode = True
 
+from tests import plays
 from tests.client.tools import Client, Stock
 from tests.desk.browser import Browser
 from tests.operate.machine import in_own_machine
@@ -26,13 +27,14 @@ MARKS = {
     "root": "it needs to be root",
     "timing": "it measures times, so it is run while nothing else is",
     "by_both": "it is run on the builds of both compilers",
+    "by_hand": "it takes minutes, and is run with --by-hand",
 }
-BUILDS = {"llvm": "", "by-rattle": ".by-rattle"}
 
 
 def pytest_addoption(parser: pytest.Parser) -> None:
-    usual = os.path.join(TOP, "crates/broker/out/broker")
-    parser.addoption("--program", metavar="PATH", type=os.path.abspath, default=usual, help="the build of broker to try")
+    usual = {"type": os.path.abspath, "default": os.path.join(TOP, "crates/broker/out/broker")}
+    parser.addoption("--program", metavar="PATH", **usual, help="the build of broker to try")
+    parser.addoption("--by-hand", action="store_true", help="also what takes minutes, and only it")
     parser.addoption("--allow-not-run", action="store_true", help="what can't be run is skipped, and doesn't fail")
 
 
@@ -41,9 +43,22 @@ def pytest_configure(config: pytest.Config) -> None:
         config.addinivalue_line("markers", f"{name}: {meaning}")
 
 
+def pytest_collection_modifyitems(config: pytest.Config, items: list[pytest.Item]) -> None:
+    """Leaves out what is run by hand, or all else."""
+    wanted = bool(config.getoption("by_hand"))
+    left = [it for it in items if bool(it.get_closest_marker("by_hand")) != wanted]
+    if left:
+        config.hook.pytest_deselected(items=left)
+        items[:] = [it for it in items if bool(it.get_closest_marker("by_hand")) == wanted]
+
+
+def pytest_collect_file(file_path: Any, parent: pytest.Collector) -> pytest.Collector | None:
+    return plays.file_of(file_path, parent)
+
+
 def pytest_generate_tests(metafunc: pytest.Metafunc) -> None:
     if "program" in metafunc.fixturenames and metafunc.definition.get_closest_marker("by_both"):
-        metafunc.parametrize("program", BUILDS.values(), ids=BUILDS, indirect=True, scope="session")
+        metafunc.parametrize("program", plays.BUILDS.values(), ids=plays.BUILDS, indirect=True, scope="session")
 
 
 def pytest_runtest_setup(item: pytest.Item) -> None:
@@ -71,10 +86,7 @@ def pytest_runtest_makereport(item: pytest.Item, call: "pytest.CallInfo[None]") 
 @pytest.fixture(scope="session")
 def program(request: pytest.FixtureRequest) -> str:
     """The path of the built program."""
-    path = str(request.config.getoption("program")) + getattr(request, "param", "")
-    if not os.access(path, os.X_OK):
-        raise NotRun(f"there is no program {path}")
-    return path
+    return plays.built(request.config, getattr(request, "param", ""))
 
 
 @pytest.fixture

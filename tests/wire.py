@@ -116,6 +116,19 @@ def all_of(peer: socket.socket) -> bytes:
     return text
 
 
+def next_answer(peer: socket.socket) -> Answer:
+    """The next answer, which has to come whole, before anything else is asked there."""
+    text = b""
+    while True:
+        head, end, rest = text.partition(b"\r\n\r\n")
+        length = re.search(rb"(?i)\r\ncontent-length: *(\d+)", head)
+        if end and len(rest) >= int(length[1] if length else 0):
+            return answers_in(text)[0]
+        if not (more := peer.recv(1 << 16)):
+            raise ConnectionResetError(f"the connection is closed after {text!r}")
+        text += more
+
+
 # Who asks
 
 
@@ -138,7 +151,9 @@ class Caller:
             came.begin()
             return Answer(came.status, {name.lower(): it for name, it in came.getheaders()}, came.read().decode())
 
-    def gives(self, wanted: tuple[int, str], method: str, path: str, token: str | None = OFFICE, body: str = "") -> None:
+    def gives(
+        self, wanted: tuple[int, str], method: str, path: str, token: str | None = OFFICE, body: str = ""
+    ) -> None:
         """Fails with the request and the difference, unless its answer has this status and this body."""
         status, _, text = self.ask(method, path, token, body)
         same(f"{method} {path} {body}".strip(), (status, text), wanted)

@@ -32,7 +32,8 @@ def register(server: Caller) -> None:
     for team, token, pacticipant in ("red", RED, "shop"), ("blue", BLUE, "stock"):
         server.do("PUT", f"/teams/{team}", OFFICE, '{"token":"%s"}' % token)
         server.do("PUT", f"/pacticipants/{pacticipant}", OFFICE, '{"team":"%s"}' % team)
-    for environment, marks in ("open", '"gated":false'), ("live", '"gated":true'), ("vault", '"gated":true,"strict":true'):
+    marked = {"open": '"gated":false', "live": '"gated":true', "vault": '"gated":true,"strict":true'}
+    for environment, marks in marked.items():
         server.do("PUT", f"/environments/{environment}", OFFICE, "{%s}" % marks)
         for team in "red", "blue":
             server.do("PUT", f"/grants/team/{team}/environment/{environment}", OFFICE)

@@ -1,7 +1,7 @@
 //! Tests of statements, transactions and rows over a table of the tests' own, which no request makes.
 //!
-//! The crate has no code of its own. What has a text form is a story (`checks/stories`), a command line (`checks/lines`)
-//! or a case of pacts (`checks/cases`).
+//! The crate has no code of its own. What has a text form is a story (`tests/data/stories`), a command line
+//! (`tests/data/lines`) or a case of pacts (`tests/data/cases`).
 #![tactic(auto)]
 
 #[cfg(test)]

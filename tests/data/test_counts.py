@@ -1,0 +1,27 @@
+"""Nothing was lost of the files that are played: each is there, with as many answers, command lines, cases or steps as
+the file `counts` beside it says."""
+from collections.abc import Callable
+from pathlib import Path
+import pytest
+from tests.players.cases import cases_of
+from tests.players.lines import CommandLine, steps_of
+from tests.players.stops import Stops
+from tests.players.story import Story
+from tests.players.texts import DATA, written_counts
+
+COUNTS: dict[str, tuple[str, Callable[[Path], int]]] = {
+    "stories": (".story", lambda file: Story(file).count()),
+    "lines": (".lines", lambda file: sum(isinstance(it, CommandLine) for it in steps_of(file))),
+    "cases": (".cases", lambda file: len(cases_of(file))),
+    "stops": (".stops", lambda file: len(Stops(file).steps)),
+}
+
+
+@pytest.mark.parametrize("folder", COUNTS)
+def test_nothing_was_lost(folder: str) -> None:
+    end, count = COUNTS[folder]
+    files = [*(DATA / folder).glob(f"*{end}")]
+    if folder == "stories":
+        files += (DATA / "stops").glob("*.story")
+    assert {it.stem: count(it) for it in files} == written_counts(folder)
+    assert files

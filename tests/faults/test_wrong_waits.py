@@ -1,0 +1,25 @@
+"""That test_slow_peers.py sees a broker which waits for its peers otherwise than it has to (wait.c): each of these ends
+otherwise. It takes two minutes, and is run by hand: --by-hand."""
+import os
+import pytest
+from tests.faults.test_slow_peers import test_another_is_answered_in_time as held
+from tests.players.shims import library
+from tests.process import Server
+from tests.world import new_file
+
+pytestmark = [pytest.mark.by_hand, pytest.mark.needs("cc")]
+# How the broker waits, and the peer by which that is seen.
+SEEN_BY = {
+    "nobody-waits": "idle after an answer",
+    "each-write": "answers of which 2,000 bytes are read now and then",
+    "no-reads": "half a head",
+    "no-writes": "answers that aren't read",
+}
+
+
+@pytest.mark.parametrize("wait", SEEN_BY)
+def test_it_is_seen(program: str, room: str, wait: str) -> None:
+    env = {**os.environ, "WRONG_WAIT": wait, "LD_PRELOAD": library("wait")}
+    with Server(program, new_file(program, room), env=env) as broker:
+        with pytest.raises((AssertionError, TimeoutError)):
+            held(broker, SEEN_BY[wait])

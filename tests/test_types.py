@@ -1,0 +1,27 @@
+"""The types of the scripts and of the tests are written, and right. What users run is tried as Python 3.9 has it."""
+import os
+import pytest
+from tests.process import TOP, run
+
+pytestmark = pytest.mark.needs("mypy")
+MYPY = ["/usr/bin/python3", "-m", "mypy", "--strict", "--scripts-are-modules"]
+# What Python 3.9 has to run.
+OLDEST = ["client/holzhebo", "client/pages.py", "tools/desk_server.py", "tools/report", "tools/run.py"]
+
+
+def test_the_scripts_of_users(room: str) -> None:
+    for file in OLDEST:
+        run([*MYPY, "--cache-dir", room, "--python-version", "3.9", file])
+
+
+def test_the_tests(room: str) -> None:
+    run([*MYPY, "--cache-dir", room, "tests"])
+
+
+# What of checks/ has no types.
+UNTYPED = "cases.py", "plays.py", "stories.py"
+
+
+def test_the_checks(room: str) -> None:
+    typed = sorted(f"checks/{it}" for it in os.listdir(f"{TOP}/checks") if it.endswith(".py") and it not in UNTYPED)
+    run([*MYPY, "--cache-dir", room, "--allow-untyped-calls", "--follow-imports", "silent", *typed])
