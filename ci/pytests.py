@@ -1,5 +1,5 @@
 """The tests of tests/, over a built program, by pytest: what may run side by side, as much at once as there are
-processors, and beside it what measures times, one by one, to which the others yield the processors."""
+processors, and beside it what measures times, two at once, to which the others yield the processors."""
 import contextlib, os, re, shutil, subprocess, sys, tempfile, time
 import xml.etree.ElementTree as xml
 
@@ -9,7 +9,7 @@ from kit import processors
 PYTEST = ["/usr/bin/python3", "-m", "pytest", "tests"]
 # Where the JUnit files are, and what pytest keeps between two runs for --lf.
 REPORTS = f"{TOP}/out/tests"
-# What measures times has two groups (test_slow_peers.py and test_floods.py), each one by one.
+# What measures times is nearly all waiting, and its limits are far longer than what two at once take from each other.
 HALVES = {"side by side": ("not timing", str(processors())), "that measure times": ("timing", "2")}
 
 
@@ -24,20 +24,34 @@ class Half:
             os.remove(self.report)
         by = ["-n", count, "--dist", "loadgroup", "-m", marks, "--basetemp", f"{room}/{name.replace(' ', '-')}"]
         by += ["-q", "-ra", "--color", "no", "-o", "junit_family=xunit1", "--junitxml", self.report]
+        # For --lf; one that has no test which failed last has none to run again.
+        by += ["-o", f"cache_dir={TOP}/out/pytest-{marks.replace(' ', '-')}", "--lfnf", "none"]
         is_timing = name == "that measure times"
         with open(self.log, "wb") as log:
             how = {"cwd": TOP, "stdin": subprocess.DEVNULL, "stdout": log, "stderr": log, "start_new_session": True}
             how["preexec_fn"] = None if is_timing else lambda: os.nice(10)
             self.process = subprocess.Popen([*PYTEST, *by, *words], **how)
-        # Linux shares the processors by sessions first: this one's comes before the others', if this is root.
-        with contextlib.suppress(OSError), open(f"/proc/{self.process.pid}/autogroup", "w", encoding="ascii") as it:
-            it.write("-15" if is_timing else "10")
+        if is_timing:
+            # Linux shares the processors by sessions first: this one's comes before the others', if this is root.
+            with contextlib.suppress(OSError), open(f"/proc/{self.process.pid}/autogroup", "w", encoding="ascii") as it:
+                it.write("-15")
+
+    def said(self):
+        with open(self.log, encoding="utf-8", errors="replace") as it:
+            return it.read()
+
+    def wait(self):
+        """How it ends; a line a minute says how far it is."""
+        while True:
+            try:
+                return self.process.wait(60)
+            except subprocess.TimeoutExpired:
+                done = re.findall(r"\[ *(\d+%)\]", self.said())
+                print(f"{time.time() - self.began:6.0f} s  tests {self.name}: {done[-1] if done else '0%'}", flush=True)
 
     def end(self, suite):
         """Waits for it, and says of each test how it ended."""
-        status = self.process.wait()
-        with open(self.log, encoding="utf-8", errors="replace") as it:
-            said = it.read()
+        status, said = self.wait(), self.said()
         if status == 5:
             return
         if status != 0:
