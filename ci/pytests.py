@@ -1,6 +1,6 @@
 """The tests of tests/, over a built program, by pytest: what may run side by side, as much at once as there are
 processors, and beside it what measures times, two at once, to which the others yield the processors."""
-import contextlib, os, re, shutil, subprocess, sys, tempfile, time
+import contextlib, os, re, shutil, signal, subprocess, sys, tempfile, time
 import xml.etree.ElementTree as xml
 
 from definitions import TOP
@@ -67,11 +67,12 @@ class Half:
             suite.tell("FAILED", f"tests {self.name}", f"pytest ends with {status}")
 
     def stop(self):
-        """Ends it with all that it started, if it hasn't ended."""
-        if self.process.poll() is None:
-            with contextlib.suppress(ProcessLookupError):
-                os.killpg(self.process.pid, 15)
-            self.process.wait()
+        """Ends it, if it hasn't ended: as Ctrl-C does, so that the tests stop what they have started."""
+        for ending in signal.SIGINT, signal.SIGKILL:
+            with contextlib.suppress(ProcessLookupError, subprocess.TimeoutExpired):
+                if self.process.poll() is None:
+                    os.killpg(self.process.pid, ending)
+                    self.process.wait(30)
 
 
 def ended(report):
@@ -111,6 +112,7 @@ class OnProgram:
             return
         if not self.is_chosen:
             return
+        signal.signal(signal.SIGTERM, lambda *_: sys.exit(128 + signal.SIGTERM))
         os.makedirs(REPORTS, exist_ok=True)
         room, halves = tempfile.mkdtemp(prefix="holzhebo-tests-"), []
         try:

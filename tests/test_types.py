@@ -1,4 +1,5 @@
-"""The types of the scripts and of the tests are written, and right. What users run is tried as Python 3.9 has it."""
+"""The types of the scripts and of the tests are written, and right; what users run is tried as Python 3.9 has it. The
+tests have no name that nothing uses."""
 import os
 import pytest
 from tests.process import TOP, run
@@ -16,6 +17,11 @@ def test_the_scripts_of_users(room: str) -> None:
 
 def test_the_tests(room: str) -> None:
     run([*MYPY, "--cache-dir", room, "tests"])
+
+
+@pytest.mark.needs("pyflakes3")
+def test_the_names_of_the_tests() -> None:
+    run(["pyflakes3", "tests", "ci/pytests.py", "ci/suite.py"])
 
 
 # What of checks/ has no types.
