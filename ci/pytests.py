@@ -67,12 +67,15 @@ class Half:
             suite.tell("FAILED", f"tests {self.name}", f"pytest ends with {status}")
 
     def stop(self):
-        """Ends it, if it hasn't ended: as Ctrl-C does, so that the tests stop what they have started."""
+        """Ends it with its workers, if they haven't ended: as Ctrl-C does, so that the tests stop what they started."""
         for ending in signal.SIGINT, signal.SIGKILL:
-            with contextlib.suppress(ProcessLookupError, subprocess.TimeoutExpired):
-                if self.process.poll() is None:
-                    os.killpg(self.process.pid, ending)
-                    self.process.wait(30)
+            end = time.time() + 30
+            with contextlib.suppress(ProcessLookupError):
+                os.killpg(self.process.pid, ending)
+                while time.time() < end:
+                    self.process.poll()
+                    os.killpg(self.process.pid, 0)
+                    time.sleep(0.1)
 
 
 def ended(report):
