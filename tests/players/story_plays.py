@@ -17,6 +17,8 @@ from tests.world import new_file
 LIMITS = {"replay": (4000, 5_000_000), "serve": (300, 400_000)}
 # How long a stream is at most that is sent byte by byte, and how many plays one item has.
 SHORT, BATCH = 20_000, 20
+# How many seconds answers are waited for; one that is shorter than wanted is seen only then.
+WAIT = 40
 # Where a stream is cut: `whole`, `bytes` for byte by byte, or after so many bytes.
 Cut = str | int
 
@@ -94,11 +96,13 @@ def play_replay(program: str, story: Story, cut: Cut) -> None:
 
 def play_connection(connection: socket.socket, stream: Stream, cut: Cut, where: str, process: Started) -> None:
     """Plays a stream on a connection. This end of it is closed after the answers, unless one of them is to close it."""
+    connection.settimeout(WAIT)
     send_by_socket(connection, pieces_of(stream, cut), process)
     try:
         got = receive(connection, sum(len(it.text) for it in stream.answers))
-    except TimeoutError:
-        raise Wrong(f"{where}: not all of {len(stream.answers)} answers come") from None
+    except TimeoutError as it:
+        got = it.args[0]
+        compare(stream.answers, got, where)
     was_closed = is_closed(connection)
     if stream.ended != "closed" and not was_closed:
         connection.shutdown(socket.SHUT_WR)

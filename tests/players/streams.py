@@ -86,7 +86,8 @@ def send_by_socket(connection: socket.socket, pieces: Sequence[bytes], process: 
 
 
 def receive(connection: socket.socket, count: float = float("inf")) -> bytes:
-    """The next so many bytes at least, or what comes until the peer closes the connection."""
+    """The next so many bytes at least, or what comes until the peer closes the connection; a TimeoutError has what came
+    before it."""
     parts, length = [], 0
     try:
         while length < count and (part := connection.recv(1 << 16)):
@@ -94,6 +95,8 @@ def receive(connection: socket.socket, count: float = float("inf")) -> bytes:
             length += len(part)
     except ConnectionResetError:
         pass
+    except TimeoutError:
+        raise TimeoutError(b"".join(parts)) from None
     return b"".join(parts)
 
 
