@@ -4,8 +4,9 @@
 
 PATH is a build of `broker` (crates/broker/out/broker if none is given); PATH.by-rattle is the build by Rattle's own
 compiler, which tests that are marked by_both are run on too. Marks: needs("nginx", ..) says which commands a test
-needs; root that it needs to be root; timing that it measures times, and is run while nothing else is; by_hand that it
-takes minutes, and is run with --by-hand. What can't be run fails, or with --allow-not-run is skipped and said."""
+needs; root that it needs to be root; timing that it measures times, so ./test lets it come before others at the
+processors; by_hand that it takes minutes, and is run with --by-hand; first that it takes long, and is begun before the
+others. What can't be run fails, or with --allow-not-run is skipped and said."""
 import os, shutil, sys
 from collections.abc import Iterator
 from typing import Any
@@ -25,9 +26,10 @@ from tests.world import new_file, register, verify
 MARKS = {
     "needs(*commands)": "commands that have to be installed (ci/needs has their packages)",
     "root": "it needs to be root",
-    "timing": "it measures times, so it is run while nothing else is",
+    "timing": "it measures times, so it comes before others at the processors",
     "by_both": "it is run on the builds of both compilers",
     "by_hand": "it takes minutes, and is run with --by-hand",
+    "first": "it takes long, so it is begun before the others",
 }
 
 
@@ -44,12 +46,13 @@ def pytest_configure(config: pytest.Config) -> None:
 
 
 def pytest_collection_modifyitems(config: pytest.Config, items: list[pytest.Item]) -> None:
-    """Leaves out what is run by hand, or all else."""
+    """Leaves out what is run by hand, or all else; and begins with what takes long."""
     wanted = bool(config.getoption("by_hand"))
     left = [it for it in items if bool(it.get_closest_marker("by_hand")) != wanted]
     if left:
         config.hook.pytest_deselected(items=left)
         items[:] = [it for it in items if bool(it.get_closest_marker("by_hand")) == wanted]
+    items.sort(key=lambda it: it.get_closest_marker("first") is None)
 
 
 def pytest_collect_file(file_path: Any, parent: pytest.Collector) -> pytest.Collector | None:

@@ -5,6 +5,7 @@ import sys
 import pytest
 from tests.process import free_port, run
 
+pytestmark = pytest.mark.first
 MACHINE = "findmnt ip systemctl unshare"
 # Each with the commands that it needs.
 SCRIPTS = {

@@ -4,7 +4,7 @@ import os
 import pytest
 from tests.process import TOP, run
 
-pytestmark = pytest.mark.needs("mypy")
+pytestmark = [pytest.mark.needs("mypy"), pytest.mark.first]
 MYPY = ["/usr/bin/python3", "-m", "mypy", "--strict", "--scripts-are-modules"]
 # What Python 3.9 has to run.
 OLDEST = ["client/holzhebo", "client/pages.py", "tools/desk_server.py", "tools/report", "tools/run.py"]
