@@ -19,6 +19,7 @@ STATIC = {
     "the rules of the project": ["ci/house"],
     "the imports": ["ci/imports"],
     "the lists of what has to be believed": ["ci/believed"],
+    "the list of what has to be read": ["ci/read"],
     "the table of times": ["ci/times"],
     "the edits can be made": ["ci/wrong-bodies", "--read"],
     "the judge and the ledger": ["ci/trials"],
