@@ -1,6 +1,6 @@
 // What of one environment may go to another, in an order in which the gate permits each step when its turn comes; or
-// why there is no such order. It knows nothing of the page: client/src/holzhebo/plan.py is the same in another language,
-// and tests/desk/test_plan.py holds both to one another.
+// why there is no such order. It knows nothing of the page: client/src/holzhebo/plan.py is the same in another
+// language, and tests/desk/test_plan.py holds both to one another.
 
 /** A text of each list of words of its own. */
 const key = (...words) => JSON.stringify(words);
@@ -94,10 +94,10 @@ export async function faultsOf(steps, from, to, { gate, matrix }) {
 /** How often two that clash are parted: for an order of all, and for one with a certain step. */
 export const MOST_SPLITS = 500, FEW_SPLITS = 50;
 
-/** What the gate says of a step after others. Which steps are done decides it, and not their order. Done steps only take
- * faults away, but for clashes: a new version that doesn't go with another new one. So without clashes a step that is
- * permitted stays so, and the order is found by doing each as soon as it is permitted. With a clash there is no order
- * of all: the later one of the two is refused. */
+/** What the gate says of a step after others. Which steps are done decides it, and not their order. Done steps only
+ * take faults away, but for clashes: a new version that doesn't go with another new one. So without clashes a step that
+ * is permitted stays so, and the order is found by doing each as soon as it is permitted. With a clash there is no
+ * order of all: the later one of the two is refused. */
 export class Plan {
   constructor({ steps, kept, faults }) {
     const between = (it, other) => (other && faults.bad.get(pairOf(it, other))) ?? [];

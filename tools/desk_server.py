@@ -4,7 +4,7 @@ It listens on 127.0.0.1 only. A token that only reads becomes the office's, of G
 goes through as it is. What isn't a GET, isn't asked of this address, or is asked by another site's page is refused, so
 that such a page can't ask by way of the browser. Nothing is logged. It is for one machine: for a network there are the
 proxies of examples/. Python 3.9 or later, with the standard library only; it isn't part of what is proved."""
-import hmac, http.client, re, socket, socketserver, sys, threading, time
+import hmac, http.client, os, re, socket, socketserver, sys, threading, time
 from typing import Any, Callable, Dict, List, NamedTuple, Tuple
 
 HOST = "127.0.0.1"
@@ -22,9 +22,8 @@ SAFE: Fields = [
     ("x-content-type-options", "nosniff"),
     ("referrer-policy", "no-referrer"),
 ]
-# The files of the page, and nothing else of its folder.
+# The files of the page by their endings, and nothing else of its folder.
 KINDS = {"html": "text/html", "js": "text/javascript", "css": "text/css", "json": "application/json"}
-FILES = "index.html", "desk.js", "desk.css", "desk.json"
 ASKS = re.compile(r"([!-~]+) ([!-~]+) HTTP/1\.[01]")
 FIELD = re.compile(r"([\w!#$%&'*+.^`|~-]+):[ \t]*([\t -~\x80-\xff]*?)[ \t]*", re.ASCII)
 
@@ -66,8 +65,11 @@ class Request(NamedTuple):
 def pages(folder: str) -> Dict[str, Answer]:
     """What is at each path of the page."""
     found = {}
-    for name in FILES:
-        kind = f"{KINDS[name.split('.')[1]]}; charset=utf-8"
+    for name in sorted(os.listdir(folder)):
+        ending = name.rpartition(".")[2]
+        if ending not in KINDS or not os.path.isfile(f"{folder}/{name}"):
+            continue
+        kind = f"{KINDS[ending]}; charset=utf-8"
         with open(f"{folder}/{name}", "rb") as it:
             found[f"/desk/{name}"] = Answer(200, kind, it.read(), [("cache-control", "no-cache")])
     found["/desk/"] = found["/desk/index.html"]

@@ -230,14 +230,24 @@ def names_in(file: str) -> Dict[str, Any]:
 
 
 def name_all(desk: Desk, file: str) -> None:
-    """Gives the page the environments of this file in the place of the demo's."""
+    """Gives the page the environments of this file."""
     try:
         names = names_in(file)
     except (OSError, sqlite3.Error) as why:
         note(f"the page names no environments, since they can't be read: {why}")
         names = {"environments": [], "contacts": {}}
+    give_names(desk, json.dumps(names).encode())
+
+
+def name_demo(desk: Desk) -> None:
+    """Gives the page the environments of the demo."""
+    with open(f"{TOP}/examples/demo-desk.json", "rb") as it:
+        give_names(desk, it.read())
+
+
+def give_names(desk: Desk, names: bytes) -> None:
     usual = desk.pages["/desk/desk.json"]
-    desk.pages["/desk/desk.json"] = Answer(200, usual.kind, json.dumps(names).encode(), usual.fields)
+    desk.pages["/desk/desk.json"] = Answer(200, usual.kind, names, usual.fields)
 
 
 # The broker
@@ -313,6 +323,7 @@ def serve(words: Words, program: str, desk: Desk, file: str, said: IO[bytes]) ->
         desk.is_there = lambda: broker.poll() is None
         if words.file is None:
             fill(broker, f"http://{HOST}:{words.port}")
+            name_demo(desk)
         else:
             name_all(desk, file)
         look()

@@ -103,7 +103,9 @@ class Fleet:
         for name, (gated, strict) in self.marks.items():
             places = self.here if name == self.source else self.there
             deployed = {(p.service, p.instance): p.version for p in places if p.how == "deploy"}
-            it.environments[name] = Environment(gated, strict, deployed, {(p.service, p.version) for p in places if p.how == "release"})
+            it.environments[name] = Environment(
+                gated, strict, deployed, {(p.service, p.version) for p in places if p.how == "release"}
+            )
         for (consumer, version, provider), text in self.contracts.items():
             it.contracts[(consumer, version), provider] = text
         for r in self.results:
@@ -131,6 +133,7 @@ class Fleet:
             yield team, "PUT", contract(consumer, version, provider), pact
         for r in self.results:
             body: Json = {"providerApplicationVersion": r.theirs}
+            more: Json
             if r.outcome in ("claim", "lie"):
                 way, more = "results", {"success": r.outcome == "claim"}
             else:

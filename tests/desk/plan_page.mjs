@@ -1,5 +1,5 @@
-// What desk/plan.js makes of fleets, one a line of JSON on standard input: node plan_page.mjs PLAN, where PLAN is a copy
-// of desk/plan.js whose name ends with .mjs.
+// What desk/plan.js makes of fleets, one a line of JSON on standard input: node plan_page.mjs PLAN, where PLAN is a
+// copy of desk/plan.js whose name ends with .mjs.
 import { createInterface } from 'node:readline';
 import { pathToFileURL } from 'node:url';
 
@@ -11,7 +11,7 @@ async function planned({ from, to, gate, matrix }) {
     asked.push(words);
     return all[JSON.stringify(words)];
   };
-  const questions = { gate: async (...words) => answer(gate, ...words), matrix: async (...words) => answer(matrix, ...words) };
+  const of = all => async (...words) => answer(all, ...words), questions = { gate: of(gate), matrix: of(matrix) };
   const { steps, kept } = stepsOf(from, to), faults = await faultsOf(steps, from, to, questions);
   const plan = new Plan({ steps, kept, faults }), { order, isSure } = plan.largest();
   const left = plan.all.filter(x => !order.includes(x));

@@ -1,5 +1,5 @@
-"""How plans are tried, whoever made them: `holzhebo.plan` by the model of the gate, desk/plan.js by `holzhebo.plan`. Each
-gives up at what is wrong, by an AssertionError that names the fleet's seed."""
+"""How plans are tried, whoever made them: `holzhebo.plan` by the model of the gate, desk/plan.js by `holzhebo.plan`.
+Each gives up at what is wrong, by an AssertionError."""
 from __future__ import annotations
 
 import importlib, itertools, json, os, shutil, subprocess, sys
@@ -42,7 +42,7 @@ def plays(fleet: Fleet, model: Model, plan: Any, order: Iterable[int]) -> bool:
 
 def do(fleet: Fleet, state: Model, plan: Any, x: int) -> int:
     step = plan.steps[x]
-    return state.put(fleet.target, step.how, tuple(step.new), step.instance)
+    return state.put(fleet.target, step.how, (step.new[0], step.new[1]), step.instance)
 
 
 def states(fleet: Fleet, model: Model, plan: Any, subject: Subject) -> dict[frozenset[int], Model]:
@@ -52,7 +52,8 @@ def states(fleet: Fleet, model: Model, plan: Any, subject: Subject) -> dict[froz
     for done in waiting:
         for x in sorted({*plan.all} - done):
             state = found[done].copy()
-            gated, version = state.environments[fleet.target].gated, tuple(plan.steps[x].new)
+            gated, new = state.environments[fleet.target].gated, plan.steps[x].new
+            version = new[0], new[1]
             faults = {subject.steps.fault_of(it) for it in state.faults(version, fleet.target)} if gated else set()
             same(f"the faults of {x} after {set(done)}", {*plan.faults(x, set(done))}, faults)
             if do(fleet, state, plan, x) == 200 and done | {x} not in found:
@@ -111,7 +112,9 @@ def reasons(plan: Any) -> None:
         same(f"an order without all but {faults}", has_order(plan, every - faults), False)
         for less in faults:
             same(f"an order with {less} mended too", has_order(plan, every - faults | {less}), True)
-    same("an order if all were mended", has_order(plan, {*necessary, *(it for each in circles for _, it in each)}), True)
+    same(
+        "an order if all were mended", has_order(plan, {*necessary, *(it for each in circles for _, it in each)}), True
+    )
     others = sorted(every - {*necessary}, key=str)
     for few in range(1, len(circles[0]) if circles and len(others) <= 14 else 0):
         for chosen in itertools.combinations(others, few):
@@ -167,9 +170,9 @@ def questions(subject: Subject, fleet: Fleet, model: Model) -> Json:
     source, target = model.listing(fleet.source), model.listing(fleet.target)
     row: Json = {"from": source, "to": target, "gate": {}, "matrix": {}}
     for it in {it.new for it in subject.steps.steps_of(source, target)[0]}:
-        row["matrix"][words(*it)] = {"rows": model.rows(tuple(it))}
+        row["matrix"][words(*it)] = {"rows": model.rows((it[0], it[1]))}
         for each in fleet.source, fleet.target:
-            row["gate"][words(*it, each)] = {"faults": model.faults(tuple(it), each)}
+            row["gate"][words(*it, each)] = {"faults": model.faults((it[0], it[1]), each)}
     return row
 
 

@@ -80,12 +80,32 @@ PYTHON = {
     "after without who comes": ("plan", "needed.update([y for y in done if y in ys][:1])", "pass"),
     "after without who goes": ("plan", "needed = {y for y in done if y in self.first[x]}", "needed = set()"),
     "a longer circle": ("plan", "or len(found) < len(best)):", "or len(found) > len(best)):"),
-    "one circle only": ("plan", "            ignored.update(fault for _, fault in found[-1])", "            return found"),
-    "clashes are no reason": ("plan", "        found += [fault for row in self.clash for", "        [fault for row in self.clash for"),
-    "absent ones are no reason": ("plan", "        found += [fault for lacks in self.lacks for", "        [fault for lacks in self.lacks for"),
-    "a knot has all": ("plan", "                if not ready:\n                    stuck = more\n", "                if not ready:\n"),
+    "one circle only": (
+        "plan",
+        "            ignored.update(fault for _, fault in found[-1])",
+        "            return found",
+    ),
+    "clashes are no reason": (
+        "plan",
+        "        found += [fault for row in self.clash for",
+        "        [fault for row in self.clash for",
+    ),
+    "absent ones are no reason": (
+        "plan",
+        "        found += [fault for lacks in self.lacks for",
+        "        [fault for lacks in self.lacks for",
+    ),
+    "a knot has all": (
+        "plan",
+        "                if not ready:\n                    stuck = more\n",
+        "                if not ready:\n",
+    ),
     "who calls what goes isn't seen": ("plan", "return self.without(other.old, one) if one.ends else", "return"),
-    "what goes is missed by nobody": ("plan", "return self.between(step, kept) + ended", "return self.between(step, kept)"),
+    "what goes is missed by nobody": (
+        "plan",
+        "return self.between(step, kept) + ended",
+        "return self.between(step, kept)",
+    ),
     "what comes calls what goes": ("plan", "if one.ends != other.ends else []", "if False else []"),
     "an open environment is asked": ("plan_steps", 'if target["gated"] else []\n    bad', "\n    bad"),
 }
@@ -118,13 +138,22 @@ def is_seen(trial: Callable[[int], Any]) -> bool:
 
 SCRIPT = {
     "a release counts as a deployment": ("how: isRelease ? 'release' : 'deploy'", "how: 'deploy'"),
-    "claimed counts as good": ("if (to.strict || it.kind !== 'claimed') found.add(it);", "if (it.kind !== 'claimed') found.add(it);"),
+    "claimed counts as good": (
+        "if (to.strict || it.kind !== 'claimed') found.add(it);",
+        "if (it.kind !== 'claimed') found.add(it);",
+    ),
     "no claims of the matrix": ("to.strict && !from.strict ? all(it => matrix", "false ? all(it => matrix"),
     "an open environment is asked": ("  if (!to.gated) return found;\n", ""),
     "new with new isn't looked at": ("this.clash = table(it => it);", "this.clash = table(() => undefined);"),
     "old ones aren't looked at": ("this.first = table(it => it.old);", "this.first = table(() => undefined);"),
-    "what stays isn't looked at": ("this.fixed = steps.map(it => [...new Set(kept.", "this.fixed = steps.map(it => [...new Set([]."),
-    "greedy for the largest": ("for (const out of [clashes.get(worst), [worst]])", "for (const out of [clashes.get(worst)])"),
+    "what stays isn't looked at": (
+        "this.fixed = steps.map(it => [...new Set(kept.",
+        "this.fixed = steps.map(it => [...new Set([].",
+    ),
+    "greedy for the largest": (
+        "for (const out of [clashes.get(worst), [worst]])",
+        "for (const out of [clashes.get(worst)])",
+    ),
     "after without who comes": ("needed.add(brought[0]);", ";"),
     "clashes are no reason": ("[...this.fixed.flat(), ...clashes, ...nobody]", "[...this.fixed.flat(), ...nobody]"),
     "a longer circle": ("|| found.length < best.length", "|| found.length > best.length"),
@@ -214,7 +243,9 @@ def test_a_search_that_stops_says_so(subject: Subject, room: str) -> None:
     }
 
     def beside(name: str, environment: str) -> Any:
-        return {"faults": [it for it in faults if environment == "staging" and name in (it["consumer"], it["provider"])]}
+        return {
+            "faults": [it for it in faults if environment == "staging" and name in (it["consumer"], it["provider"])]
+        }
 
     class Table:
         def get(self, target: str) -> Any:
@@ -226,8 +257,11 @@ def test_a_search_that_stops_says_so(subject: Subject, room: str) -> None:
     plan = subject.plan.Plan(subject.steps.read(Table(), "staging", "live"))
     order, is_sure = plan.largest()
     same("sure", is_sure, False)
-    gate = {json.dumps([it["pacticipant"], "2", where], separators=(",", ":")): beside(it["pacticipant"], where)
-            for it in deployed for where in listings}
+    gate = {
+        json.dumps([it["pacticipant"], "2", where], separators=(",", ":")): beside(it["pacticipant"], where)
+        for it in deployed
+        for where in listings
+    }
     row = {"from": listings["staging"], "to": listings["live"], "gate": gate, "matrix": {}}
     got = by_node(text_of(f"{TOP}/desk/plan.js"), room, [row])[0]
     same("the page", (got["order"], got["isSure"]), (order, False))

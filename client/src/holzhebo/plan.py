@@ -35,7 +35,8 @@ class Plan:
 
     def without(self, version: Version, step: Step) -> List[Fault]:
         """The faults of a version if what this step ends is gone."""
-        return [it for it in self.situation.without.get(version, []) if step.ends and it.provider == step.new.pacticipant]
+        faults = self.situation.without.get(version, []) if step.ends else []
+        return [it for it in faults if it.provider == step.new.pacticipant]
 
     def with_what_stays(self, step: Step, kept: Sequence[Version]) -> List[Fault]:
         ended = [fault for it in dict.fromkeys(kept) for fault in self.without(it, step)]

@@ -176,7 +176,9 @@ def faults_of(asks: Asks, source: Json, target: Json, news: Sequence[Version]) -
     return list(dict.fromkeys(found))
 
 
-def without_of(asks: Asks, source: Json, versions: Sequence[Version], gone: Sequence[str]) -> Dict[Version, List[Fault]]:
+def without_of(
+    asks: Asks, source: Json, versions: Sequence[Version], gone: Sequence[str]
+) -> Dict[Version, List[Fault]]:
     """Which of these versions call a service that goes: FROM has nothing of it, so that it is absent there."""
     answers = gate_of(asks, versions if gone else [], source["environment"])
     return {it: [each for each in faults if each.provider in gone] for it, faults in zip(versions, answers)}

@@ -18,6 +18,7 @@ SENTENCES = {
     "claimed": "{other} only claims to keep the contract of {one}: send the replies that were recorded",
 }
 GONE = "{one} calls {provider}, which is to go: another version of {consumer} has to do without it"
+LAST = "This is as the broker answers now. Each step is judged again as it is recorded, and a team needs its grant."
 # A version that is a hash, of which so many digits are enough if they say which it is.
 HASH, DIGITS = re.compile("[0-9a-f]{20,}"), 8
 
@@ -87,7 +88,7 @@ class Teller:
             said.append(f"{self.target} isn't gated, so it takes everything in any order.")
         said += self.order(order, is_sure) if order else []
         said += [*self.left(order, left), *self.acts(), *self.circles()] if left else []
-        return [*said, "", "This is as the broker answers now. Each step is judged again as it is recorded, and a team needs its grant."]
+        return [*said, "", LAST]
 
     def order(self, order: List[int], is_sure: bool) -> List[str]:
         steps = self.plan.steps

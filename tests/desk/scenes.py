@@ -1,19 +1,39 @@
 """The scenes of the page of desk/: what is done in the browser, and what is to be seen. Each takes the browser and the
 world in which the page is served."""
-import json, os, re, shutil, time
+import contextlib, json, os, re, shutil, time
 from collections.abc import Callable
 from typing import Protocol
 
-from browser import Answer, Browser, Unseen
-from desk_shown import ASKED, BOARD, INSTEAD, LIVE, LONG, MARKUP, MATRIX, SLASH, STRICT, TODAY, TURNED
-from desk_shown import UNRESULTED, WITHOUT
-from desk_world import DENIED, READER, RED, World, stub, without, write
-from hub import OFFICE, TOP, Wrong, same
+from tests.desk.browser import Answer, Browser, Unseen
+from tests.desk.shown import (
+    ASKED,
+    BOARD,
+    CHANGED,
+    INSTEAD,
+    LIVE,
+    LONG,
+    MARKUP,
+    MATRIX,
+    PROMOTED,
+    READ,
+    RESULTS,
+    SLASH,
+    STOCK,
+)
+from tests.desk.shown import STRICT, TODAY, TURNED, UNRESULTED, WITHOUT
+from tests.desk.world import DENIED, READER, RED, World, stub, write
+from tests.process import TOP
+from tests.wire import OFFICE, Wrong, same
 
 ROUTES = (
-    r"/desk/(desk\.(js|css|json))?|/environments/[^/?]+|/matrix\?pacticipant=[^&]+&version=[^&]+"
+    r"/desk/([a-z]+\.js|desk\.css|desk\.json)?|/environments/[^/?]+|/matrix\?pacticipant=[^&]+&version=[^&]+"
+    r"|/pacts/provider/[^/?]+/consumer/[^/?]+/version/[^/?]+"
     r"|/can-i-deploy\?pacticipant=[^&]+&version=[^&]+&environment=[^&]+"
 )
+
+
+# When a view was answered: with its date and its zone.
+WHEN = r"As the broker answered at \d{4}-\d\d-\d\d \d\d:\d\d:\d\d (UTC|UTC[+−]\d\d:\d\d)\."
 
 
 class Served(Protocol):
@@ -27,13 +47,18 @@ class Served(Protocol):
 
 def shows(page: Browser, view: str) -> None:
     """Goes to the view, and waits until it is there."""
-    page.js("document.getElementById('said').textContent = ''")
+    leaves(page)
     page.js(f"location.hash = {json.dumps('#/' + view)}")
     settled(page)
 
 
+def leaves(page: Browser) -> None:
+    """Marks the view that is there, so that the next one is known from it."""
+    page.js("document.querySelector('#view > *').dataset.old = ''")
+
+
 def settled(page: Browser) -> None:
-    page.wait("document.getElementById('said').textContent", "a view")
+    page.wait("document.querySelector('#view:not(:has(> [data-old]))[aria-busy=false]')", "a view")
 
 
 def texts(page: Browser, chosen: str) -> list[str]:
@@ -60,7 +85,7 @@ def signs_in(page: Browser, world: Served, token: str) -> None:
     page.go("about:blank")
     page.go(world.url)
     page.wait("document.activeElement.id === 'token'", "the field for a token")
-    page.js("document.getElementById('said').textContent = ''")
+    leaves(page)
     page.type(token)
     page.press("Enter")
     settled(page)
@@ -77,7 +102,7 @@ def board(page: Browser, world: Served) -> None:
 
 
 def questions(page: Browser, world: Served) -> None:
-    for view in "ask", "ask/shop/1.4", "matrix", "matrix/shop", "environment":
+    for view in "ask", "ask/shop/1.4", "matrix", "matrix/shop", "environment", "promote", "contract/stock/shop":
         shows(page, view)
         same(f"an answer's time in the form {view}", texts(page, ".when"), [])
     shows(page, "ask")
@@ -92,20 +117,22 @@ def questions(page: Browser, world: Served) -> None:
         same(
             f"{question}: what is said aloud",
             text(page, "#said[role=status][aria-live=polite]"),
-            f"Can it go? {verdict}",
+            verdict,
         )
-        same(
-            f"{question}: when",
-            bool(re.fullmatch(r"As the broker answered at \d\d:\d\d:\d\d\.", text(page, ".when"))),
-            True,
-        )
+        same(f"{question}: when", bool(re.fullmatch(WHEN, text(page, ".when"))), True)
+        same(f"{question}: the title", page.js("document.title"), "Can it go? – Release desk")
 
 
 def matrix(page: Browser, world: World) -> None:
     shows(page, "matrix/shop/1.4")
     same("the matrix of shop 1.4", cells(page), MATRIX)
     borders = page.js("[...document.querySelectorAll('.result')].map(it => getComputedStyle(it).borderTopStyle)")
-    same("borders of claimed and checked", borders, ["dashed", "dashed", "solid", "dashed", "dashed", "dashed"])
+    same("borders of claimed and checked", borders, ["dashed", "dashed", "solid", "dashed", "dashed"])
+    page.js("document.querySelector('tbody details').open = true")
+    page.wait("document.querySelector('tbody details a')", "the other version")
+    same("what is folded", texts(page, "tbody details a"), ["6"])
+    shows(page, "matrix/stock/1.0")
+    same("the matrix of stock 1.0", cells(page), STOCK)
     shows(page, "matrix/web/7")
     same("the matrix of web 7", cells(page), UNRESULTED)
     shows(page, "matrix/stock/2.0/more")
@@ -120,11 +147,46 @@ def environment(page: Browser, world: World) -> None:
     same("the environments", text(page, "main > p:first-of-type"), "Environments: dev staging live")
 
 
+def promote(page: Browser, world: World) -> None:
+    """What may go from one environment to the next: in order, or who has to act."""
+    shows(page, "promote")
+    same("the environments to choose from", texts(page, "select[id=to] option"), ["dev", "staging", "live"])
+    for two, (verdict, left, acts, order, only) in PROMOTED.items():
+        shows(page, f"promote/{two}")
+        same(f"{two}: verdict", texts(page, ".verdict"), [verdict])
+        same(f"{two}: said aloud", text(page, "#said"), verdict)
+        same(f"{two}: not in the order", texts(page, "ul.steps > li"), left)
+        same(f"{two}: who has to act", texts(page, ".todo"), acts)
+        same(f"{two}: the order", texts(page, "ol.steps > li"), order)
+        stays = [it for it in texts(page, "main > .act") if it.startswith("Only")]
+        same(f"{two}: what stays", stays, [only] if only else [])
+    shows(page, "board")
+    same("its way there", texts(page, "main a[href^='#/promote']"), ["dev to staging", "staging to live"])
+
+
+def contract(page: Browser, world: World) -> None:
+    """What a contract says, how it went, and what changed in it."""
+    shows(page, "contract/stock/shop/1.4")
+    parts = texts(page, ".interaction > h3, .part h4, .part p, .part pre, .rules li")
+    same("the contract of shop 1.4", parts, READ)
+    same("its latest results", texts(page, ".results li"), RESULTS)
+    same("since when", texts(page, "main a[href$='/1.4/1.3']"), ["1.3 (staging, live)"])
+    shows(page, "contract/stock/shop/1.4/1.3")
+    signed = [[it[2:].strip() for it in texts(page, f".changes .{kind}")] for kind in ("gone", "new")]
+    same("what changed", tuple(signed), CHANGED)
+    shows(page, "contract/stock/shop/1.4/1.4")
+    same("nothing changed", text(page, "h3 + p"), "Nothing: both have one contract.")
+    for view, count in ("ask/shop/1.4/live", 4), ("matrix/shop/1.4", 5), ("promote/dev/staging", 4):
+        shows(page, view)
+        same(f"links to contracts of {view}", len(texts(page, "main a[href^='#/contract/']")), count)
+
+
 def alone(page: Browser, what: str, sentence: str) -> None:
     """The sentence of a failure is there, and nothing of an earlier answer."""
     same(what, text(page, "main"), f"No answer to show {sentence} Ask again")
     same(f"{what}: role", texts(page, "main [role=alert]"), [sentence])
-    same(f"{what}: said aloud", text(page, "#said"), "No answer to show")
+    same(f"{what}: said aloud, beside the alert and the heading", text(page, "#said"), "")
+    same(f"{what}: where the keyboard is", page.js("document.activeElement.innerText"), "No answer to show")
 
 
 def asks_in_vain(page: Browser, what: str, view: str, sentence: str) -> None:
@@ -162,7 +224,7 @@ def others(page: Browser, world: World) -> None:
 
 
 def again(page: Browser) -> None:
-    page.js("document.getElementById('said').textContent = ''")
+    leaves(page)
     page.js("document.querySelector('main button:last-of-type').click()")
     settled(page)
 
@@ -172,7 +234,7 @@ def stopped(page: Browser, world: World) -> None:
     signs_in(page, world, READER)
     shows(page, "ask/web/5/live")
     busy = "The proxy answers 502: the broker isn’t running, is being started, or is busy. Ask again in some seconds."
-    with without(world.server):
+    with world.without_broker():
         shows(page, "ask/shop/1.4/live")
         alone(page, "502", busy)
         for what, status, body, sentence in INSTEAD:
@@ -181,12 +243,12 @@ def stopped(page: Browser, world: World) -> None:
                 alone(page, what, sentence)
     again(page)
     same("started again", texts(page, ".verdict"), ["✕ shop 1.4 may not go to live."])
-    with without(world.nginx):
+    with world.without_proxy():
         shows(page, "ask/web/6/live")
         alone(page, "no network", WITHOUT)
     again(page)
     same("with a network again", texts(page, ".verdict"), ["✓ web 6 may go to live."])
-    with without(world.server), stub(world.server.port, 401, DENIED):
+    with world.without_broker(), stub(world.server.port, 401, DENIED):
         shows(page, "ask/shop/1.4/live")
         same("401 after a verdict", text(page, "main [role=alert]"), "The broker doesn’t know this token.")
         same("no verdict beside it", "may" in text(page, "main"), False)
@@ -196,20 +258,17 @@ def stopped(page: Browser, world: World) -> None:
 def put_hostile(world: World) -> None:
     """Services, a version, an instance, an environment by names that would be markup, or turn what is around them."""
     server = world.server
-    server.do(OFFICE, "PUT /environments/a%2Fb", '{"gated":false}')
-    server.do(OFFICE, "PUT /grants/team/red/environment/a%2Fb")
+    server.do("PUT", "/environments/a%2Fb", OFFICE, '{"gated":false}')
+    server.do("PUT", "/grants/team/red/environment/a%2Fb", OFFICE)
     for name in MARKUP, TURNED, SLASH, LONG:
-        server.do(OFFICE, "PUT /pacticipants/" + quoted(name), '{"team":"red"}')
-        server.do(RED, f"PUT /pacticipants/{quoted(name)}/versions/{quoted(MARKUP)}")
+        server.do("PUT", "/pacticipants/" + quoted(name), OFFICE, '{"team":"red"}')
+        server.do("PUT", f"/pacticipants/{quoted(name)}/versions/{quoted(MARKUP)}", RED)
     contract = {"consumer": {"name": MARKUP}, "provider": {"name": TURNED}, "interactions": []}
-    server.do(
-        RED,
-        f"PUT /pacts/provider/{quoted(TURNED)}/consumer/{quoted(MARKUP)}/version/{quoted(MARKUP)}",
-        json.dumps(contract),
-    )
+    path = f"/pacts/provider/{quoted(TURNED)}/consumer/{quoted(MARKUP)}/version/{quoted(MARKUP)}"
+    server.do("PUT", path, RED, json.dumps(contract))
     for name in MARKUP, TURNED, SLASH, LONG:
         body = {"pacticipant": name, "version": MARKUP, "instance": TURNED}
-        server.do(RED, "POST /environments/a%2Fb/deployments", json.dumps(body))
+        server.do("POST", "/environments/a%2Fb/deployments", RED, json.dumps(body))
 
 
 def quoted(name: str) -> str:
@@ -217,28 +276,36 @@ def quoted(name: str) -> str:
 
 
 def hostile(page: Browser, world: World) -> None:
-    if world.server.ask(OFFICE, "GET /environments/a%2Fb")[0] == 404:
+    if world.server.ask("GET", "/environments/a%2Fb").status == 404:
         put_hostile(world)
-    write(f"{world.nginx.page}/desk.json", json.dumps({"environments": [SLASH], "contacts": {TURNED: MARKUP}}))
+    write(f"{world.page}/desk.json", json.dumps({"environments": [SLASH], "contacts": {TURNED: MARKUP}}))
     signs_in(page, world, READER)
     turned, instance = f"{TURNED} (with U+202E)", f"{MARKUP} deployed as {TURNED} (with U+202E)"
     wanted = [["service", "a/b open"], [MARKUP, instance], [SLASH, instance], [LONG, instance], [turned, instance]]
     same("hostile names on the board", cells(page), wanted)
     apart(page)
-    page.js("document.getElementById('said').textContent = ''; document.querySelector('tbody a').click()")
+    leaves(page)
+    page.js("document.querySelector('tbody a').click()")
     settled(page)
     same("a link to a hostile name", text(page, "h2"), f"The matrix of {MARKUP} {MARKUP}")
     shows(page, f"ask/{quoted(MARKUP)}/{quoted(MARKUP)}/a%2Fb")
     why = f"missing {turned} {MARKUP} has no result for the contract of {MARKUP} {MARKUP}."
     act = f"To act: the team of {turned} ({MARKUP}): verify the contract, and send the result."
-    same("hostile names in a reason", texts(page, ".reasons > li"), [f"{why} {act}"])
+    same("hostile names in a reason", texts(page, ".reasons > li"), [f"{why} {act} the contract"])
     apart(page)
     page.look(320, "light")
-    for view in "board", "environment/a%2Fb", f"matrix/{LONG}/{quoted(MARKUP)}", f"ask/{LONG}/{quoted(MARKUP)}/a%2Fb":
+    for view in (
+        "board",
+        "environment/a%2Fb",
+        f"matrix/{LONG}/{quoted(MARKUP)}",
+        f"ask/{LONG}/{quoted(MARKUP)}/a%2Fb",
+        f"contract/{quoted(TURNED)}/{quoted(MARKUP)}/{quoted(MARKUP)}",
+        "promote/a%2Fb/live",
+    ):
         shows(page, view)
         same(f"how wide {view[:20]} is", page.js("document.documentElement.scrollWidth"), 320)
     page.look(1000, "light")
-    shutil.copy(f"{TOP}/desk/desk.json", world.nginx.page)
+    shutil.copy(f"{TOP}/examples/demo-desk.json", f"{world.page}/desk.json")
 
 
 def apart(page: Browser) -> None:
@@ -252,7 +319,7 @@ def apart(page: Browser) -> None:
 
 
 def overtaken(page: Browser, world: World) -> None:
-    """An answer that comes late doesn't take the place of the one that was asked for after it."""
+    """A question that is left is given up, and what still comes of it doesn't take the place of the later's answer."""
     signs_in(page, world, READER)
     page.call("Fetch.enable", patterns=[{"urlPattern": "*/can-i-deploy?pacticipant=shop*"}])
     page.js("location.hash = '#/ask/shop/1.4/live'")
@@ -261,8 +328,10 @@ def overtaken(page: Browser, world: World) -> None:
     held = [it["params"]["requestId"] for it in page.events if it["method"] == "Fetch.requestPaused"]
     same("while it is asked", text(page, "main"), "Asking the broker …")
     shows(page, "ask/web/6/live")
+    page.until(lambda: any(it["method"] == "Network.loadingFailed" for it in page.events), "a request that is given up")
     for it in held:
-        page.call("Fetch.continueRequest", requestId=it)
+        with contextlib.suppress(Unseen):  # the browser knows none of them any more
+            page.call("Fetch.continueRequest", requestId=it)
     page.call("Fetch.disable")
     page.js("fetch('desk.json').then(it => it.text())")
     time.sleep(0.3)
@@ -272,24 +341,35 @@ def overtaken(page: Browser, world: World) -> None:
 def keyboard(page: Browser, world: World) -> None:
     """From the token to a verdict by keys alone; each stop is seen."""
     signs_in(page, world, READER)
-    stops = ["Forget the token", "Environments", "Matrix", "Can it go?"]
+    stops = ["Forget the token", "Environments", "Contract", "Matrix", "Can it go?"]
     for stop in stops:
         page.press("Tab", shift=True)
         same("a stop", page.js("document.activeElement.innerText"), stop)
         same(f"the outline of {stop}", page.js("getComputedStyle(document.activeElement).outlineStyle"), "solid")
-    page.js("document.getElementById('said').textContent = ''")
+    leaves(page)
     page.press("Enter")
     settled(page)
     for word in "shop", "1.4":
         page.press("Tab")
         page.type(word)
     page.press("Tab", "ArrowDown", "ArrowDown", "Tab")
-    page.js("document.getElementById('said').textContent = ''")
+    leaves(page)
     page.press("Enter")
     settled(page)
     same("the verdict by keys", texts(page, ".verdict"), ["✕ shop 1.4 may not go to live."])
     same("its address", page.js("location.hash"), "#/ask/shop/1.4/live")
     same("where the keyboard is", page.js("document.activeElement.tagName"), "H2")
+
+
+VIEWS = [
+    "board/today",
+    "ask/shop/1.4/live",
+    "matrix/shop/1.4",
+    "environment/live",
+    "promote/dev/staging",
+    "promote/staging/live",
+    "contract/stock/shop/1.4/1.3",
+]
 
 
 def looks(page: Browser, world: World) -> None:
@@ -298,7 +378,7 @@ def looks(page: Browser, world: World) -> None:
     grounds = []
     for scheme in "light", "dark":
         page.look(320, scheme)
-        for view in "board/today", "ask/shop/1.4/live", "matrix/shop/1.4", "environment/live":
+        for view in VIEWS:
             shows(page, view)
             same(f"how wide {view} is", page.js("document.documentElement.scrollWidth"), 320)
             same(f"contrast of {view}, {scheme}", page.js(FAINT), [])
@@ -347,7 +427,8 @@ def forgotten(page: Browser, world: World) -> None:
     same("the token in what the page stores", READER in held, False)
     stored = page.js("[localStorage.length, sessionStorage.length]") + page.call("Network.getCookies")["cookies"]
     same("what the page stores", stored, [0, 0])
-    page.js("document.getElementById('said').textContent = ''; document.getElementById('forget').click()")
+    leaves(page)
+    page.js("document.getElementById('forget').click()")
     settled(page)
     same("forgotten", text(page, "h2"), "Your token")
     shows(page, "ask/shop/1.4/live")
@@ -355,7 +436,7 @@ def forgotten(page: Browser, world: World) -> None:
 
 
 Scene = Callable[[Browser, World], None]
-GOOD: list[Scene] = [board, questions, matrix, environment]
+GOOD: list[Scene] = [board, questions, matrix, environment, promote, contract]
 SCENES: list[Scene] = [*GOOD, overtaken, keyboard, looks, forgotten, hostile]
 FAILURES: list[Scene] = [unknown, others, stopped]
 

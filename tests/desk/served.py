@@ -1,12 +1,11 @@
-"""What the page's server of ./run answers, for checks/run.py: the files of desk/, GETs that are handed on to the
+"""What the page's server of ./run answers, for test_run.py: the files of desk/, GETs that are handed on to the
 broker, and what it refuses."""
 import contextlib, json, os, socket, time
 from concurrent.futures import ThreadPoolExecutor
 
-from desk import PAGE, POLICY
-from desk_world import DENIED, READER, RED, text_of
-from hub import OFFICE, Caller, same
-from run_world import Running, asks, by, sent
+from tests.desk.running import Running, asks, by, sent
+from tests.desk.world import DENIED, PAGE, POLICY, READER, RED, text_of
+from tests.wire import OFFICE, Caller, same
 
 LISTING = "GET /environments/live"
 SAFE = {
@@ -24,12 +23,12 @@ def safe(what: str, fields: dict[str, str]) -> None:
 
 def files(it: Running) -> None:
     """The four files with their kinds and the policy, and nothing else of the repository."""
-    for name in "", *PAGE, "?a=b":
-        file = name if name in PAGE else "index.html"
+    for name in "", *PAGE, "desk.json", "?a=b":
+        file = f"desk/{name if name in PAGE else 'index.html'}" if name != "desk.json" else "examples/demo-desk.json"
         status, fields, body = asks(it.page, f"GET /desk/{name}")
-        wanted = 200, f"{KINDS[file.split('.')[1]]}; charset=utf-8", "no-cache"
+        wanted = 200, f"{KINDS[file.rpartition('.')[2]]}; charset=utf-8", "no-cache"
         same(f"/desk/{name}", (status, fields["content-type"], fields["cache-control"]), wanted)
-        same(f"the text of /desk/{name}", body, text_of(f"desk/{file}"))
+        same(f"the text of /desk/{name}", body, text_of(file))
         same(f"the length of /desk/{name}", fields["content-length"], str(len(body.encode())))
         safe(f"/desk/{name}", fields)
     for path in "/", "/desk", "/?a":
@@ -45,13 +44,14 @@ def files(it: Running) -> None:
 def caller(it: Running) -> Caller:
     """Who asks its broker itself."""
     broker = Caller()
-    broker.port = it.port
+    broker.address = "127.0.0.1", it.port
     return broker
 
 
 def tokens(it: Running) -> None:
     """The token that only reads is the office's, of GET; any other is the broker's own matter."""
-    shown = caller(it).ask(OFFICE, LISTING)
+    status, _, text = caller(it).ask(*LISTING.split(" "))
+    shown = status, text
     same("the broker's own answer", (shown[0], '"answer":"shown"' in shown[1]), (200, True))
     for host in "127.0.0.1", "localhost", "LOCALHOST":
         status, fields, body = asks(it.page, LISTING, by(READER), host=f"{host}:{it.page}")
@@ -90,8 +90,7 @@ def methods(it: Running) -> None:
     long = f"PUT /teams/green HTTP/1.1\r\nHost: 127.0.0.1:{it.page}\r\nContent-Length: 1000000\r\n\r\n".encode()
     same("PUT with a long body", sent(it.page, long + b"x" * 1000000)[:12], b"HTTP/1.1 405")
     same("the listing afterwards", asks(it.page, LISTING, by(READER))[2], before)
-    granted = caller(it).ask(OFFICE, "PUT /grants/team/red/environment/dev")
-    same("a grant afterwards", granted, (200, '{"answer":"already"}'))
+    caller(it).gives((200, '{"answer":"already"}'), "PUT", "/grants/team/red/environment/dev")
 
 
 def strangers(it: Running) -> None:

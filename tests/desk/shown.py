@@ -16,19 +16,19 @@ TODAY = [
     ["stock", "2.0 ✓ no faults", "1.0 ✓ no faults", "1.0 ✓ no faults 1.1 deployed as canary ✕ refused today, 1 fault"],
     ["web", "7 1 fault", "5 ✓ no faults", "5 ✓ no faults 4 released ✓ no faults"],
 ]
-VERIFY = "verify the contract, and send the result."
+VERIFY = "verify the contract, and send the result. the contract"
 ABSENT = (
     "absent shop 1.4 calls pay, of which no version is in live."
-    " To act: the team of pay (blue): deploy a version of it there first."
+    " To act: the team of pay (blue): deploy a version of it there first. the contract"
 )
 FAILED = (
     "failed stock 1.0 fails the contract of shop 1.4, by its latest result. To act: the team of shop (red) and the"
-    " team of stock (blue): one of them has to change; then a result that passes is needed."
+    " team of stock (blue): one of them has to change; then a result that passes is needed. the contract"
 )
 MISSING = f"missing shop 1.4 has no result for the contract of web 4. To act: the team of shop (red): {VERIFY}"
 CLAIMED = (
     "claimed shop 1.4 only claims to keep the contract of web 5, and live wants it checked."
-    " To act: the team of shop (red): send the replies that were recorded."
+    " To act: the team of shop (red): send the replies that were recorded. the contract"
 )
 OPEN = f"missing shop 1.4 has no result for the contract of web 7. To act: the team of shop (red): {VERIFY}"
 UNVERIFIED = f"missing stock 2.0 has no result for the contract of shop 1.3. To act: the team of stock (blue): {VERIFY}"
@@ -88,8 +88,12 @@ MATRIX = [
         "✓ pass, claimed no. 8",
         "",
     ],
-    ["web 5", "", "", "", "", "✓ pass, claimed no. 9"],
-    ["web 6", "", "", "", "", "✓ pass, claimed no. 9"],
+    ["web 5 in staging, live and 1 other with the same contract", "", "", "", "", "✓ pass, claimed no. 9"],
+]
+STOCK = [
+    ["consumer", "stock 1.0"],
+    ["shop 1.3", "✓ pass, checked no. 1"],
+    ["shop 1.4", "✕ fail, claimed no. 6"],
 ]
 UNRESULTED = [["consumer", "shop"], ["web 7", "? no result"]]
 LIVE = [
@@ -100,6 +104,57 @@ LIVE = [
     ["web", "5", "deployed", "red", "ask the gate"],
     ["web", "4", "released", "red", "ask the gate"],
 ]
+CHANGE = "one of them has to change; then a result that passes is needed."
+# Of a release: the verdict, what isn't in an order, who has to act, the order, and what stays.
+PROMOTED = {
+    "dev/staging": (
+        "✕ 0 of 3 may go: 0 now, 0 after others; 3 not with them.",
+        ["shop 1.4 for 1.3 ↻ not before stock 2.0", "stock 2.0 for 1.0 ↻ not before shop 1.4", "web 7 for 5"],
+        [
+            f"blue {CHANGE} failed ↻ shop 1.4 calls stock 1.0 contract"
+            " verify the contract, and send the result. missing ↻ shop 1.3 calls stock 2.0 contract",
+            "red verify the contract, and send the result. missing web 7 calls shop 1.4 contract"
+            f" {CHANGE} failed ↻ shop 1.4 calls stock 1.0 contract",
+        ],
+        [],
+        "",
+    ),
+    "staging/live": (
+        "✓ 1 of 1 may go: 1 now, 0 after others.",
+        [],
+        [],
+        ["pay 7 new there ✓ now"],
+        "Only live has stock 1.1 (as canary), web 4 (released): this stays there, and is counted.",
+    ),
+    "staging/dev": (
+        "✓ dev is open: it takes each of 3.",
+        [],
+        [],
+        ["shop 1.3 for 1.4 ✓ now", "stock 1.0 for 2.0 ✓ now", "web 5 for 7 ✓ now"],
+        "",
+    ),
+    "live/live": ("✓ All of it is in live already.", [], [], [], ""),
+}
+# The contract of shop 1.4 with stock, by examples/demo.sh, and what changed in it since shop 1.3.
+READ = [
+    "1. a book with its price",
+    "Request",
+    "GET /a-book-with-its-price",
+    "Response",
+    "status 200",
+    "Content-Type: application/json",
+    '{ "title": "Emma" }',
+    "body $.title is of the same type",
+]
+RESULTS = [
+    "✓ pass stock 2.0, claimed, no. 8",
+    "✓ pass stock 1.1, checked, no. 7",
+    "✕ fail stock 1.0, claimed, no. 6",
+]
+CHANGED = (
+    ['"description": "a book",', '"path": "/a-book"'],
+    ['"description": "a book with its price",', '"path": "/a-book-with-its-price"'],
+)
 STRICT = "live strict takes a version only if its providers are here, and the broker checked that each contract passes."
 OLDER = "live|shop|1.3|stock\nlive|web|4|shop\nlive|web|5|shop\nstaging|shop|1.3|stock\nstaging|web|5|shop\n"
 MARKUP, TURNED, SLASH, LONG = "<img src=x onerror=alert(1)>", "pay\u202egnp", "a/b", "n" * 100

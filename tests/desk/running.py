@@ -1,9 +1,12 @@
-"""`./run` while it runs, for checks/run.py: what it says, its processes, how it ends; and a program in the broker's
+"""`./run` while it runs, for test_run.py: what it says, its processes, how it ends; and a program in the broker's
 place that answers oddly."""
+from __future__ import annotations
+
 import contextlib, os, re, secrets, signal, socket, subprocess, tempfile, threading, time
 from typing import Any
 
-from hub import PATIENCE, PROGRAM, TOP, Wrong, free_port, same
+from tests.process import TOP, free_port
+from tests.wire import PATIENCE, Wrong, same
 
 MARK = "HOLZHEBO_CHECK"
 # What listens in the broker's place: what it answers says which head it got, or is no answer of a broker.
@@ -39,8 +42,12 @@ class Running:
 
     process: "subprocess.Popen[str]"
 
-    def __init__(self, room: str, *words: str, program: str = PROGRAM, top: str = TOP, **more: Any) -> None:
+    # The program that is tried.
+    usual = ""
+
+    def __init__(self, room: str, *words: str, program: str | None = None, top: str = TOP, **more: Any) -> None:
         """`more` may have the ports `port` and `page`, and the words `before` the path of ./run."""
+        program = self.usual if program is None else program
         self.room, self.mark = tempfile.mkdtemp(dir=room), secrets.token_hex(8)
         self.port, self.page = more.get("port") or free_port(), more.get("page") or free_port()
         self.url = f"http://127.0.0.1:{self.page}/desk/"

@@ -1,23 +1,31 @@
-#!/usr/bin/env python3
 """`./run`: the page and the broker that it serves, what it refuses, and that all that it has started ends with it.
-Takes a minute and a half.
+running.py has ./run while it runs, served.py what the page's server is asked."""
+from __future__ import annotations
 
-    checks/run.py PROGRAM [WORD]     with a WORD only what has it in its name is tried
+import contextlib, json, os, re, shutil, signal, socket, tempfile, time
+from collections.abc import Callable, Iterator
 
-Needs chromium, curl, sqlite3 and strace. Prints a line for each thing, and ends with 1 if one is otherwise than it has
-to be. run_world.py has ./run while it runs, run_page.py what the page's server is asked."""
-import contextlib, json, os, re, shutil, signal, socket, sys, tempfile, time
-from collections.abc import Callable
-from concurrent.futures import ThreadPoolExecutor
+import pytest
 
-sys.dont_write_bytecode = True
-import run_page
-from browser import Browser, Unseen
-from desk_scenes import board, questions
-from desk_world import READER, RED, text_of, write
-from hub import OFFICE, PROGRAM, TOP, Server, Wrong, each, end_with, free_port, needs, new_file, same
-from hub import run as outcome
-from run_world import ODD, Running, asks, by
+from tests.desk import served
+from tests.desk.browser import Browser, Unseen
+from tests.desk.running import ODD, Running, asks, by
+from tests.desk.scenes import board, questions
+from tests.desk.world import READER, RED, text_of, write
+from tests.process import TOP, Server, free_port
+from tests.process import run as outcome
+from tests.wire import OFFICE, Wrong, same
+from tests.world import new_file
+
+pytestmark = pytest.mark.needs("chromium", "curl", "sqlite3", "strace")
+
+
+@pytest.fixture(scope="module", autouse=True)
+def usual(program: str) -> Iterator[None]:
+    Running.usual = program
+    yield
+    Running.usual = ""
+
 
 BLUE, SHELL = "blue-team-token-0001", "#!/bin/sh\n"
 
@@ -32,7 +40,14 @@ def made(path: str, text: str) -> str:
 def instead(room: str, case: str) -> str:
     """The program, but for what this does before it."""
     folder = tempfile.mkdtemp(dir=room)
-    return made(f"{folder}/broker", f'{SHELL}{case}\nexec "{PROGRAM}" "$@"\n')
+    return made(f"{folder}/broker", f'{SHELL}{case}\nexec "{Running.usual}" "$@"\n')
+
+
+def former() -> str:
+    """A file of a former format, as SQL."""
+    places = f"{TOP}/tests/data/lines/former.sql", f"{TOP}/checks/lines/former.sql"
+    with open(next(it for it in places if os.path.exists(it)), encoding="utf-8") as it:
+        return it.read()
 
 
 # While it serves the demo
@@ -74,7 +89,7 @@ def again_beside(it: Running) -> None:
         with Running(it.room, port=broker, page=page) as other:
             same("what the second one says", other.ends(1), said)
             same("what it has made", other.files(), [])
-    same("whether the first one goes on", asks(it.page, run_page.LISTING, by(READER))[0], 200)
+    same("whether the first one goes on", asks(it.page, served.LISTING, by(READER))[0], 200)
 
 
 def stops(it: Running) -> None:
@@ -82,8 +97,8 @@ def stops(it: Running) -> None:
     file = it.lines[-2].split()[-1]
     wanted = ["ending the page and the broker", f"the file stays; to serve it again: ./run {file}"]
     same("what it says at its end", it.broken_off(0).split("\n")[-2:], wanted)
-    with Server(file) as server:
-        same("the file afterwards", server.ask(OFFICE, "GET /environments/live")[0], 200)
+    with Server(Running.usual, file) as server:
+        same("the file afterwards", server.ask("GET", "/environments/live").status, 200)
     with contextlib.suppress(ConnectionRefusedError):
         asks(it.page, "GET /desk/")
         raise Wrong("the page is there afterwards")
@@ -92,7 +107,7 @@ def stops(it: Running) -> None:
 # How it ends
 
 
-def endings(room: str) -> None:
+def test_endings(room: str) -> None:
     """SIGTERM to it, SIGHUP to its group, and a signal at any moment of its first second."""
     for ending, group in (signal.SIGTERM, False), (signal.SIGHUP, True), (signal.SIGINT, False):
         with Running(room) as it:
@@ -105,7 +120,7 @@ def endings(room: str) -> None:
                 it.broken_off(128 + ending, -ending, 0, ending=ending)
 
 
-def while_it_waits(room: str) -> None:
+def test_while_it_waits(room: str) -> None:
     """A signal while a step takes long: nothing is left of a file that isn't whole."""
     init = instead(room, 'case $1 in init) touch "${2#--file=}"; sleep 600 ;; esac')
     serve = instead(room, "case $1 in serve) sleep 600 ;; esac")
@@ -130,7 +145,7 @@ def while_it_waits(room: str) -> None:
         same("whether a second Ctrl-C waits", time.monotonic() - began < 10, True)
 
 
-def nobody_listens_to_it(room: str) -> None:
+def test_nobody_listens_to_it(room: str) -> None:
     """Its output is closed: it ends too. Under nohup it outlives its terminal."""
     with Running(room, before=["bash", "-c", '"$@" | head -n 2; exit "${PIPESTATUS[0]}"', "bash"]) as it:
         it.ends(141)
@@ -142,14 +157,14 @@ def nobody_listens_to_it(room: str) -> None:
         it.broken_off(0, ending=signal.SIGTERM)
 
 
-def a_broker_that_ends(room: str) -> None:
+def test_a_broker_that_ends(room: str) -> None:
     """It is killed, or says something before its end."""
     with Running(room) as it:
         os.kill(it.serves().broker(), signal.SIGKILL)
         said = it.ends(1)
         wanted = "run: the broker has ended by itself with signal SIGKILL, and says nothing"
         same("what is said of a killed one", wanted in said.split("\n"), True)
-    few = f'case $1 in serve) exec "{PROGRAM}" serve "$2" "$3" --connections=20 ;; esac'
+    few = f'case $1 in serve) exec "{Running.usual}" serve "$2" "$3" --connections=20 ;; esac'
     with Running(room, program=instead(room, few)) as it:
         wanted = "run: the broker has ended by itself with status 0, and says nothing"
         same("what is said of one that ends while it is filled", wanted in it.ends(1).split("\n"), True)
@@ -163,7 +178,7 @@ def a_broker_that_ends(room: str) -> None:
 # Its words
 
 
-def words(room: str) -> None:
+def test_words(room: str) -> None:
     """What it doesn't know, and ports that can't be."""
     for line, said in (
         (["--nothing"], "unrecognized arguments: --nothing"),
@@ -191,7 +206,7 @@ def words(room: str) -> None:
         same("a program that isn't there", it.ends(1), "run: there is no program nowhere")
 
 
-def a_taken_port(room: str) -> None:
+def test_a_taken_port(room: str) -> None:
     """Of something that isn't ./run, on this address or on all, and a port that is taken as the broker begins."""
     for address in "127.0.0.1", "0.0.0.0":
         with socket.create_server((address, 0)) as here:
@@ -213,19 +228,22 @@ def a_taken_port(room: str) -> None:
 # Files
 
 
-def a_file(room: str) -> None:
+def test_a_file(room: str) -> None:
     """One that stays from the demo, by the tokens that are typed, and by one that is made for the page."""
     file, office = f"{room}/kept.db", f"{room}/office.token"
     with Running(room) as it:
         it.serves().broken_off(0)
         for each in it.files():
             shutil.copy(each, f"{room}/kept.db{each.partition('broker.db')[2]}")
-    names = {"environments": ["dev", "live", "staging"], "contacts": json.loads(text_of("desk/desk.json"))["contacts"]}
+    names = {
+        "environments": ["dev", "live", "staging"],
+        "contacts": json.loads(text_of("examples/demo-desk.json"))["contacts"],
+    }
     write(office, f"{OFFICE}\n")
     with Running(room, file) as it:
         same("its token", it.serves().lines[-4], "its token:   type a team's, or the office's")
         for token, status in (OFFICE, 200), (RED, 200), (READER, 401), ("", 401):
-            same(f"the listing by {token}", asks(it.page, run_page.LISTING, by(token))[0], status)
+            same(f"the listing by {token}", asks(it.page, served.LISTING, by(token))[0], status)
         same("desk.json", json.loads(asks(it.page, "GET /desk/desk.json")[2]), names)
         it.broken_off(0)
     made_up = set()
@@ -235,27 +253,27 @@ def a_file(room: str) -> None:
             shown = re.search(r"(?m)^its token:   type ([0-9a-f]{48}), which only reads$", it.serves().said())
             token = shown[1] if shown else ""
             made_up.add(token)
-            same("the listing by it", asks(it.page, run_page.LISTING, by(token))[0], 200)
+            same("the listing by it", asks(it.page, served.LISTING, by(token))[0], 200)
             same("a change by it", asks(it.page, "PUT /teams/green", by(token))[0], 405)
-            same("the demo's token", asks(it.page, run_page.LISTING, by(READER))[0], 401)
+            same("the demo's token", asks(it.page, served.LISTING, by(READER))[0], 401)
             same("whether the office's is said", OFFICE in it.broken_off(0), False)
             same("its files", it.files(), [])
     same("tokens that are made", len(made_up), 2)
 
 
-def other_files(room: str) -> None:
+def test_other_files(room: str) -> None:
     """What can't be served, with what the broker says of it; and tokens that can't be."""
     write(f"{room}/notes", "no database")
     outcome(["sqlite3", f"{room}/other.db", "CREATE TABLE notes (line TEXT)"])
-    outcome(["sqlite3", "-bail", f"{room}/former.db"], text=text_of("checks/lines/former.sql"))
+    outcome(["sqlite3", "-bail", f"{room}/former.db"], text=former())
     explained = "docs/OPERATING.md explains it"
     for name, line in ("notes", "file"), ("other.db", "open 2"), ("former.db", "open 3.1"):
         with Running(room, f"{room}/{name}") as it:
             wanted = f"run: the broker can't serve {room}/{name}: it ends with status 3, and says: {line} ({explained})"
             same(name, it.ends(1).split("\n")[-1], wanted)
     os.mkdir(f"{room}/own")
-    file = new_file(f"{room}/own")
-    with Server(file), Running(room, file) as it:
+    file = new_file(Running.usual, f"{room}/own")
+    with Server(Running.usual, file), Running(room, file) as it:
         same("a file in use", f"and says: file ({explained})" in it.ends(1), True)
     write(f"{room}/short", "short\n")
     write(f"{room}/unknown", "unknown-token-00001\n")
@@ -275,10 +293,10 @@ def other_files(room: str) -> None:
         it.serves().broken_off(0)
 
 
-def command_lines(room: str) -> None:
+def test_command_lines(room: str) -> None:
     """No token is a word of a command line, but the demo's for init, as strace sees it."""
     os.mkdir(f"{room}/traced")
-    file = new_file(f"{room}/traced")
+    file = new_file(Running.usual, f"{room}/traced")
     write(f"{room}/office", OFFICE)
     trace = f"{room}/trace"
     strace = ["strace", "-f", "-qq", "-s", "100000", "-e", "trace=execve", "-o", trace]
@@ -289,10 +307,10 @@ def command_lines(room: str) -> None:
             it.broken_off(0)
         with open(trace, encoding="utf-8") as rows:
             lines = re.findall(r'(?m)^\d+ +execve\("([^"]*)", \[(.*?)\], 0x.* = 0$', rows.read())
-        same("whether the broker is started", any(path == PROGRAM for path, _ in lines), True)
+        same("whether the broker is started", any(path == Running.usual for path, _ in lines), True)
         read = re.findall(r"type (\S+), which", said)
         shown = [line for _, line in lines if re.search(r"-token-0*1", line) or read[0] in line]
-        init = [line for line in shown if f'"{PROGRAM}", "init"' in line and OFFICE in line]
+        init = [line for line in shown if f'"{Running.usual}", "init"' in line and OFFICE in line]
         same("command lines with a token", (len(shown), len(init)), (0, 0) if given else (1, 1))
 
 
@@ -309,10 +327,10 @@ def copied(room: str, build: str) -> str:
     return top
 
 
-def built_first(room: str) -> None:
+def test_built_first(room: str) -> None:
     """Without a program it calls ./build, which may fail or be broken off; nothing is written into the folder."""
     out = "crates/broker/out"
-    good = f'#!/bin/bash\ncd "${{0%/*}}"; echo building; mkdir -p {out}; cp "{PROGRAM}" {out}/broker\n'
+    good = f'#!/bin/bash\ncd "${{0%/*}}"; echo building; mkdir -p {out}; cp "{Running.usual}" {out}/broker\n'
     yet = f"there is no program {out}/broker yet: ./build makes it, which takes about half an hour"
     top = copied(room, good)
     before = sorted(os.path.join(at, name) for at, _, names in os.walk(top) for name in names)
@@ -330,13 +348,13 @@ def built_first(room: str) -> None:
             it.until("building").broken_off(128 + ending, ending=ending)
 
 
-def by_a_link(room: str) -> None:
+def test_by_a_link(room: str) -> None:
     os.symlink(f"{TOP}/run", f"{room}/look")
     with Running(room, before=["sh", "-c", f'shift; exec {room}/look "$@"', "sh"]) as it:
         it.serves().broken_off(0)
 
 
-def tools_that_are_missing(room: str) -> None:
+def test_tools_that_are_missing(room: str) -> None:
     """tools/need: as root it installs by apt-get; else, or if that fails, it says the line to type."""
     folder, log = f"{room}/bin", f"{room}/log"
     os.mkdir(folder)
@@ -376,7 +394,7 @@ def tools_that_are_missing(room: str) -> None:
 # README
 
 
-def readme(room: str) -> None:
+def test_readme(room: str) -> None:
     """Its line, pasted, on ports of its own."""
     block = re.search(r"(?ms)^```\n(# look at it[^`]*?\n)?\./run\n", text_of("README.md"))
     if not block:
@@ -386,34 +404,26 @@ def readme(room: str) -> None:
         it.broken_off(0)
 
 
-def main() -> int:
-    needs("chromium", "curl", "sqlite3", "strace")
-    with tempfile.TemporaryDirectory() as room, ThreadPoolExecutor() as pool:
-        write(f"{room}/any", "any file")
-        with Running(room, f"{room}/any", program=made(f"{room}/odd", ODD)) as strange, Running(room) as it:
-            strange.serves()
-            run_page.odd(strange)
-            waits = [pool.submit(it, strange) for it in named(run_page.a_silent_broker).values()]
-            it.serves()
-            each(named(*OVER_ONE), it)
-            each(named(*ANEW), room)
-            for wait in waits:
-                wait.result()
-                print("ok     a silent broker", flush=True)
-    return 0
+# Over one ./run that serves the demo, in this order; and what is asked of one with a strange broker
 
 
-def named(*trials: Callable[..., None]) -> dict[str, Callable[..., None]]:
-    """These by their names, or those of them that are chosen."""
-    names = {it.__name__.replace("_", " "): it for it in trials}
-    return {name: it for name, it in names.items() if not sys.argv[2:] or sys.argv[2] in name}
+@pytest.fixture(scope="module")
+def one(tmp_path_factory: pytest.TempPathFactory) -> Iterator[Running]:
+    with Running(str(tmp_path_factory.mktemp("one"))) as it:
+        yield it.serves()
 
 
-# What is tried over one ./run, in this order; and what starts its own.
-OVER_ONE = [says, run_page.alone_on_loopback, run_page.files, run_page.tokens, run_page.methods, run_page.strangers]
-OVER_ONE += [run_page.heads, run_page.slow, in_a_browser, again_beside, stops]
-ANEW = [readme, endings, while_it_waits, nobody_listens_to_it, a_broker_that_ends, words, a_taken_port, a_file]
-ANEW += [other_files, command_lines, built_first, by_a_link, tools_that_are_missing]
+OVER_ONE: list[Callable[[Running], None]] = [says, served.alone_on_loopback, served.files, served.tokens]
+OVER_ONE += [served.methods, served.strangers, served.heads, served.slow, in_a_browser, again_beside, stops]
 
-if __name__ == "__main__":
-    end_with(main)
+
+@pytest.mark.parametrize("trial", OVER_ONE, ids=[it.__name__ for it in OVER_ONE])
+def test_the_demo(trial: Callable[[Running], None], one: Running) -> None:
+    trial(one)
+
+
+@pytest.mark.parametrize("trial", [served.odd, served.a_silent_broker], ids=["odd", "a_silent_broker"])
+def test_a_strange_broker(trial: Callable[[Running], None], room: str) -> None:
+    write(f"{room}/any", "any file")
+    with Running(room, f"{room}/any", program=made(f"{room}/strange", ODD)) as it:
+        trial(it.serves())

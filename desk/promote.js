@@ -1,0 +1,167 @@
+// What of one environment may go to another: refused first, by who has to act, then the order of the others.
+import { Failure, canDeploy, listing, matrixOf } from './ask.js';
+import { REASONS, contractLink } from './gate.js';
+import { choice, el, filter, form, heading, link, named, say, tag, versionsAmong } from './nodes.js';
+import { buildOf, go } from './place.js';
+import { Changed, Plan, actors, faultsOf, idOf, placed, stepsOf } from './plan.js';
+
+// How often it is asked again if something changes meanwhile.
+const TRIES = 3;
+
+/** A line that the filter looks at, also by words that aren't shown. */
+const line = (words, ...children) => el('li', { 'data-words': words.join(' ') }, children);
+
+/** What is known: both environments, and the plan. */
+async function known(source, target) {
+  for (let tries = 0; tries < TRIES; tries += 1) {
+    const two = await Promise.all([source, target].map(listing)), [from, to] = two, { steps, kept } = stepsOf(from, to);
+    const questions = { gate: canDeploy, matrix: matrixOf };
+    const faults = await faultsOf(steps, from, to, questions).catch(it => {
+      if (it instanceof Changed) return null;
+      throw it;
+    });
+    const again = faults && await Promise.all([source, target].map(listing));
+    const isSame = again && JSON.stringify(again) === JSON.stringify(two);
+    if (isSame) return { from, to, kept, plan: new Plan({ steps, kept, faults }) };
+  }
+  throw new Failure(say`Something changes while it is looked at.`);
+}
+
+/** Says a plan; `name` shows a version, `team` says whose a service is. */
+class Teller {
+  constructor({ from, to, kept, plan }, settings) {
+    Object.assign(this, { plan, to, settings, steps: plan.steps, contacts: settings.contacts });
+    ({ order: this.order, isSure: this.isSure } = plan.largest());
+    this.name = versionsAmong([...placed(from), ...placed(to)]);
+    this.left = plan.all.filter(x => !this.order.includes(x));
+    this.now = this.order.filter(x => plan.after(x, this.order).length === 0);
+    const here = new Set(placed(from).map(idOf));
+    this.only = kept.filter(it => !here.has(idOf(it)));
+    this.circles = plan.circles();
+    const next = circle => circle.map(([x], at) => [x, circle[(at + 1) % circle.length][0]]);
+    this.ring = new Map(this.circles.flatMap(next));
+  }
+
+  named(x) {
+    const { pacticipant, version } = this.steps[x];
+    return this.name(pacticipant, version);
+  }
+
+  names(xs) {
+    return xs.flatMap((x, at) => [at ? ', ' : '', this.named(x)]);
+  }
+
+  words(x) {
+    const it = this.steps[x];
+    return [it.pacticipant, it.version, it.old?.version ?? '', String(this.contacts.get(it.pacticipant) ?? '')];
+  }
+
+  /** Whether all of it may go, and how much of it. */
+  verdict() {
+    const { steps, order, left, now } = this, to = this.to.environment, waits = order.length - now.length;
+    const yes = (...children) => el('p', { class: 'verdict yes' }, '✓ ', children);
+    if (steps.length === 0) return yes(say`All of it is in ${to} already.`);
+    if (!this.to.gated) return yes(say`${to} is open: it takes each of ${String(steps.length)}.`);
+    const counts = `${order.length} of ${steps.length} may go: ${now.length} now, ${waits} after others`;
+    if (left.length === 0) return yes(counts, '.');
+    return el('p', { class: 'verdict no' }, `✕ ${counts}; ${left.length} not with them.`);
+  }
+
+  /** A step: the version, which leads to what the gate says of it now; its place; what is in that now. */
+  step(x) {
+    const it = this.steps[x], as = it.instance ? say` as ${it.instance}` : '';
+    const where = it.how === 'release' ? ' as a release' : as;
+    const old = it.old ? [' for ', this.name(it.pacticipant, it.old.version).lastChild] : ' new there';
+    const version = link(this.named(x), 'ask', it.pacticipant, it.version, this.to.environment);
+    return [version, where, el('small', {}, old, buildOf(this.settings, it))];
+  }
+
+  ordered() {
+    const { plan, order } = this;
+    const item = x => {
+      const after = plan.after(x, order).map(y => order.indexOf(y) + 1);
+      const when = after.length ? tag(`after ${after.join(', ')}`) : tag('✓ now', 'yes');
+      return line(this.words(x), this.step(x), ' ', when);
+    };
+    const title = this.left.length ? 'The others may go in this order' : 'It may go in this order';
+    const unsure = this.isSure ? '' : el('p', { class: 'act unsure' }, UNSURE);
+    return el('section', {}, el('h3', {}, title), unsure, el('ol', { class: 'steps' }, order.map(item)));
+  }
+
+  /** What no order brings there: what it waits for, or without what it may go. */
+  stays() {
+    const { plan, order, left, ring } = this, acts = new Set(plan.necessary()), all = new Set(plan.all);
+    const why = (text, xs) => (xs.length > 0 ? [text, this.names(xs)] : '');
+    const item = x => {
+      const isOwn = ring.has(x) || plan.found(x, all).some(it => acts.has(it));
+      const needs = y => plan.first[x].has(y) || plan.lacks[x].some(([, ys]) => ys.includes(y));
+      const instead = plan.largest(x).order, without = instead.length ? order.filter(y => !instead.includes(y)) : [];
+      const circle = ring.has(x) ? [ring.get(x)] : [];
+      const ways = [why(' ↻ not before ', circle), why(' waits for ', isOwn ? [] : left.filter(needs)),
+        why(' may go without ', without)];
+      return line(this.words(x), this.step(x), ways);
+    };
+    const title = el('h3', {}, 'Refused with the others, until somebody acts');
+    const note = ring.size > 0 ? el('p', { class: 'act' }, CIRCLE) : '';
+    return el('section', {}, title, el('ul', { class: 'steps' }, left.map(item)), note);
+  }
+
+  /** A side of a fault; of what only is there also how. */
+  side(pacticipant, version) {
+    const mine = this.only.filter(it => it.pacticipant === pacticipant && it.version === version);
+    const deployed = it => (it.instance ? say`, there as ${it.instance}` : ', there');
+    const as = it => (it.how === 'release' ? ', released there' : deployed(it));
+    return [this.name(pacticipant, version), mine.length ? el('small', {}, mine.map(as)) : ''];
+  }
+
+  pair(fault, isInRing) {
+    const { consumer, consumerVersion, provider, providerVersion, kind } = fault;
+    const called = kind === 'absent' ? named(provider) : this.side(provider, providerVersion);
+    const text = [isInRing ? ' ↻ ' : ' ', this.side(consumer, consumerVersion), ' calls ', called, ' '];
+    return line([consumerVersion, providerVersion ?? ''], tag(kind, 'no'), text, contractLink(fault, 'contract'));
+  }
+
+  /** What each team has to do: by team, then by kind. A service without a contact is a team of its own. */
+  acts() {
+    const inRing = new Set(this.circles.flat().map(([, fault]) => fault)), teams = new Map();
+    for (const fault of [...this.plan.necessary(), ...inRing]) {
+      for (const service of actors(fault)) {
+        const team = String(this.contacts.get(service) ?? service), kinds = teams.get(team) ?? new Map();
+        teams.set(team, kinds.set(fault.kind, new Set([...kinds.get(fault.kind) ?? [], fault])));
+      }
+    }
+    const kind = ([each, all]) => el('div', { class: 'pairs' }, el('p', { class: 'act' }, REASONS[each].act),
+      el('ul', {}, [...all].map(it => this.pair(it, inRing.has(it)))));
+    const todo = ([team, kinds]) =>
+      el('div', { class: 'todo' }, el('h4', {}, named(team)), el('div', {}, [...kinds].map(kind)));
+    const sorted = [...teams].sort(([one], [other]) => (one < other ? -1 : 1));
+    return el('section', {}, el('h3', {}, 'Who has to act'), sorted.map(todo));
+  }
+
+  /** What only the other environment has, and no step is about. */
+  stayers() {
+    const { only } = this, to = this.to.environment;
+    if (only.length === 0) return '';
+    const as = it => (it.how === 'release' ? ' (released)' : it.instance ? [' (as ', named(it.instance), ')'] : '');
+    const names = only.map((it, at) => [at ? ', ' : '', this.name(it.pacticipant, it.version), as(it)]);
+    return el('p', { class: 'act' }, 'Only ', named(to), ' has ', names, ': this stays there, and is counted.');
+  }
+}
+
+const CIRCLE = '↻ Neither can go before the other, nor as another instance: one of the pairs marked so has to pass.';
+const UNSURE = 'Not all orders were looked at: a longer one may exist.';
+const GRANTS = 'Which team has a grant isn’t known here. Each step is judged again as it is recorded.';
+
+export async function promote(settings, source, target) {
+  const names = [...new Set([...settings.environments, source, target].filter(Boolean))];
+  const fields = [choice('from', names, source), choice('to', names, target ?? names.at(-1))];
+  const words = form('Show', fields, (...them) => go('promote', ...them));
+  if (!(source && target)) return [heading('What may go from one environment to another?'), words];
+  const it = new Teller(await known(source, target), settings), parts = [];
+  if (it.left.length) parts.push(it.stays(), it.acts());
+  if (it.order.length) parts.push(it.ordered());
+  const looks = { rows: 'li', holders: '.pairs, .todo', hint: 'a service, a version, a team' };
+  const sieve = parts.length ? filter(parts, looks).node : '';
+  const top = [heading('What of ', named(source), ' may go to ', named(target), '?'), words];
+  return [top, it.verdict(), sieve, parts, it.stayers(), el('p', { class: 'act' }, GRANTS)];
+}
