@@ -110,6 +110,7 @@ async function ask(path, names, fields) {
 
 function refusal(status, answer, names) {
   const code = String(status), what = answer?.what;
+  if (status === 401 && !token) return say`You aren’t signed in any more: load this page again.`;
   if (status === 401) return say`The broker doesn’t know this token.`;
   if (status === 429) return say`The proxy answers 429: too much was asked at once. Ask again in some seconds.`;
   if (typeof answer?.answer !== 'string') return status >= 502 && status <= 504
@@ -179,12 +180,13 @@ export async function settings() {
   return { environments, contacts: new Map(Object.entries(contacts ?? {})), builds, who };
 }
 
-/** Who put what where, by the proxy's log, if desk.json names its file: a list, and since when it is. */
-export async function whoDid({ who }) {
-  if (typeof who !== 'string' || !/^[\w.-]+$/.test(who)) return null;
-  const { status, text } = await fetched(who, {}), found = parsed(text);
-  const line = { environment: TEXT, pacticipant: TEXT, version: TEXT, team: TEXT, time: TEXT };
-  return status === 200 && has(found, { since: MAYBE, changes: [line] }) ? found : null;
+/** Who put what into an environment, oldest first, as `holzhebo who ENVIRONMENT --json` writes it, if desk.json says that
+ * such files are beside it; nothing if there is none. */
+export async function whoDid({ who }, environment) {
+  if (who !== true) return [];
+  const { status, text } = await fetched(`who-${encodeURIComponent(environment)}.json`, {}), found = parsed(text);
+  const line = { change: TEXT, pacticipant: TEXT, version: TEXT, instance: TEXT, team: TEXT, time: TEXT };
+  return status === 200 && has({ found }, { found: [line] }) ? found : [];
 }
 
 /** How far a view is that asks much. */

@@ -39,20 +39,30 @@ async function today(service, number, environment) {
   }
 }
 
+// The changes that put a version somewhere.
+const PUTS = ['deployments', 'releases'];
+
 /** Who put it there, and when, if the proxy's log says so. */
-function when(who, environment, service, it) {
-  const found = who?.changes.filter(each => each.environment === environment && each.pacticipant === service
-    && each.version === it.version && (each.instance ?? '') === it.instance).at(-1);
+function when(who, service, it) {
+  const isIt = each => PUTS.includes(each.change) && each.pacticipant === service && each.version === it.version
+    && each.instance === it.instance;
+  const found = who.filter(isIt).at(-1);
   return found ? el('small', { class: 'who' }, found.time.slice(0, 10), ' by ', named(found.team)) : '';
 }
 
-function cell(all, service, others, who, marks) {
+/** Since when the log is that says it. */
+function since(lists) {
+  const first = lists.flatMap(it => it.slice(0, 1)).map(it => it.time).sort()[0];
+  return first ? el('p', { class: 'act' }, `Who put it there: by the proxy’s log, since ${first}.`) : '';
+}
+
+function cell(all, service, others, marks) {
   const lines = itemsOf(all, service).map(it => {
     const how = it.how === 'deployed' ? '' : [' ', it.how];
     const place = marks ? el('span', { class: 'mark' }, tag('…')) : '';
     if (marks) marks.push({ service, version: it.version, environment: all.environment, place });
     const shown = link(numbered(it.version, others), 'matrix', service, it.version);
-    return el('div', {}, shown, how, marks ? [' ', place] : '', when(who, all.environment, service, it));
+    return el('div', {}, shown, how, marks ? [' ', place] : '', when(all.who, service, it));
   });
   if (all.lacks) return el('td', { class: 'none' });
   return lines.length ? el('td', {}, lines) : el('td', { class: 'none' }, '–');
@@ -89,10 +99,12 @@ const NOTHING = 'desk.json beside this page names no environments yet: no route 
 export async function board(settings, which) {
   const asks = which === 'today', { environments } = settings;
   if (environments.length === 0) return [heading('What is where'), el('p', {}, NOTHING)];
-  const [all, who] = await Promise.all([listings(environments), whoDid(settings)]), marks = asks ? [] : null;
+  const marks = asks ? [] : null;
+  const all = await Promise.all((await listings(environments)).map(async it =>
+    ({ ...it, who: await whoDid(settings, it.environment) })));
   const services = [...new Set(all.flatMap(servicesOf))].sort();
   const numbers = service => all.flatMap(it => itemsOf(it, service)).map(it => it.version);
-  const row = service => [named(service), ...all.map(it => cell(it, service, numbers(service), who, marks))];
+  const row = service => [named(service), ...all.map(it => cell(it, service, numbers(service), marks))];
   const name = it => link(named(it.environment), 'environment', it.environment);
   const head = it => [name(it), ' ', tag(it.lacks ? 'unknown' : mark(it))];
   const grid = table('Services down, environments across', ['service', ...all.map(head)], services.map(row));
@@ -109,9 +121,8 @@ export async function board(settings, which) {
   const hides = it => only.box.checked && !('refused' in it.dataset);
   const sieve = filter([grid], { rows: 'tbody tr', hides, hint: 'a service, a version' });
   const tools = el('div', { class: 'tools' }, sieve.node, asks ? only.node : '');
-  const known = `Who and when by the proxy’s log since ${who?.since ?? 'its first line'}.`;
-  const since = who ? el('p', { class: 'act' }, known) : '';
-  const nodes = [heading('What is where'), asks ? said : '', tools, lacks, grid, el('p', {}, turned), next, since];
+  const nodes = [heading('What is where'), asks ? said : '', tools, lacks, grid, el('p', {}, turned), next,
+    since(all.map(it => it.who))];
   return asks ? { nodes, later: marked(marks, said) } : nodes;
 }
 
@@ -119,14 +130,14 @@ export async function environment(settings, name) {
   const { environments, contacts } = settings;
   const others = el('p', {}, 'Environments: ', environments.map(it => [link(named(it), 'environment', it), ' ']));
   if (!name) return [heading('An environment'), others];
-  const [all, who] = await Promise.all([listing(name), whoDid(settings)]);
+  const [all, who] = await Promise.all([listing(name), whoDid(settings, name)]);
   const means = el('p', {}, named(name), ' ', tag(mark(all)), ` ${MEANS[mark(all)]}.`);
   const team = it => (contacts.has(it) ? named(String(contacts.get(it))) : '');
   const row = (service, it) => [named(service), [link(numbered(it.version), 'matrix', service, it.version),
-    buildOf(settings, { pacticipant: service, version: it.version })], [it.how, ' ', when(who, name, service, it)],
+    buildOf(settings, { pacticipant: service, version: it.version })], [it.how, ' ', when(who, service, it)],
     team(service), link('ask the gate', 'ask', service, it.version, name)];
   const rows = servicesOf(all).sort().flatMap(service => itemsOf(all, service).map(it => row(service, it)));
   const heads = ['service', 'version', 'how', 'team', 'today'];
   const body = rows.length ? table('What is there', heads, rows) : el('p', {}, 'Nothing is there.');
-  return [heading('What is in ', named(name)), others, means, body];
+  return [heading('What is in ', named(name)), others, means, body, since([who])];
 }

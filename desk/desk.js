@@ -45,7 +45,7 @@ function again() {
 }
 
 function trouble({ sentence, status }) {
-  if (status === 401) return signIn(sentence);
+  if (status === 401 && !mayAsk()) return signIn(sentence);
   return [heading('No answer to show'), el('p', { role: 'alert', class: 'trouble' }, sentence), again()];
 }
 

@@ -6,6 +6,7 @@ function textOf(it) {
   const copy = it.cloneNode(true);
   for (const each of copy.querySelectorAll('.short')) each.textContent = each.dataset.whole;
   for (const each of copy.querySelectorAll('details > p, button')) each.remove();
+  for (const each of copy.querySelectorAll('div, p, li')) each.prepend(' ');
   return copy.textContent.replace(/\s+/g, ' ').trim();
 }
 

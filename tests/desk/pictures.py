@@ -2,7 +2,7 @@
 import os, sys, tempfile
 
 from tests.desk.browser import Browser
-from tests.desk.scenes import shows, signs_in
+from tests.desk.seen import shows, signs_in
 from tests.desk.world import READER, World
 from tests.process import TOP
 

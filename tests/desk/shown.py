@@ -16,6 +16,7 @@ TODAY = [
     ["stock", "2.0 ✓ no faults", "1.0 ✓ no faults", "1.0 ✓ no faults 1.1 deployed as canary ✕ refused today, 1 fault"],
     ["web", "7 1 fault", "5 ✓ no faults", "5 ✓ no faults 4 released ✓ no faults"],
 ]
+CHANGE = "one of them has to change; then a result that passes is needed."
 VERIFY = "verify the contract, and send the result. the contract"
 ABSENT = (
     "absent shop 1.4 calls pay, of which no version is in live."
@@ -104,7 +105,6 @@ LIVE = [
     ["web", "5", "deployed", "red", "ask the gate"],
     ["web", "4", "released", "red", "ask the gate"],
 ]
-CHANGE = "one of them has to change; then a result that passes is needed."
 # Of a release: the verdict, what isn't in an order, who has to act, the order, and what stays.
 PROMOTED = {
     "dev/staging": (
@@ -159,6 +159,54 @@ STRICT = "live strict takes a version only if its providers are here, and the br
 OLDER = "live|shop|1.3|stock\nlive|web|4|shop\nlive|web|5|shop\nstaging|shop|1.3|stock\nstaging|web|5|shop\n"
 MARKUP, TURNED, SLASH, LONG = "<img src=x onerror=alert(1)>", "pay\u202egnp", "a/b", "n" * 100
 
+BUILDS = "https://ci.example.org/b/{pacticipant}/{version}"
+WHO = [
+    {
+        "change": "deployments",
+        "instance": "",
+        "pacticipant": "shop",
+        "team": "blue",
+        "time": "2026-11-01T08:00:00+00:00",
+        "version": "1.3",
+    },
+    {
+        "change": "deployments",
+        "instance": "",
+        "pacticipant": "shop",
+        "team": "red",
+        "time": "2026-11-02T08:00:00+00:00",
+        "version": "1.3",
+    },
+    {
+        "change": "undeployments",
+        "instance": "",
+        "pacticipant": "stock",
+        "team": "red",
+        "time": "2026-11-02T09:00:00+00:00",
+        "version": "1.0",
+    },
+    {
+        "change": "deployments",
+        "instance": "canary",
+        "pacticipant": "stock",
+        "team": "<b>",
+        "time": "2026-11-03T08:00:00+00:00",
+        "version": "1.1",
+    },
+]
+WITH_WHO = [
+    ["service", "dev open", "nowhere unknown", "live strict"],
+    ["pay", "7", "", "–"],
+    ["shop", "1.4", "", "1.3 2026-11-02 by red"],
+    ["stock", "2.0", "", "1.0 1.1 deployed as canary 2026-11-03 by <b>"],
+    ["web", "7", "", "5 4 released"],
+]
+TICKET = [
+    "Can it go?",
+    "✕ shop 1.4 may not go to staging.",
+    "1. failed stock 1.0 fails the contract of shop 1.4, by its latest result.",
+    f"To act: the team of shop (red) and the team of stock (blue): {CHANGE} the contract",
+]
 WITHOUT = "No answer came: the network or the proxy is down."
 FOREIGN = "What came isn’t an answer of the broker, so nothing of it is shown."
 ODD = (

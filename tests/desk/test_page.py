@@ -9,7 +9,11 @@ import pytest
 
 from tests.desk import scenes
 from tests.desk.browser import Browser
-from tests.desk.scenes import FAILURES, GOOD, SCENES, holders, hostile, is_report, tried, unknown
+from tests.desk.scenes import FAILURES, GOOD, SCENES, holders, is_report, tried
+from tests.desk.scenes_bad import hostile, unknown
+from tests.desk.scenes_good import board
+from tests.desk.scenes_look import forgotten
+from tests.desk.seen import signs_in
 from tests.desk.world import READER, RED, World, place
 from tests.wire import OFFICE, Wrong, same
 
@@ -26,7 +30,7 @@ def world(program: str, tmp_path_factory: pytest.TempPathFactory) -> Iterator[Wo
 def page(world: World, tmp_path_factory: pytest.TempPathFactory) -> Iterator[Browser]:
     with Browser(str(tmp_path_factory.mktemp("browser"))) as it:
         it.look(1000, "light")
-        scenes.signs_in(it, world, READER)
+        signs_in(it, world, READER)
         yield it
 
 
@@ -53,7 +57,7 @@ INLINE = """(() => {
 def test_no_token_is_kept(world: World, room: str) -> None:
     """Neither in what the browser writes, once it is closed, nor in a log of the proxy."""
     with Browser(room) as page:
-        tried(page, world, [scenes.board, scenes.forgotten])
+        tried(page, world, [board, forgotten])
     for token in READER, OFFICE, RED:
         same("files of the browser with a token", holders(page.profile, token), [])
     for log in "access", "errors":
@@ -154,4 +158,4 @@ def test_a_wrong_page_is_seen(name: str, world: World, page: Browser) -> None:
         page.look(1000, "light")
         page.events.clear()
         world.forget_requests()
-        scenes.signs_in(page, world, READER)
+        signs_in(page, world, READER)

@@ -8,7 +8,8 @@ from typing import Any
 import pytest
 
 from tests.desk.browser import Browser
-from tests.desk.scenes import cells, holders, signs_in
+from tests.desk.scenes import holders
+from tests.desk.seen import cells, signs_in
 from tests.desk.shown import AFTER, BOARD, OLDER
 from tests.desk.world import DENIED, PAGE, POLICY, READER, RED, World, by_caddy, text_of, write
 from tests.process import TOP, await_port, free_port, run

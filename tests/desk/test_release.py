@@ -10,7 +10,8 @@ import pytest
 from tests.desk import sixty
 from tests.desk.browser import Browser
 from tests.desk.plan_tries import Subject
-from tests.desk.scenes import requests_are_right, shows, signs_in, texts
+from tests.desk.scenes import requests_are_right
+from tests.desk.seen import shows, signs_in, texts
 from tests.desk.sixty import CONTACTS, ENVIRONMENTS, SERVICES, number
 from tests.desk.world import READER, World, text_of, write
 from tests.process import TOP, Server, run

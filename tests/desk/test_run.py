@@ -10,7 +10,7 @@ import pytest
 from tests.desk import served
 from tests.desk.browser import Browser, Unseen
 from tests.desk.running import ODD, Running, asks, by
-from tests.desk.scenes import board, questions
+from tests.desk.scenes_good import board, questions
 from tests.desk.world import READER, RED, text_of, write
 from tests.process import TOP, Server, free_port
 from tests.process import run as outcome

@@ -1,0 +1,126 @@
+"""Scenes of how the page of desk/ looks, how it is used by keys, and what it keeps."""
+from __future__ import annotations
+
+import contextlib, time
+
+from tests.desk.browser import Browser, Unseen
+from tests.desk.seen import leaves, settled, shows, signs_in, text, texts
+from tests.desk.world import READER, World
+from tests.wire import same
+
+
+def overtaken(page: Browser, world: World) -> None:
+    """A question that is left is given up, and what still comes of it doesn't take the place of the later's answer."""
+    signs_in(page, world, READER)
+    page.call("Fetch.enable", patterns=[{"urlPattern": "*/can-i-deploy?pacticipant=shop*"}])
+    page.js("location.hash = '#/ask/shop/1.4/live'")
+    page.wait("document.querySelector('.waits')", "a question under way")
+    page.until(lambda: any(it["method"] == "Fetch.requestPaused" for it in page.events), "a request that is held")
+    held = [it["params"]["requestId"] for it in page.events if it["method"] == "Fetch.requestPaused"]
+    same("while it is asked", text(page, "main"), "Asking the broker …")
+    shows(page, "ask/web/6/live")
+    page.until(lambda: any(it["method"] == "Network.loadingFailed" for it in page.events), "a request that is given up")
+    for it in held:
+        with contextlib.suppress(Unseen):  # the browser knows none of them any more
+            page.call("Fetch.continueRequest", requestId=it)
+    page.call("Fetch.disable")
+    page.js("fetch('desk.json').then(it => it.text())")
+    time.sleep(0.3)
+    same("the later question's verdict", texts(page, ".verdict"), ["✓ web 6 may go to live."])
+
+
+def keyboard(page: Browser, world: World) -> None:
+    """From the token to a verdict by keys alone; each stop is seen."""
+    signs_in(page, world, READER)
+    stops = ["Forget the token", "Environments", "Contract", "Matrix", "Can it go?"]
+    for stop in stops:
+        page.press("Tab", shift=True)
+        same("a stop", page.js("document.activeElement.innerText"), stop)
+        same(f"the outline of {stop}", page.js("getComputedStyle(document.activeElement).outlineStyle"), "solid")
+    leaves(page)
+    page.press("Enter")
+    settled(page)
+    for word in "shop", "1.4":
+        page.press("Tab")
+        page.type(word)
+    page.press("Tab", "ArrowDown", "ArrowDown", "Tab")
+    leaves(page)
+    page.press("Enter")
+    settled(page)
+    same("the verdict by keys", texts(page, ".verdict"), ["✕ shop 1.4 may not go to live."])
+    same("its address", page.js("location.hash"), "#/ask/shop/1.4/live")
+    same("where the keyboard is", page.js("document.activeElement.tagName"), "H2")
+
+
+VIEWS = [
+    "board/today",
+    "ask/shop/1.4/live",
+    "matrix/shop/1.4",
+    "environment/live",
+    "promote/dev/staging",
+    "promote/staging/live",
+    "contract/stock/shop/1.4/1.3",
+]
+
+
+def looks(page: Browser, world: World) -> None:
+    """Narrow, dark, and printed."""
+    signs_in(page, world, READER)
+    grounds = []
+    for scheme in "light", "dark":
+        page.look(320, scheme)
+        for view in VIEWS:
+            shows(page, view)
+            same(f"how wide {view} is", page.js("document.documentElement.scrollWidth"), 320)
+            same(f"contrast of {view}, {scheme}", page.js(FAINT), [])
+        grounds.append(page.js("getComputedStyle(document.body).backgroundColor"))
+    same("grounds", grounds, ["rgb(246, 247, 249)", "rgb(18, 21, 26)"])
+    page.look(1000, "light")
+    page.call("Emulation.setEmulatedMedia", media="print")
+    shows(page, "ask/shop/1.4/live")
+    shown = page.js(
+        "['nav', 'form', 'header button', '.verdict'].map(it => getComputedStyle(document.querySelector(it)).display)"
+    )
+    same("printed: links, form, button, verdict", shown, ["none", "none", "none", "block"])
+    page.call("Emulation.setEmulatedMedia", media="")
+
+
+# The texts whose colour is less than 4.5 times as light or dark as what is under them (WCAG 2.1, 1.4.3).
+FAINT = """(() => {
+  const part = it => it <= 0.03928 ? it / 12.92 : ((it + 0.055) / 1.055) ** 2.4;
+  const light = it => {
+    const [red, green, blue] = it.match(/[\\d.]+/g).map(each => part(each / 255));
+    return 0.2126 * red + 0.7152 * green + 0.0722 * blue;
+  };
+  const under = it => {
+    const own = getComputedStyle(it).backgroundColor;
+    return own === 'rgba(0, 0, 0, 0)' ? under(it.parentElement) : own;
+  };
+  const ratio = it => {
+    const two = [light(getComputedStyle(it).color), light(under(it))];
+    return (Math.max(...two) + 0.05) / (Math.min(...two) + 0.05);
+  };
+  const hasText = it => [...it.childNodes].some(each => each.nodeType === 3 && each.data.trim());
+  return [...document.querySelectorAll('body *')].filter(it => hasText(it) && ratio(it) < 4.5).map(it => it.outerHTML);
+})()"""
+
+
+def forgotten(page: Browser, world: World) -> None:
+    """The token is in no storage and no address of the page, and it can be forgotten."""
+    signs_in(page, world, READER)
+    kept = "JSON.stringify([localStorage, sessionStorage, history.state, document.documentElement.outerHTML])"
+    held: str = (
+        page.js(kept)
+        + page.js("location.href")
+        + page.js("indexedDB.databases().then(JSON.stringify)")
+        + page.js("caches.keys().then(JSON.stringify)")
+    )
+    same("the token in what the page stores", READER in held, False)
+    stored = page.js("[localStorage.length, sessionStorage.length]") + page.call("Network.getCookies")["cookies"]
+    same("what the page stores", stored, [0, 0])
+    leaves(page)
+    page.js("document.getElementById('forget').click()")
+    settled(page)
+    same("forgotten", text(page, "h2"), "Your token")
+    shows(page, "ask/shop/1.4/live")
+    same("after it", text(page, "h2"), "Your token")
