@@ -54,7 +54,8 @@ async function inTurn(work) {
   }
 }
 
-async function fetched(path, headers, credentials = 'omit') {
+/** What comes of a GET. Cookies go along only where no token is typed, as where a proxy signs everybody in. */
+async function fetched(path, headers, credentials = 'same-origin') {
   const left = leaving.signal, how = { method: 'GET', headers, cache: 'no-store', credentials, redirect: 'error' };
   const stop = new AbortController(), give = () => stop.abort();
   left.addEventListener('abort', give);
@@ -173,6 +174,7 @@ export async function contractOf(provider, consumer, version) {
 export async function settings() {
   const { status, text } = await fetched('desk.json', {}), found = parsed(text) ?? {};
   const { environments, contacts, builds, signedIn, who } = found;
+  if (status === 401 || status === 403) throw new Failure(say`You aren’t signed in any more: load this page again.`);
   if (status !== 200 || !Array.isArray(environments) || !environments.every(it => typeof it === 'string')) {
     throw new Failure(say`The file desk.json beside this page can’t be read, or names no environments.`);
   }
@@ -180,8 +182,8 @@ export async function settings() {
   return { environments, contacts: new Map(Object.entries(contacts ?? {})), builds, who };
 }
 
-/** Who put what into an environment, oldest first, as `holzhebo who ENVIRONMENT --json` writes it, if desk.json says that
- * such files are beside it; nothing if there is none. */
+/** Who put what into an environment, oldest first, as `holzhebo who ENVIRONMENT --json` writes it, if desk.json says
+ * that such files are beside it; nothing if there is none. */
 export async function whoDid({ who }, environment) {
   if (who !== true) return [];
   const { status, text } = await fetched(`who-${encodeURIComponent(environment)}.json`, {}), found = parsed(text);

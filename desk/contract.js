@@ -159,8 +159,8 @@ function results(rows, provider) {
 }
 
 const MOST_RESULTS = 12;
-const KNOWN = 'The broker keeps whether a result passed, and not which interactions failed: the build that sent it says '
-  + 'that.';
+const KNOWN = 'The broker keeps whether a result passed, and not which interactions failed: the build that sent it '
+  + 'says that.';
 
 export async function contract(settings, provider, consumer, number, old) {
   const words = form('Show', [input('provider', provider), input('consumer', consumer), input('version', number)],

@@ -5,7 +5,7 @@ goes through as it is. What isn't a GET, isn't asked of this address, or is aske
 that such a page can't ask by way of the browser. Nothing is logged. It is for one machine: for a network there are the
 proxies of examples/. Python 3.9 or later, with the standard library only; it isn't part of what is proved."""
 import hmac, http.client, os, re, socket, socketserver, sys, threading, time
-from typing import Any, Callable, Dict, List, NamedTuple, Tuple
+from typing import Any, Callable, Dict, List, NamedTuple, Optional, Tuple
 
 HOST = "127.0.0.1"
 # The broker's own limit of a head; and how much of an answer, or of a body that nobody wants, is read.
@@ -153,11 +153,20 @@ class Desk(socketserver.ThreadingTCPServer):
 
     def __init__(self, port: int, folder: str, broker: int, reading: str = "", office: str = "") -> None:
         super().__init__((HOST, port), Connection)
-        self.port, self.broker, self.pages = port, broker, pages(folder)
+        self.port, self.pages = port, pages(folder)
+        self.goes_to(False, HOST, broker, "")
         self.reading, self.office = reading, office
         self.is_there: Callable[[], bool] = lambda: True
         self.names = [f"{it}:{port}" for it in (HOST, "localhost")] + ([HOST, "localhost"] if port == 80 else [])
         self.free = threading.Semaphore(MOST_AT_ONCE)
+
+    def goes_to(self, is_https: bool, host: str, port: Optional[int], path: str) -> None:
+        """Where the broker is, to which GETs are handed on."""
+        self.is_https, self.host, self.broker, self.path = is_https, host, port, path
+
+    def fields_for(self, request: Request) -> List[str]:
+        """What the broker gets as authorization."""
+        return [self.exchanged(it) for it in request.all("authorization")]
 
     def process_request(self, request: Any, client_address: Any) -> None:
         """Begins with a connection; the next one waits while there are as many as may be."""
@@ -214,11 +223,12 @@ class Desk(socketserver.ThreadingTCPServer):
     def handed_on(self, request: Request) -> Answer:
         if not self.is_there():
             raise Refused(502, "The broker isn't there yet, or no longer.")
-        line = http.client.HTTPConnection(HOST, self.broker, timeout=ANSWER_TIME)
+        kind = http.client.HTTPSConnection if self.is_https else http.client.HTTPConnection
+        line = kind(self.host, self.broker, timeout=ANSWER_TIME)
         try:
-            line.putrequest("GET", request.target, skip_accept_encoding=True)
-            for it in request.all("authorization"):
-                line.putheader("authorization", self.exchanged(it))
+            line.putrequest("GET", self.path + request.target, skip_accept_encoding=True)
+            for it in self.fields_for(request):
+                line.putheader("authorization", it)
             line.putheader("connection", "close")
             line.endheaders()
             return whole(line.getresponse())

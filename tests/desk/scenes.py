@@ -15,7 +15,8 @@ from tests.wire import Wrong
 
 
 ROUTES = (
-    r"/desk/([a-z]+\.js|desk\.css|(desk|who-[a-z]+)\.json)?|/environments/[^/?]+|/matrix\?pacticipant=[^&]+&version=[^&]+"
+    r"/desk/([a-z]+\.js|desk\.css|(desk|who-[a-z]+)\.json)?|/environments/[^/?]+"
+    r"|/matrix\?pacticipant=[^&]+&version=[^&]+"
     r"|/pacts/provider/[^/?]+/consumer/[^/?]+/version/[^/?]+"
     r"|/can-i-deploy\?pacticipant=[^&]+&version=[^&]+&environment=[^&]+"
 )

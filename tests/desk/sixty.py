@@ -1,5 +1,5 @@
-"""A fleet of sixty services of eight teams whose versions are hashes: what is in staging differs from what is in live in
-forty-five of them. Two hundred pairs of a consumer and a provider; of a few the new versions only go in one order, of a
+"""A fleet of sixty services of eight teams whose versions are hashes: what is in staging differs from what is in live
+in forty-five of them. Two hundred pairs of a consumer and a provider; of a few the new versions only go in one order, of a
 few not at all."""
 from __future__ import annotations
 

@@ -1,5 +1,5 @@
-"""A release of sixty services on the page, before nginx with the limit of its recipe: how long each view takes, how tall
-it is, and that each of the daily questions is one view or one line."""
+"""A release of sixty services on the page, before nginx with the limit of its recipe: how long each view takes, how
+tall it is, and that each of the daily questions is one view or one line."""
 from __future__ import annotations
 
 import json, os, re, time
@@ -169,7 +169,7 @@ def test_views(page: Browser, world: Sixty) -> None:
 
 
 def test_lines(world: Sixty, room: str) -> None:
-    """Rolling back, a canary, undoing a wrong record, a new team, a token that leaked, who deployed last: a line each."""
+    """Rolling back, a canary, undoing a wrong record, a new team, a leaked token, who deployed last: a line each."""
     tokens = {"office.token": OFFICE, "all.token": sixty.TEAM}
     for name, token in tokens.items():
         write(f"{room}/{name}", f"{token}\n")
