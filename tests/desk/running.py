@@ -37,6 +37,12 @@ while True:
 """
 
 
+def heard() -> None:
+    """Signals end what is started, also if they don't end whoever starts the tests, as under nohup."""
+    for each in signal.SIGHUP, signal.SIGINT, signal.SIGTERM:
+        signal.signal(each, signal.SIG_DFL)
+
+
 class Running:
     """./run with these words, on free ports, with a folder of its own for what it makes."""
 
@@ -60,7 +66,8 @@ class Running:
         env = {**os.environ, "TMPDIR": self.room, MARK: self.mark}
         env.pop("PYTHONDONTWRITEBYTECODE", None)
         pipes: dict[str, Any] = {"stdout": subprocess.PIPE, "stderr": subprocess.STDOUT, "text": True}
-        self.process = subprocess.Popen(self.words, cwd=self.room, env=env, start_new_session=True, **pipes)
+        pipes |= {"start_new_session": True, "preexec_fn": heard}
+        self.process = subprocess.Popen(self.words, cwd=self.room, env=env, **pipes)
         self.reader = threading.Thread(target=self.read, daemon=True)
         self.reader.start()
         return self
