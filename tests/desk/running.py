@@ -5,6 +5,7 @@ from __future__ import annotations
 import contextlib, os, re, secrets, signal, socket, subprocess, tempfile, threading, time
 from typing import Any
 
+from tests.desk.world import write
 from tests.process import TOP, free_port
 from tests.wire import PATIENCE, Wrong, same
 
@@ -168,3 +169,21 @@ def asks(page: int, ask: str, *fields: str, host: str = "", body: str = "") -> t
 
 def by(token: str) -> str:
     return f"Authorization: Bearer {token}"
+
+
+# A program in the place of another
+
+SHELL = "#!/bin/sh\n"
+
+
+def made(path: str, text: str) -> str:
+    """A program of this text."""
+    write(path, text)
+    os.chmod(path, 0o755)
+    return path
+
+
+def instead(room: str, case: str) -> str:
+    """The program, but for what this does before it."""
+    folder = tempfile.mkdtemp(dir=room)
+    return made(f"{folder}/broker", f'{SHELL}{case}\nexec "{Running.usual}" "$@"\n')
