@@ -10,7 +10,6 @@ MACHINE = "findmnt ip systemctl unshare"
 # Each with the commands that it needs.
 SCRIPTS = {
     "client.py": "openssl zsh mandoc",
-    "desk.py": "chromium nginx caddy curl sqlite3",
     "drill.py": "curl sqlite3",
     "install.py": f"curl openssl strace systemd-analyze {MACHINE}",
     "migrate.sh": "sqlite3",
@@ -18,7 +17,6 @@ SCRIPTS = {
     "proxies.py": "nginx caddy openssl",
     "real-file.sh": "curl sqlite3",
     "report.py": "chromium sqlite3",
-    "run.py": "chromium curl sqlite3 strace",
     "standby.py": "curl sqlite3",
     "tokens.py": "curl strace",
     "unopened.py": "runuser",

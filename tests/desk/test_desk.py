@@ -16,7 +16,7 @@ from tests.process import TOP, free_port, ran, run
 from tests.proxy import Nginx
 from tests.wire import OFFICE, same
 
-pytestmark = pytest.mark.needs("chromium", "nginx", "curl", "ss")
+pytestmark = [pytest.mark.needs("chromium", "nginx", "curl", "ss"), pytest.mark.xdist_group("tools/desk")]
 LISTING = "GET /environments/live"
 
 

@@ -13,7 +13,7 @@ from tests.desk.seen import shows, signs_in
 from tests.desk.world import READER, World
 from tests.wire import same
 
-pytestmark = pytest.mark.needs("firefox-esr", "nginx", "curl")
+pytestmark = [pytest.mark.needs("firefox-esr", "nginx", "curl"), pytest.mark.xdist_group("the page in Firefox")]
 SCENES: list[Scene] = [scenes_good.board, scenes_good.questions, scenes_good.matrix, scenes_good.environment]
 SCENES += [scenes_good.promote, scenes_good.contract, scenes_good.pasted, scenes_good.refused_only]
 SCENES += [scenes_good.put_by, scenes_good.none_yet, scenes_look.keyboard, scenes_bad.unknown, scenes_bad.others]

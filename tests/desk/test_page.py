@@ -17,7 +17,7 @@ from tests.desk.seen import signs_in
 from tests.desk.world import READER, RED, World, place
 from tests.wire import OFFICE, Wrong, same
 
-pytestmark = pytest.mark.needs("chromium", "nginx", "curl")
+pytestmark = [pytest.mark.needs("chromium", "nginx", "curl"), pytest.mark.xdist_group("the page")]
 
 
 @pytest.fixture(scope="module")
@@ -107,7 +107,7 @@ WRONG: dict[str, tuple[list[tuple[str, str]], str]] = {
         "a token is in the address",
     ),
     "an environment left out": (
-        [("listings(environments), whoDid", "listings(environments.slice(1)), whoDid")],
+        [("(await listings(environments)).map(", "(await listings(environments.slice(1))).map(")],
         "board: the board",
     ),
     "a mark that is another's": (

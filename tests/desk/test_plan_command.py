@@ -10,7 +10,7 @@ from tests.desk.world import RED, World, write
 from tests.process import TOP, Ended, ran
 from tests.wire import OFFICE, same
 
-pytestmark = pytest.mark.needs("nginx", "curl")
+pytestmark = [pytest.mark.needs("nginx", "curl"), pytest.mark.xdist_group("tools/plan")]
 
 
 @pytest.fixture(scope="module")

@@ -16,7 +16,7 @@ from tests.process import TOP, await_port, free_port, run
 from tests.proxy import Caddy, Proxy
 from tests.wire import OFFICE, Wrong, same
 
-pytestmark = pytest.mark.needs("nginx", "curl")
+pytestmark = [pytest.mark.needs("nginx", "curl"), pytest.mark.xdist_group("the recipes of the page")]
 
 
 @pytest.fixture(scope="module")

@@ -18,7 +18,7 @@ from tests.process import TOP, Server, run
 from tests.proxy import Nginx
 from tests.wire import OFFICE, same
 
-pytestmark = [pytest.mark.needs("chromium", "nginx"), pytest.mark.timing]
+pytestmark = [pytest.mark.needs("chromium", "nginx"), pytest.mark.timing, pytest.mark.xdist_group("a release")]
 
 
 class Sixty(World):

@@ -222,6 +222,7 @@ OVER_ONE: list[Callable[[Running], None]] = [says, served.alone_on_loopback, ser
 OVER_ONE += [served.methods, served.strangers, served.heads, served.slow, in_a_browser, again_beside, stops]
 
 
+@pytest.mark.xdist_group("one ./run")
 @pytest.mark.parametrize("trial", OVER_ONE, ids=[it.__name__ for it in OVER_ONE])
 def test_the_demo(trial: Callable[[Running], None], one: Running) -> None:
     trial(one)

@@ -16,13 +16,6 @@ from tests.world import new_file
 pytestmark = [pytest.mark.needs("curl", "sqlite3", "strace"), pytest.mark.usefixtures("usual")]
 
 
-def former() -> str:
-    """A file of a former format, as SQL."""
-    places = f"{TOP}/tests/data/lines/former.sql", f"{TOP}/checks/lines/former.sql"
-    with open(next(it for it in places if os.path.exists(it)), encoding="utf-8") as it:
-        return it.read()
-
-
 # Files
 
 
@@ -63,7 +56,7 @@ def test_other_files(room: str) -> None:
     """What can't be served, with what the broker says of it; and tokens that can't be."""
     write(f"{room}/notes", "no database")
     outcome(["sqlite3", f"{room}/other.db", "CREATE TABLE notes (line TEXT)"])
-    outcome(["sqlite3", "-bail", f"{room}/former.db"], text=former())
+    outcome(["sqlite3", "-bail", f"{room}/former.db"], text=text_of("tests/data/lines/former.sql"))
     explained = "docs/OPERATING.md explains it"
     for name, line in ("notes", "file"), ("other.db", "open 2"), ("former.db", "open 3.1"):
         with Running(room, f"{room}/{name}") as it:
