@@ -69,7 +69,7 @@ function times() {
     const old = el('p', { class: 'old', role: 'status' }, `This was asked ${minutes} minutes ago. `, again());
     page('view').querySelector('.old')?.remove();
     page('view').prepend(old);
-  }, 30000);
+  }, 5000);
   return it;
 }
 

@@ -8,7 +8,7 @@ from collections.abc import Callable
 from tests.desk.browser import Answer, Browser, Unseen
 from tests.desk.scenes_good import board, contract, environment, matrix, none_yet, pasted, promote, put_by, questions
 from tests.desk.scenes_good import refused_only, saved
-from tests.desk.scenes_look import forgotten, keyboard, looks, overtaken
+from tests.desk.scenes_look import forgotten, keyboard, looks, old, overtaken
 from tests.desk.scenes_bad import hostile, others, stopped, unknown
 from tests.desk.world import World
 from tests.wire import Wrong
@@ -64,7 +64,19 @@ Scene = Callable[[Browser, World], None]
 GOOD: list[Scene] = [board, questions, matrix, environment, promote, contract]
 
 
-SCENES: list[Scene] = [*GOOD, pasted, refused_only, saved, overtaken, keyboard, looks, forgotten, hostile, none_yet]
+SCENES: list[Scene] = [
+    *GOOD,
+    pasted,
+    refused_only,
+    saved,
+    overtaken,
+    old,
+    keyboard,
+    looks,
+    forgotten,
+    hostile,
+    none_yet,
+]
 
 
 FAILURES: list[Scene] = [unknown, others, stopped, put_by]

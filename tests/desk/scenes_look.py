@@ -29,6 +29,19 @@ def overtaken(page: Browser, world: World) -> None:
     same("the later question's verdict", texts(page, ".verdict"), ["✓ web 6 may go to live."])
 
 
+def old(page: Browser, world: World) -> None:
+    """Ten minutes after it was asked a view says so, and asks again by a click."""
+    signs_in(page, world, READER)
+    same("what is said of a new one", texts(page, ".old"), [])
+    page.js("window.now = Date.now; Date.now = () => window.now() + 10 * 60000")
+    page.wait("document.querySelector('.old')", "that it is old")
+    same("what is said of an old one", texts(page, ".old"), ["This was asked 10 minutes ago. Ask again"])
+    leaves(page)
+    page.js("Date.now = window.now; document.querySelector('.old button').click()")
+    settled(page)
+    same("once it is asked again", texts(page, ".old"), [])
+
+
 def keyboard(page: Browser, world: World) -> None:
     """From the token to a verdict by keys alone; each stop is seen."""
     signs_in(page, world, READER)
