@@ -129,7 +129,7 @@ function changes(old, now) {
   const all = difference(inLines(valueOf(old)), inLines(valueOf(now)));
   const isNear = (_, at) => all.slice(Math.max(0, at - AROUND), at + AROUND + 1).some(([sign]) => sign !== ' ');
   const kinds = { '-': 'gone', '+': 'new', ' ': '' };
-  const rows = all.map((it, at) => (isNear(it, at) ? it : null)).filter((it, at, list) => it || list[at - 1]);
+  const rows = all.map((it, at) => (isNear(it, at) ? it : null)).filter((it, at, list) => it || at === 0 || list[at - 1]);
   return el('pre', { class: 'changes', tabindex: '0' }, rows.map(it =>
     (it ? el('span', { class: kinds[it[0]] }, `${it[0]} ${it[1]}\n`) : el('span', {}, '…\n'))));
 }

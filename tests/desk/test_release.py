@@ -12,7 +12,7 @@ from tests.desk.browser import Browser
 from tests.desk.plan_tries import Subject
 from tests.desk.scenes import requests_are_right
 from tests.desk.seen import shows, signs_in, texts
-from tests.desk.sixty import CONTACTS, ENVIRONMENTS, SERVICES, number
+from tests.desk.sixty import CONTACTS, DIFFERENT, ENVIRONMENTS, SERVICES, number
 from tests.desk.world import READER, World, text_of, write
 from tests.process import TOP, Server, run
 from tests.proxy import Nginx
@@ -96,8 +96,8 @@ def test_what_may_go(page: Browser, world: Sixty) -> None:
     order, _ = plan.largest()
     now = [x for x in order if not plan.after(x, order)]
     left = len(plan.all) - len(order)
-    same("steps", (len(plan.all), left > 0, len(order) > len(now) > 10), (45, True, True))
-    counts = f"{len(order)} of 45 may go: {len(now)} now, {len(order) - len(now)} after others"
+    same("steps", (len(plan.all), left > 0, len(order) > len(now) > 10), (DIFFERENT, True, True))
+    counts = f"{len(order)} of {DIFFERENT} may go: {len(now)} now, {len(order) - len(now)} after others"
     same("the verdict", texts(page, ".verdict"), [f"✕ {counts}; {left} not with them."])
     same("steps on the page", [len(texts(page, f"{it}.steps > li")) for it in ("ol", "ul")], [len(order), left])
     teams = {CONTACTS[actor] for fault in plan.necessary() for actor in subject.tell.actors(fault)}

@@ -1,9 +1,10 @@
 """The command `plan`: its words, and what it prints. Whoever has a parser and asks a broker can have it:
 
-    plan_command.add(parser)              the words
+    plan_command.add(parser)              the words, but for --json, which all commands have
     plan_command.run(words, asks, out)    the status: 0 if everything may go, in the order that is printed; 1 if not
 
-`asks` answers GETs (plan_steps.Asks). plan_steps.Stop says why there is no plan; that is status 3."""
+`asks` answers GETs (plan_steps.Asks), of six threads at once. plan_steps.Stop says why there is no plan; that is status
+3."""
 import argparse, json
 from typing import Any, Dict, List, TextIO
 
@@ -27,7 +28,6 @@ def add(parser: argparse.ArgumentParser) -> None:
     )
     parser.add_argument("--contacts", metavar="FILE", help="the page's desk.json: whom to call for a service")
     parser.add_argument("--whole", action="store_true", help="versions that are hashes in full")
-    parser.add_argument("--json", action="store_true", help="the same as JSON")
 
 
 def contacts_in(path: str) -> Dict[str, Any]:
