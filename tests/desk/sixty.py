@@ -1,5 +1,5 @@
 """A fleet of sixty services of eight teams whose versions are hashes: what is in staging differs from what is in live
-in forty-two of them. Two hundred pairs of a consumer and a provider; of a few the new versions only go in one order, of a
+in forty of them. Two hundred pairs of a consumer and a provider; of a few the new versions only go in one order, of a
 few not at all."""
 from __future__ import annotations
 
@@ -13,7 +13,7 @@ from tests.process import Server
 TEAM = "all-of-us-token-01"
 SERVICES = [f"service-{at:02}" for at in range(60)]
 ENVIRONMENTS = ["dev", "test", "staging", "live"]
-DIFFERENT = 42
+DIFFERENT = 40
 CONTACTS = {it: f"team {at % 8}" for at, it in enumerate(SERVICES)}
 Ask = tuple[str, str, str, str]
 
