@@ -1,15 +1,17 @@
 #!/usr/bin/env python3
-"""Writes the man page and the completions of a program from what its `--help` says.
+"""Writes the man pages and the completions of the client and of the program into a folder.
 
-    client/pages.py PROGRAM..           writes client/pages/NAME.1, NAME.bash and _NAME of each
-    client/pages.py --check PROGRAM..   writes nothing; ends with 1 if one of them is otherwise
+    client/pages.py FOLDER BROKER     writes holzhebo.1, holzhebo.bash and _holzhebo there, and the same of the program
+                                      `broker` at this path
 
-To use them: `man client/pages/holzhebo.1`; `source client/pages/holzhebo.bash` in ~/.bashrc; for zsh copy `_holzhebo`
-to a folder of `fpath`."""
+Those of the client are made of its parser by argparse-manpage and shtab (Debian's python3-argparse-manpage and
+python3-shtab), those of the program of what its `--help` says. The package is made with them. To use them without it:
+`man FOLDER/holzhebo.1`; `source FOLDER/holzhebo.bash` in ~/.bashrc; for zsh copy `_holzhebo` to a folder of `fpath`."""
 import os, re, subprocess, sys
 from typing import Dict, List, NamedTuple, Set, Tuple
 
-FOLDER = os.path.join(os.path.dirname(os.path.abspath(__file__)), "pages")
+SOURCES = os.path.join(os.path.dirname(os.path.abspath(__file__)), "src")
+PARSER = "holzhebo.cli.main", "get_parser"
 Rows = List[Tuple[str, str]]  # what is in the left column of a help, and its text
 FILES = ("FILE", "PACT", "REPLIES", "PATH", "DIR")  # the values that are names of files
 
@@ -160,24 +162,59 @@ _{program.name} "$@"
 """
 
 
+# The client
+
+
+def said_by(words: List[str]) -> str:
+    """What Debian's Python prints by these words, with the client's sources at hand."""
+    env = {**os.environ, "PYTHONPATH": SOURCES, "PYTHONDONTWRITEBYTECODE": "1", "COLUMNS": "100"}
+    return subprocess.run(words, check=True, stdout=subprocess.PIPE, text=True, env=env).stdout
+
+
+def page_of_client(page: str) -> str:
+    """The page without what is asked of authors, with what the program is for, and the examples and the statuses."""
+    sys.path.insert(0, SOURCES)
+    from holzhebo.cli.commands import COMMANDS
+    from holzhebo.cli.main import ABOUT, AFTER
+
+    page = re.sub(r"(?m)^\.TH .*$", '.TH HOLZHEBO 1 "" "holzhebo" ""', page.partition(".SH AUTHORS")[0], count=1)
+    page = page.replace(".SH NAME\nholzhebo\n", f".SH NAME\nholzhebo \\- {roff(ABOUT)}\n", 1)
+    after = "".join(f".SS {roff(it.name)}\n{rest_page(it.after)}" for it in COMMANDS.values())
+    return f"{page}.SH EXAMPLES AND STATUSES\n{rest_page(AFTER)}{after}"
+
+
+def of_client() -> Dict[str, str]:
+    module, function = PARSER
+    words = ["argparse-manpage", "--module", module, "--function", function, "--project-name", "holzhebo"]
+    texts = {"holzhebo.1": page_of_client(said_by(words))}
+    for shell, name in ("bash", "holzhebo.bash"), ("zsh", "_holzhebo"):
+        texts[name] = with_all_choices(
+            said_by(["shtab", "--shell", shell, "--prog", "holzhebo", f"{module}.{function}"])
+        )
+    return texts
+
+
+def with_all_choices(text: str) -> str:
+    """The completion for bash of shtab 1.5, which takes the first of several choices only, with all of them."""
+    text = text.replace('_choices_var="${current_action}_choices"', '_choices_var="${current_action}_choices[@]"')
+    lines = "$(printf '%s\\n' \"${!current_action_choices_var}\")"
+    return text.replace('"${!current_action_choices_var}"', f'"{lines}"', 1) if "_choices[@]" in text else text
+
+
+def of_program(path: str) -> Dict[str, str]:
+    it = read(path)
+    return {f"{it.name}.1": man_page(it), f"{it.name}.bash": bash(it), f"_{it.name}": zsh(it)}
+
+
 def main(words: List[str]) -> int:
-    check, wrong = "--check" in words, 0
-    for path in [it for it in words if it != "--check"]:
-        program = read(path)
-        name = program.name
-        texts = {f"{name}.1": man_page(program), f"{name}.bash": bash(program), f"_{name}": zsh(program)}
-        for name, text in texts.items():
-            place = os.path.join(FOLDER, name)
-            if not check:
-                os.makedirs(FOLDER, exist_ok=True)
-                with open(place, "w", encoding="utf-8") as it:
-                    it.write(text)
-                continue
-            with open(place, encoding="utf-8") as it:
-                if it.read() != text:
-                    print(f"client/pages/{name} isn't what --help says: run client/pages.py {path}")
-                    wrong = 1
-    return wrong
+    if len(words) != 2:
+        print("usage: client/pages.py FOLDER BROKER", file=sys.stderr)
+        return 2
+    os.makedirs(words[0], exist_ok=True)
+    for name, text in {**of_client(), **of_program(words[1])}.items():
+        with open(os.path.join(words[0], name), "w", encoding="utf-8") as it:
+            it.write(text)
+    return 0
 
 
 if __name__ == "__main__":

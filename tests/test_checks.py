@@ -9,14 +9,12 @@ pytestmark = pytest.mark.first
 MACHINE = "findmnt ip systemctl unshare"
 # Each with the commands that it needs.
 SCRIPTS = {
-    "client.py": "openssl zsh mandoc",
     "drill.py": "curl sqlite3",
     "install.py": f"curl openssl strace systemd-analyze {MACHINE}",
     "migrate.sh": "sqlite3",
     "package.py": f"curl dpkg-deb lintian sqlite3 {MACHINE}",
     "proxies.py": "nginx caddy openssl",
     "real-file.sh": "curl sqlite3",
-    "report.py": "chromium sqlite3",
     "standby.py": "curl sqlite3",
     "tokens.py": "curl strace",
     "unopened.py": "runuser",

@@ -7,7 +7,7 @@ from tests.process import TOP, run
 pytestmark = [pytest.mark.needs("mypy"), pytest.mark.first]
 MYPY = ["/usr/bin/python3", "-m", "mypy", "--strict", "--scripts-are-modules"]
 # What Python 3.9 has to run.
-OLDEST = ["client/holzhebo", "client/pages.py", "tools/report", "tools/run.py"]
+OLDEST = ["client/src/holzhebo", "client/pages.py", "client/zip", "tools/report", "tools/run.py"]
 # The same of what imports modules of another folder.
 IMPORTING = ["tools/desk", "tools/plan"]
 

@@ -9,6 +9,7 @@ from tests.world import BLUE, RED
 
 CLIENT = f"{TOP}/client/holzhebo"
 PYTHON = [sys.executable, "-S", "-W", "error"]  # without the machine's own packages
+SOURCES = f"{TOP}/client/src"
 TOKENS = {"red": RED, "blue": BLUE, "office": OFFICE, "nobody": "nobody-has-this-token", "short": "short", "none": ""}
 TOKENS["line"] = f"authorization: Bearer {RED}"
 
@@ -29,6 +30,12 @@ def secret(text: str) -> None:
             raise Wrong(f"a token is shown: {text[:300]}")
 
 
+def sound(errors: str) -> None:
+    """The client shows no fault of its own."""
+    if "Traceback" in errors or "a fault of this program" in errors:
+        raise Wrong(f"a fault of the client: {errors[-2000:]}")
+
+
 class Client:
     """The client, as a build or a person at this room runs it."""
 
@@ -39,7 +46,11 @@ class Client:
                 it.write(token + "\n")
 
     def env(self, caller: str) -> Dict[str, str]:
-        kept = {key: it for key, it in os.environ.items() if not key.startswith("HOLZHEBO_")}
+        lost = ("HOLZHEBO_", "PACT_BROKER_", "XDG_CONFIG_HOME")
+        kept = {
+            key: it for key, it in os.environ.items() if not key.startswith(lost) and not key.lower().endswith("_proxy")
+        }
+        kept["HOME"] = self.room
         return {**kept, "HOLZHEBO_BROKER": self.url, "HOLZHEBO_TOKEN_FILE": f"{self.room}/{caller}.token"}
 
     def run(self, caller: str, *words: str, **env: str) -> Done:
@@ -49,6 +60,7 @@ class Client:
             command, cwd=self.room, env={**self.env(caller), **env}, capture_output=True, text=True, timeout=120
         )
         secret(done.stdout + done.stderr)
+        sound(done.stderr)
         return Done(done.returncode, done.stdout, done.stderr)
 
     def done(self, caller: str, *words: str, **env: str) -> str:

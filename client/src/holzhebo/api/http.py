@@ -1,0 +1,260 @@
+"""Requests over HTTP/1.1, each with an end by the clock; no redirect is followed."""
+import base64, contextlib, http.client, os, re, socket, ssl, threading, urllib.parse
+from typing import Any, Dict, Iterator, NamedTuple, Optional
+
+from holzhebo.faults import Json, Stop
+from holzhebo.text import short, shown
+
+MOST_BYTES = 1048576
+LOOPBACK = re.compile(r"localhost|127(\.[0-9]{1,3}){3}|::1")
+
+
+class Answer(NamedTuple):
+    """An answer; `was_repeated` if an earlier attempt may have arrived too."""
+
+    status: int
+    headers: http.client.HTTPMessage
+    content: bytes
+    was_repeated: bool = False
+
+    def json(self) -> Json:
+        """What the body says, None if it isn't JSON."""
+        import json
+
+        try:
+            return json.loads(self.content)
+        except (ValueError, RecursionError):
+            return None
+
+    def text(self) -> str:
+        return self.content.decode("utf-8", "replace")
+
+
+class NoAnswer(Exception):
+    """Why there is no answer. `was_sent`: the request may have arrived; `is_closed`: the other side closed without a
+    word; `is_limit`: there is one, and it is more than this client reads."""
+
+    def __init__(self, why: str, was_sent: bool, is_closed: bool = False, is_limit: bool = False) -> None:
+        super().__init__(why)
+        self.was_sent, self.is_closed, self.is_limit = was_sent, is_closed, is_limit
+
+
+class Request(NamedTuple):
+    method: str
+    target: str
+    headers: Dict[str, str]
+    body: Optional[bytes]
+
+
+class Address:
+    """An address of HTTP, without a user."""
+
+    def __init__(self, text: str) -> None:
+        found = re.fullmatch(r"(?i)https?://([\w.-]+|\[[0-9a-fA-F:.]+\])(?::([0-9]{1,5}))?([/?].*)?", text)
+        if not found or int(found[2] or 80) not in range(1, 65536):
+            raise Stop(f"{'this' if '@' in text else short(text)} is no address, as https://broker.example.org")
+        parts = urllib.parse.urlsplit(text)
+        self.is_https, self.host = parts.scheme == "https", parts.hostname or ""
+        self.port = parts.port or (443 if self.is_https else 80)
+        self.path, self.query = parts.path, parts.query
+        self.is_loopback = LOOPBACK.fullmatch(self.host) is not None
+
+    def name(self) -> str:
+        host = f"[{self.host}]" if ":" in self.host else self.host
+        return f"{host}:{self.port}"
+
+
+class Way(NamedTuple):
+    """How an address is reached: the file of certificates that are trusted beside the system's, and the proxy
+    between."""
+
+    cacert: Optional[str] = None
+    proxy: Optional[str] = None
+
+    def context(self) -> ssl.SSLContext:
+        try:
+            found = ssl.create_default_context()
+            if self.cacert:
+                found.load_verify_locations(self.cacert)
+            return found
+        except OSError as why:
+            raise Stop(f"{shown(self.cacert)} can't be used: {reason(why)}") from None
+
+
+def proxy_of(address: Address) -> Optional[str]:
+    """The proxy that the environment names for an address: HTTPS_PROXY or HTTP_PROXY, unless NO_PROXY has its host. An
+    address of this machine has none."""
+    kind = "https" if address.is_https else "http"
+    found = os.environ.get(f"{kind}_proxy") or os.environ.get(f"{kind.upper()}_PROXY")
+    if not found or address.is_loopback:
+        return None
+    left_out = os.environ.get("no_proxy") or os.environ.get("NO_PROXY") or ""
+    for it in (name.strip().lower().lstrip(".") for name in left_out.split(",")):
+        if it == "*" or it and (address.host.lower() == it or address.host.lower().endswith(f".{it}")):
+            return None
+    return found
+
+
+class Response(http.client.HTTPResponse):
+    """An answer, after the hints that may come before it: those of a status from 102 to 199."""
+
+    def _read_status(self) -> Any:
+        while True:
+            found = getattr(super(), "_read_status")()
+            if not 102 <= found[1] <= 199:
+                return found
+            http.client.parse_headers(self.fp)
+
+
+def line_to(address: Address, seconds: float, way: Way = Way()) -> http.client.HTTPConnection:
+    """A connection that isn't open yet."""
+    host, port, headers = address.host, address.port, {}
+    if way.proxy:
+        proxy = urllib.parse.urlsplit(way.proxy if "//" in way.proxy else f"http://{way.proxy}")
+        host, port = proxy.hostname or "", proxy.port or 8080
+        if proxy.username:
+            user = f"{urllib.parse.unquote(proxy.username)}:{urllib.parse.unquote(proxy.password or '')}"
+            headers["Proxy-Authorization"] = f"Basic {base64.b64encode(user.encode()).decode()}"
+    line: http.client.HTTPConnection
+    if address.is_https:
+        line = http.client.HTTPSConnection(host, port, timeout=seconds, context=way.context())
+        if way.proxy:
+            line.set_tunnel(address.host, address.port, headers)
+    else:
+        line = http.client.HTTPConnection(host, port, timeout=seconds)
+    line.response_class = Response
+    return line
+
+
+@contextlib.contextmanager
+def ended_after(line: http.client.HTTPConnection, seconds: float) -> Iterator[threading.Event]:
+    """Ends what goes on over the connection after this time, however slowly the other side answers."""
+    is_over = threading.Event()
+
+    def end() -> None:
+        is_over.set()
+        with contextlib.suppress(OSError, AttributeError):
+            line.sock.shutdown(socket.SHUT_RDWR)
+
+    timer = threading.Timer(seconds, end)
+    timer.daemon = True
+    timer.start()
+    try:
+        yield is_over
+    finally:
+        timer.cancel()
+
+
+def reason(why: BaseException) -> str:
+    return short(getattr(why, "strerror", None) or str(why) or type(why).__name__, 100)
+
+
+class Line:
+    """A connection to an address, which is kept from one request to the next if the other side keeps it."""
+
+    def __init__(self, address: Address, way: Way = Way()) -> None:
+        self.address, self.way = address, way
+        self.line: Optional[http.client.HTTPConnection] = None
+
+    def close(self) -> None:
+        if self.line is not None:
+            self.line.close()
+        self.line = None
+
+    def exchange(self, request: Request, seconds: float, most: int = MOST_BYTES, is_new: bool = False) -> Answer:
+        """Sends a request; the answer may have so many bytes. What was kept may have been closed meanwhile: then the
+        request is sent once more on a new connection, unless it has to be a new one from the beginning."""
+        was_kept = self.line is not None and not is_new
+        try:
+            return self.attempt(request, seconds, most, is_new)
+        except NoAnswer as why:
+            if not (was_kept and why.is_closed):
+                raise
+        return self.attempt(request, seconds, most, True)._replace(was_repeated=True)
+
+    def attempt(self, request: Request, seconds: float, most: int, is_new: bool) -> Answer:
+        if is_new:
+            self.close()
+        line = self.line or line_to(self.address, seconds, self.way)
+        self.line = None
+        try:
+            answer, is_kept = exchange_on(line, self.sent(request), seconds, most)
+        except BaseException:
+            line.close()
+            raise
+        if is_kept:
+            self.line = line
+        else:
+            line.close()
+        return answer
+
+    def sent(self, request: Request) -> Request:
+        """The request as this way takes it: a proxy between gets the whole address, if it reads the request."""
+        if self.way.proxy and not self.address.is_https:
+            return request._replace(target=f"http://{self.address.name()}{request.target}")
+        return request
+
+
+def connect(line: http.client.HTTPConnection) -> None:
+    try:
+        line.connect()
+    except (OSError, http.client.HTTPException, UnicodeError) as why:
+        is_refused = isinstance(why, ConnectionRefusedError)
+        raise NoAnswer("refuses the connection" if is_refused else reason(why), False) from None
+
+
+def exchange_on(line: http.client.HTTPConnection, request: Request, seconds: float, most: int) -> "tuple[Answer, bool]":
+    """The answer to a request on a connection, and whether the connection can be used again."""
+    late = f"doesn't answer within {seconds:g} seconds"
+    has_head = False
+    with ended_after(line, seconds) as is_over:
+        try:
+            if line.sock is None:
+                connect(line)
+            line.request(request.method, request.target, request.body, request.headers)
+            answer = line.getresponse()
+            has_head = True
+            if answer.headers.get_content_type() == "text/event-stream":
+                raise NoAnswer("answers a stream of events", True, False, True)
+            content = answer.read(most + 1)
+        except NoAnswer:
+            if is_over.is_set():
+                raise NoAnswer(late, False) from None
+            raise
+        except (OSError, http.client.HTTPException) as why:
+            if is_over.is_set() or isinstance(why, socket.timeout):
+                raise late_one(late, has_head) from None
+            raise broken_off(why) from None
+    if is_over.is_set():
+        raise late_one(late, has_head)
+    if len(content) > most:
+        raise NoAnswer(f"answers more than {most} bytes", True, False, True)
+    if answer.length:
+        raise NoAnswer("closes in the middle of an answer", True, True)
+    return Answer(answer.status, answer.msg, content), not answer.will_close and answer.isclosed()
+
+
+def late_one(late: str, has_head: bool) -> NoAnswer:
+    if has_head:
+        return NoAnswer("sends an answer without an end, or too slowly", True, False, True)
+    return NoAnswer(late, True)
+
+
+CLOSED = (ConnectionError, http.client.RemoteDisconnected, http.client.IncompleteRead)
+
+
+def broken_off(why: Exception) -> NoAnswer:
+    if isinstance(why, CLOSED):
+        middle = isinstance(why, http.client.IncompleteRead)
+        return NoAnswer("closes in the middle of an answer" if middle else "closes without an answer", True, True)
+    is_limit = isinstance(why, http.client.LineTooLong) or "headers" in str(why)
+    return NoAnswer(reason(why), True, False, is_limit)
+
+
+def exchange(address: Address, request: Request, seconds: float, most: int = MOST_BYTES) -> Answer:
+    """Sends a request on a connection of its own."""
+    line = Line(address)
+    try:
+        return line.exchange(request, seconds, most, True)
+    finally:
+        line.close()

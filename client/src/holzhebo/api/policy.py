@@ -1,0 +1,29 @@
+"""What may be sent again, and when."""
+from typing import Optional
+
+from holzhebo.api.http import Answer, NoAnswer
+
+FIRST_PAUSE, LONGEST_PAUSE = 0.1, 5.0
+GATEWAY = (502, 503, 504)  # what a proxy answers while it doesn't reach the broker
+
+
+def may_repeat(is_idempotent: bool, answer: Optional[Answer], why: Optional[NoAnswer]) -> bool:
+    """Whether a request may be sent again after this answer, or after this end without one. If nothing was sent, or a
+    proxy refused it for now, nothing can count twice."""
+    if why is not None:
+        return not why.was_sent or is_idempotent and why.is_closed
+    return answer is not None and (answer.status == 429 or is_idempotent and answer.status in GATEWAY)
+
+
+def may_have_arrived(answer: Optional[Answer], why: Optional[NoAnswer]) -> bool:
+    """Whether an attempt that is repeated may have done what it asks for."""
+    return why.was_sent if why is not None else answer is not None and answer.status != 429
+
+
+def pause_before(number: int, answer: Optional[Answer]) -> float:
+    """How long to wait before the attempt of this number, from 1: what the answer asks for, or twice as long each
+    time."""
+    asked = answer.headers.get("retry-after", "") if answer is not None else ""
+    if asked.isascii() and asked.isdigit():
+        return float(asked[:9])
+    return float(min(FIRST_PAUSE * 2 ** min(number - 1, 16), LONGEST_PAUSE))

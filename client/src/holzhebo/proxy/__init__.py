@@ -1,0 +1,1 @@
+"""What is read and written where the proxy is."""

@@ -1,0 +1,1 @@
+"""Verification of a provider by its recorded replies."""

@@ -1,0 +1,250 @@
+"""The lines of the builds of examples/builds, by the shells that the services use, over the program and a provider that
+listens. The client is the one file, which a server in the place of the proxy has under /desk/holzhebo."""
+import concurrent.futures, contextlib, functools, json, os, re, shlex, subprocess, sys
+from typing import Any, Callable, Dict, List
+from tests.client.tools import CLIENT, PYTHON, Client, Reply, Stock, secret, sound
+from tests.process import TOP, Server, run
+from tests.wire import OFFICE, Wrong, same
+from tests.world import BLUE, RED, pact
+
+BUILDS = f"{TOP}/examples/builds"
+STUBS = {
+    "bin/gh": 'echo "$@" >> started',
+    "bin/git": "exit 0",
+    "bin/mvn": 'echo "$@" >> verified; [ "${VERIFIER:-0}" = broken ] && exit 1; mkdir -p target/surefire-reports;'
+    " echo '<testsuite/>' > target/surefire-reports/a.xml; ! grep -q \"${FAILS:-nothing at all}\" target/pact/*.json",
+    "bin/curl": 'echo "$@" >> fetched; while [ "$1" != -o ]; do shift; done; cp "$ONE_FILE" "$2.new"; mv "$2.new" "$2"',
+    "run-tests": "mkdir -p pacts; cp pact.json pacts/shop-stock.json",
+    "start-service": "exit 0",
+    "roll-out": 'exit "${ROLLOUT:-0}"',
+}
+
+
+@functools.lru_cache(None)
+def yaml_of(path: str) -> Any:
+    """What a file of YAML says, as Debian's Python with python3-yaml reads it."""
+    with open(path, encoding="utf-8") as file:
+        words = ["/usr/bin/python3", "-c", "import json, sys, yaml; print(json.dumps(yaml.safe_load(sys.stdin)))"]
+        return json.loads(run(words, text=file.read()))
+
+
+def shell_of(step: Any) -> List[str]:
+    """The shell of a step: GitHub's own is without pipefail, and with it only if the step names bash."""
+    return ["bash", "--noprofile", "--norc", "-eo", "pipefail"] if step.get("shell") == "bash" else ["bash", "-e"]
+
+
+class Build:
+    """A folder in which the lines of a build are run, over a broker and a provider that listen elsewhere."""
+
+    def __init__(self, room: str, client: Client, stock: Stock) -> None:
+        self.room, self.places = room, {"https://broker.example.org": client.url, "http://127.0.0.1:8080": stock.url}
+        for name, text in STUBS.items():
+            os.makedirs(os.path.dirname(f"{room}/{name}"), exist_ok=True)
+            with open(f"{room}/{name}", "w", encoding="utf-8") as it:
+                it.write(f"#!/bin/sh\n{text}\n")
+            os.chmod(f"{room}/{name}", 0o755)
+        self.env = {"ONE_FILE": f"{room}/one-file", "RUNNER_TEMP": f"{room}/temp", "GITHUB_PATH": f"{room}/path"}
+        os.mkdir(f"{room}/temp")
+        said = run([sys.executable, f"{TOP}/client/zip", f"{room}/one-file"], env={"SOURCE_DATE_EPOCH": "1790000000"})
+        self.env["HOLZHEBO_SHA256"] = said.split()[0]
+
+    def placed(self, text: str) -> str:
+        for place, other in self.places.items():
+            text = text.replace(place, other)
+        return text
+
+    def lines(self, shell: List[str], text: str, env: Dict[str, str]) -> int:
+        """Runs these lines; what they print has no token."""
+        env = {**self.env, **{key: self.placed(it) for key, it in env.items()}}
+        with contextlib.suppress(FileNotFoundError), open(self.env["GITHUB_PATH"], encoding="utf-8") as it:
+            env["PATH"] = ":".join([*it.read().split(), env.get("PATH", os.environ["PATH"])])
+        path = {"PATH": f"{self.room}/bin:{env.get('PATH', os.environ['PATH'])}"}
+        done = subprocess.run(
+            [*shell, "-c", self.placed(text)],
+            cwd=self.room,
+            env={**os.environ, **env, **path},
+            capture_output=True,
+            text=True,
+            timeout=120,
+        )
+        secret(done.stdout + done.stderr)
+        sound(done.stderr)
+        if done.returncode not in (0, 1, 3):
+            raise Wrong(f"{text} ends with {done.returncode}: {done.stdout}{done.stderr}")
+        return done.returncode
+
+    def github(
+        self, name: str, token: str, given: Dict[str, str], after: Callable[[str], None] = lambda line: None
+    ) -> int:
+        """Runs a workflow as GitHub does: each step by bash, with what an earlier one wrote for the next, until one
+        fails."""
+        workflow = yaml_of(f"{BUILDS}/github/{name}")
+        given = {"secrets.HOLZHEBO_TOKEN": token, "secrets.PROVIDER_BUILDS": "-", **given}
+        given["vars.HOLZHEBO_SHA256"] = self.env["HOLZHEBO_SHA256"]
+        kept, steps = f"{self.room}/{name}.env", []
+        for job in workflow["jobs"].values():
+            usual = job.get("defaults", {}).get("run", {})
+            steps += [{**usual, **it} for it in job["steps"] if "run" in it]
+        for step in steps:
+            env = {**workflow["env"], **step.get("env", {}), "GITHUB_ENV": kept, **given}
+            if os.path.exists(kept):
+                with open(kept, encoding="utf-8") as file:
+                    env.update(re.findall(r"(?m)^(.*?)=(.*)$", file.read()))
+            own = {key: str(it) for key, it in env.items() if "." not in key}
+            env = {key: re.sub(r"\$\{\{ (\S+) \}\}", lambda it: given[str(it[1])], text) for key, text in own.items()}
+            status = self.lines(shell_of(step), step["run"], env)
+            if status:
+                return status
+            after(step["run"])
+        return 0
+
+    def gitlab(self, job: str, token: str, **given: str) -> int:
+        jobs = yaml_of(f"{BUILDS}/gitlab-ci.yml")
+        env = {**jobs["variables"], "HOLZHEBO_TOKEN": token, **given}
+        return self.lines(
+            ["bash", "-e", "-o", "pipefail"], "\n".join(jobs["default"]["before_script"] + jobs[job]["script"]), env
+        )
+
+    def jenkins(self, token: str, **given: str) -> List[int]:
+        with open(f"{BUILDS}/Jenkinsfile", encoding="utf-8") as file:
+            text = file.read()
+        env = {"HOLZHEBO_BROKER": re.findall(r"HOLZHEBO_BROKER = '(.*)'", text)[0], "HOLZHEBO_TOKEN": token, **given}
+        env["PATH"] = f"{self.room}/bin:{os.environ['PATH']}"
+        steps = [one or more for more, one in re.findall(r"(?s)sh (?:\'\'\'(.*?)\'\'\'|'(.*?)')\n", text)]
+        return [self.lines(["sh", "-e"], it, env) for it in steps]
+
+
+def in_live(server: Server) -> List[str]:
+    said = json.loads(server.ask("GET", "/environments/live", RED).body)
+    return [f"{it['pacticipant']} {it['version']} {it['instance']}".rstrip() for it in said["deployed"]]
+
+
+def test_github(fleet: Server, client: Client, room: str) -> None:
+    with Stock({"GET /": Reply()}) as stock:
+        build, threads = Build(room, client, stock), []  # type: Build, List[concurrent.futures.Future[int]]
+        with open(f"{room}/pact.json", "w", encoding="utf-8") as it:
+            it.write(pact("a spoon"))
+        with concurrent.futures.ThreadPoolExecutor(1) as workers:
+
+            def after(line: str) -> None:
+                if line.startswith("gh "):
+                    with open(f"{room}/started", encoding="utf-8") as file:
+                        given = {f"inputs.{key}": it for key, it in re.findall(r"(\w+)=(\S+)", file.read())}
+                    runs = {"GITHUB_RUN_ID": "7", "GITHUB_RUN_ATTEMPT": "1"}
+                    threads.append(workers.submit(build.github, "contract.yml", BLUE, {**given, **runs}))
+
+            commit = {"GITHUB_SHA": "c0ffee", "GITHUB_REF_NAME": "main"}
+            same("the consumer's build", build.github("consumer.yml", RED, commit, after), 0)
+            same("the contract's build", [it.result() for it in threads], [0])
+        rows = json.loads(fleet.ask("GET", "/matrix?pacticipant=shop&version=c0ffee", RED).body)["rows"]
+        same(
+            "the result",
+            [(it["providerVersion"], it["evidence"], it["success"]) for it in rows],
+            [("1", "checked", True)],
+        )
+        same("the release", build.github("release.yml", RED, {"inputs.version": "c0ffee"}), 0)
+        same("what is live", in_live(fleet), ["shop c0ffee", "stock 1"])
+        same("a rollout that fails", build.github("release.yml", RED, {"inputs.version": "1", "ROLLOUT": "1"}), 1)
+        same("what is live then", in_live(fleet), ["shop c0ffee", "stock 1"])
+        same("a release that isn't permitted", build.github("release.yml", RED, {"inputs.version": "2"}), 1)
+        own = {"GITHUB_SHA": "f00d", "GITHUB_REF_NAME": "main", "GITHUB_RUN_ID": "8", "GITHUB_RUN_ATTEMPT": "1"}
+        same("the provider's build", build.github("provider.yml", BLUE, own), 0)
+        stock.answers["GET /"] = Reply(500)
+        same(
+            "one that breaks the contract",
+            build.github("provider.yml", BLUE, {**own, "GITHUB_SHA": "bad", "GITHUB_RUN_ID": "9"}),
+            1,
+        )
+
+
+def test_gitlab_and_jenkins(fleet: Server, client: Client, room: str) -> None:
+    with Stock({"GET /": Reply()}) as stock:
+        build = Build(room, client, stock)
+        with open(f"{room}/pact.json", "w", encoding="utf-8") as it:
+            it.write(pact("a spoon"))
+        commit = {"CI_COMMIT_SHA": "c0ffee", "CI_COMMIT_BRANCH": "main"}
+        same("the consumer's", build.gitlab("consumer", RED, **commit), 0)
+        same(
+            "the contract's",
+            build.gitlab("contract", BLUE, CONSUMER="shop", CONSUMER_VERSION="c0ffee", CI_JOB_ID="1"),
+            0,
+        )
+        same("the wait", build.gitlab("wait for the result", RED, **commit), 0)
+        same("the release", build.gitlab("release", RED, VERSION="c0ffee"), 0)
+        same("what is live", in_live(fleet), ["shop c0ffee", "stock 1"])
+        same(
+            "a rollout that fails",
+            (build.gitlab("release", RED, VERSION="1", ROLLOUT="1"), in_live(fleet)),
+            (1, ["shop c0ffee", "stock 1"]),
+        )
+        commit = {"CI_COMMIT_SHA": "f00d", "CI_COMMIT_BRANCH": "main", "CI_JOB_ID": "2"}
+        same("the provider's", build.gitlab("provider", BLUE, **commit), 0)
+        given = {"GIT_BRANCH": "origin/main", "GIT_COMMIT": "j1", "BUILD_TAG": "jenkins-1"}
+        same("Jenkins", build.jenkins(BLUE, **given), [0, 0, 0, 0, 0])
+        same("it is on main", branch_of(fleet, "stock", "j1"), "main")
+        given.update(GIT_COMMIT="j2", BUILD_TAG="jenkins-2")
+        same("Jenkins, a failure", build.jenkins(BLUE, **given, FAILS="a spoon"), [0, 0, 0, 1, 1])
+        rows = json.loads(fleet.ask("GET", "/matrix?pacticipant=stock&version=j2", BLUE).body)["rows"]
+        same("the failure is stored", [(it["consumerVersion"], it["success"]) for it in rows], [("c0ffee", False)])
+        given.update(GIT_COMMIT="j3", BUILD_TAG="jenkins-3")
+        same("Jenkins, without a report", build.jenkins(BLUE, **given, VERIFIER="broken"), [0, 0, 0, 1, 1])
+        rows = json.loads(fleet.ask("GET", "/matrix?pacticipant=stock&version=j3", BLUE).body)["rows"]
+        same("nothing is claimed", [it["result"] for it in rows], [])
+
+
+def branch_of(fleet: Server, pacticipant: str, version: str) -> str:
+    """The branch of a version: the one on which its contract is found."""
+    text = json.dumps({**json.loads(pact("its own")), "consumer": {"name": pacticipant}, "provider": {"name": "shop"}})
+    fleet.do("PUT", f"/pacts/provider/shop/consumer/{pacticipant}/version/{version}", BLUE, text)
+    found = [it for it in ("main", "origin/main") if fleet.ask("GET", branch_path(pacticipant, it), BLUE).status == 200]
+    return " ".join(found)
+
+
+def branch_path(pacticipant: str, branch: str) -> str:
+    return f"/pacts/provider/shop/consumer/{pacticipant}/branch/{branch.replace('/', '%2F')}"
+
+
+def test_one_outcome_a_contract(fleet: Server, client: Client, room: str) -> None:
+    """Of two contracts one fails: a failure is claimed for it, and a pass for the other."""
+    fleet.do("PUT", "/pacticipants/web", OFFICE, '{"team":"red"}')
+    for name, text in ("shop", pact("a spoon")), ("web", pact("a fork").replace('"shop"', '"web"')):
+        fleet.do("PUT", f"/pacts/provider/stock/consumer/{name}/version/s", RED, text)
+        client.done("blue", "fetch", "--provider", "stock", "--contract", name, "s", "--into", name)
+        client.done("blue", "result", "1", "pass", name)
+        client.done("red", "deploy", name, "s", "live")
+    with Stock({}) as stock:
+        build = Build(room, client, stock)
+        given = {"GIT_BRANCH": "main", "GIT_COMMIT": "k1", "BUILD_TAG": "jenkins-1"}
+        same("the build", build.jenkins(BLUE, **given, FAILS="a spoon"), [0, 0, 0, 1, 1])
+    rows = json.loads(fleet.ask("GET", "/matrix?pacticipant=stock&version=k1", BLUE).body)["rows"]
+    same("what is claimed", [(it["consumer"], it["success"]) for it in rows], [("shop", False), ("web", True)])
+
+
+def test_a_client_that_fails_in_a_pipe(fleet: Server, client: Client, room: str) -> None:
+    """Of GitHub's build for one contract: without an answer of the broker it ends before anything is checked out."""
+    with Stock({}) as stock:
+        build = Build(room, client, stock)
+        build.places["https://broker.example.org"] = "http://127.0.0.1:1"
+        build.env["HOLZHEBO_PATIENCE"] = "0"
+        given = {"inputs.consumer": "shop", "inputs.version": "1", "GITHUB_RUN_ID": "7", "GITHUB_RUN_ATTEMPT": "1"}
+        same("the build", build.github("contract.yml", BLUE, given), 3)
+    same("no version is kept for the next step", os.path.exists(f"{room}/contract.yml.env"), False)
+
+
+def test_a_reader_that_ends_early(fleet: Server, client: Client, room: str) -> None:
+    """A listing of 200 services into a pipe whose reader takes one line: never a status of an error by the client's."""
+    for number in range(200):
+        fleet.do("PUT", f"/pacticipants/c{number}", OFFICE, '{"team":"red"}')
+        fleet.do("PUT", f"/pacticipants/c{number}/versions/1", RED)
+        fleet.do(
+            "POST", "/environments/open/deployments", RED, json.dumps({"pacticipant": f"c{number}", "version": "1"})
+        )
+    line = f"{shlex.join([*PYTHON, CLIENT])} status open | head -n 1"
+    for _ in range(20):
+        done = subprocess.run(
+            ["bash", "-o", "pipefail", "-c", line], env=client.env("red"), capture_output=True, text=True
+        )
+        same("status", (done.returncode, done.stderr), (0, ""))
+    line = f"{shlex.join([*PYTHON, CLIENT])} matrix stock 1 | true; echo ${{PIPESTATUS[0]}}"
+    done = subprocess.run(["bash", "-c", line], env=client.env("blue"), capture_output=True, text=True)
+    same("141, as of others, or 0", (done.stdout.strip() in ("0", "141"), done.stderr), (True, ""))

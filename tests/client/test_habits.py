@@ -1,0 +1,195 @@
+"""Named brokers, doctor, formats, the names of the Pact Broker's client; and the library."""
+import json, os, re, subprocess
+import pytest
+
+from holzhebo.api import Broker, NotPermitted, Refused, Stop
+from tests.client.tools import CLIENT, PYTHON, Client
+from tests.process import TOP, Server
+from tests.wire import OFFICE, same
+from tests.world import BLUE, RED, pact
+
+
+def test_named_brokers(fleet: Server, client: Client, room: str) -> None:
+    """Brokers of config.ini by their names, with a default; options may come before the command."""
+    os.makedirs(f"{room}/.config/holzhebo")
+    with open(f"{room}/.config/holzhebo/config.ini", "w", encoding="utf-8") as it:
+        it.write(f"[holzhebo]\ndefault = one\n[one]\nurl = {fleet.url}\ntoken-file = {room}/red.token\n")
+        it.write(
+            "[two]\nurl = http://127.0.0.1:1\ntoken-file = ~/blue.token\npatience = 0\n[odd]\nurl = x\ntoken = y\n"
+        )
+    env = {**client.env("red"), "HOLZHEBO_BROKER": "", "HOLZHEBO_TOKEN_FILE": ""}
+    for words, status in (
+        (["status"], 0),
+        (["--broker", "one", "status"], 0),
+        (["status", "--broker", "two"], 3),
+        (["--broker=two", "status"], 3),
+        (["--json", "--patience", "3", "status", "live"], 0),
+        (["status", "--broker", "odd"], 3),
+        (["--format", "x", "status"], 2),
+    ):
+        done = subprocess.run([*PYTHON, CLIENT, *words], env=env, cwd=room, capture_output=True, text=True)
+        same(f"{words}: {done.stderr}", done.returncode, status)
+
+
+def test_doctor(fleet: Server, client: Client) -> None:
+    rows = json.loads(client.done("red", "doctor", "shop", "--json"))
+    same(
+        "all is well",
+        [(it["outcome"], it["what"]) for it in rows],
+        [("ok", it) for it in ("address", "way", "connection", "clock", "token", "shop")],
+    )
+    done = client.run("red", "doctor", "stok")
+    same("a misspelt name", (done.status, done.output.split("\n")[-2].split(None, 2)[:2]), (3, ["wrong", "stok"]))
+    done = client.run("nobody", "doctor")
+    same("a token that isn't known", (done.status, "wrong  token" in done.output), (3, True))
+
+
+def test_the_names_of_the_pact_broker_s_client(fleet: Server, client: Client, room: str) -> None:
+    with open(f"{room}/a.json", "w", encoding="utf-8") as it:
+        it.write(pact("a book"))
+    for words, status in (
+        (["publish", "a.json", "--consumer-app-version", "20", "--branch", "main"], 0),
+        (
+            [
+                "can-i-deploy",
+                "--pacticipant",
+                "shop",
+                "--version",
+                "20",
+                "--to-environment",
+                "live",
+                "--output",
+                "json",
+            ],
+            0,
+        ),
+        (
+            [
+                "can-i-deploy",
+                "-a",
+                "shop",
+                "-e",
+                "2",
+                "--to-environment",
+                "live",
+                "--retry-while-unknown",
+                "2",
+                "--retry-interval",
+                "1",
+            ],
+            1,
+        ),
+        (["record-deployment", "--pacticipant", "shop", "--version", "20", "--environment", "live"], 0),
+        (
+            [
+                "record-deployment",
+                "--pacticipant",
+                "shop",
+                "--version",
+                "20",
+                "--environment",
+                "live",
+                "--application-instance",
+                "b",
+            ],
+            0,
+        ),
+        (["record-undeployment", "--pacticipant", "shop", "--environment", "live", "--application-instance", "b"], 0),
+        (["record-release", "--pacticipant", "shop", "--version", "20", "--environment", "live"], 0),
+        (["record-support-ended", "--pacticipant", "shop", "--version", "20", "--environment", "live"], 0),
+        (["can-i-deploy", "shop", "--version", "20", "live"], 0),
+        (["can-i-deploy", "shop", "20", "live", "extra"], 2),
+        (["can-i-deploy", "--pacticipant", "shop", "20"], 2),
+    ):
+        same(f"{words}", client.run("red", *words).status, status)
+
+
+def test_format(fleet: Server, client: Client) -> None:
+    same(
+        "status",
+        client.done("red", "status", "live", "--format", "{environment}\\t{state} {pacticipant} {version}"),
+        "live\tdeployed stock 1\n",
+    )
+    same(
+        "matrix",
+        client.done("blue", "matrix", "stock", "1", "--format", "{consumer} {outcome} {evidence}"),
+        "shop pass claimed\nshop pass checked\n",
+    )
+    done = client.run("red", "status", "live", "--format", "{versions}")
+    same("no such field", (done.status, "there is no field versions" in done.errors), (2, True))
+
+
+# The library
+
+
+def test_the_library(fleet: Server) -> None:
+    """One method a route: what is answered, what is refused, and what isn't a broker."""
+    office, red, blue = (Broker(fleet.url, token) for token in (OFFICE, RED, BLUE))
+    same(
+        "made",
+        [
+            office.make_team("green", "green-team-token-1").answer,
+            office.make_pacticipant("mail", "green").answer,
+            office.make_environment("dev", gated=False).is_new,
+            office.grant("green", "dev").answer,
+            office.take_grant("green", "dev").answer,
+            office.take_grant("green", "dev").answer,
+        ],
+        ["done", "done", True, "done", "done", "already"],
+    )
+    same("a version", red.name_version("shop", "9", "main").answer, "done")
+    first = red.publish("shop", "9", "stock", pact("a book").encode())
+    same("a contract", (first.answer, first.content), ("done", 1))
+    same("its text", json.loads(red.contract("shop", "9", "stock"))["consumer"], {"name": "shop"})
+    same("of a branch", red.newest_contract("shop", "main", "stock"), red.contract("shop", "9", "stock"))
+    claimed = blue.claim("shop", "9", "stock", "1", True, "run 1")
+    same("a result", (claimed.answer, blue.claim("shop", "9", "stock", "1", True, "run 1").answer), ("done", "already"))
+    replies = [{"description": "a book", "response": {"status": 200}}]
+    checked = blue.send_replies("shop", "9", "stock", "1", replies)
+    same("replies", (checked.success, checked.failing), (True, []))
+    same("the gate", red.can_i_deploy("shop", "9", "live").permitted, True)
+    same("deployed", red.deploy("shop", "9", "live").is_new, True)
+    same("there", red.environment("live").version_in("shop", ""), "9")
+    same("matrix", red.matrix("shop", "9").rows[0].evidence, "checked")
+    same(
+        "released",
+        [red.release("shop", "9", "live").answer, red.end_support("shop", "9", "live").answer],
+        ["done", "done"],
+    )
+    same("undeployed", red.undeploy("shop", "9", "live").answer, "done")
+    same("names", [red.knows_pacticipant(it) for it in ("shop", "stock", "stok")], [True, True, False])
+    with pytest.raises(NotPermitted) as gate:
+        red.deploy("shop", "2", "live")
+    same("faults", [(it.kind, it.provider) for it in gate.value.faults], [("missing", "stock")])
+    with pytest.raises(Refused) as refused:
+        red.matrix("shop", "nine")
+    same(
+        "unknown",
+        (refused.value.http_status, str(refused.value)),
+        (404, "the broker doesn't know the version nine of shop"),
+    )
+    with pytest.raises(Stop):
+        Broker("http://127.0.0.1:1", RED, patience=0).matrix("shop", "1")
+    for it in office, red, blue:
+        it.close()
+
+
+def test_each_route_has_a_method() -> None:
+    """The routes of docs/API.md, by how many there are of each method of HTTP."""
+    with open(f"{TOP}/docs/API.md", encoding="utf-8") as it:
+        table = it.read().split("## Routes")[1].split("## Each route by curl")[0]
+    with open(f"{TOP}/client/src/holzhebo/api/broker.py", encoding="utf-8") as it:
+        source = it.read()
+    places = re.findall(r"(?m)^\| `?(?:PUT|GET|DELETE|POST)[^|]*", table)
+    same("routes", len(places), 18)
+    for part in (
+        "undeployments",
+        "deployments",
+        "releases",
+        "support-ended",
+        "/replies",
+        "/results",
+        "/can-i-deploy",
+        "/matrix",
+    ):
+        same(part, part in source, True)

@@ -1,0 +1,163 @@
+"""The client as it is shipped: the one file, the wheel, what the package has, and its pages."""
+import glob, json, os, re, resource, shutil, subprocess, sys
+from typing import Dict, List
+import pytest
+from tests.client.books import KEPT, book_pact
+from tests.client.tools import CLIENT, Client, Reply, Stock, secret, sound
+from tests.process import TOP, Server, run
+from tests.wire import Wrong, same
+from tests.world import RED
+
+
+WHEN = {"SOURCE_DATE_EPOCH": "1790000000"}
+DEBIAN = "/usr/bin/python3"
+
+
+@pytest.fixture(scope="module")
+def one_file(tmp_path_factory: pytest.TempPathFactory) -> str:
+    path = str(tmp_path_factory.mktemp("one") / "holzhebo")
+    run([DEBIAN, f"{TOP}/client/zip", path], env=WHEN)
+    return path
+
+
+def test_the_same_bytes_twice(one_file: str, room: str) -> None:
+    """Also in another zone, under another mask, and by another Python."""
+    for number, python in enumerate([DEBIAN, sys.executable]):
+        line = f"umask 077; {python} {TOP}/client/zip {room}/{number}"
+        run(["sh", "-c", line], env={**WHEN, "TZ": "Asia/Tokyo", "LC_ALL": "C"})
+        with open(one_file, "rb") as it, open(f"{room}/{number}", "rb") as other:
+            same(python, it.read() == other.read(), True)
+
+
+def of_children() -> float:
+    """The seconds that processes took which have ended."""
+    it = resource.getrusage(resource.RUSAGE_CHILDREN)
+    return it.ru_utime + it.ru_stime
+
+
+@pytest.mark.timing
+def test_how_fast_it_starts(one_file: str, room: str) -> None:
+    """The best of seven starts of the one file, up to its first request, takes at most a quarter of a second of a
+    processor."""
+    took = []
+    for _ in range(7):
+        began = of_children()
+        done = subprocess.run(
+            [DEBIAN, one_file, "status", "live", "--broker", "http://127.0.0.1:1", "--patience", "0"],
+            capture_output=True,
+            text=True,
+            env={**os.environ, "HOLZHEBO_TOKEN": RED},
+        )
+        took.append(of_children() - began)
+        same("it asks", (done.returncode, done.stderr), (3, "holzhebo: the broker refuses the connection\n"))
+    if min(took) > 0.25:
+        raise Wrong(f"it takes {min(took):.2f} seconds")
+
+
+# A fleet's whole story, by each form in which the client is shipped
+
+
+class Shipped(Client):
+    """The client by these words."""
+
+    def __init__(self, room: str, url: str, words: List[str], env: Dict[str, str]) -> None:
+        super().__init__(room, url)
+        self.words, self.more = words, env
+
+    def out(self, caller: str, *words: str, status: int = 0) -> str:
+        env = {**self.env(caller), **self.more}
+        done = subprocess.run(
+            [*self.words, *words], cwd=self.room, env=env, capture_output=True, text=True, timeout=120
+        )
+        secret(done.stdout + done.stderr)
+        sound(done.stderr)
+        same(f"{' '.join(words)}: {done.stderr}", done.returncode, status)
+        return done.stdout
+
+
+def wheel(room: str) -> List[str]:
+    """The client in a room of Python's own, by its wheel."""
+    shutil.copytree(f"{TOP}/client/src", f"{room}/build/src", ignore=shutil.ignore_patterns("__pycache__"))
+    shutil.copy(f"{TOP}/client/pyproject.toml", f"{room}/build")
+    run([DEBIAN, "-m", "build", "--no-isolation", "--skip-dependency-check", "--wheel", f"{room}/build"])
+    run([DEBIAN, "-m", "venv", f"{room}/venv"])
+    (file,) = glob.glob(f"{room}/build/dist/*.whl")
+    run([f"{room}/venv/bin/pip", "install", "--no-index", "--no-deps", "--disable-pip-version-check", file])
+    return [f"{room}/venv/bin/holzhebo"]
+
+
+def installed(program: str, room: str) -> List[str]:
+    """The client of the package, with its folder of Python's packages."""
+    os.mkdir(f"{room}/deb")
+    run([f"{TOP}/packaging/deb", program, f"{room}/deb"], env=WHEN)
+    (file,) = glob.glob(f"{room}/deb/*.deb")
+    run(["dpkg-deb", "--extract", file, f"{room}/root"])
+    return [DEBIAN, "-B", f"{room}/root/usr/bin/holzhebo"]
+
+
+@pytest.mark.needs("dpkg-deb", "argparse-manpage", "shtab")
+@pytest.mark.parametrize("form", ["one file", "wheel", "package"])
+def test_a_fleet_s_story(form: str, one_file: str, program: str, fleet: Server, room: str) -> None:
+    """Publish, verify with states, deploy, a canary, a roll back."""
+    env: Dict[str, str] = {}
+    if form == "wheel":
+        words = wheel(room)
+    elif form == "package":
+        words, env = installed(program, room), {"PYTHONPATH": f"{room}/root/usr/lib/python3/dist-packages"}
+    else:
+        words = [one_file]
+    client = Shipped(room, fleet.url, words, env)
+    same("its version", client.out("none", "--version"), "holzhebo 1.0.0\n")
+    for version in "10", "11":
+        with open(f"{room}/book.json", "w", encoding="utf-8") as it:
+            json.dump(book_pact(), it)
+        client.out("red", "publish", version, "--branch", "main", "book.json")
+    answers = {**KEPT, "GET /books/1": Reply(), "POST /states": Reply(body=b"")}
+    with Stock(answers) as stock:
+        verify = ["verify", "--provider", "stock", "--version", "2", "--url", stock.url, "--contract", "shop", "10"]
+        client.out("blue", *verify, "--states-url", f"{stock.url}/states", "--junit", "junit.xml", "--record", "kept")
+    files = sorted(glob.glob(f"{room}/kept/*"))
+    same("check", client.out("none", "check", *files, "--program", program).split("\n")[-2], "by the program")
+    client.out("red", "deploy", "shop", "10", "live", status=1)
+    client.out("blue", "deploy", "stock", "2", "live")
+    client.out("red", "deploy", "shop", "10", "live")
+    client.out("red", "deploy", "shop", "11", "live", "--instance", "canary")
+    client.out("red", "deploy", "shop", "11", "live", "--then-undeploy", "canary")
+    client.out("red", "can-i-deploy", "shop", "10", "vault", status=1)
+    client.out("red", "record-deployment", "--pacticipant", "shop", "--version", "10", "--environment", "live")
+    listed = client.out("red", "status", "live", "--format", "{pacticipant} {version}{instance}")
+    same("what is live", listed, "shop 10\nstock 2\n")
+
+
+# Pages
+
+
+@pytest.mark.needs("mandoc", "zsh", "argparse-manpage", "shtab")
+def test_pages(program: str, room: str) -> None:
+    """They can be read by mandoc and zsh, bash completes by them, and the client's has each command and its
+    statuses."""
+    os.symlink(program, f"{room}/broker")
+    run([DEBIAN, f"{TOP}/client/pages.py", f"{room}/pages", f"{room}/broker"])
+    for name in "holzhebo", "broker":
+        run(["mandoc", "-T", "lint", "-W", "error", f"{room}/pages/{name}.1"])
+        run(["zsh", "-n", f"{room}/pages/_{name}"])
+    with open(f"{room}/pages/holzhebo.1", encoding="utf-8") as it:
+        page = it.read()
+    commands = re.findall(r"(?m)^    (\S+) ", run([DEBIAN, CLIENT, "help"]))
+    same(
+        "commands",
+        (len(commands) > 15, [it for it in commands if f".SS {it}".replace("-", "\\-") not in page]),
+        (True, []),
+    )
+    for words, wanted in (
+        (["holzhebo", "can"], ["can-i-deploy"]),
+        (["holzhebo", "can-i-deploy", "--w"], ["--wait"]),
+        (["broker", "serve", "--l"], ["--listen"]),
+        (["holzhebo", "und"], ["undeploy"]),
+    ):
+        place = f'COMP_WORDS=({" ".join(words)}); COMP_CWORD={len(words) - 1}'
+        call = f"_{words[0]}" if words[0] == "broker" else "_shtab_holzhebo"
+        text = (
+            f'source {room}/pages/{words[0]}.bash; {place}; {call} {words[0]} "{words[-1]}"; echo "${{COMPREPLY[@]}}"'
+        )
+        same(f"completion of {words}", run(["bash", "-c", text]).split(), wanted)

@@ -1,0 +1,204 @@
+"""Files of the proxy: its tokens, which both proxies still read afterwards, and its logs."""
+import gzip, json, os, stat, subprocess, threading
+from typing import List, Tuple
+import pytest
+from tests.client.tools import CLIENT, PYTHON, Client, Done, sound
+from tests.process import TOP, Server, run
+from tests.wire import OFFICE, Wrong, same
+from tests.world import RED
+
+HERE = f"{TOP}/tests/client"
+
+
+def lines_in(path: str) -> List[str]:
+    with open(path, encoding="utf-8") as it:
+        return it.read().splitlines()
+
+
+def start(path: str, text: str = "# teams\n") -> None:
+    with open(path, "w", encoding="utf-8") as it:
+        it.write(text)
+
+
+NGINX = """daemon off; pid {room}/pid; error_log {room}/error.log; events {{}}
+http {{ access_log off; map $http_a $b {{ include {room}/teams; default ""; }} server {{ listen 127.0.0.1:1; }} }}"""
+CADDY = """{
+  admin off
+  auto_https off
+}
+http://127.0.0.1:1 {
+  map {header.a} {b} {
+    import %s/teams
+    default ""
+  }
+  respond {b}
+}
+"""
+
+
+@pytest.mark.needs("nginx", "caddy")
+@pytest.mark.parametrize("name", ['a"b', "a$b", "a\\", "a{b", "a}b", "{file./etc/passwd}", "a\u00e9 b", "it's; ok"])
+def test_a_team_s_name(name: str, fleet: Server, client: Client, room: str) -> None:
+    """A name that a proxy reads as something else is refused before the team is made; with any other both start."""
+    start(f"{room}/teams")
+    done = client.run("office", "team", name, "--new-token-file", "t", "--into", "teams")
+    is_refused = any(it in name for it in '"$\\{}')
+    same("status", (done.status, os.path.exists(f"{room}/t")), (3, False) if is_refused else (0, True))
+    same("the file", len(lines_in(f"{room}/teams")), 1 if is_refused else 2)
+    start(f"{room}/nginx.conf", NGINX.format(room=room))
+    run(["nginx", "-t", "-c", f"{room}/nginx.conf"])
+    for at, line in enumerate(lines_in(f"{room}/teams")):
+        start(f"{room}/line-{at}", line)
+    os.chmod(f"{room}/teams", 0o644)
+    with open(f"{room}/teams", encoding="utf-8") as it:
+        text = it.read().replace(";\n", "\n")
+    start(f"{room}/teams", text)
+    start(f"{room}/Caddyfile", CADDY % room)
+    run(["caddy", "validate", "--adapter", "caddyfile", "--config", f"{room}/Caddyfile"], env={"HOME": room})
+
+
+def test_into_without_a_token(fleet: Server, client: Client, room: str) -> None:
+    start(f"{room}/teams")
+    done = client.run("office", "team", "green", "--owns", "mail", "--into", "teams")
+    same("refused", done, Done(2, "", "holzhebo: --into needs the team's token: give --new-token-file\n"))
+    same("nothing is made", client.run("office", "team", "green", "--grant", "live").status, 3)
+
+
+def test_what_an_earlier_run_left(fleet: Server, client: Client, room: str) -> None:
+    """A file that a killed run left locks nothing; a link stays a link; names of any alphabet, in any locale."""
+    start(f"{room}/teams.part", "half")
+    start(f"{room}/real", "# t\u00e9ams\n")
+    os.chmod(f"{room}/real", 0o640)
+    os.symlink(f"{room}/real", f"{room}/teams")
+    locale = {"LC_ALL": "C", "PYTHONIOENCODING": "ascii", "PYTHONUTF8": "0", "PYTHONCOERCECLOCALE": "0"}
+    done = client.run("office", "team", "gr\u00fcn", "--new-token-file", "t", "--into", "teams", **locale)
+    same("done", done.status, 0)
+    same("the link", (os.path.islink(f"{room}/teams"), len(lines_in(f"{room}/real"))), (True, 2))
+    same("its first line", lines_in(f"{room}/real")[0], "# t\u00e9ams")
+    same("its rights", stat.S_IMODE(os.stat(f"{room}/real").st_mode), 0o640)
+    same("nothing else is left", sorted(it for it in os.listdir(room) if it.startswith(".real")), [])
+
+
+def test_several_at_once(fleet: Server, client: Client, room: str) -> None:
+    """No line is lost if twelve runs write at once."""
+    start(f"{room}/teams")
+    threads = [
+        threading.Thread(
+            target=client.run, args=("office", "team", f"t{it}", "--new-token-file", f"t{it}", "--into", "teams")
+        )
+        for it in range(12)
+    ]
+    for it in threads:
+        it.start()
+    for it in threads:
+        it.join()
+    same("lines", len(lines_in(f"{room}/teams")), 13)
+
+
+READER = "desk-token-000001"
+
+
+@pytest.mark.parametrize("end", [";", ""])
+def test_readers(end: str, room: str) -> None:
+    """Tokens that only read by the token that is replaced do so by the new one; others stay."""
+    client = Client(room, "http://127.0.0.1:1")
+    start(f"{room}/tokens", "# tokens that leaked\n")
+    lines = [f'"~^GET \\Q{READER}\\E$" "{OFFICE}"{end}', f'"~^GET \\Qx{READER}\\E$" "{RED}"{end}', "# more"]
+    start(f"{room}/broker-readers", "".join(f"{it}\n" for it in lines))
+    caddy = [] if end else ["--caddy"]
+    said = client.done("none", "replace-token", "office.token", "--new-token-file", "new", "--into", "tokens", *caddy)
+    same("it says so", "broker-readers" in said, True)
+    new = lines_in(f"{room}/new")[0].split()[-1]
+    same("the readers", lines_in(f"{room}/broker-readers"), [lines[0].replace(OFFICE, new), *lines[1:]])
+    same(
+        "the tokens",
+        lines_in(f"{room}/tokens")[1:],
+        [f'"~^\\Q{new}\\E$" "{OFFICE}"{end}', f'"~^\\Q{OFFICE}\\E$" ""{end}'],
+    )
+
+
+# A token's file is on the disk before the broker hears of it
+
+
+@pytest.mark.needs("strace")
+def test_a_token_is_on_the_disk_first(fleet: Server, client: Client, room: str) -> None:
+    """The file and its folder are synced before the request: the broker keeps only a digest, so the file is all."""
+    trace = ["strace", "-f", "-e", "trace=fsync,sendto,connect", "-o", f"{room}/trace"]
+    line = [*trace, *PYTHON, CLIENT, "team", "green", "--new-token-file", "green"]
+    done = subprocess.run(line, cwd=room, env=client.env("office"), capture_output=True, text=True)
+    same("done", (done.returncode, done.stderr), (0, ""))
+    calls = [it for it in lines_in(f"{room}/trace") if "fsync" in it or "sendto" in it and "PUT /teams" in it]
+    kinds = ["fsync" if "fsync(" in it else "send" for it in calls]
+    same("in this order", kinds[:3], ["fsync", "fsync", "send"])
+
+
+# Logs
+
+
+def piped(words: List[str], text: bytes, room: str, **env: str) -> Tuple[int, str, str]:
+    done = subprocess.run(
+        [*PYTHON, CLIENT, *words], cwd=room, input=text, capture_output=True, env={**os.environ, **env}
+    )
+    sound(done.stderr.decode())
+    return done.returncode, done.stdout.decode(), done.stderr.decode()
+
+
+STRANGE = b'{"time":"2026-11-27T03:00:00+00:00","team":"x","method":"GET","path":"/\xff\xfe","body":"","status":404,'
+STRANGE += b'"seconds":0.1}\n'
+
+
+def test_bytes_of_an_outsider(room: str) -> None:
+    """A request with a byte that is no text of UTF-8 stops neither `who` nor `metrics`."""
+    with open(f"{HERE}/proxy.log", "rb") as it:
+        log = it.read()
+    for name in "en_US.UTF-8", "C":
+        env = {"PYTHONIOENCODING": "utf-8:strict", "LC_ALL": name}
+        for words in ["who", "live"], ["metrics"]:
+            status, output, _ = piped([*words, "--log", "-"], STRANGE + log, room, **env)
+            same(f"{words}", (status, len(output) > 100), (0, True))
+
+
+def line_of(time: str, version: str, status: int = 200) -> str:
+    body = json.dumps({"pacticipant": "shop", "version": version})
+    path = "/environments/live/deployments"
+    row = {"time": time, "team": "red", "method": "POST", "path": path, "body": body, "status": status, "seconds": 0.1}
+    return json.dumps(row) + "\n"
+
+
+def test_logs_that_were_rotated(room: str) -> None:
+    """`who` without --log reads all that logrotate has kept, the oldest first, and says since when there is
+    something."""
+    folder = f"{room}/log"
+    os.mkdir(folder)
+    kept = {"broker.log.2.gz": "1", "broker.log.1": "2", "broker.log": "3"}
+    for day, (name, version) in enumerate(kept.items(), 1):
+        text = line_of(f"2026-11-0{day}T02:00:00+00:00", version) + line_of(f"2026-11-0{day}T03:00:00+00:00", "9", 409)
+        with open(f"{folder}/{name}", "wb") as it:
+            it.write(gzip.compress(text.encode()) if name.endswith("gz") else text.encode())
+        os.utime(f"{folder}/{name}", (1000 + day, 1000 + day))
+    script = "import sys\nsys.path.insert(0, %r)\nfrom holzhebo.proxy import log\nlog.LOGS = [%r]\n"
+    script += "from holzhebo.cli.main import main\nsys.exit(main())\n"
+    start(f"{room}/run.py", script % (f"{TOP}/client/src", f"{folder}/broker.log"))
+
+    def who(*words: str) -> Tuple[str, str]:
+        done = subprocess.run([*PYTHON, f"{room}/run.py", *words], capture_output=True, text=True)
+        same("status", done.returncode, 0)
+        return done.stdout, done.stderr
+
+    output, errors = who("who", "live")
+    same("all three, in their order", [it.split()[-1] for it in output.splitlines()], ["1", "2", "3"])
+    same("since when", errors, "holzhebo: the log that is there begins at 2026-11-01T02:00:00+00:00\n")
+    same("what the gate refused", who("who", "live", "--refused")[0].count(" 9"), 3)
+    same("metrics are of the newest", '_total{method="POST",status="200"} 1\n' in who("metrics")[0], True)
+
+
+def test_a_half_written_file(room: str) -> None:
+    """--output is there at once, or not at all."""
+    status, _, _ = piped(["metrics", "--log", f"{HERE}/proxy.log", "--output", "broker.prom"], b"", room)
+    with open(f"{room}/broker.prom", encoding="utf-8") as it:
+        same("the whole text", (status, it.read().endswith("broker_request_seconds_count 9\n")), (0, True))
+    inode = os.stat(f"{room}/broker.prom").st_ino
+    piped(["metrics", "--log", f"{HERE}/proxy.log", "--output", "broker.prom"], b"", room)
+    same("another file in its place", os.stat(f"{room}/broker.prom").st_ino == inode, False)
+    if [it for it in os.listdir(room) if it.startswith(".")]:
+        raise Wrong("something is left")

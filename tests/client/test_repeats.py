@@ -1,0 +1,247 @@
+"""A broker that restarts, or that answers late, twice or not at all: what is sent again, and what isn't."""
+import concurrent.futures, contextlib, glob, http.server, json, subprocess, threading, time
+from collections.abc import Iterator
+from typing import Any, Dict, List, Tuple
+import pytest
+from tests.client.flaky import MANY, FlakyBroker, flaky  # the fixture
+from tests.client.tools import Client
+from tests.process import Server, free_port
+from tests.wire import OFFICE, Wrong, same
+from tests.world import RED, pact, register, verify
+
+__all__ = ["flaky"]
+Words = Tuple[str, ...]
+
+
+@contextlib.contextmanager
+def restarting(program: str, file: str, port: int, connections: int) -> Iterator[List[int]]:
+    """A service that starts the program again each time it ends, as examples/broker.service does."""
+    ends, starts = threading.Event(), []  # type: threading.Event, List[int]
+    words = [program, "serve", "--file", file, "--listen", f"127.0.0.1:{port}", "--connections", str(connections)]
+    process: List["subprocess.Popen[bytes]"] = []
+
+    def loop() -> None:
+        while not ends.is_set():
+            process[:] = [subprocess.Popen(words, stderr=subprocess.DEVNULL)]
+            starts.append(process[0].pid)
+            process[0].wait()
+            time.sleep(0.05)
+
+    thread = threading.Thread(target=loop)
+    thread.start()
+    try:
+        yield starts
+    finally:
+        ends.set()
+        process[0].terminate()
+        thread.join(60)
+
+
+def build(client: Client, number: int) -> None:
+    """A whole build, from its contract to the end of its deployment."""
+    path, room = f"{client.room}/{number}.json", client.room
+    with open(path, "w", encoding="utf-8") as it:
+        it.write(pact(f"a thing {number}"))
+    for words in (
+        ("red", "publish", f"r{number}", "--branch", "main", path),
+        ("blue", "fetch", "--provider", "stock", "--contract", "shop", f"r{number}", "--into", f"got{number}"),
+    ):
+        same(f"{words}", client.run(*words).status, 0)
+    (fetched,) = glob.glob(f"{room}/got{number}/*.json")
+    for words in (
+        ("blue", "result", "1", "pass", fetched, "--run", f"build {number}"),
+        ("red", "can-i-deploy", "shop", f"r{number}", "live"),
+        ("red", "deploy", "shop", f"r{number}", "live", "--instance", f"i{number}"),
+        ("red", "undeploy", "shop", f"r{number}", "live", "--instance", f"i{number}"),
+        ("red", "status", "live"),
+    ):
+        same(f"{words}", client.run(*words).status, 0)
+
+
+def test_restarts(program: str, broker_file: str, room: str) -> None:
+    """Builds beside one another go on as if it had served all the time, while it ends after each few connections."""
+    port = free_port()
+    with Server(program, broker_file) as server:
+        register(server)
+        verify(server)
+    client = Client(room, f"http://127.0.0.1:{port}")
+    with restarting(program, broker_file, port, 3) as starts:
+        with concurrent.futures.ThreadPoolExecutor(3) as workers:
+            for it in [workers.submit(build, client, number) for number in range(6)]:
+                it.result()
+        if len(starts) < 10:
+            raise Wrong(f"the broker started only {len(starts)} times")
+
+
+# What is sent again
+
+
+RESULT, RUN = ("result", "1", "pass", "file.json"), ("--run", "build 1")
+CASES: List[Tuple[Words, List[int], int, int]] = [
+    ((*RESULT, *RUN), [502, 503, 0], 0, 4),
+    (RESULT, [502], 3, 1),
+    (RESULT, [503], 3, 1),
+    (RESULT, [0], 3, 1),
+    ((*RESULT, *RUN), [504], 0, 2),
+    (RESULT, [504], 3, 1),
+    ((*RESULT, *RUN), [500], 3, 1),
+    (("publish", "1", "file.json"), [503, 0], 0, 3),
+    (("deploy", "a", "1", "live"), [0, 502], 0, 3),
+    (("undeploy", "a", "1", "live"), [503], 0, 2),
+    (("undeploy", "a", "1", "live"), [504], 0, 2),
+    (RESULT, [MANY, MANY], 0, 3),
+    (("publish", "1", "file.json"), [MANY], 0, 2),
+]
+
+
+def with_file(room: str) -> None:
+    with open(f"{room}/file.json", "w", encoding="utf-8") as it:
+        it.write(json.dumps({**json.loads(pact("a book")), "metadata": {"holzhebo": {"consumerVersion": "1"}}}))
+
+
+@pytest.mark.parametrize("words, statuses, status, count", CASES, ids=str)
+def test_what_is_sent_again(
+    words: Words, statuses: List[int], status: int, count: int, flaky: FlakyBroker, room: str
+) -> None:
+    """What is idempotent, after 502, 503, 504 and a connection that closes; and all, after a proxy's 429. A result
+    without a run isn't after anything else, since it would count twice."""
+    with_file(room)
+    flaky.set(statuses)
+    done = Client(room, flaky.url).run("red", *words)
+    same(f"{words} after {statuses}", (done.status, flaky.count), (status, count))
+    same("they are one request", len(set(flaky.bodies)), 1)
+
+
+def test_the_wait_that_a_proxy_asks_for(flaky: FlakyBroker, room: str) -> None:
+    """The field retry-after is kept to; if it is longer than the patience, the request isn't sent again."""
+    with_file(room)
+    for seconds, status, count in (2, 0, 2), (90, 3, 1):
+        flaky.set([MANY], headers={"retry-after": str(seconds)})
+        began = time.monotonic()
+        done = Client(room, flaky.url).run("red", *RESULT, "--patience", "30")
+        took = time.monotonic() - began
+        same(f"after {seconds} seconds", (done.status, flaky.count), (status, count))
+        if count == 2 and took < seconds:
+            raise Wrong(f"it was sent again after {took:.1f} seconds")
+
+
+def test_a_refused_connection(room: str) -> None:
+    """Nothing was sent, so nothing can count twice: a result without a run is sent again too, and arrives once."""
+    with_file(room)
+    port = free_port()
+    client = Client(room, f"http://127.0.0.1:{port}")
+    for run in (), RUN:
+        began = time.monotonic()
+        done = client.run("red", *RESULT, *run, "--patience", "1")
+        took = time.monotonic() - began
+        same("nobody listens", (done.status, done.errors.count("asked again"), took > 0.5), (3, 1, True))
+    brokers: List[FlakyBroker] = []
+    later = threading.Timer(1.5, lambda: brokers.append(FlakyBroker(port)))
+    later.start()
+    done = client.run("red", *RESULT)
+    later.join()
+    same("it listens later", (done.status, done.output, brokers[0].count), (0, f"file.json: {CLAIMED}\n", 1))
+    brokers[0].shutdown()
+    brokers[0].server_close()
+
+
+CLAIMED = "pass is claimed, result 1"
+
+
+def place(version: str, instance: str = "") -> Dict[str, str]:
+    return {"pacticipant": "shop", "version": version, "instance": instance}
+
+
+BEFORE, OURS, OTHER = [place("1")], [place("2")], [place("3")]
+# What is there before, what is there once the connection closed without an answer; how it ends, and how often it is
+# sent.
+MEANWHILE: List[Tuple[List[Dict[str, str]], List[Dict[str, str]], int, int]] = [
+    (BEFORE, BEFORE, 0, 2),
+    (BEFORE, OURS, 0, 2),
+    (BEFORE, OTHER, 3, 1),
+    ([], [], 0, 2),
+    ([], OURS, 0, 2),
+    ([], OTHER, 3, 1),
+    (BEFORE, [], 3, 1),
+    (BEFORE, [*BEFORE, place("3", "canary")], 0, 2),
+]
+
+
+@pytest.mark.parametrize("before, after, status, count", MEANWHILE, ids=str)
+def test_a_deployment_again(before: Any, after: Any, status: int, count: int, flaky: FlakyBroker, room: str) -> None:
+    """A deployment whose answer is lost is repeated only if nothing else was deployed there meanwhile."""
+
+    def meanwhile() -> None:
+        flaky.there = after
+
+    flaky.set([0], there=before, meanwhile=meanwhile)
+    done = Client(room, flaky.url).run("red", "deploy", "shop", "2", "live")
+    same(f"{before} {after}", (done.status, flaky.count), (status, count))
+    if status:
+        same("it says what is there", f"meanwhile {'shop 3' if after else 'nothing'} is there" in done.errors, True)
+        same("and claims nothing", done.output, "")
+
+
+def test_another_deployment_isn_t_undone(fleet: Server, client: Client) -> None:
+    """The answer of shop 1 is lost at a proxy, another build deploys shop 3; the first one doesn't put shop 1 back."""
+    with Losing(fleet) as proxy:
+        done = Client(client.room, proxy.url).run("red", "deploy", "shop", "1", "live")
+    same("the first build", (done.status, done.output), (3, ""))
+    same("what is there", client.done("red", "status", "live", "--service", "shop", "--format", "{version}"), "3\n")
+
+
+class Losing(http.server.ThreadingHTTPServer):
+    """A proxy that loses the answer to the first deployment, before which another build's arrives."""
+
+    daemon_threads = True
+
+    def __init__(self, broker: Server) -> None:
+        super().__init__(("127.0.0.1", 0), Passing)
+        self.broker, self.lost = broker, 0
+        self.url = f"http://127.0.0.1:{self.server_address[1]}"
+
+    def __enter__(self) -> "Losing":
+        threading.Thread(target=self.serve_forever, args=(0.02,), daemon=True).start()
+        return self
+
+    def __exit__(self, *_: Any) -> None:
+        self.shutdown()
+        self.server_close()
+
+
+class Passing(http.server.BaseHTTPRequestHandler):
+    def answer(self) -> None:
+        proxy: Any = self.server
+        body = self.rfile.read(int(self.headers.get("content-length", 0)))
+        self.close_connection = True
+        token = self.headers["authorization"].split(" ")[1]
+        status, _, text = proxy.broker.ask(self.command, self.path, token, body)
+        if self.command == "POST" and not proxy.lost:
+            proxy.lost = 1
+            other = json.dumps({"pacticipant": "shop", "version": "3"})
+            proxy.broker.do("POST", "/environments/live/deployments", RED, other)
+            return
+        self.send_response(status)
+        self.send_header("content-length", str(len(text.encode())))
+        self.end_headers()
+        self.wfile.write(text.encode())
+
+    do_GET = do_POST = do_PUT = answer
+
+    def log_message(self, format: str, *words: Any) -> None:
+        """Is silent."""
+
+
+def test_one_connection(fleet: Server, room: str, program: str) -> None:
+    """The requests of a command share a connection: of 40 contracts, far fewer connections than requests are
+    counted."""
+    for number in range(40):
+        name = f"c{number}"
+        fleet.do("PUT", f"/pacticipants/{name}", OFFICE, '{"team":"red"}')
+        text = pact("a thing").replace('"shop"', f'"{name}"')
+        fleet.do("PUT", f"/pacts/provider/stock/consumer/{name}/version/1", RED, text)
+        fleet.do("POST", "/environments/open/deployments", RED, json.dumps({"pacticipant": name, "version": "1"}))
+    fleet.stop()
+    with Server(program, fleet.file, 25) as few:
+        done = Client(room, few.url).run("blue", "status", "open", "--provider", "stock", "--patience", "0")
+        same("40 contracts over 25 connections", (done.status, done.output.count("\n")), (0, 40))
