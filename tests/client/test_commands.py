@@ -78,10 +78,10 @@ def test_commands(fleet: Server, client: Client, room: str) -> None:
         with open(f"{room}/{name}", "w", encoding="utf-8") as it:
             it.write(f"# {name}\n")
         os.chmod(f"{room}/{name}", 0o640)
-    for command in commands(f"{HERE}/desk.lines"):
+    for command in commands(f"{HERE}/commands.txt"):
         output, errors = ("".join(f"{line}\n" for line in lines) for lines in (command.output, command.errors))
         wanted = Done(command.status, output, errors)
-        name = f"desk.lines:{command.line}: {' '.join(command.words)}"
+        name = f"commands.txt:{command.line}: {' '.join(command.words)}"
         same(name, client.run(command.caller, *command.words), wanted)
     branch = "/pacts/provider/stock/consumer/shop%20%26%20caf%C3%A9/branch/feat%2F%221%22%5C"
     same("the contract of a branch", fleet.ask("GET", branch, RED).status, 200)

@@ -14,7 +14,9 @@ def short(text: object, most: int = 60) -> str:
 
 
 def tell(text: str = "") -> None:
-    print(text, flush=True)
+    """Prints lines in one write, so that a reader that ends early never meets half of them."""
+    sys.stdout.write(text + "\n")
+    sys.stdout.flush()
 
 
 def note(text: str) -> None:
@@ -29,7 +31,7 @@ def table(rows: Sequence[Sequence[str]], indent: str = "") -> str:
 
 
 def tell_table(rows: Sequence[Sequence[str]], indent: str = "") -> None:
-    """Prints a table in one write, so that a reader that ends early never meets half of it."""
+    """Prints a table."""
     if rows:
         tell(table(rows, indent))
 

@@ -31,7 +31,7 @@ def status(args: Arguments) -> int:
         else:
             texts.append(text_of(args, said))
     if any(texts):
-        tell("\n".join(it for it in texts if it))  # in one write: a reader of the first line never meets half of them
+        tell("\n".join(it for it in texts if it))
     return DONE
 
 
