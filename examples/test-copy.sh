@@ -5,23 +5,24 @@
 # Needs sqlite3 (the Debian package sqlite3), and beside COPY as much room as it takes. Ends with 0 if COPY is sound,
 # with 2 if it is sound but of a format that this program doesn't serve, and else with 1.
 set -eu
+. "$(dirname -- "$0")/common.sh"
 program=${1:?the path of the program broker}
 copy=${2:?the backup}
-fail() { echo "$*" >&2; exit 1; }
-for tool in sqlite3 "$program"; do command -v "$tool" > /dev/null || fail "$tool isn't installed"; done
+need sqlite3 "$program"
 [ -f "$copy" ] || fail "$copy isn't there"
+copy=$(whole_path "$copy")
 umask 077
 
-copying=
-room=$(mktemp -d "$copy.test.XXXXXX")
+copying='' room=''
 trap 'exit 1' HUP INT TERM
 clean_up() {
   ended=$?
   kill ${copying:-} 2> /dev/null || true
-  rm -rf "$room"
+  [ -z "$room" ] || rm -rf -- "$room"
   [ "$ended" -le 2 ] || exit 1
 }
 trap clean_up EXIT
+make_room "$copy.test"
 
 # A copy to open, since who opens one may write to it: the file, and its log if it has one.
 lend() {
@@ -36,7 +37,7 @@ lend() {
 lend "$room/a.db"
 said=$("$program" can-i-deploy --file "$room/a.db" --token 0000000000000000 --pacticipant none --version none \
   --to-environment none 2>&1) || true
-rm -f "$room/a.db"*
+rm -f -- "$room/a.db"*
 case $said in
   '{"answer":'*) ended=0 ;;
   'open 3.'*) ended=2 ;;

@@ -1,22 +1,14 @@
-#!/usr/bin/env python3
-"""Tries the package of packaging/deb: made, read by lintian, installed, served, upgraded, removed and purged, as root.
-`ci/program` runs it.
+"""The package of packaging/deb: made, read by lintian, installed, served, upgraded, removed and purged, as root. dpkg
+and systemd work on a machine of their own: the service is started by systemd as its unit says, started again after it
+is killed and after an upgrade, backed up by the timers and restored, and it is gone once the package is removed."""
+import hashlib, os, re
+from collections.abc import Callable
+import pytest
+from tests.process import ran, run
+from tests.wire import Wrong, same
 
-    checks/package.py PROGRAM     PROGRAM is the path of `broker`
-
-dpkg and systemd work on a machine of their own (own_machine.py): the service is started by systemd as its unit says,
-started again after it is killed and after an upgrade, backed up by the timer and restored, and it is gone once the
-package is removed.
-
-Needs Linux and the Debian packages curl, dpkg-dev, iproute2, lintian, sqlite3 and systemd. Prints a line for each, and
-ends with 1 if one is otherwise than it has to be, or with 77 if there may be no such machine here."""
-import sys
-
-sys.dont_write_bytecode = True
-import hashlib, os, re, subprocess, tempfile
-from hub import PROGRAM, Wrong, end_with, run, same
-from own_machine import in_own_machine
-
+pytestmark = pytest.mark.needs("dpkg-deb", "lintian")
+Machine = Callable[[str, list[str], float], tuple[int, str, str]]
 # What is done there, in the folder of the packages. Each line that begins with `== ` is followed by what is compared.
 LINES = r"""
 cd @ROOM@
@@ -64,7 +56,8 @@ $tools/examples/demo.sh http://127.0.0.1:9292 > said 2>&1 || { cat said; exit 1;
 listing > before
 echo "== served"
 state
-grep -E '^(Uid|CapEff|NoNewPrivs|Seccomp|Umask):' "/proc/$(number)/status" | sed "s/$(id -u broker)/broker/g" | tr '\t' ' '
+grep -E '^(Uid|CapEff|NoNewPrivs|Seccomp|Umask):' "/proc/$(number)/status" |
+  sed "s/$(id -u broker)/broker/g" | tr '\t' ' '
 stat -c '%n %U %a' /var/lib/broker/*
 cut -d, -f1 before
 kill -9 "$(number)"
@@ -78,21 +71,33 @@ listing | cmp - before
 install -m 644 $tools/examples/broker-*.service $tools/examples/broker-*.timer /etc/systemd/system/
 install -d -m 700 /backup /backup/nightly
 systemctl daemon-reload
+timers="broker-backup.timer broker-nightly.timer broker-restart.timer"
+echo "== at the same moment"
+# Both copies, and the restart of the night, by systemd at once: each waits for the others.
+for _ in 1 2 3; do
+  rm -rf /backup/broker-* /backup/nightly/*
+  systemctl start broker-backup.service broker-nightly.service broker-restart.service ||
+    journalctl --no-pager -n 40 -u broker-backup -u broker-nightly -u broker-restart
+  ls /backup/broker-* /backup/nightly/* | wc -l
+  systemctl is-failed broker-backup broker-nightly broker-restart || true
+done
+curl -s http://127.0.0.1:9292/; echo
+rm -rf /backup/broker-* /backup/nightly/* /backup/report.html
 echo "== backed up and restored"
-systemctl enable --now broker-backup.timer broker-nightly.timer 2> /dev/null
-systemctl is-active broker-backup.timer broker-nightly.timer
-systemctl disable --now broker-backup.timer broker-nightly.timer 2> /dev/null
+systemctl enable --now $timers 2> /dev/null
+systemctl is-active $timers
+systemctl disable --now $timers 2> /dev/null
 for unit in broker-backup broker-nightly broker-nightly; do
   systemctl start $unit.service || journalctl --no-pager -u $unit
-  sleep 1
 done
 find /backup -type f -printf '%P %m\n' | sed 's/-[0-9TZ:-]*/-TIME/' | sort
 grep -o '<h2>[A-Za-z ]*[a-z]' /backup/report.html | tail -n 2
 holzhebo environment lost --broker http://127.0.0.1:9292 --token-file token
-$tools/examples/restore.sh /usr/bin/broker /backup/broker-*.db /var/lib/broker/broker.db broker > said 2>&1 || { cat said; exit 1; }
+$tools/examples/restore.sh /usr/bin/broker /backup/broker-*.db /var/lib/broker/broker.db broker > said 2>&1 ||
+  { cat said; exit 1; }
 listing | cmp - before
 holzhebo environment lost --broker http://127.0.0.1:9292 --token-file token
-rm /var/lib/broker/*.before-*
+rm -r /var/lib/broker/*.before-*
 
 echo '{"environments":["mine"]}' > /etc/holzhebo/desk.json
 earlier=$(number)
@@ -111,13 +116,13 @@ journalctl --no-pager | grep -c 'token-0' || true
 systemctl is-active broker || true
 pgrep -u broker || true
 ls /usr/bin/broker /usr/bin/holzhebo /lib/systemd/system/broker.service 2>&1 | grep -c 'No such file'
-ls /var/lib/broker /etc/holzhebo
+ls /var/lib/broker /etc/holzhebo /etc/logrotate.d/holzhebo
 
 dpkg --no-triggers -P holzhebo < /dev/null > said 2>&1 || { cat said; exit 1; }
 echo "== purged"
 grep 'stays' said
 ls /var/lib/broker
-ls -d /etc/holzhebo 2>&1 | grep -c 'No such file'
+ls -d /etc/holzhebo /etc/logrotate.d/holzhebo 2>&1 | grep -c 'No such file'
 find /etc/systemd -name 'broker.service*'
 
 dpkg --no-triggers -i new.deb < /dev/null > said 2>&1 || { cat said; exit 1; }
@@ -153,7 +158,13 @@ Seccomp: 2
 /var/lib/broker/broker.db-wal broker 600
 {"answer":"shown"
 """,
+    "at the same moment": """2
+inactive
+inactive
+inactive
+""" * 3 + '{"answer":"no route"}\n',
     "backed up and restored": """active
+active
 active
 broker-TIME.db 600
 nightly/broker-TIME.db 600
@@ -168,10 +179,12 @@ new  environment lost
 active
 {"environments":["mine"]}
 """,
-    "removed": """4
+    "removed": """7
 0
 inactive
 3
+/etc/logrotate.d/holzhebo
+
 /etc/holzhebo:
 desk.json
 
@@ -182,35 +195,35 @@ broker.db-wal
     "purged": """/var/lib/broker has files, and stays: remove it yourself if nobody needs them
 broker.db
 broker.db-wal
-1
+2
 """,
     "purged without a file": "1\n",
 }
 
 
-def made(room: str) -> str:
-    """The package, which is the same file if it is made again, and has the program byte for byte. Its version."""
+@pytest.fixture
+def packages(program: str, room: str) -> str:
+    """The folder with the package, new.deb, which is the same file if it is made again, and has the program byte for
+    byte; and an earlier one with the same files, old.deb."""
     digests = []
     for folder in "one", "two":
         os.mkdir(f"{room}/{folder}")
-        run(["packaging/deb", PROGRAM, f"{room}/{folder}"], env={"SOURCE_DATE_EPOCH": "1700000000"})
+        run(["packaging/deb", program, f"{room}/{folder}"], env={"SOURCE_DATE_EPOCH": "1700000000"})
         name, = os.listdir(f"{room}/{folder}")
         with open(f"{room}/{folder}/{name}", "rb") as it:
             digests.append(hashlib.sha256(it.read()).hexdigest())
     same("the package that is made again", digests[1], digests[0])
-    version = run([PROGRAM, "--version"]).split()[1]
-    same("its name", name, f"holzhebo_{version}_amd64.deb")
+    same("its name", name, f"holzhebo_{version_of(program)}_amd64.deb")
     os.rename(f"{room}/one/{name}", f"{room}/new.deb")
     run(["dpkg-deb", "-R", f"{room}/new.deb", f"{room}/tree"])
-    with open(f"{room}/tree/usr/bin/broker", "rb") as packed, open(PROGRAM, "rb") as own:
+    with open(f"{room}/tree/usr/bin/broker", "rb") as packed, open(program, "rb") as own:
         same("whether the program is in it byte for byte", packed.read() == own.read(), True)
-    return version
+    age(room)
+    return room
 
 
-def read_by_lintian(room: str) -> None:
-    said = subprocess.run(["lintian", "--allow-root", f"{room}/new.deb"], capture_output=True, text=True, check=False)
-    faults = [it for it in said.stdout.split("\n") if it.startswith(("E:", "W:"))]
-    same("what lintian says", (said.returncode, faults), (0, []))
+def version_of(program: str) -> str:
+    return run([program, "--version"]).split()[1]
 
 
 def age(room: str) -> None:
@@ -222,29 +235,27 @@ def age(room: str) -> None:
     run(["dpkg-deb", "--root-owner-group", "--build", f"{room}/tree", f"{room}/old.deb"])
 
 
-def lived(room: str, version: str) -> None:
+def test_lintian(packages: str) -> None:
+    said = ran(["lintian", "--allow-root", f"{packages}/new.deb"])
+    faults = [it for it in said.output.split("\n") if it.startswith(("E:", "W:"))]
+    same("what lintian says", (said.status, faults), (0, []))
+
+
+def test_carry_is_in_it(packages: str) -> None:
+    """The command that makes a smaller file runs from where the package has it."""
+    said = ran(["python3", "-B", f"{packages}/tree/usr/share/holzhebo/tools/carry", "--help"])
+    same("its help", (said.status, "--keep N" in said.output), (0, True))
+
+
+@pytest.mark.root
+@pytest.mark.needs("curl", "ip", "sqlite3", "systemctl", "unshare")
+def test_life(machine: Machine, program: str, packages: str) -> None:
     """What is there after each step of the package's life."""
-    status, output, errors = in_own_machine(LINES.replace("@ROOM@", room), [room], 300)
+    status, output, errors = machine(LINES.replace("@ROOM@", packages), [packages], 300)
     parts = re.split(r"(?m)^== (.*)\n", output)
     found = dict(zip(parts[1::2], parts[2::2]))
     for name, wanted in WANTED.items():
         if name not in found:
             raise Wrong(f"it isn't {name}: {output}{errors}")
-        same(name, found[name], wanted.replace("@VERSION@", version))
+        same(name, found[name], wanted.replace("@VERSION@", version_of(program)))
     same("how it ends", (status, errors), (0, ""))
-
-
-def main() -> int:
-    with tempfile.TemporaryDirectory() as room:
-        version = made(room)
-        size = os.path.getsize(f"{room}/new.deb") / 1e6
-        print(f"made twice: holzhebo_{version}_amd64.deb, {size:.1f} MB", flush=True)
-        read_by_lintian(room)
-        print("lintian: no error and no warning", flush=True)
-        age(room)
-        lived(room, version)
-        print("installed, served, restored, upgraded, removed and purged, under systemd", flush=True)
-    return 0
-
-
-end_with(main)

@@ -1,0 +1,70 @@
+# shellcheck shell=bash
+# What the scripts of examples/ share: they read it, and it does nothing by itself.
+
+fail() { echo "$*" >&2; exit 1; }
+need() {
+  local tool
+  for tool; do command -v "$tool" > /dev/null || fail "$tool isn't installed"; done
+}
+
+# The whole path of a file that may not be there yet: so a name that begins with - is no option of anything.
+whole_path() {
+  local folder
+  folder=$(cd -- "$(dirname -- "$1")" && pwd -P) || fail "$(dirname -- "$1") isn't a folder"
+  printf '%s\n' "${folder%/}/$(basename -- "$1")"
+}
+
+# lock FILE: waits until no other of these scripts works on FILE, for up to ten minutes. The lock is that of the folder
+# of FILE, by descriptor 9. A script that calls another one hands it on, and the other one has it then.
+lock() {
+  local folder
+  folder=$(dirname -- "$1")
+  [ "/proc/$$/fd/9" -ef "$folder" ] || exec 9< "$folder"
+  flock -w 600 9 || fail "nothing is done: for ten minutes another script has worked on $1"
+}
+
+# make_room NAME: sets room to a new folder beside NAME, for what is unfinished. Nobody removes it as long as this
+# script goes on, since descriptor 8 is its lock; those of scripts that were killed are removed here.
+make_room() {
+  local left
+  for left in "$1".part.??????; do remove_left "$left"; done
+  room=$(mktemp -d -- "$1.part.XXXXXX")
+  exec 8< "$room"
+  flock -n 8 && [ -d "$room" ] || fail "$room is used by another script"
+}
+# remove_left ROOM: if the script that made it is gone.
+remove_left() {
+  [ -d "$1" ] || return 0
+  (exec 8< "$1" && flock -n 8 && rm -rf -- "$1") || true
+}
+
+# as_owner FOLDER WORDS..: runs the words as the owner of FOLDER, if this is root. Whoever may change a folder can put a
+# link to another file there at any moment, so nothing is written there with more rights than he has himself.
+as_owner() {
+  local user group
+  read -r user group < <(stat -c '%u %g' -- "$1")
+  shift
+  if [ "$(id -u)" = 0 ] && [ "$user" != 0 ]; then
+    setpriv --reuid "$user" --regid "$group" --clear-groups --inh-caps=-all -- "$@"
+  else
+    "$@"
+  fi
+}
+
+# The lock that a broker, or sqlite3, has on an open file.
+is_open() { [ -e "$1" ] && grep -q ":$(stat -c %i -- "$1") 10737418" /proc/locks; }
+
+# patience FILE: how many seconds an opening of it may take on a machine with much other work: it takes longer as the
+# file grows, a second of a processor for each 8 to 50 MB.
+patience() { echo $((60 + $(stat -L -c %s -- "$1") / 1000000)); }
+
+# The copies of keep-copies.sh: broker-DATE.db, with the date in UTC. Earlier ones have colons in it.
+today() { date -u +%Y-%m-%dT%H%M%SZ; }
+# copies FOLDER: their names, the oldest date first.
+copies() {
+  find "$1/" -maxdepth 1 -type f -printf '%f\n' |
+    sed -nE 's/^(broker-[0-9]{4}-[0-9]{2}-[0-9]{2}T[0-9]{2}):?([0-9]{2}):?([0-9]{2}Z\.db)$/\1\2\3 &/p' |
+    LC_ALL=C sort | cut -d ' ' -f 2
+}
+# date_of COPY: its date, without colons.
+date_of() { basename -- "$1" | sed -E 's/^broker-(.*)\.db$/\1/; s/://g'; }

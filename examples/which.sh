@@ -1,0 +1,31 @@
+#!/usr/bin/env bash
+# Says why the program doesn't open a broker's file, if it ended with status 3 and the line `file` or `open`: the last
+# line is a sentence with the cause and the path. Nothing is changed.
+# Usage: which.sh PROGRAM FILE USER     as root; USER is that of the service
+# As ExecStopPost of a unit it says nothing unless the service ended with status 3.
+set -u
+program=${1:?the path of the program broker} f=${2:?the file of the broker} user=${3:?the user of the service}
+[ "${EXIT_STATUS-3}" = 3 ] || exit 0
+as_user() { runuser -u "$user" -- "$@"; }
+users=$(for it in /proc/[0-9]*/fd/*; do if [ "$it" -ef "$f" ]; then echo "$it"; fi; done)
+if [ ! -e "$f" ]; then echo "missing: there is no file $f"
+elif [ ! -f "$f" ]; then echo "foreign: $f is no plain file"
+elif [ "$users" ]; then echo "$users"; echo "in use, by /proc/NUMBER/..: stop the process that has $f open"
+elif { [ -e "$f-wal" ] || [ -L "$f-wal" ]; } && [ ! -f "$f-wal" ]; then echo "odd log: $f-wal is no plain file"
+elif ! as_user sh -c 'for it in "$1" "${1%/*}" "$1-wal"; do
+  [ ! -e "$it" ] || { [ -r "$it" ] && [ -w "$it" ]; } || exit 1; done' sh "$f"; then
+  echo "forbidden: $user may not read and write $f, its log and their folder"
+elif [ "$(stat -c %h -- "$f")" != 1 ]; then
+  echo "linked: $f has a second name, which find / -xdev -samefile $f says: remove that one"
+elif [ "$(head -c 15 -- "$f")" != "SQLite format 3" ]; then echo "foreign: $f is no database"
+else
+  words=(--token 0000000000000000 --pacticipant none --version none --to-environment none)
+  case $(as_user "$program" can-i-deploy --file "$f" "${words[@]}" 2>&1) in
+    '{"answer":'*) echo "sound: $f is opened now; look at the limits of the service, as its memory and open files" ;;
+    file) echo "damaged: restore the latest backup of $f, and look for errors of the disk" ;;
+    'open 5') echo "damaged: the database fails while $f is opened: look for errors of the disk, and for room on it" ;;
+    *'open 3.'*) echo "older: $f is of another format, which docs/OPERATING.md has under An older file" ;;
+    *'open 2') echo "foreign: $f is no broker's file" ;;
+    *) echo "unknown: $program opens $f neither as a broker's file nor as another one" ;;
+  esac
+fi

@@ -1,0 +1,124 @@
+"""The drill: a broker's file is backed up while it is served, lost, and restored, by the scripts of examples/. Its file
+has rows in the log as it is copied; the copy has to be one file with page sums that answers as the broker did. Then the
+file is lost with its log, or a bit of it flips, and examples/restore.sh has to bring back every answer. With a damaged
+copy, or without the service, it has to change nothing."""
+import os, shutil, stat
+import pytest
+from tests.operate.service import Service, content, flip, only
+from tests.process import TOP, Server, run
+from tests.wire import same
+from tests.world import RED
+
+SUMS_AT, SUMS = 20, 8
+pytestmark = pytest.mark.needs("curl", "sqlite3")
+DEPLOYMENT = '{"pacticipant":"shop","version":"1"}'
+
+
+def test_one_file(service: Service) -> None:
+    """All rows were in the log; the copy alone has them."""
+    before, copy = service.answers(), service.backup("copy.db")
+    assert os.path.getsize(f"{service.file}-wal"), "the log was empty as the file was copied"
+    found = content(os.path.dirname(copy))
+    same("the files of the backup", list(found), [os.path.basename(copy)])
+    same("its room for sums", found[os.path.basename(copy)][SUMS_AT], SUMS)
+    same("its mode", stat.S_IMODE(os.stat(copy).st_mode), 0o600)
+    alone = shutil.copy(copy, f"{service.room}/alone.db")
+    with Server(service.program, alone) as server:
+        address, service.address = service.address, server.address
+        same("its answers", service.answers(), before)
+        service.address = address
+
+
+SERVES = """#!/bin/sh
+[ "$1" = serve ] && [ -e {room}/refusal ] && {{ cat {room}/refusal >&2; {then}; exit 3; }}
+exec {program} "$@"
+"""
+
+
+def refusing(service: Service, line: str, then: str) -> str:
+    """A program whose `serve` is refused with this line, and what it does then."""
+    with open(f"{service.room}/refusal", "w", encoding="utf-8") as it:
+        it.write(f"{line}\n")
+    return service.tool("refusing", SERVES.format(room=service.room, program=service.program, then=then))
+
+
+def test_refused(service: Service) -> None:
+    """A port that is in use is replaced by another one; a copy that isn't served is none."""
+    copy = service.backup("copy.db")
+    other = service.backup("other.db", refusing(service, "listen", f"rm {service.room}/refusal"))
+    same("the refusal", os.path.exists(f"{service.room}/refusal"), False)
+    os.remove(other)
+    service.script("backup.sh", refusing(service, "file", "true"), service.file, other, "broker", status=1)
+    only(os.path.dirname(copy), ["copy.db"])
+
+
+def test_lost(service: Service) -> None:
+    """What was done after the backup is lost with the file; all before it is there again."""
+    before, copy = service.answers(), service.backup("copy.db")
+    service.do("POST", "/environments/live/deployments", RED, DEPLOYMENT)
+    service.lose_power()
+    for name in os.listdir(service.folder):
+        os.remove(f"{service.folder}/{name}")
+    said = service.restore(copy)
+    same("what restore.sh says", said.split("\n")[1:], [f"{service.file} is restored, and broker serves it", ""])
+    same("the answers", service.answers(), before)
+    same("what was kept", service.kept(), [])
+    now = os.stat(service.file)
+    same("the owner", now.st_uid, os.stat(service.folder).st_uid)
+    same("the mode", stat.S_IMODE(now.st_mode), 0o600)
+
+
+def test_damaged(service: Service) -> None:
+    """A bit flips in the file, which has all rows, while it isn't served: the broker refuses it, and it is kept."""
+    before, copy = service.answers(), service.backup("copy.db")
+    service.restore(copy)
+    service.systemctl("stop")
+    flip(service.file)
+    damaged = content(service.folder)["broker.db"]
+    words = ["serve", "--file", service.file, "--listen", "127.0.0.1:1", "--connections", "1"]
+    same("what it prints", run(["timeout", "60", service.program, *words], 3), "")
+    service.restore(copy)
+    same("the answers", service.answers(), before)
+    same("what was kept", [it["broker.db"] == damaged for it in service.kept()].count(True), 1)
+
+
+def test_bad_copy(service: Service) -> None:
+    """Nothing is changed by a copy that is damaged, or by one for a file in use."""
+    before, copy = service.answers(), service.backup("copy.db")
+    bad = shutil.copy(copy, f"{service.room}/bad.db")
+    flip(bad)
+    found = content(service.folder)
+    same("restore.sh of a damaged copy", service.restore(bad, 1), "")
+    service.script("test-copy.sh", service.program, bad, status=1)
+    service.script("restore.sh", service.program, copy, service.file, status=1)
+    service.script("restore.sh", service.program, copy, service.file, "another", status=1)
+    same("the folder", content(service.folder) == found, True)
+    only(service.folder, list(found))
+    same("the answers", service.answers(), before)
+
+
+def test_two_files(service: Service) -> None:
+    """A copy with its log, as a snapshot of a disk has it, is restored with both."""
+    before, copy = service.answers(), service.backup("copy.db")
+    service.do("POST", "/environments/live/deployments", RED, DEPLOYMENT)
+    after = service.answers()
+    service.lose_power()
+    for end in "", "-wal":
+        shutil.copy(service.file + end, f"{service.room}/snapshot.db{end}")
+    service.restore(copy)
+    same("the answers of the copy", service.answers(), before)
+    service.restore(f"{service.room}/snapshot.db")
+    same("the answers of the snapshot", service.answers(), after)
+    said = service.restore(copy)
+    assert f"3 of these are in {service.folder}: remove those that nobody needs\n" in said, said
+    same("kept, with a log each but after a clean end", [len(it) for it in service.kept()], [2, 2, 2])
+
+
+def test_open_disk(service: Service) -> None:
+    """Who makes a folder for copies by a link to it, or names a copy like an option, gets the copy too."""
+    os.symlink(f"{service.room}/backup", f"{service.room}/link")
+    names = ["-x", "--help", "-n", "a b", "c'd"]
+    for name in names:
+        words = ["backup.sh", service.program, service.file, name, "broker"]
+        run(["env", "-C", f"{service.room}/link", f"{TOP}/examples/{words[0]}", *words[1:]], 0, service.env)
+    only(f"{service.room}/backup", names)

@@ -1,0 +1,30 @@
+"""Tokens in the words of command lines, which others on a machine can read: the scripts of examples/ have none. Each is
+run under strace, which writes down the words of every program that it starts, over a broker of its own. Only `broker`
+itself may have a token there, as docs/OPERATING.md says."""
+import re
+import pytest
+from tests.process import Server, run
+from tests.wire import same
+
+pytestmark = pytest.mark.needs("curl", "strace")
+
+
+def started(words: list[str], trace: str) -> list[tuple[str, str]]:
+    """The command lines that these words start, each with the path of its program first."""
+    run(["strace", "-f", "-qq", "-s", "100000", "-e", "trace=execve", "-o", trace, *words])
+    with open(trace, encoding="utf-8") as it:
+        return re.findall(r'(?m)^\d+ +execve\("([^"]*)", \[(.*?)\], 0x.* = 0$', it.read())
+
+
+# Each script, with `URL` in the place of a broker's address and PROGRAM of the program, and the end of a program that
+# it has to start.
+@pytest.mark.parametrize("script, word, tool", [
+    ("one-deployment.sh", "URL", "/curl"), ("demo.sh", "URL", "/curl"), ("replay.sh", "PROGRAM", "PROGRAM"),
+])
+def test_words(server: Server, program: str, room: str, script: str, word: str, tool: str) -> None:
+    places = {"URL": server.url, "PROGRAM": program}
+    lines = started([f"examples/{script}", places[word]], f"{room}/trace")
+    tool = places.get(tool, tool)
+    same(f"whether {script} starts {tool}", any(path.endswith(tool) for path, _ in lines), True)
+    shown = [line for path, line in lines if path != program and re.search(r"-token-0*1", line)]
+    same(f"command lines of {script} with a token", shown, [])
