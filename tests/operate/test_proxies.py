@@ -2,12 +2,13 @@
 by the broker itself, names keep their escapes, a body of the limit passes and a larger one doesn't, slow clients hold
 up nobody, and a broker that isn't there is 502 until it is there again. What one address can do to the others is
 little, and what is in the log. No line of a log has a token (conftest.py)."""
-import http.client, json, socket, threading, time
+import contextlib, http.client, socket, sqlite3, threading, time
 import pytest
+from tests.operate.carry_state import seal
 from tests.operate.front import DENIED, Front, Nginx, among, answered, asked, shown, who
 from tests.process import Server
 from tests.proxy import await_that
-from tests.wire import Wrong, request, same
+from tests.wire import Wrong, same
 from tests.world import DONE, RED, pact
 
 pytestmark = pytest.mark.needs("openssl")
@@ -129,7 +130,8 @@ def test_limited(front: Front) -> None:
         raise Wrong(f"{said}, and another address after {other:.1f} s")
 
 
-SLOW = 900
+# More than the 1,024 connections that this nginx has.
+SLOW = 1200
 
 
 @pytest.mark.timing
@@ -148,13 +150,13 @@ def test_slow_bodies(front: Front) -> None:
                     while not ends.wait(3):
                         peer.sendall(b"x")
             except OSError:
-                ends.wait(0.5)
+                ends.wait(2)
 
     threading.stack_size(256 * 1024)
     attackers = [threading.Thread(target=one, daemon=True) for _ in range(SLOW)]
     for it in attackers:
         it.start()
-    await_that(lambda: sent[0] > 600, "the bodies are begun")
+    await_that(lambda: sent[0] > 1000, "the bodies are begun")
     answers: list[object] = []
     for _ in range(12):
         try:
@@ -178,34 +180,39 @@ def test_log_is_small(front: Front) -> None:
     assert size < 20_000, size
 
 
+ROWS = 100_000
+
+
+def many_releases(file: str) -> None:
+    """So many releases in the environment `open`, whose listing then has 14 MB."""
+    with open(file, "rb") as it:
+        written = it.read(20)[18:]
+    with contextlib.closing(sqlite3.connect(file)) as db:
+        db.execute("PRAGMA journal_mode = DELETE")
+        (first,) = db.execute("SELECT max(number) + 1 FROM versions").fetchone()
+        numbers = range(first, first + ROWS)
+        db.executemany("INSERT INTO versions VALUES (?, 'shop', ?)", ((it, f"{it}-{'x' * 80}") for it in numbers))
+        db.executemany("INSERT INTO released VALUES ('open', ?)", ((it,) for it in numbers))
+        db.commit()
+    seal(file, written)
+
+
 @pytest.mark.timing
 def test_unread_answers(front: Front, fleet: Server) -> None:
     """Clients that don't read a long answer keep nobody waiting."""
-    rows = 4_000
-    for at in range(8):
-        names = [f"v{at}-{number:05}-{'x' * 200}" for number in range(rows // 8)]
-        fleet.send(*[request_put(it) for it in names])
-        fleet.send(*[request_release(it) for it in names])
-    peers = [front.open() for _ in range(8)]
-    for peer in peers:
+    fleet.stop()
+    many_releases(fleet.file)
+    fleet.restart()
+    peers = []
+    for _ in range(8):
+        peer = front.open()
         peer.setsockopt(socket.SOL_SOCKET, socket.SO_RCVBUF, 4096)
         peer.sendall(front.message(f"authorization: Bearer {RED}".encode(), "GET /environments/open"))
+        peers.append(peer)
     time.sleep(0.5)
     began = time.monotonic()
     same("another client", front.ask("GET", LIVE, RED).status, 200)
     took = time.monotonic() - began
     for peer in peers:
         peer.close()
-    assert took < 8, took
-
-
-def request_put(version: str) -> bytes:
-
-
-    return request("PUT", f"/pacticipants/shop/versions/{version}", RED)
-
-
-def request_release(version: str) -> bytes:
-
-
-    return request("POST", "/environments/open/releases", RED, json.dumps({"pacticipant": "shop", "version": version}))
+    assert took < 20, took
