@@ -48,6 +48,7 @@ def one_history(program: str, room: str, seed: int) -> dict[str, int]:
     return {**pair.counts, "faults": done[0], "permitted": done[1], "kept": len(it.kept), "dropped": len(it.dropped)}
 
 
+@pytest.mark.first
 @pytest.mark.parametrize("first", range(0, HISTORIES, EACH))
 def test_histories(program: str, memory: str, first: int) -> None:
     counts: dict[str, int] = collections.Counter()

@@ -7,7 +7,7 @@ import pytest
 from tests.process import ran, run
 from tests.wire import Wrong, same
 
-pytestmark = pytest.mark.needs("dpkg-deb", "lintian")
+pytestmark = [pytest.mark.first, pytest.mark.needs("dpkg-deb", "lintian")]
 Machine = Callable[[str, list[str], float], tuple[int, str, str]]
 # What is done there, in the folder of the packages. Each line that begins with `== ` is followed by what is compared.
 LINES = r"""

@@ -113,6 +113,7 @@ def quick(service: Service) -> str:
     return str(folder)
 
 
+@pytest.mark.first
 @pytest.mark.root
 @pytest.mark.parametrize("with_log", [False, True])
 def test_killed_at_each_call(service: Service, with_log: bool) -> None:
