@@ -1,6 +1,5 @@
 """The types of the scripts and of the tests are written, and right; what users run is tried as Python 3.9 has it. The
 tests have no name that nothing uses."""
-import os
 import pytest
 from tests.process import TOP, run
 

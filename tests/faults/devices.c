@@ -1,5 +1,5 @@
 /* Stands before the C library's own calls on a peer of the program, and is that peer, at a clock of its own: so what
-   fails at one byte, or waits for seconds, is tried exactly and in no time. checks/devices.py builds it and gives it to
+   fails at one byte, or waits for seconds, is tried exactly and in no time. test_devices.py builds it and gives it to
    the program by LD_PRELOAD, with PEERS, a folder. In it are, of each connection from 1 on, what the peer sends,
    N.sent, and how it does, N.plan; there N.taken is made, what the peer took, and N.report: when its connection was
    closed, and how many bytes the last read asked for. With STREAMS the peer 1 is standard input and standard output. A

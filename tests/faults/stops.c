@@ -1,6 +1,6 @@
 /* Stands before the C library's own calls on the two files of a broker, its database FILE and its log FILE-wal: those
    by which the program opens, measures, reads, writes, cuts and syncs a file (nm -D PROGRAM). From one call on a file
-   on it refuses each, as a disk does that stops; and it keeps the file as it was last synced. checks/stops.py builds it
+   on it refuses each, as a disk does that stops; and it keeps the file as it was last synced. players/stops.py builds it
    and gives it to the program by LD_PRELOAD, with
 
    STOPS_FILE      the path of the database
