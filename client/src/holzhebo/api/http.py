@@ -106,6 +106,37 @@ class Response(http.client.HTTPResponse):
             http.client.parse_headers(self.fp)
 
 
+def ask_for_life(peer: socket.socket) -> None:
+    """Asks the other end each five seconds whether it is there. A machine that is lost says nothing more; the one that
+    has its address then resets the connection, and the request may be repeated."""
+    peer.setsockopt(socket.SOL_SOCKET, socket.SO_KEEPALIVE, 1)
+    for name, value in ("TCP_KEEPIDLE", 5), ("TCP_KEEPINTVL", 5), ("TCP_KEEPCNT", 100):
+        if hasattr(socket, name):
+            peer.setsockopt(socket.IPPROTO_TCP, getattr(socket, name), value)
+
+
+class Watched(http.client.HTTPConnection):
+    """A connection whose other end is asked for life."""
+
+    def connect(self) -> None:
+        super().connect()
+        ask_for_life(self.sock)
+
+
+class SecureWatched(Watched):
+    """The same with TLS, by the name of the other end: it is asked for life while it shakes hands too."""
+
+    default_port = http.client.HTTPS_PORT
+
+    def __init__(self, host: str, port: int, timeout: float, context: ssl.SSLContext, name: str) -> None:
+        super().__init__(host, port, timeout=timeout)
+        self.context, self.name = context, name
+
+    def connect(self) -> None:
+        super().connect()
+        self.sock = self.context.wrap_socket(self.sock, server_hostname=self.name)
+
+
 def line_to(address: Address, seconds: float, way: Way = Way()) -> http.client.HTTPConnection:
     """A connection that isn't open yet."""
     host, port, headers = address.host, address.port, {}
@@ -117,11 +148,11 @@ def line_to(address: Address, seconds: float, way: Way = Way()) -> http.client.H
             headers["Proxy-Authorization"] = f"Basic {base64.b64encode(user.encode()).decode()}"
     line: http.client.HTTPConnection
     if address.is_https:
-        line = http.client.HTTPSConnection(host, port, timeout=seconds, context=way.context())
+        line = SecureWatched(host, port, seconds, way.context(), address.host)
         if way.proxy:
             line.set_tunnel(address.host, address.port, headers)
     else:
-        line = http.client.HTTPConnection(host, port, timeout=seconds)
+        line = Watched(host, port, timeout=seconds)
     line.response_class = Response
     return line
 
@@ -240,7 +271,7 @@ def late_one(late: str, has_head: bool) -> NoAnswer:
     return NoAnswer(late, True)
 
 
-CLOSED = (ConnectionError, http.client.RemoteDisconnected, http.client.IncompleteRead)
+CLOSED = (ConnectionError, ssl.SSLEOFError, http.client.RemoteDisconnected, http.client.IncompleteRead)
 
 
 def broken_off(why: Exception) -> NoAnswer:
