@@ -9,4 +9,10 @@ pub mod limit;
 pub mod need;
 pub mod policy;
 
+pub use crate::answer::Answer;
+pub use crate::command::{Command, FormFault};
+pub use crate::gate::decide;
 pub use crate::limit::room;
+pub use crate::need::{Kind, Latest, Need, PairFault};
+pub use crate::policy::{Ask, Caller, Rule, allowed};
+pub use broker_names::name::{Name, NameFault, Token, TokenFault};

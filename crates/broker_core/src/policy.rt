@@ -1,7 +1,8 @@
 //! Who may do what (this project's own policy).
-ghost use Rattle.std.specs.Prelude.{◌≡◌, if◌then◌else◌, option_map, []};
-ghost use Rattle.std.specs.List.{cons_option};
+ghost use Rattle.std.specs.Prelude.{◌≡◌, if◌then◌else◌, map};
+ghost use Rattle.std.specs.List.{list_any};
 ghost use Rattle.broker_core.specs.Policy.{allows};
+ghost use Rattle.broker_core.specs.Text.{same_text};
 
 use broker_names::name::Name;
 use std::fmt;
@@ -68,13 +69,25 @@ impl fmt::Display for Rule {
     }
 }
 
+/// Whether the text is one of these.
+fn is_among(texts: &[&str], text: &str) -> bool
+    ensures { result ≡ list_any (same_text text.now) (map (λ t. t.now) texts.now) }
+{
+    for other in texts {
+        if text == *other {
+            return true;
+        }
+    }
+    false
+}
+
 /// What a command asks of the policy.
 #[derive(Clone, Copy, Debug)]
 pub struct Ask<'a> {
     /// The rule by which the command is judged.
     pub rule: Rule,
-    /// The team that owns the pacticipant which counts here, if one does.
-    pub owner: Option<&'a str>,
+    /// The teams that own the pacticipants which count here, as many as there are.
+    pub owners: &'a [&'a str],
     /// Whether the caller's team has a grant for the command's environment.
     pub granted: bool,
 }
@@ -89,36 +102,35 @@ impl Caller {
         matches!(self, Caller::Office)
     }
 
-    /// Whether the caller is the team that is the owner.
-    fn is_owner(&self, owner: Option<&str>) -> bool
-        ensures { result ≡ is_owner self.now (cons_option (option_map (λ o. o.now) owner.entry) []) }
+    /// Whether the caller is a team among the owners.
+    fn is_owner(&self, owners: &[&str]) -> bool
+        ensures { result ≡ is_owner self.now (map (λ o. o.now) owners.now) }
     {
-        match (self, owner) {
-            (Caller::Team(team), Some(owner)) => team.as_str() == owner,
-            _ => false,
+        match self {
+            Caller::Team(team) => is_among(owners, team.as_str()),
+            Caller::Office => false,
         }
     }
 
     fn has_right(&self, ask: &Ask<'_>) -> bool
-        ensures { result ≡ allows ask.now.rule self.now (cons_option (option_map (λ o. o.now) ask.now.owner) [])
-            ask.now.granted }
+        ensures { result ≡ allows ask.now.rule self.now (map (λ o. o.now) ask.now.owners.now) ask.now.granted }
     {
         match ask.rule {
             Rule::A1 | Rule::A8 => true,
             Rule::A2 => self.is_office(),
-            Rule::A3 | Rule::A4 => self.is_owner(ask.owner),
-            Rule::A5 | Rule::A6 => self.is_office() || self.is_owner(ask.owner),
-            Rule::A7 => self.is_owner(ask.owner) && ask.granted,
+            Rule::A3 | Rule::A4 => self.is_owner(ask.owners),
+            Rule::A5 | Rule::A6 => self.is_office() || self.is_owner(ask.owners),
+            Rule::A7 => self.is_owner(ask.owners) && ask.granted,
         }
     }
 }
 
 /// Whether the policy allows the caller what is asked: nothing, or the rule that denies, which is the one asked for.
 ///
-/// `A1` and `A8` let every caller that is known. Takes no memory.
+/// `A1` and `A8` let every caller that is known. A team is an owner if it is among the owners. Takes no memory.
 pub fn allowed(caller: &Caller, ask: &Ask<'_>) -> Result<(), Rule>
-    ensures { result ≡ (if allows ask.now.rule caller.now (cons_option (option_map (λ o. o.now) ask.now.owner) [])
-        ask.now.granted then Ok tt else Err ask.now.rule) }
+    ensures { result ≡ (if allows ask.now.rule caller.now (map (λ o. o.now) ask.now.owners.now) ask.now.granted
+        then Ok tt else Err ask.now.rule) }
 {
     if caller.has_right(ask) {
         Ok(())

@@ -25,9 +25,10 @@ pub struct OwnerFacts {
 fn is_allowed(caller: &Caller, rule: Rule, owner: &Option<String>, granted: bool) -> bool
     ensures { result ≡ allows rule caller.now (cons_option (option_map string_bytes owner.now) []) granted }
 {
+    let owner = owner.as_deref();
     let ask = Ask {
         rule,
-        owner: owner.as_deref(),
+        owners: owner.as_slice(),
         granted,
     };
     allowed(caller, &ask).is_ok()
