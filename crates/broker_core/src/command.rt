@@ -8,6 +8,7 @@ use broker_names::name::{Body, Name, Text, Token};
 use std::alloc::AllocError;
 use std::fmt;
 use std::marker::Model;
+use thiserror::Error;
 
 /// The contract that a path names: whose it is, with whom.
 #[derive(Debug, Drop)]
@@ -41,7 +42,7 @@ pub struct Report {
 }
 
 /// Where the form of a command is at fault.
-#[derive(Debug, Drop)]
+#[derive(Debug, Drop, Error)]
 pub enum FormFault {
     /// A name in the path.
     Name,

@@ -11,6 +11,7 @@ use broker_names::name::Text;
 use pact_file::{Pact, PactFault, read_pact};
 use reply_check::{Replies, RepliesFault, read_replies};
 use std::alloc::{AllocError, Global};
+use thiserror::Error;
 
 /// What the broker takes from a pact file.
 #[derive(Debug, Drop)]
@@ -24,11 +25,13 @@ pub struct ReadPact {
 }
 
 /// Why a pact file or replies weren't read.
-#[derive(Debug, Drop)]
+#[derive(Debug, Drop, Error)]
 pub enum ReadFault {
     /// The first fault of the file or of the replies, with its number and its place.
+    #[error("{0}")]
     Form(FormFault),
     /// No memory was left.
+    #[error("out of memory")]
     Memory,
 }
 

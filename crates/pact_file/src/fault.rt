@@ -5,7 +5,8 @@ ghost use Rattle.pact_file.specs.Words.{number_text, part_text, parts_text, plac
 
 use pact_rules::{RuleFault, TreeFault};
 use std::alloc::{AllocError, AllocFailed, Global};
-use std::{error, fmt};
+use std::fmt;
+use thiserror::Error;
 
 /// A text in parts, so that it takes no memory to tell it.
 #[derive(Clone, Copy, Drop)]
@@ -90,7 +91,7 @@ pub enum Place {
 /// The first fault of a pact file, in this order: too long, no JSON, no tree, no object, the version, messages, the
 /// consumer, the provider, both of one name, no list of interactions, too many of them, interaction by interaction its
 /// parts and its rules, two that clash, and a normal text that is too long.
-#[derive(Debug, Drop)]
+#[derive(Debug, Drop, Error)]
 pub enum PactFault {
     /// The file or its normal text is over 1,048,576 bytes.
     TooLong,
@@ -166,8 +167,6 @@ impl fmt::Display for PactFault {
         }
     }
 }
-
-impl error::Error for PactFault {}
 
 impl PactFault {
     /// The fault's number and, if it helps, the place after a space: what follows `pact ` in the fault's text.

@@ -12,17 +12,22 @@ ghost use Rattle.serde_json.specs.View.{view};
 use pact_rules::{TreeFault, check_tree};
 use serde_json::Value;
 use std::alloc::Global;
+use thiserror::Error;
 
 /// Why bytes are no such object.
-#[derive(Clone, Copy, Debug, PartialEq, Eq)]
+#[derive(Clone, Copy, Debug, PartialEq, Eq, Error)]
 pub enum FileFault {
     /// The bytes aren't UTF-8, or no JSON text, or nest over 127 deep.
+    #[error("not JSON")]
     NotJson,
     /// A number isn't whole, or lists and objects nest over 100 deep.
+    #[error("{0}")]
     Tree(TreeFault),
     /// The value isn't an object.
+    #[error("not an object")]
     NotObject,
     /// No memory was left.
+    #[error("out of memory")]
     Memory,
 }
 

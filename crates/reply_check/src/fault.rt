@@ -8,6 +8,7 @@ use pact_file::{Part, TextParts};
 use pact_rules::{MatchFault, TreeFault};
 use std::alloc::{AllocError, AllocFailed, Global};
 use std::fmt;
+use thiserror::Error;
 
 /// Where a file hasn't the shape of replies.
 #[derive(Clone, Copy, Debug, PartialEq, Eq)]
@@ -22,7 +23,7 @@ pub enum Place {
 
 /// The first fault of a file of replies, in this order: no JSON, no tree, no object, no list, reply by reply its
 /// parts, and two replies for one interaction.
-#[derive(Clone, Copy, Debug, PartialEq, Eq)]
+#[derive(Clone, Copy, Debug, PartialEq, Eq, Error)]
 pub enum RepliesFault {
     /// The bytes aren't UTF-8, or no JSON text, or nest over 127 deep.
     NotJson,
@@ -98,7 +99,7 @@ impl<T: Drop> From<AllocFailed<T>> for RepliesFault {
 }
 
 /// Why replies can't be checked against a pact. An unknown interaction is looked for first.
-#[derive(Clone, Copy, Debug, PartialEq, Eq)]
+#[derive(Clone, Copy, Debug, PartialEq, Eq, Error)]
 pub enum CheckFault {
     /// The reply at this index of the file, from 0, belongs to no interaction of the pact; it is the first such reply.
     UnknownInteraction(usize),

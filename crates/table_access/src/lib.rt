@@ -43,11 +43,13 @@ pub use rows::{
 };
 
 /// Why a call on the tables failed.
-#[derive(Clone, Copy, Debug, PartialEq, Eq)]
+#[derive(Clone, Copy, Debug, PartialEq, Eq, thiserror::Error)]
 pub enum StoreFault {
     /// The database is out of memory, or an allocation failed.
+    #[error("out of memory")]
     Memory,
     /// The database refused for any other cause, or a row was met that breaks the rules of its table.
+    #[error("the store failed")]
     Store,
 }
 
