@@ -22,7 +22,7 @@ use broker_core::command::{PactPath, Report};
 use broker_core::policy::Caller;
 use broker_names::name::Name;
 use contract_tables::{ResultRow, record_result, result_of_run};
-use registry_tables::version_number;
+use registry_tables::version_of;
 use sqlite::{Alter, Connection};
 use table_access::StoreFault;
 
@@ -186,7 +186,7 @@ pub(crate) fn receive<S: Alter>(
     ensures calm { FailsFrom S.Store conn.old conn.new result (AreLong provider.now report.now)
         (CanReceive provider.now found.content) (IsToReport provider.now report.now found) }
 {
-    let number = done!(version_number(conn, provider.as_str(), report.provider_version.as_str()));
+    let number = done!(version_of(conn, provider.as_str(), report.provider_version.as_str()));
     match done!(read_run(conn, provider, &report.run)) {
         Some(row) => Ok(tell_again(row, number, found)),
         None => receive_new(conn, provider, report, found, number),

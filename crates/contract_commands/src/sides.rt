@@ -16,7 +16,7 @@ use broker_names::name::{Name, Text};
 use caller_facts::rules::{has_pacticipant, read_owner};
 use content_store::get;
 use contract_tables::contract_of;
-use registry_tables::version_number;
+use registry_tables::version_of;
 use sqlite::{Alter, Connection};
 use table_access::StoreFault;
 
@@ -118,7 +118,7 @@ pub(crate) fn read_contract<S: Alter>(
         (λ found s. IsContractRead s (version_named consumer.now version.now) provider.now
         found.version found.content) }
 {
-    match done!(version_number(conn, consumer.as_str(), version.as_str())) {
+    match done!(version_of(conn, consumer.as_str(), version.as_str())) {
         Some(number) => Ok(ContractNumbers {
             version: Some(number),
             content: done!(contract_of(conn, number, provider.as_str())),

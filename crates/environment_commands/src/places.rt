@@ -12,7 +12,7 @@ use broker_core::command::{Marks, Version};
 use broker_core::policy::{Caller, Rule};
 use broker_names::name::Name;
 use caller_facts::rules::{OwnerFacts, read_grant, read_owner};
-use registry_tables::{marks_of, version_number};
+use registry_tables::{marks_of, version_of};
 use sqlite::{Alter, Connection};
 use table_access::StoreFault;
 
@@ -93,7 +93,7 @@ pub(crate) fn read_version<S: Alter>(
         (λ found s. IsVersionRead s caller.now rule version.now granted found) }
 {
     let owner = done!(read_owner(conn, caller, rule, &version.pacticipant, granted));
-    let number = done!(version_number(conn, version.pacticipant.as_str(), version.name.as_str()));
+    let number = done!(version_of(conn, version.pacticipant.as_str(), version.name.as_str()));
     Ok(VersionFacts { owner, number })
 }
 

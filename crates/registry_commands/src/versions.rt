@@ -19,7 +19,7 @@ use broker_names::name::Name;
 use broker_tables::next_number;
 use caller_facts::rules::{OwnerFacts, read_owner};
 use command_facts::change::told;
-use registry_tables::{add_branch, add_version_as, on_branch, version_count, version_number};
+use registry_tables::{add_branch, add_version_as, on_branch, version_count, version_of};
 use sqlite::{Alter, Connection};
 use table_access::StoreFault;
 
@@ -74,7 +74,7 @@ fn read_number<S: Alter>(
     ensures { CalmQueriesInPlace S.Store conn.old conn.new result
         (λ found s. IsNumberRead s version.now branch.now found) }
 {
-    match done!(version_number(conn, version.pacticipant.as_str(), version.name.as_str())) {
+    match done!(version_of(conn, version.pacticipant.as_str(), version.name.as_str())) {
         Some(number) => Ok(NumberFacts {
             number: Some(number),
             is_on_branch: done!(read_branch(conn, number, branch)),

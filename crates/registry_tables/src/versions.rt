@@ -17,7 +17,7 @@ use table_access::{StoreFault, change, find_number};
 /// # Errors
 /// `StoreFault::Memory` if the database is out of memory; `StoreFault::Store` if it refused the query or holds no
 /// number there.
-pub fn version_number<S: Alter>(
+pub fn version_of<S: Alter>(
     conn: &mut Connection<S>,
     pacticipant: &str,
     version: &str,

@@ -1,6 +1,6 @@
 use Rattle.broker_tables.proofs.Asked.{looks_up}
 use Rattle.registry_tables.proofs.VersionRows.{known, known_found, known_reads}
-use Rattle.registry_tables.proofs.versions.version_number.Goals as goal
+use Rattle.registry_tables.proofs.versions.version_of.Goals as goal
 
 pub returns : goal.returns
 returns g c =
