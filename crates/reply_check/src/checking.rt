@@ -19,7 +19,8 @@ use std::marker::Model;
 /// Which interactions of a pact fail: their indices from 0, ascending, in the order of the normal pact.
 #[derive(Debug, Drop)]
 pub struct Verdict {
-    failing: Vec<usize>,
+    /// Their indices.
+    pub failing: Vec<usize>,
 }
 
 impl Model for Verdict {
