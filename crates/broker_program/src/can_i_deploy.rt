@@ -9,10 +9,10 @@ ghost use Rattle.broker_program.specs.Told.{TellsGate, TellsGateUntil};
 
 use crate::files::{Failed, open_broker, release};
 use crate::left::Left;
+use answer_texts::RenderedAnswer;
 use broker_core::answer::{Answer, Shown};
 use broker_core::command::{Command, Version};
 use broker_names::name::Token;
-use broker_service::RenderedAnswer;
 use command_line::FilePath;
 use program_io::fault::RunFault;
 use program_io::forms::{name_of, token_of};

@@ -13,9 +13,10 @@ macro_rules! done {
 }
 
 mod broker;
+pub mod laws;
 mod service;
 mod work;
 
-pub use answer_texts::RenderedAnswer;
+pub use answer_texts::RenderedAnswer as Answer;
 pub use broker::Broker;
 pub use broker_database::{OpenFault, Refused, migrate};
