@@ -7,13 +7,13 @@ use Rattle.http_messages.specs.{declared.head.Refused.{Refused}, declared.readin
 use Rattle.http_messages.specs.Messages.{AnnouncesBody, BeginsWithMessage, HasNoMessage, message_of}
 use Rattle.http_messages.proofs.MessagesLemmas.{BeginsWithMessage-more, IsHeadOf-more}
 use Rattle.broker_http.specs.{Faults.{fault_of_read, TellsDevice}, Serving.{IsOutOfMemory, ServesUntil}}
-use Rattle.broker_http.specs.{Stream.{texts, AllOpen, Responses, ExchangeCut, StreamCut, StreamEnds}, declared.served.ServeFault.{ServeFault}}
+use Rattle.broker_http.specs.{Stream.{texts, AllOpen, Responses, ExchangeCut, StreamCut, StreamEnds}, declared.served.StreamFault.{StreamFault}}
 use Rattle.broker_http.specs.{declared.served.Ended.{Ended}, declared.served.Ended.TheVariants.{AtEnd, Rest, Closed}}
 use Rattle.http_requests.specs.Requests.{AsksOperation}
 use Rattle.http_responses.specs.Responses.{Response}
 use Rattle.http_messages.specs.declared.reading.ReadFault.TheVariants as reads
 use Rattle.http_messages.specs.declared.reading.ReadOutcome.TheVariants as outcomes
-use Rattle.broker_http.specs.declared.served.ServeFault.TheVariants as faults
+use Rattle.broker_http.specs.declared.served.StreamFault.TheVariants as faults
 
 module _ {S : Type 0} (Exchange : S → Message → Response → S → Type 0) where
   -- more of the stream
@@ -100,7 +100,7 @@ StreamEnds-rest Closed responses rest e opened some none = absurd cc
 module _ {S : Type 0} (Exchange : S → Message → Response → S → Type 0) where
   -- a fault at one message, behind those that are answered
   pub Responses-broken : (s : S) (stream : List ℕ) (responses : List Response) (t : S) (bytes : List ℕ) (m : Message) (after : List ℕ) (u : S)
-      (first old new : Option (List ℕ)) (fault : ServeFault)
+      (first old new : Option (List ℕ)) (fault : StreamFault)
       → Responses Exchange s stream responses t bytes → AllOpen responses → Appends first old (texts responses) → BeginsWithMessage bytes m after
       → ExchangeCut Exchange t m u old new fault → (fault ≡ faults.Memory → AsksOperation m)
       → (more : List Response) × (rest : List ℕ) × (out : List ℕ) × Responses Exchange s stream more u rest × StreamCut fault more out × Appends first new out
@@ -149,7 +149,7 @@ module _ {S : Type 0} (Exchange : S → Message → Response → S → Type 0) w
       )
 
 -- a fault at one message isn't the reader's
-pub tells_writer : (fault : ServeFault) (P Q : Type 0) → TellsDevice fault ⊥ Q → TellsDevice fault P Q
+pub tells_writer : (fault : StreamFault) (P Q : Type 0) → TellsDevice fault ⊥ Q → TellsDevice fault P Q
 tells_writer (faults.Read failed) P Q p = absurd p
 tells_writer (faults.Turn over) P Q p = tt
 tells_writer faults.Count P Q p = tt

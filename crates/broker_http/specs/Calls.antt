@@ -1,6 +1,6 @@
 -- What the public call promises: how a broker answers a stream, and that the machine answers it so.
 use Rattle.std.specs.Io.KnownBytes.{Consumes}
-use Rattle.std.specs.Prelude.{◌≡◌, ◌≤◌, ℕ, Bool, List, length, Contains, Option, Result, IfOk, IfErr}
+use Rattle.std.specs.Prelude.{◌≡◌, ◌≤◌, ◌⊎◌, ℕ, Bool, List, length, Contains, Option, Result, Ok, Err, IfOk, IfErr}
 use Rattle.sqlite.specs.Tree.{Trees}
 use Rattle.sqlite.specs.Held.{Held}
 use Rattle.sqlite.specs.State.{State, HasCleanDisk, Survives}
@@ -14,7 +14,10 @@ use Rattle.broker_http.specs.Exchange.{Exchange, Responds}
 use Rattle.broker_http.specs.Journal.{Journal, JournalStep, IsRunFrom, blank}
 use Rattle.broker_http.specs.Serving.{Mode, IsInMode, StopsOnlyBy, ServesStream}
 use Rattle.broker_http.specs.Stream.{Responses}
+use Rattle.broker_http.specs.Faults.{TellsDevice, told_as}
+use Rattle.broker_http.specs.declared.served.StreamFault.{StreamFault}
 use Rattle.broker_http.specs.declared.served.ServeFault.{ServeFault}
+use Rattle.broker_http.specs.declared.served.ServeFault.TheVariants as told
 use Rattle.broker_http.specs.declared.served.Served.{Served}
 
 -- a broker answers a message, each command by what it promises on any disk and any database
@@ -36,7 +39,7 @@ module _ {X : Type 0} (shown : Held X → State) (s t : BrokerView X) (old new :
 module _ {X : Type 0} (shown : Held X → State) (s t : BrokerView X) (before after old new : Option (List ℕ)) where
   -- on any disk and any database, what was read is answered message by message by what the broker does with each
   -- command; a fault leaves some messages answered
-  abbrev pub IsAnsweredByBroker : Result Served ServeFault → Type 0
+  abbrev pub IsAnsweredByBroker : Result Served StreamFault → Type 0
   IsAnsweredByBroker result = ServesStream (ByBroker shown) s t before after old new result
 
   -- so many messages at the front of what was read are answered by the broker, one after another
@@ -46,7 +49,7 @@ module _ {X : Type 0} (shown : Held X → State) (s t : BrokerView X) (before af
       × Responses (ByBroker shown) s stream responses t rest × (answered ≡ length responses)
 
   -- The machine answers it, from this mode to the last.
-  pub record IsAnsweredByMachine (mode : Mode) (result : Result Served ServeFault) : Type 0 where
+  pub record IsAnsweredByMachine (mode : Mode) (result : Result Served StreamFault) : Type 0 where
     pub last : Journal
     -- the answers that are steps run it, in order, from one state to the other, which the database holds
     pub run : IsRunFrom mode last
@@ -59,7 +62,7 @@ module _ {X : Type 0} (shown : Held X → State) (s t : BrokerView X) (before af
     pub calm : StopsOnlyBy shown mode s.connection t.connection (length last.steps) last.mode
 
   -- what serving a stream promises
-  pub record IsServed (result : Result Served ServeFault) : Type 0 where
+  pub record IsServed (result : Result Served StreamFault) : Type 0 where
     -- on any disk and any database, by what the broker does with each command
     pub answers : IsAnsweredByBroker result
     -- on a clean disk, from a database that holds a state of the machine, by the machine
@@ -72,3 +75,16 @@ module _ {X : Type 0} (shown : Held X → State) (s t : BrokerView X) (before af
     -- so too where a device or memory failed: at most one for each message that was answered until then
     pub survives_fault : IfErr result (λ _. (answered : ℕ) × HasAnswered answered × ((commits : List Trees)
         × Survives (shown s.connection) (shown t.connection) (Contains commits) × (length commits ≤ answered)))
+
+  -- the stream was served to this end, or up to this fault, which was told as one of three
+  abbrev pub IsToldAs : Result Served StreamFault → Result Served ServeFault → Type 0
+  IsToldAs (Ok served) result = result ≡ Ok served
+  IsToldAs (Err fault) result = result ≡ Err (told_as fault)
+
+  -- What serving promises whose faults are three: it served the stream, and the reader or the writer has failed where a
+  -- fault says so; or there was no memory for the routes, and nothing was read, done or written.
+  abbrev pub IsServedOrIdle : (ReaderHasFailed WriterHasFailed : Type 0) → Result Served ServeFault → Type 0
+  IsServedOrIdle ReaderHasFailed WriterHasFailed result =
+      ((result ≡ Err told.Memory) × (t ≡ s) × (after ≡ before) × (new ≡ old))
+      ⊎ ((served : Result Served StreamFault) × IsServed served × IsToldAs served result
+      × IfErr served (λ fault. TellsDevice fault ReaderHasFailed WriterHasFailed))

@@ -26,8 +26,8 @@ use Rattle.http_requests.specs.Requests.{AsksOperation}
 use Rattle.http_responses.specs.Responses.{Response}
 use Rattle.broker_http.specs.Stream.{texts, Responses, StreamEnds, StreamCut}
 use Rattle.broker_http.specs.declared.served.Ended.TheVariants.{Closed}
-use Rattle.broker_http.specs.declared.served.ServeFault.{ServeFault}
-use Rattle.broker_http.specs.declared.served.ServeFault.TheVariants as faults
+use Rattle.broker_http.specs.declared.served.StreamFault.{StreamFault}
+use Rattle.broker_http.specs.declared.served.StreamFault.TheVariants as faults
 use Rattle.broker_http.specs.declared.served.Served.{Served}
 
 -- the broker is the machine in a state; or a command of a token, in a state, failed, and the broker is stopped
@@ -83,7 +83,7 @@ module _ {X : Type 0} (shown : Held X → State) (first : Mode) (old new : Held 
 
 -- Why memory ran out, by what was read, and what of that is behind the messages that are answered: nothing was read; or
 -- there is a head that announces a body, or a message that asks an operation.
-abbrev pub IsOutOfMemory : ServeFault → (stream rest : List ℕ) → Type 0
+abbrev pub IsOutOfMemory : StreamFault → (stream rest : List ℕ) → Type 0
 IsOutOfMemory (faults.Read failed) stream rest = Unit {0}
 IsOutOfMemory (faults.Turn over) stream rest = Unit {0}
 IsOutOfMemory faults.Count stream rest = Unit {0}
@@ -105,7 +105,7 @@ module _ {S : Type 0} (Exchange : S → Message → Response → S → Type 0) (
       × Appends old new (texts responses)
 
   -- a fault leaves some messages answered
-  abbrev pub ServesUntil : ServeFault → Type 0
+  abbrev pub ServesUntil : StreamFault → Type 0
   ServesUntil fault =
       (stream : List ℕ) × (responses : List Response) × (rest : List ℕ) × (out : List ℕ)
       × Consumes before after stream
@@ -115,7 +115,7 @@ module _ {S : Type 0} (Exchange : S → Message → Response → S → Type 0) (
       × IsOutOfMemory fault stream rest
 
   -- what serving a stream comes to
-  pub record ServesStream (result : Result Served ServeFault) : Type 0 where
+  pub record ServesStream (result : Result Served StreamFault) : Type 0 where
     pub ok : IfOk result Serves
     -- it ends by itself only at the reader's end
     pub end : IfOk result (λ served. served.ended ≢ Closed → IsAtEnd after)

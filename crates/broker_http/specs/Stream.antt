@@ -5,8 +5,8 @@ use Rattle.std.specs.Io.KnownBytes.{Appends}
 use Rattle.http_messages.specs.Message.{Message}
 use Rattle.http_messages.specs.Messages.{BeginsWithMessage, HasNoMessage}
 use Rattle.http_responses.specs.Responses.{Response}
-use Rattle.broker_http.specs.declared.served.ServeFault.{ServeFault}
-use Rattle.broker_http.specs.declared.served.ServeFault.TheVariants as faults
+use Rattle.broker_http.specs.declared.served.StreamFault.{StreamFault}
+use Rattle.broker_http.specs.declared.served.StreamFault.TheVariants as faults
 use Rattle.broker_http.specs.declared.served.Ended.{Ended}
 use Rattle.broker_http.specs.declared.served.Ended.TheVariants.{AtEnd, Rest, Closed}
 
@@ -33,7 +33,7 @@ StreamEnds Closed responses rest = LastCloses responses
 
 -- What is out at a fault: with Write all responses but the last, and of that one a beginning that isn't the
 -- whole; else all of them. With Count they are as many as can be counted.
-abbrev pub StreamCut : ServeFault → List Response → List ℕ → Type 0
+abbrev pub StreamCut : StreamFault → List Response → List ℕ → Type 0
 StreamCut (faults.Read failed) responses out = AllOpen responses × (out ≡ texts responses)
 StreamCut (faults.Turn over) responses out = AllOpen responses × (out ≡ texts responses)
 StreamCut faults.Count responses out =
@@ -61,7 +61,7 @@ module _ {S : Type 0} (Exchange : S → Message → Response → S → Type 0) w
 
   -- What a fault leaves of one message: with Memory nothing was done, with Write it is answered and a
   -- beginning of its response is out, but not the whole.
-  abbrev pub ExchangeCut : S → Message → S → Option (List ℕ) → Option (List ℕ) → ServeFault → Type 0
+  abbrev pub ExchangeCut : S → Message → S → Option (List ℕ) → Option (List ℕ) → StreamFault → Type 0
   ExchangeCut s m t old new (faults.Read failed) = ⊥
   ExchangeCut s m t old new (faults.Turn over) = ⊥
   ExchangeCut s m t old new faults.Count = ⊥

@@ -8,7 +8,7 @@ ghost use Rattle.broker_http.specs.Calls.{ByBroker, IsResponded};
 ghost use Rattle.broker_http.specs.Faults.{TellsDevice};
 ghost use Rattle.broker_http.specs.Stream.{ExchangeCut, ExchangeDone};
 
-use crate::served::ServeFault;
+use crate::served::StreamFault;
 use answer_texts::RenderedAnswer;
 use broker_core::command::Command;
 use broker_database::Service;
@@ -92,19 +92,19 @@ pub(crate) fn answer<B: Service, W: FallibleWrite>(
     body: &[u8],
     head_buffer: &mut Vec<u8>,
     writer: &mut W,
-) -> Result<bool, ServeFault>
+) -> Result<bool, StreamFault>
     requires read { IsHeadRead text.now head }
     requires capacity { HEAD_CAPACITY ≤ vec_capacity head_buffer.old }
     ensures ok { IfOk result (ExchangeDone (ByBroker B.shown) (B.seen broker.old) (message text.now body.now)
         (B.seen broker.new) (W.contents writer.old) (W.contents writer.new)) }
     ensures fault { IfErr result (ExchangeCut (ByBroker B.shown) (B.seen broker.old) (message text.now body.now)
         (B.seen broker.new) (W.contents writer.old) (W.contents writer.new)) }
-    ensures memory { IfErr result (λ fault. fault ≡ ServeFault.Memory → AsksOperation (message text.now body.now)) }
+    ensures memory { IfErr result (λ fault. fault ≡ StreamFault.Memory → AsksOperation (message text.now body.now)) }
     ensures failed { IfErr result (λ fault. TellsDevice fault ⊥ (W.HasFailed writer.new)) }
     ensures kept { HEAD_CAPACITY ≤ vec_capacity head_buffer.new }
 {
     let Ok(request) = read_request(alloc, routes, text, head, body) else {
-        return Err(ServeFault::Memory);
+        return Err(StreamFault::Memory);
     };
     let closes = respond(alloc, broker, request, head_buffer, writer)?;
     Ok(closes)

@@ -8,5 +8,5 @@ mod served;
 mod serving;
 
 pub use http_routes::RouteTable;
-pub use served::{Ended, ServeFault, Served};
-pub use serving::serve;
+pub use served::{Ended, ServeFault, Served, StreamFault};
+pub use serving::{serve, serve_stream};

@@ -1,7 +1,7 @@
 //! Serving a peer, and waiting for it no longer than the limits say.
 ghost use Rattle.broker_http.specs.Calls.{IsServed};
 
-use crate::served::{ServeFault, Served};
+use crate::served::{Served, StreamFault};
 use crate::serving::{Turn, serve_for};
 use broker_database::Service;
 use http_messages::patience::{Door, Incoming, Limits, Outgoing, PeerReader, PeerWriter, Wait};
@@ -21,7 +21,7 @@ impl<R: PeerReader, D: Door, C: Clock> Turn<Incoming<'_, '_, R, D, C>> for InTur
 }
 
 /// Answers what the peer asks, as `serve` does, and waits for it as the limits say. If one is over, the reader or the
-/// writer has failed to `serve`. If the peer's turn is over while others wait, it ends with `ServeFault::Turn`, between
+/// writer has failed to `serve`. If the peer's turn is over while others wait, it ends with `StreamFault::Turn`, between
 /// two messages. It gives the peer's two sides back.
 pub fn serve_peer<'a, B: Service, R: PeerReader + Drop, W: PeerWriter + Drop, D: Door, C: Clock>(
     alloc: Global,
@@ -32,7 +32,7 @@ pub fn serve_peer<'a, B: Service, R: PeerReader + Drop, W: PeerWriter + Drop, D:
     door: &'a mut D,
     clock: &'a C,
     limits: Limits,
-) -> (Result<Served, ServeFault>, R, W)
+) -> (Result<Served, StreamFault>, R, W)
     ensures { IsServed B.shown (B.seen broker.old) (B.seen broker.new)
         (R.remaining reader) (R.remaining result.1)
         (W.contents writer) (W.contents result.2) result.0 }

@@ -1,6 +1,6 @@
 //! How serving ends, and why it stops.
 ghost use Rattle.std.specs.Prelude.{◌≡◌};
-ghost use Rattle.broker_http.specs.Faults.{fault_of_read};
+ghost use Rattle.broker_http.specs.Faults.{fault_of_read, told_as};
 
 use http_messages::device::ReaderFailed;
 use http_messages::reading::ReadFault;
@@ -27,9 +27,9 @@ pub struct Served {
     pub ended: Ended,
 }
 
-/// Why serving stopped.
+/// Why serving stopped, with what the failing call gave.
 #[derive(Clone, Copy, Debug, PartialEq, Eq, Error)]
-pub enum ServeFault {
+pub enum StreamFault {
     /// The reader failed. All answers are out.
     #[error("the reader failed")]
     Read(ReaderFailed),
@@ -50,23 +50,49 @@ pub enum ServeFault {
     Memory,
 }
 
-impl From<ReadFault> for ServeFault {
-    ghost from_gives = { λ fault served. served ≡ fault_of_read fault };
+/// Why serving stopped.
+#[derive(Clone, Copy, Debug, PartialEq, Eq, Error)]
+pub enum ServeFault {
+    /// The reader failed, or no more messages can be counted. All answers are out.
+    #[error("the reader failed")]
+    Read,
+    /// The writer failed, or took none of the bytes that were left. The last answer is out in part or not at all.
+    #[error("the writer failed")]
+    Write,
+    /// There was no memory, and nothing was done for the message that lacked it. All answers before are out.
+    #[error("out of memory")]
+    Memory,
+}
 
-    fn from(fault: ReadFault) -> ServeFault {
+impl From<StreamFault> for ServeFault {
+    ghost from_gives = { λ fault served. served ≡ told_as fault };
+
+    fn from(fault: StreamFault) -> ServeFault {
         match fault {
-            ReadFault::Reader(failed) => ServeFault::Read(failed),
-            ReadFault::Memory => ServeFault::Memory,
+            StreamFault::Read(_) | StreamFault::Turn(_) | StreamFault::Count => ServeFault::Read,
+            StreamFault::Write(_) => ServeFault::Write,
+            StreamFault::Memory => ServeFault::Memory,
         }
     }
 }
 
-impl From<WriteFault> for ServeFault {
-    ghost use Rattle.broker_http.specs.declared.served.ServeFault.{ServeFault};
+impl From<ReadFault> for StreamFault {
+    ghost from_gives = { λ fault served. served ≡ fault_of_read fault };
 
-    ghost from_gives = { λ fault served. served ≡ ServeFault.Write fault };
+    fn from(fault: ReadFault) -> StreamFault {
+        match fault {
+            ReadFault::Reader(failed) => StreamFault::Read(failed),
+            ReadFault::Memory => StreamFault::Memory,
+        }
+    }
+}
 
-    fn from(fault: WriteFault) -> ServeFault {
-        ServeFault::Write(fault)
+impl From<WriteFault> for StreamFault {
+    ghost use Rattle.broker_http.specs.declared.served.StreamFault.{StreamFault};
+
+    ghost from_gives = { λ fault served. served ≡ StreamFault.Write fault };
+
+    fn from(fault: WriteFault) -> StreamFault {
+        StreamFault::Write(fault)
     }
 }

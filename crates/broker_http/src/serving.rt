@@ -1,11 +1,11 @@
 //! Serving a stream.
 ghost use Rattle.std.specs.Prelude.{◌≡◌, ◌+◌, ◌≤◌, length, take, drop, IfErr};
 ghost use Rattle.std.specs.Io.KnownBytes.{Keeps};
-ghost use Rattle.broker_http.specs.Calls.{IsAnsweredByBroker, IsServed};
+ghost use Rattle.broker_http.specs.Calls.{IsAnsweredByBroker, IsServed, IsServedOrIdle};
 ghost use Rattle.broker_http.specs.Faults.{TellsDevice};
 
 use crate::exchange::answer;
-use crate::served::{Ended, ServeFault, Served};
+use crate::served::{Ended, ServeFault, Served, StreamFault};
 use broker_database::Service;
 use http_messages::buffer::{Buffer, drop_front};
 use http_messages::device::FallibleRead;
@@ -51,21 +51,21 @@ fn serve_messages<T: Turn<R>, R: FallibleRead, W: FallibleWrite, B: Service>(
     broker: &mut B,
     reader: &mut R,
     writer: &mut W,
-) -> Result<Served, ServeFault>
+) -> Result<Served, StreamFault>
     ensures answers { IsAnsweredByBroker B.shown (B.seen broker.old) (B.seen broker.new)
         (R.remaining reader.old) (R.remaining reader.new)
         (W.contents writer.old) (W.contents writer.new) result }
     ensures failed { IfErr result (λ fault. TellsDevice fault (R.HasFailed reader.new) (W.HasFailed writer.new)) }
 {
     let Ok(mut buffer) = Buffer::new(alloc) else {
-        return Err(ServeFault::Memory);
+        return Err(StreamFault::Memory);
     };
     let Ok(mut head_buffer) = Vec::with_capacity(alloc, RESPONSE_CAPACITY) else {
-        return Err(ServeFault::Memory);
+        return Err(StreamFault::Memory);
     };
     for answered in 0..u64::MAX {
         if let Some(over) = T::is_over(reader) {
-            return Err(ServeFault::Turn(over));
+            return Err(StreamFault::Turn(over));
         }
         let (head_len, body_len, head) = match read_message(reader, &mut buffer)? {
             ReadOutcome::Message {
@@ -100,17 +100,17 @@ fn serve_messages<T: Turn<R>, R: FallibleRead, W: FallibleWrite, B: Service>(
         }
         drop_front(&mut buffer, head_len + body_len);
     }
-    Err(ServeFault::Count)
+    Err(StreamFault::Count)
 }
 
-/// Answers the requests of a stream as `serve` does, until its turn is over.
+/// Answers the requests of a stream as `serve_stream` does, until its turn is over.
 pub(crate) fn serve_for<T: Turn<R>, R: FallibleRead, W: FallibleWrite, B: Service>(
     alloc: Global,
     routes: &RouteTable,
     broker: &mut B,
     reader: &mut R,
     writer: &mut W,
-) -> Result<Served, ServeFault>
+) -> Result<Served, StreamFault>
     ensures served { IsServed B.shown (B.seen broker.old) (B.seen broker.new)
         (R.remaining reader.old) (R.remaining reader.new)
         (W.contents writer.old) (W.contents writer.new) result }
@@ -126,25 +126,47 @@ pub(crate) fn serve_for<T: Turn<R>, R: FallibleRead, W: FallibleWrite, B: Servic
 /// 1,048,576 bytes at most, are kept. However it is cut, the answers are those to its messages. A rest
 /// that is no whole message gets no answer.
 ///
-/// `ServeFault::Read`: the reader failed; all answers are out. `ServeFault::Count`: 2^64-1 messages were answered, all
-/// of them. `ServeFault::Turn` never comes, as there is no turn here.
-/// `ServeFault::Write`: the writer failed, or took none of the bytes that were left; the last answer is
+/// `StreamFault::Read`: the reader failed; all answers are out. `StreamFault::Count`: 2^64-1 messages were answered, all
+/// of them. `StreamFault::Turn` never comes, as there is no turn here.
+/// `StreamFault::Write`: the writer failed, or took none of the bytes that were left; the last answer is
 /// out in part.
-/// `ServeFault::Memory`: there was no memory before anything was read, or for a body that a head announces, or for a
+/// `StreamFault::Memory`: there was no memory before anything was read, or for a body that a head announces, or for a
 /// message that asks an operation; nothing was done for it, and all answers before are out. So a message without a body
 /// that is refused, has no route or no method gets its answer.
 /// The writer is not flushed. The table of routes can be made once for all streams.
-pub fn serve<R: FallibleRead, W: FallibleWrite, B: Service>(
+pub fn serve_stream<R: FallibleRead, W: FallibleWrite, B: Service>(
     alloc: Global,
     routes: &RouteTable,
     broker: &mut B,
     reader: &mut R,
     writer: &mut W,
-) -> Result<Served, ServeFault>
+) -> Result<Served, StreamFault>
     ensures served { IsServed B.shown (B.seen broker.old) (B.seen broker.new)
         (R.remaining reader.old) (R.remaining reader.new)
         (W.contents writer.old) (W.contents writer.new) result }
     ensures failed { IfErr result (λ fault. TellsDevice fault (R.HasFailed reader.new) (W.HasFailed writer.new)) }
 {
     serve_for::<Endless, R, W, B>(alloc, routes, broker, reader, writer)
+}
+
+/// Answers the requests of a stream as `serve_stream` does, over a table of routes of its own, and says in three words
+/// why it stopped. `ServeFault::Memory` also if there is no memory for that table: then nothing is read.
+pub fn serve<R: FallibleRead, W: FallibleWrite, B: Service>(
+    alloc: Global,
+    broker: &mut B,
+    reader: &mut R,
+    writer: &mut W,
+) -> Result<Served, ServeFault>
+    ensures { IsServedOrIdle B.shown (B.seen broker.old) (B.seen broker.new)
+        (R.remaining reader.old) (R.remaining reader.new)
+        (W.contents writer.old) (W.contents writer.new)
+        (R.HasFailed reader.new) (W.HasFailed writer.new) result }
+{
+    let Ok(routes) = RouteTable::new(alloc) else {
+        return Err(ServeFault::Memory);
+    };
+    match serve_stream(alloc, &routes, broker, reader, writer) {
+        Ok(served) => Ok(served),
+        Err(fault) => Err(ServeFault::from(fault)),
+    }
 }

@@ -8,7 +8,7 @@ use Rattle.http_requests.specs.{declared.requests.Request.{Request}, declared.re
 use Rattle.http_responses.specs.Responses.{Response}
 use Rattle.program_io.specs.Entrance.{Visit}
 use Rattle.broker_database.specs.{BrokerView.{BrokerView}, Calls.{Applied}, Sessions.{RunsCalls}}
-use Rattle.broker_http.specs.{Calls.{ByBroker, IsServed}, Exchange.{Responds}, Stream.{Responses}, declared.served.ServeFault.{ServeFault}}
+use Rattle.broker_http.specs.{Calls.{ByBroker, IsServed}, Exchange.{Responds}, Stream.{Responses}, declared.served.StreamFault.{StreamFault}}
 use Rattle.broker_http.specs.declared.served.Served.{Served}
 use Rattle.broker_program.specs.{Asked.{calls_of_request, calls_of_served, calls_of_stream}, Serving.{ServesPeers, Work, Works, calls_of_peers}}
 
@@ -30,7 +30,7 @@ module _ {X : Type 0} (shown : Held X → State) where
       subst (λ calls. RunsCalls shown s calls end) (sym (append_assoc front back more))
       (request_runs s it.1 end (back ++ more) it.4.0 response it.4.2 (stream_runs it.1 t end more it.2 rest responses it.5 runs))
 
-  served_runs : (s t end : BrokerView X) (more : List (Asked × Exit)) (before after old new : Option (List ℕ)) (result : Result Served ServeFault) (it : IsServed shown s t before after old new result)
+  served_runs : (s t end : BrokerView X) (more : List (Asked × Exit)) (before after old new : Option (List ℕ)) (result : Result Served StreamFault) (it : IsServed shown s t before after old new result)
       → RunsCalls shown t more end → RunsCalls shown s (calls_of_served shown s t before after old new result it ++ more) end
   served_runs s t end more before after old new (Ok served) it runs =
       let all = it.answers.ok in stream_runs s t end more all.0 all.2 all.1 all.4 runs

@@ -5,7 +5,7 @@ use Rattle.sqlite_disk.specs.{declared.Disk.{Ghosts}, declared.Files.{Files}}
 use Rattle.sqlite.specs.{Files.{file_state}, Held.{Held}, Recovery.{Image}, State.{HasCleanDisk}, declared.FileStore.{FileStore}}
 use Rattle.sqlite.specs.declared.file.Leftover.{Leftover}
 use Rattle.broker_database.specs.{BrokerView.{BrokerView}, Life.{IsGivenBack}}
-use Rattle.broker_http.specs.{Calls.{IsServed}, declared.served.ServeFault.{ServeFault}, declared.served.Served.{Served}}
+use Rattle.broker_http.specs.{Calls.{IsServed}, declared.served.StreamFault.{StreamFault}, declared.served.Served.{Served}}
 use Rattle.program_io.specs.{Entrance.{IsLetGo, IsLetIn, NoneIsIn, Peer, Queue, Visit}, declared.fault.RunFault.{RunFault}}
 use Rattle.broker_program.specs.{Cuts.{CutsFile, CutsQueue, CountsCut, IsBrokerless, StaysUnclosed}, Files.{ClosesAs, Leaves, OpensBroker}}
 use Rattle.broker_program.specs.FileRefusals.{IsLeftUnserved, IsNotClosed, IsReopeningFault}
@@ -42,7 +42,7 @@ module _ {D : Type 0} {g : Ghosts D} where
 
   -- one that was let in, served, and let go from behind the door as it was then
   pub next_visited : (old mid behind new : Queue) (before after : Peer) (s t : BrokerView (FileStore D g)) → IsLetIn old mid before → behind ≡ mid → IsLetGo behind new after → s.is_stopped ≡ false
-      → (result : Result Served ServeFault) → IsServed file_state s t before.sends after.sends before.took after.took result → ServesNext s t old new
+      → (result : Result Served StreamFault) → IsServed file_state s t before.sends after.sends before.took after.took result → ServesNext s t old new
   next_visited old mid behind new before after s t let_in same let_go runs result served =
       inr (record { before = before; after = after }, (mid, let_in, subst (λ (q : Queue). IsLetGo q new after) same let_go), (runs, result, served))
 

@@ -13,7 +13,7 @@ use Rattle.http_responses.specs.Responses.{Response}
 use Rattle.broker_http.specs.Calls.{ByBroker, IsServed}
 use Rattle.broker_http.specs.Exchange.{Responds}
 use Rattle.broker_http.specs.Stream.{Responses}
-use Rattle.broker_http.specs.declared.served.ServeFault.{ServeFault}
+use Rattle.broker_http.specs.declared.served.StreamFault.{StreamFault}
 use Rattle.broker_http.specs.declared.served.Served.{Served}
 
 -- shown is what a connection shows of its store
@@ -33,7 +33,7 @@ module _ {X : Type 0} (shown : Held X → State) where
       calls_of_request s it.1 it.4.0 response it.4.2 ++ calls_of_stream it.1 t it.2 rest responses it.5
 
   -- those of a peer
-  abbrev pub calls_of_served : (s t : BrokerView X) (before after old new : Option (List ℕ)) (result : Result Served ServeFault) → IsServed shown s t before after old new result → List (Asked × Exit)
+  abbrev pub calls_of_served : (s t : BrokerView X) (before after old new : Option (List ℕ)) (result : Result Served StreamFault) → IsServed shown s t before after old new result → List (Asked × Exit)
   calls_of_served s t before after old new (Ok served) it =
       let all = it.answers.ok in calls_of_stream s t all.0 all.2 all.1 all.4
   calls_of_served s t before after old new (Err fault) it =

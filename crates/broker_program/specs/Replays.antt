@@ -8,7 +8,7 @@ use Rattle.broker_http.specs.Calls.{ByMachine}
 use Rattle.broker_http.specs.Journal.{Journal, IsRunFrom, blank}
 use Rattle.broker_http.specs.Serving.{Mode, ServesStream}
 use Rattle.broker_http.specs.Serving.Mode.{IsStopped, Running}
-use Rattle.broker_http.specs.declared.served.ServeFault.{ServeFault}
+use Rattle.broker_http.specs.declared.served.StreamFault.{StreamFault}
 use Rattle.broker_http.specs.declared.served.Served.{Served}
 
 -- a new broker whose office has this token
@@ -33,7 +33,7 @@ module _ (office : Text) (before after old new : Option (List ℕ)) where
       × IsStoppedByChange last.mode
 
   -- The same of the messages before this fault of serving.
-  unfoldable pub ReplaysUpTo : ServeFault → Type 0
+  unfoldable pub ReplaysUpTo : StreamFault → Type 0
   ReplaysUpTo fault =
       (last : Journal)
       × IsRunFrom (new_broker office) last
@@ -41,7 +41,7 @@ module _ (office : Text) (before after old new : Option (List ℕ)) where
       × IsStoppedByChange last.mode
 
   abbrev pub ReplaysUntil : Type 0
-  ReplaysUntil = (fault : ServeFault) × ReplaysUpTo fault
+  ReplaysUntil = (fault : StreamFault) × ReplaysUpTo fault
 
 -- nothing was read or written, or some requests were answered before the fault
 abbrev pub FailsToReplay : {I O : Type 0} → (I → Option (List ℕ)) → (O → Option (List ℕ)) → Text

@@ -19,7 +19,7 @@ use Rattle.broker_database.specs.BrokerView.{BrokerView}
 use Rattle.broker_database.specs.Calls.{Opened}
 use Rattle.broker_database.specs.Life.{IsGivenBack, IsOpenedAfter}
 use Rattle.broker_http.specs.Calls.{IsServed}
-use Rattle.broker_http.specs.declared.served.ServeFault.{ServeFault}
+use Rattle.broker_http.specs.declared.served.StreamFault.{StreamFault}
 use Rattle.broker_http.specs.declared.served.Served.{Served}
 use Rattle.program_io.specs.Entrance.{AreVisited, IsLost, IsVisited, Queue, Visit}
 use Rattle.broker_program.specs.Asked.{calls_of_served}
@@ -40,7 +40,7 @@ module _ {D : Type 0} {g : Ghosts D} where
   -- a broker that isn't stopped serves a peer: what it sends, as far as it is read, is answered by what it takes
   abbrev pub ServesPeer : Visit → BrokerView (FileStore D g) → BrokerView (FileStore D g) → Type 0
   ServesPeer visit s t =
-      (s.is_stopped ≡ false) × (result : Result Served ServeFault)
+      (s.is_stopped ≡ false) × (result : Result Served StreamFault)
       × IsServed file_state s t visit.before.sends visit.after.sends visit.before.took visit.after.took result
 
   -- these peers, one after another

@@ -8,7 +8,7 @@ ghost use Rattle.broker_program.specs.Reasons.{EndsReplay, IsUnmade};
 ghost use Rattle.broker_program.specs.Replays.{FailsToReplay, Replays, new_broker};
 
 use crate::routes::route_table;
-use broker_http::serve;
+use broker_http::serve_stream;
 use broker_names::name::Token;
 use broker_service::Broker;
 use command_facts::laws::readable_stays;
@@ -55,7 +55,7 @@ pub(crate) fn replay<R: Read, W: Write>(
     let office = token_of(alloc, office_token)?;
     let mut broker = new_broker(alloc, &office)?;
     let routes = route_table(alloc)?;
-    let served = serve(alloc, &routes, &mut broker, input, output);
+    let served = serve_stream(alloc, &routes, &mut broker, input, output);
     drop(broker);
     match served {
         Ok(_) => Ok(()),

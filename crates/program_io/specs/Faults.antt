@@ -1,8 +1,8 @@
 -- what standard error shows of a command that failed (the words and numbers are this project's own choice)
 use Rattle.std.specs.Prelude.{ℕ, List, ◌++◌, codes, decimal}
 use Rattle.answer_texts.specs.AnswerText.{answer_text}
-use Rattle.broker_http.specs.declared.served.ServeFault.{ServeFault}
-use Rattle.broker_http.specs.declared.served.ServeFault.TheVariants as serving
+use Rattle.broker_http.specs.declared.served.StreamFault.{StreamFault}
+use Rattle.broker_http.specs.declared.served.StreamFault.TheVariants as serving
 use Rattle.broker_database.specs.declared.opening.OpenFault.{OpenFault}
 use Rattle.broker_database.specs.declared.opening.OpenFault.TheVariants as opening
 use Rattle.pact_file.specs.Words.{fault_text as pact_text}
@@ -17,7 +17,7 @@ opening_text (opening.Format format) = codes "open 3." ++ decimal format
 opening_text opening.Memory = codes "open 4"
 opening_text opening.Store = codes "open 5"
 
-abbrev pub serving_text : ServeFault → List ℕ
+abbrev pub serving_text : StreamFault → List ℕ
 serving_text (serving.Read failed) = codes "serve 1"
 serving_text (serving.Turn over) = codes "serve 1"
 serving_text serving.Count = codes "serve 1"

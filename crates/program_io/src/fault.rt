@@ -1,7 +1,7 @@
 //! Why a command fails.
 use answer_texts::RenderedAnswer;
 use broker_database::OpenFault;
-use broker_http::ServeFault;
+use broker_http::StreamFault;
 use pact_file::PactFault;
 use reply_check::{CheckFault, RepliesFault};
 
@@ -19,7 +19,7 @@ pub enum RunFault {
     /// The address can't be listened on, or isn't one of loopback.
     Listen,
     /// Serving failed.
-    Serve(ServeFault),
+    Serve(StreamFault),
     /// The pact file is refused.
     Pact(PactFault),
     /// The recorded replies are refused.

@@ -5,7 +5,7 @@ ghost use Rattle.program_io.specs.Faults.{fault_text, opening_text, serving_text
 
 use crate::fault::RunFault;
 use broker_database::OpenFault;
-use broker_http::ServeFault;
+use broker_http::StreamFault;
 use pact_file::{PactFault, TextParts};
 use reply_check::RepliesFault;
 
@@ -23,13 +23,13 @@ fn opening_parts(fault: OpenFault) -> TextParts<'static>
 }
 
 /// The text of a fault of serving.
-fn serving_text(fault: ServeFault) -> &'static str
+fn serving_text(fault: StreamFault) -> &'static str
     ensures { result.now ≡ spec_serving_text fault }
 {
     match fault {
-        ServeFault::Read(_) | ServeFault::Turn(_) | ServeFault::Count => "serve 1",
-        ServeFault::Write(_) => "serve 2",
-        ServeFault::Memory => "serve 3",
+        StreamFault::Read(_) | StreamFault::Turn(_) | StreamFault::Count => "serve 1",
+        StreamFault::Write(_) => "serve 2",
+        StreamFault::Memory => "serve 3",
     }
 }
 

@@ -3,7 +3,7 @@ ghost use Rattle.std.specs.Prelude.{IfOk};
 ghost use Rattle.sqlite.specs.Held.{state};
 ghost use Rattle.uses.specs.Streams.{IsAnswered};
 
-use broker_http::{RouteTable, ServeFault, serve};
+use broker_http::{RouteTable, StreamFault, serve_stream};
 use broker_service::Broker;
 use sqlite::Alter;
 use std::alloc::Global;
@@ -15,11 +15,11 @@ pub fn answers<S: Alter>(
     routes: &RouteTable,
     broker: &mut Broker<S>,
     requests: &[u8],
-) -> Result<Vec<u8>, ServeFault>
+) -> Result<Vec<u8>, StreamFault>
     ensures { IfOk result (λ out. IsAnswered (state S.Store) broker.old requests.now out.items broker.new) }
 {
     let mut reader = requests;
     let mut answers = Vec::new(alloc);
-    serve(alloc, routes, broker, &mut reader, &mut answers)?;
+    serve_stream(alloc, routes, broker, &mut reader, &mut answers)?;
     Ok(answers)
 }

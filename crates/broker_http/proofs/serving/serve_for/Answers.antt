@@ -2,12 +2,12 @@ use Rattle.std.{specs.Prelude.{length, Contains}, proofs.Common.{◌≤◌, refl
 use Rattle.sqlite.specs.{Tree.{Trees}, Held.{Held}, State.{State, HasCleanDisk, Survives}}
 use Rattle.broker_database.specs.BrokerView.{BrokerView}
 use Rattle.broker_http.specs.{Calls.{ByBroker, HasAnswered, IsAnsweredByMachine}, Journal.{blank}, Serving.{Mode, IsInMode, ServesStream}}
-use Rattle.broker_http.{specs.{declared.served.ServeFault.{ServeFault}, declared.served.Served.{Served}}, proofs.JournalLemmas.{runs}}
+use Rattle.broker_http.{specs.{declared.served.StreamFault.{StreamFault}, declared.served.Served.{Served}}, proofs.JournalLemmas.{runs}}
 use Rattle.broker_http.proofs.ModeLemmas.{starts, machine, stops_so, all_survive}
 use Rattle.broker_http.proofs.serving.serve_for.Goals as goal
 
 module _ {X : Type 0} (shown : Held X → State) (s t : BrokerView X) (before after old new : Option (List ℕ)) where
-  survives : (result : Result Served ServeFault) → ServesStream (ByBroker shown) s t before after old new result
+  survives : (result : Result Served StreamFault) → ServesStream (ByBroker shown) s t before after old new result
       → (commits : List Trees) × Survives (shown s.connection) (shown t.connection) (Contains commits) × IfOk result (λ served. length commits ≤ served.answered)
   survives (Ok served) answers =
       let p = answers.ok in
@@ -18,7 +18,7 @@ module _ {X : Type 0} (shown : Held X → State) (s t : BrokerView X) (before af
       let all = all_survive shown s p.0 p.1 t p.2 p.5 in
       (all.0, all.1, tt)
 
-  survives_fault : (result : Result Served ServeFault) → ServesStream (ByBroker shown) s t before after old new result
+  survives_fault : (result : Result Served StreamFault) → ServesStream (ByBroker shown) s t before after old new result
       → IfErr result (λ _. (answered : ℕ) × HasAnswered shown s t before after old new answered
       × ((commits : List Trees) × Survives (shown s.connection) (shown t.connection) (Contains commits) × (length commits ≤ answered)))
   survives_fault (Ok served) answers = tt
@@ -27,7 +27,7 @@ module _ {X : Type 0} (shown : Held X → State) (s t : BrokerView X) (before af
       (length p.1, (p.0, p.1, p.2, p.4, p.5, refl), all_survive shown s p.0 p.1 t p.2 p.5)
 
   -- the machine answers from the mode that the broker is in
-  machines : (result : Result Served ServeFault) → ServesStream (ByBroker shown) s t before after old new result
+  machines : (result : Result Served StreamFault) → ServesStream (ByBroker shown) s t before after old new result
       → HasCleanDisk (shown t.connection) → (mode : Mode) → IsInMode shown mode s → IsAnsweredByMachine shown s t before after old new mode result
   machines (Ok served) answers clean mode held =
       let p = answers.ok in

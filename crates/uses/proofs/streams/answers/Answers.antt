@@ -5,4 +5,4 @@ use Rattle.uses.proofs.streams.answers.Goals as goal
 
 pub returns : goal.returns
 returns g c = λ clean s mode.
-    answered (state g.S.Store) s _ _ _ _ _ _ _ c.new-answers.ensures.items (c.in_ok-serve.ensures.served.machine clean (Running s) mode)
+    answered (state g.S.Store) s _ _ _ _ _ _ _ c.new-answers.ensures.items (c.in_ok-serve_stream.ensures.served.machine clean (Running s) mode)
