@@ -15,6 +15,7 @@ mod running;
 mod seed;
 mod serve;
 
+pub use command_line::{FilePath, Line, read_line};
 pub use left::{CutService, Ended, Left, Processed, Service, Unread};
 pub use process::run_process;
 pub use running::run;
