@@ -2,7 +2,7 @@
 use Rattle.std.specs.Prelude.{◌≡◌, ℕ, ℤ, pos, List, [], ◌∷◌, map, Bool, true, false, Option, Some, option_map, option_and_then, codes, Result}
 use Rattle.std.specs.Option.{option_map_or}
 use Rattle.std.specs.Ordering.{int_cmp}
-use Rattle.sqlite.specs.Order.{Row}
+use Rattle.sqlite.specs.Order.{Row, column}
 use Rattle.sqlite.specs.Effect.{Database}
 use Rattle.sqlite.specs.Held.{Held, state}
 use Rattle.sqlite.specs.State.{State}
@@ -20,7 +20,7 @@ use Rattle.broker_core.specs.State.{State as Broker, Verification, latest_result
 use Rattle.broker_tables.specs.Schema.{broker_schema, in_meta, in_teams, in_pacticipants, in_versions, in_branches}
 use Rattle.broker_tables.specs.Schema.{in_environments, in_grants, in_contents, in_contracts, in_results, in_latest}
 use Rattle.broker_tables.specs.Schema.{in_deployed, in_released, in_checked_results, in_strict_environments}
-use Rattle.broker_tables.specs.Rows.{rows_of, truth, maybe_text, value_at, stands_at}
+use Rattle.broker_tables.specs.Rows.{rows_of, truth, run_in, value_at, stands_at}
 use Rattle.broker_tables.specs.Room.{TakesRoom}
 use Rattle.broker_tables.specs.Numbers.{numbered, number_of}
 
@@ -111,7 +111,8 @@ pub record ResultRow : Type 0 where
   pub version : Option ℤ
   pub pass : Bool
   pub checked : Bool
-  pub run : Option Text
+  -- none where its column tells nothing of a run
+  pub run : Option (Option Text)
 
 -- as its row has it, and as its number stands among the checked ones or doesn't
 abbrev pub result_in : List Row → Row → ResultRow
@@ -121,7 +122,7 @@ result_in checked r = record {
   version = Some (whole_at in_results.provider_version r);
   pass = truth in_results.pass r;
   checked = stands_at int_cmp (whole_at in_checked_results.result) checked (whole_at in_results.number r);
-  run = maybe_text in_results.run r;
+  run = run_in (whole_at in_results.number r) (column r in_results.run);
 }
 
 -- as the state has it: the provider is the pacticipant of the version
@@ -132,7 +133,7 @@ result_of versions r = record {
   version = option_map pos (number_of versions r.version);
   pass = r.pass;
   checked = r.checked;
-  run = r.run;
+  run = Some r.run;
 }
 
 -- the results in the order of their numbers, from 1 without gaps

@@ -1,5 +1,6 @@
 -- How the rows of a table are read.
-use Rattle.std.specs.Prelude.{◌≡◌, ◌<◌, ◌≤◌, length, ◌==◌, ℕ, pos, negsuc, List, [], map, Bool, true, false, Option, Some, None, option_map}
+use Rattle.std.specs.Prelude.{◌≡◌, ◌<◌, ◌≤◌, length, ◌==◌, ℕ, ℤ, pos, negsuc, List, [], ◌∷◌, map, Bool, true, false, if◌then◌else◌, Option, Some, None, option_map}
+use Rattle.std.specs.Fmt.{signed_decimal}
 use Rattle.std.specs.Option.{option_map_or}
 use Rattle.std.specs.List.{list_any, find as first}
 use Rattle.std.specs.declared.cmp.Ordering.{Ordering}
@@ -41,16 +42,24 @@ mark_of false = 0
 abbrev pub IsTruthAt : ℕ → Row → Type 0
 IsTruthAt at row = (at < length row) × ((n : ℕ) × (column row at ≡ value.Int (pos n)) × (n ≤ 1))
 
-abbrev pub text_or_null : Value → Option Text
-text_or_null value.Null = None
-text_or_null (value.Int n) = None
-text_or_null (value.Real x) = None
-text_or_null (value.Text t) = Some t
-text_or_null (value.Blob b) = None
+-- What stands for no run in the row of this number: a tab, and the number. It is no name, and no other row has it, so
+-- a test that a run stands once finds no row but its own.
+abbrev pub no_run : ℤ → Text
+no_run number = 9 ∷ signed_decimal number
 
--- the text in a column, none where there is NULL
-abbrev pub maybe_text : ℕ → Row → Option Text
-maybe_text place row = text_or_null (column row place)
+abbrev pub begins_with_tab : Text → Bool
+begins_with_tab [] = false
+begins_with_tab (b ∷ bs) = b == 9
+
+-- The run in a column of the row of this number: none where there is NULL, or what stands for none. Another text that
+-- begins with a tab, and what is no text, tells nothing of a run.
+abbrev pub run_in : ℤ → Value → Option (Option Text)
+run_in number value.Null = Some None
+run_in number (value.Int n) = None
+run_in number (value.Real x) = None
+run_in number (value.Text t) =
+    if begins_with_tab t then (if same_text t (no_run number) then Some None else None) else Some (Some t)
+run_in number (value.Blob b) = None
 
 -- what the row with this key has, none where there is no such row
 abbrev pub value_at : {K V : Type 0} → (K → K → Ordering) → (Row → K) → (Row → V) → List Row → K → Option V

@@ -11,7 +11,7 @@ use Rattle.broker_core.specs.Change.{Transition, unchanged_with, can_name, repor
 use Rattle.broker_core.specs.{Request.{is_known, Asked, contract_of, first_absent, unless, is_allowed, refused, refusal}, declared.policy.Caller.{Caller}}
 use Rattle.broker_core.specs.{declared.policy.Rule.TheVariants.{A4}, declared.command.Command.{Command}, declared.command.PactPath.{PactPath}}
 use Rattle.broker_core.specs.{declared.command.Report.{Report}, declared.answer.Detail.{Detail}, declared.answer.Missing.{Missing}}
-use Rattle.contract_tables.specs.{Verified.{Told, told_of, result_for, RecordsResult, AllowsResult}, declared.lookups.ResultRow.{ResultRow}}
+use Rattle.contract_tables.specs.{Verified.{Told, told_of, RecordsResult, AllowsResult}, declared.lookups.ResultRow.{ResultRow}}
 use Rattle.contract_commands.specs.{Numbering.{NamesAs}, Pacts.{AsksContract}}
 use Rattle.contract_commands.specs.Results.{HasPacticipant, reported_version, reported_result, Reports, told_row, IsRowOf, IsNumbered, AllowsReport, recorded}
 use Rattle.contract_commands.specs.{declared.results.Finding.{Finding}, declared.results.Reported.TheVariants.{Recorded, Full}}
@@ -92,7 +92,7 @@ module _ (s : State) (provider : Text) (r : Report) (found : Finding) (row : Res
 
 -- ---- a result that is recorded
 
-module _ (s t : State) (provider : Text) (r : Report) (found : Finding) (p : Text) (run : Option Text) (next number : ℕ) (of : p ≡ provider) (by : run ≡ r.run) (names : NamesAs (reported_version provider r) number s t) where
+module _ (s t : State) (provider : Text) (r : Report) (found : Finding) (p : Text) (next number : ℕ) (of : p ≡ provider) (names : NamesAs (reported_version provider r) number s t) where
   results_stay : t.results ≡ s.results
   results_stay = ap (λ (u : State). u.results) names.0 ∙ named_results s (reported_version provider r)
 
@@ -100,14 +100,14 @@ module _ (s t : State) (provider : Text) (r : Report) (found : Finding) (p : Tex
   is_next is = is ∙ ap (λ (rows : List Verification). length rows + 1) (sym results_stay)
 
   -- it stands last, where its version was named
-  pub records : next ≡ length s.results + 1 → RecordsResult next found.content p number found.pass found.checked run t (record t { results = t.results ++ result_for found.content (reported_version provider r) found.pass found.checked run ∷ [] })
+  pub records : next ≡ length s.results + 1 → RecordsResult next found.content p number found.pass found.checked r.run t (record t { results = t.results ++ reported_result provider r found ∷ [] })
   records is = (reported_version provider r, names.1, sym of, is_next is, refl)
 
-  pub now_recorded : record t { results = t.results ++ result_for found.content (reported_version provider r) found.pass found.checked run ∷ [] } ≡ recorded s (reported_result provider r found)
-  now_recorded = λ i. record (names.0 i) { results = results_stay i ++ result_for found.content (reported_version provider r) found.pass found.checked (by i) ∷ [] }
+  pub now_recorded : record t { results = t.results ++ reported_result provider r found ∷ [] } ≡ recorded s (reported_result provider r found)
+  now_recorded = λ i. record (names.0 i) { results = results_stay i ++ reported_result provider r found ∷ [] }
 
   -- and may, where its run is new and its content is there
-  pub allows : (version : VersionNumber) → AllowsReport provider r found version next s → AllowsResult next found.content p number run t
+  pub allows : (version : VersionNumber) → AllowsReport provider r found version next s → AllowsResult next found.content p number r.run t
   allows version can =
       let there = number_there s found.content can.2 in (
         reported_version provider r,
@@ -116,7 +116,7 @@ module _ (s t : State) (provider : Text) (r : Report) (found : Finding) (p : Tex
         is_next can.1,
         there.0,
         subst (λ (texts : List Text). found.content ≤ length texts) (sym (ap (λ (u : State). u.contents) names.0 ∙ named_contents s (reported_version provider r))) there.1,
-        (λ i. result_of_run (record t { results = results_stay i }) (of i) (by i)) ∙ can.0.1,
+        (λ i. result_of_run (record t { results = results_stay i }) (of i) r.run) ∙ can.0.1,
       )
 
 -- ---- calls that a report makes

@@ -47,16 +47,6 @@ pub(crate) enum Reported {
     Full,
 }
 
-/// The text of a run, if there is one.
-fn run_text(run: &Option<Name>) -> Option<&str>
-    ensures { option_map (λ text. text.now) result ≡ run.now }
-{
-    match run {
-        Some(run) => Some(run.as_str()),
-        None => None,
-    }
-}
-
 /// The result of a run of the provider, if there is a run and it was used.
 fn read_run<S: Alter>(
     conn: &mut Connection<S>,
@@ -67,7 +57,7 @@ fn read_run<S: Alter>(
         (λ found s. option_map told_row found ≡ option_map (told_of s.versions) (run_result s provider.now run.now)) }
 {
     match run {
-        Some(run) => result_of_run(conn, provider.as_str(), run.as_str()),
+        Some(run) => result_of_run(conn, provider.as_str(), run),
         None => Ok(None),
     }
 }
@@ -127,7 +117,7 @@ fn record_report<S: Alter>(
         number,
         found.pass,
         found.checked,
-        run_text(&report.run),
+        &report.run,
     )
 }
 

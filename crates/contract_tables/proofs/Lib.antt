@@ -5,6 +5,7 @@ pub mod ResultState
 pub mod ItemLists
 pub mod VerifiedList
 pub mod LastRow
+pub mod RunTexts
 pub mod ResultLookups
 pub mod Rising
 pub mod VersionResults

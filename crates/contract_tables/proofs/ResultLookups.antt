@@ -1,13 +1,12 @@
 -- The results by their numbers, and by their runs.
-use Rattle.std.specs.{Prelude.{option_map, is_some}, List.{AllByRecursion, last_or, enumerate_from}, Ordering.{eq_by_cmp, int_cmp}}
+use Rattle.std.specs.{Prelude.{option_map, is_some, IfSome}, List.{AllByRecursion, last_or, enumerate_from}, Ordering.{eq_by_cmp, int_cmp}}
 use Rattle.std.specs.{Cmp.{int_cmp_total, eq_by_cmp_equiv}, FinMap.{int_cmp-IsAntisymmetric}, FinMap.Entries.{find}}
 use Rattle.std.specs.Cmp.Lexicographic.{nat_list_cmp_total, texts_ties}
-use Rattle.std.proofs.Common.{◌≡◌, ◌==◌, ◌+◌, ◌-◌, ◌≤◌, inl, inr, ℕ, ℤ, pos, codes, List, [], ◌∷◌, map, filter, length, Bool, true, false, cond, ◌&&◌, refl, sym, ap, subst, ◌∙◌, slice_get, unwrap_or, Some, None, Option, arith}
+use Rattle.std.proofs.Common.{◌≡◌, ◌==◌, ◌+◌, ◌-◌, ◌≤◌, ◌<◌, ◌^◌, inl, inr, ℕ, ℤ, pos, codes, List, [], ◌∷◌, map, filter, length, Bool, true, false, cond, ◌&&◌, refl, sym, ap, subst, ◌∙◌, slice_get, unwrap_or, Some, None, Option, arith}
 use Rattle.std.proofs.{lemmas.Bool.{false_from_ne_true, and_from, and_left, and_right}, lemmas.List.{length-map}, lemmas.Option.{slice_get-map}}
 use Rattle.std.proofs.Math.Bool.{and-true}
-use Rattle.sqlite.specs.{Tree.{IsAscending, rowid}, Edit.{id_in}, declared.types.Value.{Value}, declared.types.Value.TheVariants.{Null, Int, Text}}
-use Rattle.sqlite.specs.{Order.{Row, column, value_cmp}, Term.{Term, col}, Collation.TheVariants.{Binary}, Effect.{Database}, State.{State, Shown}}
-use Rattle.sqlite.specs.Listing.{understood}
+use Rattle.sqlite.specs.{Tree.{IsAscending, rowid}, Edit.{id_in}, declared.types.Value.{Value}, declared.types.Value.TheVariants.{Int, Text}}
+use Rattle.sqlite.specs.{Order.{Row, column}, Term.{Term, col}, Collation.TheVariants.{Binary}, Effect.{Database}, State.{State, Shown}, Listing.{understood}}
 use Rattle.sqlite_tied.specs.Compute.{everything}
 use Rattle.sqlite_sql.specs.{declared.ops.BinaryOp.TheVariants.{Compare}, declared.ops.CompareOp.TheVariants.{Eq}, Ops.{binary, is_true}}
 use Rattle.sqlite_schema.specs.Rules.{agree, equal}
@@ -15,16 +14,18 @@ use Rattle.sqlite_trees.proofs.ListLemmas.{filter_same}
 use Rattle.sqlite_value.specs.Keys.{plain, first_key}
 use Rattle.sqlite_rules.{specs.Lists.{Has}, proofs.{ListLemmas.{has_kept}, TableLemmas.{int_is}}}
 use Rattle.sqlite_keyed.proofs.{ListLemmas.{filter-map, ascending-filter}, RuleLemmas.{first_of_both, second_of_both}}
-use Rattle.table_access.specs.{Columns.{whole_at}, Sound.{IsNumbered, whole}, Statements.{from_table, by_two, up_to, newest, keeps, shows}}
+use Rattle.table_access.specs.{Columns.{text, whole_at}, Sound.{IsNumbered, whole}, Statements.{from_table, by_two, up_to, newest, keeps, shows}}
 use Rattle.table_access.proofs.{Steps.{answered}, Newest.{newest_number}, Maps.{looks_up_at, find_has, few_permuted}}
-use Rattle.table_access.proofs.{Keys.{is_param, keeps_key, numbers_once, whole_key}, Values.{same_texts, equal_text}, Members.{filter_has}}
+use Rattle.table_access.proofs.{Keys.{is_param, keeps_key, numbers_once, whole_key}, Values.{same_texts, equal_text}, Members.{filter_has, has_map, map_has}}
 use Rattle.table_access.proofs.{SoundLemmas.{at_has, all_of}, ReadLemmas.{option_map_twice, whole_pos}}
-use Rattle.broker_core.specs.{Text.{same_text}, Change.{is_text, result_of_run}, State.{State as Broker, Verification}}
-use Rattle.broker_tables.specs.{Schema.{in_results, in_checked_results}, Rows.{value_at, stands_at, text_or_null}, Numbers.{number_of}}
+use Rattle.broker_core.specs.{Text.{same_text}, Change.{result_of_run}, State.{State as Broker, Verification}}
+use Rattle.broker_tables.specs.{Schema.{in_results, in_checked_results}, Rows.{value_at, stands_at, no_run, run_in}, Numbers.{number_of}}
 use Rattle.broker_tables.{specs.Holds.{Holds, IsBroker, ResultRow, result_in, result_of}, proofs.{Frames.{meant}, Standing.{stands_found}}}
 use Rattle.broker_tables.proofs.{Placed.{keys_apart, at_results, at_checked_results, numbered_in, texts_in}, ByNumber.{by_number}, Newest.{newest_result}}
-use Rattle.broker_tables.proofs.{Asked.{Asked, IsShown}, Keyed.{IsFree}, Ties.{two_tests}}
-use Rattle.contract_tables.specs.Verified.{Cells, cells, cells_of, ByNumbers, by_numbers, numbers_are, result_with, run_value}
+use Rattle.broker_tables.proofs.{Asked.{Asked, IsShown}, Keyed.{IsFree}, Ties.{two_tests}, References.{row_number}}
+use Rattle.contract_tables.specs.Verified.{Cells, cells, cells_of, ByNumbers, by_numbers, numbers_are, result_with, run_text}
+use Rattle.contract_tables.proofs.RunTexts.{has_run, run_test, of_another}
+use Rattle.broker_names.specs.Name.{IsName}
 
 module _ (db : Database) (broker : IsBroker db) where
   pub numbered_rows : IsNumbered (db.trees in_results.tree)
@@ -87,13 +88,6 @@ pub run : (p u : List ℕ) → Asked (codes "SELECT number, content, provider_ve
 unfolding understood everything
 run p u = record { names = _; means = record { is = refl; plain = (refl, refl); unlisted = refl }; runs = record { whole = refl; typed = refl; sumless = refl } }
 
--- ---- a column that may be NULL, and a text
-
-text_test : (v : Value) (u : List ℕ) → is_true (binary (Compare Eq Binary) v (Text u)) ≡ is_text u (text_or_null v)
-unfolding binary value_cmp
-text_test (Text t) u = same_texts t u ∙ sym (texts_ties t u)
-text_test _ u = refl
-
 -- ---- lists
 
 numbered_map : {X Y : Type 0} (f : X → Y) (n : ℕ) (xs : List X) → map {B = ℤ × Y} (λ e. (pos e.0, e.1)) (enumerate_from n (map f xs)) ≡ map (λ e. (pos e.0, f e.1)) (enumerate_from n xs)
@@ -113,7 +107,7 @@ module _ {X Y Z : Type 0} (f : X → Z) (g : Y → Z) where
 tied : (x y : Value) (t : List ℕ) → x ≡ Text t → y ≡ Text t → equal Binary x y ≡ true
 tied x y t xs ys = (λ i. equal Binary (xs i) (ys i)) ∙ same_texts t t ∙ (eq_by_cmp_equiv nat_list_cmp_total).refl t
 
-module _ (db : Database) (broker : IsBroker db) (p u : List ℕ) where
+module _ (db : Database) (broker : IsBroker db) (p u : List ℕ) (name : IsName u) where
   abbrev params : Row
   params = Text p ∷ Text u ∷ []
 
@@ -146,10 +140,12 @@ module _ (db : Database) (broker : IsBroker db) (p u : List ℕ) where
   entry r = (whole_at 0 r, result_in (db.trees in_checked_results.tree) r)
 
   abbrev passes : ℤ × ResultRow → Bool
-  passes e = same_text e.1.provider p && is_text u e.1.run
+  passes e = same_text e.1.provider p && has_run u e.1.run
 
   row_test : (r : Row) → Has (db.trees in_results.tree) r → keeps (by_two in_results.provider in_results.run) params r ≡ passes (entry r)
-  row_test r has = two_tests _ _ _ _ (text_test (column r in_results.provider) p ∙ ap (λ v. is_text p (text_or_null v)) (texts_in at_results db broker in_results.provider refl r has)) (and-true _ ∙ text_test (column r in_results.run) u)
+  row_test r has =
+      let owner = ap (λ v. is_true (binary (Compare Eq Binary) v (Text p))) (texts_in at_results db broker in_results.provider refl r has) in
+      two_tests _ _ _ _ (owner ∙ same_texts (text in_results.provider r) p ∙ sym (texts_ties (text in_results.provider r) p)) (and-true _ ∙ run_test (whole_at 0 r) (column r in_results.run) u name)
 
   module _ (s : Broker) (held : Holds db s) where
     abbrev as_row : ℕ × Verification → ℤ × ResultRow
@@ -174,16 +170,30 @@ module _ (db : Database) (broker : IsBroker db) (p u : List ℕ) where
         gone [] e h = h
         gone (x ∷ rs) e h = cc
 
-null_apart : (v : Value) → equal Binary v Null ≡ false
-unfolding binary value_cmp
-null_apart Null = refl
-null_apart _ = refl
+-- what the row of a result has of it
+row_reads : (db : Database) (s : Broker) → Holds db s → (r : Row) → Has (db.trees in_results.tree) r
+    → (e : ℕ × Verification) × (whole_at 0 r ≡ pos e.0) × (run_in (whole_at 0 r) (column r in_results.run) ≡ Some e.1.run)
+row_reads db s held r has =
+    let marks = db.trees in_checked_results.tree in
+    let among = has_map (λ x. (whole_at 0 x, result_in marks x)) (db.trees in_results.tree) r has in
+    let stored : ℕ × Verification → ℤ × ResultRow = λ e. (pos e.0, result_of s.versions e.1) in
+    let it = map_has stored (enumerate_from 1 s.results) _
+    (subst (λ l. Has l (whole_at 0 r, result_in marks r)) (held.results ∙ numbered_map (result_of s.versions) 1 s.results) among) in
+    (it.0, ap (λ (x : ℤ × ResultRow). x.0) it.2, ap (λ (x : ℤ × ResultRow). x.1.run) it.2)
 
--- so no row has the key of a result of this run
-pub run_free : (db : Database) (s : Broker) → Holds db s → (p : List ℕ) (run : Option (List ℕ)) → result_of_run s p run ≡ None → (made : Row) → column made in_results.provider ≡ Text p → column made in_results.run ≡ run_value run → IsFree (db.trees in_results.tree) made (in_results.provider ∷ in_results.run ∷ [])
+-- so no row has the key of the next result, if none has its run
+pub run_free : (db : Database) (s : Broker) → Holds db s → (p : List ℕ) (number : ℕ) (run : Option (List ℕ)) → IfSome run IsName → number ≡ length s.results + 1 → number < 2 ^ 64 → result_of_run s p run ≡ None
+    → (made : Row) → column made in_results.provider ≡ Text p → column made in_results.run ≡ Text (run_text number run) → IsFree (db.trees in_results.tree) made (in_results.provider ∷ in_results.run ∷ [])
 unfolding first_key
-run_free db s held p None none made owner is r has = and_right _ _ (and_left _ true (ap (equal Binary (column r in_results.run)) is ∙ null_apart (column r in_results.run)))
-run_free db s held p (Some u) none made owner is r has = (λ i. equal Binary (column r in_results.provider) (owner i) && (equal Binary (column r in_results.run) (is i) && true)) ∙ none_kept db held.broker p u s held none r has
+run_free db s held p number None name next few none made owner is r has =
+    and_right _ _ (and_left _ true (false_from_ne_true _ (λ same.
+    let stored : column r in_results.run ≡ Text (no_run (pos number)) = equal_text (column r in_results.run) (no_run (pos number)) (ap (equal Binary (column r in_results.run)) (sym is) ∙ same) in
+    let it = row_reads db s held r has in
+    let low = row_number (result_in (db.trees in_checked_results.tree)) (db.trees in_results.tree) (map (result_of s.versions) s.results) 1 held.results r has in
+    let count = length-map s.results (result_of s.versions) in
+    let nothing : run_in (whole_at 0 r) (column r in_results.run) ≡ None = (λ i. run_in (low.1 i) (stored i)) ∙ of_another low.0 number (omega (arith, low.2, count, next, few)) few (λ same. omega (arith, low.2, count, next, same)) in
+    absurd (let clash = sym nothing ∙ it.2 in cc))))
+run_free db s held p number (Some u) name next few none made owner is r has = (λ i. equal Binary (column r in_results.provider) (owner i) && (equal Binary (column r in_results.run) (is i) && true)) ∙ none_kept db held.broker p u name s held none r has
 
 -- ---- the answer
 
@@ -194,21 +204,21 @@ by_cells c = numbers_are (whole (id_in c.0)) (whole (id_in c.1)) (whole (id_in c
 abbrev by_row : ℤ × ResultRow → ByNumbers
 by_row e = (whole e.0, whole e.1.content, option_map whole e.1.version, e.1.pass)
 
-pub run_found : {X : Type 0} (number content version : X → ℕ) (pass : X → Bool) (p u : List ℕ) (db : Database) (rows : List Row) (s : Broker) (found : Option X) → Holds db s → IsShown (run p u) db rows
+pub run_found : {X : Type 0} (number content version : X → ℕ) (pass : X → Bool) (p u : List ℕ) → IsName u → (db : Database) (rows : List Row) (s : Broker) (found : Option X) → Holds db s → IsShown (run p u) db rows
     → option_map (λ x. cells_of (number x) (content x) (version x) (pass x)) found ≡ option_map cells (slice_get rows 0)
     → option_map (λ x. numbers_are (number x) (content x) (version x) (pass x)) found ≡ option_map (by_numbers s.versions) (result_of_run s p (Some u))
-run_found number content version pass p u db rows s found held h read =
+run_found number content version pass p u name db rows s found held h read =
     sym (option_map_twice by_cells (λ x. cells_of (number x) (content x) (version x) (pass x)) found) ∙ ap (option_map by_cells) read ∙ option_map_twice by_cells cells (slice_get rows 0)
     ∙ ap (λ l. option_map (λ r. by_cells (cells r)) (slice_get l 0)) out ∙ ap (option_map (λ r. by_cells (cells r))) (slice_get-map shown all 0)
-    ∙ option_map_twice (λ r. by_cells (cells r)) shown (slice_get all 0) ∙ sym (option_map_twice by_row (entry db held.broker p u) (slice_get all 0))
-    ∙ ap (option_map by_row) (kept_is db held.broker p u s held) ∙ option_map_twice by_row (as_row db held.broker p u s held) (result_of_run s p (Some u))
+    ∙ option_map_twice (λ r. by_cells (cells r)) shown (slice_get all 0) ∙ sym (option_map_twice by_row (entry db held.broker p u name) (slice_get all 0))
+    ∙ ap (option_map by_row) (kept_is db held.broker p u name s held) ∙ option_map_twice by_row (as_row db held.broker p u name s held) (result_of_run s p (Some u))
     ∙ (λ i. option_map (λ e. (e.0, e.1.content, whole_pos (number_of s.versions e.1.version) i, e.1.pass)) (result_of_run s p (Some u)))
   where
     all : List Row
-    all = kept db held.broker p u
+    all = kept db held.broker p u name
 
     shown : Row → Row
     shown r = shows run_project (Text p ∷ Text u ∷ []) r
 
     out : rows ≡ map shown all
-    out = few_permuted (map shown all) rows (subst (λ n. n ≤ 1) (sym (length-map all shown)) (few db held.broker p u)) (answered db _ in_results.tree _ _ _ rows h)
+    out = few_permuted (map shown all) rows (subst (λ n. n ≤ 1) (sym (length-map all shown)) (few db held.broker p u name)) (answered db _ in_results.tree _ _ _ rows h)

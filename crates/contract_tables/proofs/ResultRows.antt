@@ -1,13 +1,12 @@
 -- The statements on results, on those that the broker checked, and on the latest ones.
-use Rattle.std.specs.{Prelude.{if◌then◌else◌, is_some}, Ordering.{eq_by_cmp, is_eq, int_cmp}, Cmp.{eq_by_cmp_equiv, int_cmp_total}, Borrow.{Bor}}
-use Rattle.std.proofs.Common.{◌≡◌, ◌+◌, ◌<◌, ◌^◌, arith, IsTrue, map, ℕ, ℤ, pos, codes, List, [], ◌∷◌, Bool, true, false, refl, sym, ap, subst, ◌∙◌, Some, None, Option, Ok}
+use Rattle.std.specs.{Prelude.{if◌then◌else◌, is_some, IfSome}, Ordering.{eq_by_cmp, is_eq, int_cmp}, Cmp.{eq_by_cmp_equiv, int_cmp_total}}
+use Rattle.std.proofs.Common.{◌≡◌, ◌+◌, ◌<◌, ◌^◌, arith, IsTrue, map, ℕ, ℤ, pos, codes, List, [], ◌∷◌, Bool, true, false, refl, sym, ap, subst, ◌∙◌, Option, Ok}
 use Rattle.std.proofs.{lemmas.Bool.{false_from_ne_true, lt-ltb}, lemmas.List.{length-map}}
 use Rattle.sqlite.specs.{Tree.{rowid}, Edit.{with_rowid}, Rowids.TheVariants.{Chosen}, declared.types.Value.TheVariants.{Null, Int, Text}}
-use Rattle.sqlite.specs.{Values.{or_null, bound_value}, Order.{Row, column, value_cmp}, Cast.{cast, cast_row}, Term.{col, lit}, Effect.{Database}}
-use Rattle.sqlite.specs.{State.{State, Executes}, Listing.{understood}}
+use Rattle.sqlite.specs.{Order.{Row, column, value_cmp}, Cast.{cast_row}, Term.{col, lit}, Effect.{Database}, State.{State, Executes}, Listing.{understood}}
 use Rattle.sqlite_sql.specs.Ops.{binary}
 use Rattle.sqlite_rules.{specs.{Lists.{Has}, Steps.{PassAlone}, Edit.{is_taken}}, proofs.{ListLemmas.{some_has, some_from}, TableLemmas.{int_is}}}
-use Rattle.sqlite_value.{specs.Keys.{plain}, proofs.OrderLemmas.{value_cmp-Int}}
+use Rattle.sqlite_value.proofs.OrderLemmas.{value_cmp-Int}
 use Rattle.sqlite_tied.specs.Compute.{everything}
 use Rattle.table_access.{specs.{Columns.{whole_at}, Sound.{IsNumbered}}, proofs.{Values.{cast_null, cast_int}, SoundLemmas.{at_has}, Storable.{IsShortRow}}}
 use Rattle.broker_tables.specs.{Schema.{in_results, in_latest, in_checked_results}, Rows.{stands_at}, Holds.{IsBroker, result_in, result_of}}
@@ -15,20 +14,21 @@ use Rattle.broker_tables.specs.ChangeRefusals.{AreShort}
 use Rattle.broker_tables.proofs.{Placed.{results, at_results, checked_results, at_checked_results, at_latest, numbered_in, wholes_in}, References.{leads}}
 use Rattle.broker_tables.proofs.Inserted.{EndsFrom, EndsOnly, Puts, inserted, insert_ends, next_counted, pacticipant_there, version_there}
 use Rattle.broker_tables.proofs.{Keyed.{latest_by_key}, Upserted.{PutsOver, PutsAt, put_at, set_at, upsert_ends}}
-use Rattle.contract_tables.specs.Verified.{run_value, run_of, result_row, AllowsResult, AllowsMark, AllowsPoint, PutsRow, Points, texts_of}
+use Rattle.contract_tables.specs.Verified.{run_text, result_row, AllowsResult, AllowsMark, AllowsPoint, PutsRow, Points, texts_of}
 use Rattle.contract_tables.proofs.{ReferredRows.{number_there, has_content, has_owner}, ResultLookups.{numbered_rows, marked_rows, run_free}}
-use Rattle.sqlite.specs.Kind.TheVariants as kind
+use Rattle.contract_tables.proofs.RunTexts.{still_short}
+use Rattle.broker_names.specs.Name.{IsName}
 
 -- ---- a result
 
 abbrev pub put_sql : List ℕ
 put_sql = codes "INSERT INTO results (number, content, provider, provider_version, pass, run) VALUES (?1, ?2, ?3, ?4, ?5, ?6)"
 
-pub put_puts : (number content : ℕ) (provider : List ℕ) (version : ℕ) (pass : ℤ) (run : Option (List ℕ))
-    → Puts at_results put_sql (Int (pos number) ∷ Int (pos content) ∷ Text provider ∷ Int (pos version) ∷ Int pass ∷ run_value run ∷ [])
-    (Int (pos number) ∷ Null ∷ Int (pos content) ∷ Text provider ∷ Int (pos version) ∷ Int pass ∷ run_value run ∷ [])
+pub put_puts : (number content : ℕ) (provider : List ℕ) (version : ℕ) (pass : ℤ) (run : List ℕ)
+    → Puts at_results put_sql (Int (pos number) ∷ Int (pos content) ∷ Text provider ∷ Int (pos version) ∷ Int pass ∷ Text run ∷ [])
+    (Int (pos number) ∷ Null ∷ Int (pos content) ∷ Text provider ∷ Int (pos version) ∷ Int pass ∷ Text run ∷ [])
 unfolding understood everything
-put_puts number content provider version pass (Some run) = record {
+put_puts number content provider version pass run = record {
   terms = col 0 0 ∷ lit Null ∷ col 0 1 ∷ col 0 2 ∷ col 0 3 ∷ col 0 4 ∷ col 0 5 ∷ [];
   width = 7;
   means = record { is = refl; plain = (refl, refl); unlisted = refl };
@@ -36,34 +36,15 @@ put_puts number content provider version pass (Some run) = record {
   kinds = refl;
   one = refl;
 }
-put_puts number content provider version pass None = record {
-  terms = col 0 0 ∷ lit Null ∷ col 0 1 ∷ col 0 2 ∷ col 0 3 ∷ col 0 4 ∷ col 0 5 ∷ [];
-  width = 7;
-  means = record { is = refl; plain = (refl, refl); unlisted = refl };
-  whole = refl;
-  kinds = refl;
-  one = refl;
-}
-
--- a run as it is bound
-pub run_bound : (run : Option (Bor (List ℕ))) → bound_value (or_null (λ text. Text text.now) run) ≡ run_value (run_of run)
-run_bound (Some run) = refl
-run_bound None = refl
-
-cast_run : (run : Option (List ℕ)) → cast kind.Text (run_value run) ≡ run_value run
-cast_run (Some run) = refl
-cast_run None = refl
 
 -- the row passes the CHECK of its mark
 passes : (number content : ℕ) (provider : List ℕ) (version : ℕ) (pass : Bool) (run : Option (List ℕ)) → PassAlone results (result_row number content provider version pass run ∷ [])
 unfolding binary value_cmp lib.Ieee.is_nan lib.Ieee.lt
-passes number content provider version true (Some run) = record { typed = refl; present = refl; checked = refl }
-passes number content provider version false (Some run) = record { typed = refl; present = refl; checked = refl }
-passes number content provider version _ _ = record { typed = refl; present = refl; checked = refl }
+passes number content provider version true run = record { typed = refl; present = refl; checked = refl }
+passes number content provider version false run = record { typed = refl; present = refl; checked = refl }
 
-short : (number content : ℕ) (provider : List ℕ) (version : ℕ) (pass : Bool) (run : Option (List ℕ)) → AreShort (texts_of provider run) → IsShortRow (result_row number content provider version pass run)
-short number content provider version pass (Some run) are = record { wide = omega arith; narrow = omega arith; short = (tt, (tt, (tt, (are.0, (tt, (tt, are.1)))))) }
-short number content provider version pass None are = record { wide = omega arith; narrow = omega arith; short = (tt, (tt, (tt, (are.0, (tt, (tt, (tt, tt))))))) }
+short : (number content : ℕ) (provider : List ℕ) (version : ℕ) (pass : Bool) (run : Option (List ℕ)) → number < 2 ^ 32 → AreShort (texts_of provider run) → IsShortRow (result_row number content provider version pass run)
+short number content provider version pass run few are = record { wide = omega arith; narrow = omega arith; short = (tt, (tt, (tt, (are.0, (tt, (tt, (still_short number run few are.1.0, tt))))))) }
 
 module _ (number content : ℕ) (provider : List ℕ) (version : ℕ) (pass : Bool) (run : Option (List ℕ)) (old new : State) where
   abbrev made : Row
@@ -72,15 +53,15 @@ module _ (number content : ℕ) (provider : List ℕ) (version : ℕ) (pass : Bo
   stored : with_rowid Chosen (old.now.trees in_results.tree) (cast_row results made) ≡ made
   stored =
       let mark = if pass then pos 1 else pos 0 in
-      λ i. with_rowid Chosen (old.now.trees in_results.tree) (cast_int (pos number) i ∷ cast_null i ∷ cast_int (pos content) i ∷ Text provider ∷ cast_int (pos version) i ∷ cast_int mark i ∷ cast_run run i ∷ [])
+      λ i. with_rowid Chosen (old.now.trees in_results.tree) (cast_int (pos number) i ∷ cast_null i ∷ cast_int (pos content) i ∷ Text provider ∷ cast_int (pos version) i ∷ cast_int mark i ∷ Text (run_text number run) ∷ [])
 
   module _ {sql : List ℕ} {params : Row} (puts : Puts at_results sql params made) where
     pub result_put : IsBroker old.now → (count : ℕ) → Executes sql params old new (Ok count) → PutsRow in_results.tree made old new
     result_put broker count h = inserted at_results puts old new broker stored count h
 
     -- where it may be recorded, it fails only as the store fails, or since one of its names is too long
-    pub result_ends : number < 2 ^ 32 → EndsFrom [] (texts_of provider run) sql params old new (AllowsResult number content provider version run)
-    result_ends few s here (v, numbered, owner, is, low, high, unused) numbers =
+    pub result_ends : number < 2 ^ 32 → IfSome run IsName → EndsFrom [] (texts_of provider run) sql params old new (AllowsResult number content provider version run)
+    result_ends few name s here (v, numbered, owner, is, low, high, unused) numbers =
         let held = here.held in
         insert_ends at_results puts old new held.broker stored (record {
           pass = passes number content provider version pass run;
@@ -89,12 +70,12 @@ module _ (number content : ℕ) (provider : List ℕ) (version : ℕ) (pass : Bo
           fresh = subst (λ n. is_taken (old.now.trees in_results.tree) (result_row n content provider version pass run) ≡ false) (sym is)
               (subst (λ n. is_taken (old.now.trees in_results.tree) (result_row (n + 1) content provider version pass run) ≡ false) (length-map s.results (result_of s.versions))
               (next_counted (result_in (old.now.trees in_checked_results.tree)) (old.now.trees in_results.tree) (map (result_of s.versions) s.results) [] held.results (numbered_rows old.now held.broker)));
-          free = (run_free old.now s held provider run unused made refl refl, tt);
+          free = (run_free old.now s held provider number run name is (omega (arith, few)) unused made refl refl, tt);
           parents = (
             number_there _ old.now made in_results.content content refl (leads in_results.content).1 (has_content old.now s held content low high),
             (pacticipant_there old.now s held made in_results.provider provider (subst (λ p. IsTrue (is_some (s.pacticipants p))) owner (has_owner old.now s held v version numbered)) refl, (version_there old.now s held made in_results.provider_version v version numbered refl, tt)),
           );
-        }) (texts_of provider run) (short number content provider version pass run) here.unlimited
+        }) (texts_of provider run) (short number content provider version pass run few) here.unlimited
 
 -- ---- the mark that the broker checked it
 

@@ -1,5 +1,5 @@
 -- The three statements that record a result, one after another, lead from the state that the database holds to the one with that result.
-use Rattle.std.specs.{Prelude.{option_map, option_and_then, if◌then◌else◌}, Ordering.{eq_by_cmp, int_cmp}, Cmp.{eq_by_cmp_equiv, int_cmp_total}}
+use Rattle.std.specs.{Prelude.{option_map, option_and_then, if◌then◌else◌, IfSome}, Ordering.{eq_by_cmp, int_cmp}, Cmp.{eq_by_cmp_equiv, int_cmp_total}}
 use Rattle.std.proofs.Common.{◌≡◌, ◌==◌, inl, inr, ℕ, ℤ, pos, ◌+◌, codes, List, [], ◌∷◌, ◌++◌, map, length, Bool, true, false, ◌&&◌, ◌||◌, cond, refl, sym, ap, subst, subst₂, ◌∙◌, Some, None, Option, arith}
 use Rattle.std.proofs.{lemmas.Bool.{ne_eqb, and_right}, lemmas.List.{map-append, length-map}, Math.Bool.{and-true, or-false}}
 use Rattle.sqlite.specs.{Tree.{rowid}, declared.types.Value.TheVariants.{Int}, Order.{Row}, State.{State}, Effect.{Database}}
@@ -7,15 +7,16 @@ use Rattle.sqlite_rules.{specs.Lists.{Has}, proofs.TableLemmas.{int_is}}
 use Rattle.table_access.{specs.{Columns.{whole_at, by_both}, Sound.{IsNumbered}, Statements.{IsAdded}}, proofs.{SoundLemmas.{at_has}, Members.{has_right}}}
 use Rattle.broker_core.specs.{State.{State as Broker, Verification, latest_result}, Text.{same_version}, declared.command.Version.{Version}}
 use Rattle.broker_tables.specs.Schema.{in_results, in_latest, in_checked_results}
-use Rattle.broker_tables.specs.Holds.{Holds, HoldsAfter, IsBroker, AreResults, AreLatest, ResultRow, result_in, result_of}
-use Rattle.broker_tables.specs.{Rows.{stands_at, truth_in, text_or_null}, Numbers.{numbered, number_of}, ChangeRefusals.{HaveNumbers}}
+use Rattle.broker_tables.specs.{Holds.{Holds, HoldsAfter, IsBroker, AreResults, AreLatest, ResultRow, result_in, result_of}, Rows.{stands_at, truth_in}}
+use Rattle.broker_tables.specs.{Numbers.{numbered, number_of}, ChangeRefusals.{HaveNumbers}}
 use Rattle.broker_tables.proofs.{Frames.{Frame, frame_of, frame_then, still_broker, results_change}, Growth.{none_stands}, Ties.{both_eq, two_tests, nat_ties}}
 use Rattle.broker_tables.proofs.{References.{refers_result, row_number}, Placed.{checked_results, at_checked_results, listed}}
 use Rattle.broker_tables.proofs.{RoomLemmas.{Grows, takes_more, takes_rows}, NextRow.{next_row}, NumberLemmas.{version_ties, number_ties, version_unknown}}
 use Rattle.broker_tables.proofs.Orders.{pairs_total, numbers_total}
-use Rattle.contract_tables.specs.Verified.{latest_at, result_row, result_for, run_value, PutsRow, Marks, Points, HasRowWith, AllowsResult, AllowsMark, AllowsPoint}
+use Rattle.contract_tables.specs.Verified.{latest_at, result_row, result_for, PutsRow, Marks, Points, HasRowWith, AllowsResult, AllowsMark, AllowsPoint}
 use Rattle.contract_tables.proofs.{ContractRows.{map_cond}, ReferredRows.{has_content, has_version}, LastRow.{last_pushed}}
-use Rattle.contract_tables.proofs.ResultLookups.{numbered_rows, marked_rows}
+use Rattle.contract_tables.proofs.{ResultLookups.{numbered_rows, marked_rows}, RunTexts.{read_again}}
+use Rattle.broker_names.specs.Name.{IsName}
 
 -- ---- numbers below the next
 
@@ -52,10 +53,6 @@ truth_is : (b : Bool) → truth_in (Int (if b then pos 1 else pos 0)) ≡ b
 truth_is true = refl
 truth_is false = refl
 
-run_is : (run : Option (List ℕ)) → text_or_null (run_value run) ≡ run
-run_is (Some run) = refl
-run_is None = refl
-
 -- ---- the latest results, with one more
 
 -- what the third statement makes of the rows
@@ -88,7 +85,7 @@ latest_grows s r n old new are is put content w =
         let was = sym (ap (option_and_then (λ m. latest_at old content m)) e) ∙ are content w in
         ap (option_and_then (λ m. latest_at new content m)) e ∙ put content k ∙ (λ i. after (sym same i) (was i))
 
-module _ (s : Broker) (r : Verification) (n : ℕ) (is : number_of s.versions r.version ≡ Some n) where
+module _ (s : Broker) (r : Verification) (n : ℕ) (is : number_of s.versions r.version ≡ Some n) (name : IfSome r.run IsName) where
   abbrev made : Row
   made = result_row (next s) r.content r.version.pacticipant n r.pass r.run
 
@@ -106,7 +103,7 @@ module _ (s : Broker) (r : Verification) (n : ℕ) (is : number_of s.versions r.
       let mark : stands_at int_cmp (whole_at 0) marks (pos (next s)) ≡ r.checked =
       grow (pos (next s)) ∙ (λ i. (r.checked && (eq_by_cmp_equiv int_cmp_total).refl (pos (next s)) i) || unmarked s db held i) ∙ or-false (r.checked && true) ∙ and-true r.checked in
       let last : result_in marks made ≡ result_of s.versions r =
-      λ i. record { content = pos r.content; provider = r.version.pacticipant; version = option_map pos (sym is i); pass = truth_is r.pass i; checked = mark i; run = run_is r.run i } in
+      λ i. record { content = pos r.content; provider = r.version.pacticipant; version = option_map pos (sym is i); pass = truth_is r.pass i; checked = mark i; run = read_again (next s) r.run name i } in
       next_row (result_in marks) (rows_held s) (db.trees in_results.tree) rows made are rising (ap (λ k. pos (k + 1)) (sym (length-map s.results (result_of s.versions)))) added
       ∙ ap (λ x. numbered (rows_held s ++ x ∷ [])) last ∙ ap numbered (sym (map-append (result_of s.versions) s.results (r ∷ [])))
 
@@ -145,12 +142,12 @@ marked_broker checked number old new broker marks = still_broker (codes "checked
 pub put_broker : (row : Row) (old new : State) → IsBroker old.now → PutsRow in_results.tree row old new → IsBroker new.now
 put_broker row old new broker put = still_broker (codes "results" ∷ []) old.now new.now (frame_of (codes "results" ∷ []) in_results.tree refl old new broker put.0) broker
 
-pub now_recorded : (number content : ℕ) (provider : List ℕ) (version : ℕ) (pass checked : Bool) (run : Option (List ℕ)) (old one two new : State) (s : Broker) (v : Version) → Holds old.now s → number_of s.versions v ≡ Some version → v.pacticipant ≡ provider → number ≡ length s.results + 1
+pub now_recorded : (number content : ℕ) (provider : List ℕ) (version : ℕ) (pass checked : Bool) (run : Option (List ℕ)) (old one two new : State) (s : Broker) (v : Version) → IfSome run IsName → Holds old.now s → number_of s.versions v ≡ Some version → v.pacticipant ≡ provider → number ≡ length s.results + 1
     → PutsRow in_results.tree (result_row number content provider version pass run) old one → (IsBroker one.now → Marks checked number one two) → (IsBroker two.now → Points content version number two new) → HoldsAfter 2 old new (record s { results = s.results ++ result_for content v pass checked run ∷ [] })
-now_recorded number content provider version pass checked run old one two new s v held numbered owner is put mark point =
+now_recorded number content provider version pass checked run old one two new s v name held numbered owner is put mark point =
     subst₂ (λ k p. PutsRow in_results.tree (result_row k content p version pass run) old one → (IsBroker one.now → Marks checked k one two)
     → (IsBroker two.now → Points content version k two new) → HoldsAfter 2 old new (record s { results = s.results ++ result_for content v pass checked run ∷ [] }))
-    (sym is) owner (recorded s (result_for content v pass checked run) version numbered old one two new held) put mark point
+    (sym is) owner (recorded s (result_for content v pass checked run) version numbered name old one two new held) put mark point
 
 -- ---- that the second and the third may be asked for
 

@@ -1,7 +1,6 @@
 -- What a contract and a result change of the state, and what is told of a result; and, for private clauses, what the
 -- columns of a row tell of one, and what the three statements that record a result make of the rows.
-use Rattle.std.specs.Prelude.{◌≡◌, ◌==◌, ◌+◌, ◌-◌, ◌≤◌, ℕ, ℤ, pos, Bool, ◌&&◌, ◌||◌, IsTrue, List, [], ◌∷◌, ◌++◌, length, Option, Some, None, is_some, cond, if◌then◌else◌, slice_get, codes, option_map, unwrap_or, true, false, Result, IfErr}
-use Rattle.std.specs.Borrow.{Bor}
+use Rattle.std.specs.Prelude.{◌≡◌, ◌==◌, ◌+◌, ◌-◌, ◌≤◌, ℕ, ℤ, pos, Bool, ◌&&◌, ◌||◌, IsTrue, List, [], ◌∷◌, ◌++◌, length, Option, Some, None, is_some, cond, if◌then◌else◌, slice_get, codes, unwrap_or, true, false, Result, IfErr}
 use Rattle.std.specs.Ordering.{eq_by_cmp, int_cmp}
 use Rattle.sqlite.specs.declared.types.Value.{Value}
 use Rattle.sqlite.specs.declared.types.Value.TheVariants as value
@@ -20,7 +19,7 @@ use Rattle.broker_core.specs.Change.{result_of_run}
 use Rattle.broker_core.specs.Limit.{has_room}
 use Rattle.table_access.specs.Reading.{IsNumberAt}
 use Rattle.broker_tables.specs.Schema.{in_versions, in_contents, in_results, in_latest, in_checked_results}
-use Rattle.broker_tables.specs.Rows.{value_at, stands_at, truth, IsTruthAt}
+use Rattle.broker_tables.specs.Rows.{value_at, stands_at, truth, no_run, IsTruthAt}
 use Rattle.broker_tables.specs.Numbers.{number_of}
 use Rattle.broker_tables.specs.Holds.{IsBroker}
 use Rattle.broker_tables.specs.Room.{LeaveNumbers}
@@ -46,10 +45,6 @@ RecordsResult number content provider version_number pass checked run s t =
     (v : Version) × (number_of s.versions v ≡ Some version_number) × (v.pacticipant ≡ provider)
     × (number ≡ length s.results + 1)
     × (t ≡ record s { results = s.results ++ result_for content v pass checked run ∷ [] })
-
--- the run that an argument names, if one
-abbrev pub run_of : Option (Bor Text) → Option Text
-run_of = option_map (λ text. text.now)
 
 -- the texts that are stored of a result
 abbrev pub texts_of : Text → Option Text → List Text
@@ -139,16 +134,15 @@ told number content version pass checked = (number, content, Some version, pass,
 -- ---- for private clauses: the statements that record a result. Between them the database holds no state, so each is
 -- told by the rows; what all of them do is `RecordsResult`
 
--- a run in its column: NULL where there is none
-abbrev pub run_value : Option Text → Value
-run_value (Some run) = value.Text run
-run_value None = value.Null
+-- a run in its column, or what stands for none there
+abbrev pub run_text : ℕ → Option Text → Text
+run_text number run = unwrap_or run (no_run (pos number))
 
 -- the row of a result
 abbrev pub result_row : ℕ → ℕ → Text → ℕ → Bool → Option Text → Row
 result_row number content provider version pass run =
     value.Int (pos number) ∷ value.Null ∷ value.Int (pos content) ∷ value.Text provider
-    ∷ value.Int (pos version) ∷ value.Int (if pass then pos 1 else pos 0) ∷ run_value run ∷ []
+    ∷ value.Int (pos version) ∷ value.Int (if pass then pos 1 else pos 0) ∷ value.Text (run_text number run) ∷ []
 
 -- the row is put into the table of this tree, and no other table changes
 abbrev pub PutsRow : ℕ → Row → State → State → Type 0

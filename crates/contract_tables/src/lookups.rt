@@ -17,6 +17,7 @@ ghost use Rattle.contract_tables.specs.LatestRows.{IsLatestIn, IsPassIn, IsMarke
 
 use crate::version_results::{ContentPass, read_latest};
 use broker_core::need::Latest;
+use broker_names::name::Name;
 use broker_tables::truth_at;
 use sqlite::{Alter, Connection, Row, params};
 use table_access::{StoreFault, find_number, has_row, number_at, select};
@@ -181,16 +182,17 @@ fn first_result(rows: &[Row]) -> Result<Option<StoredResult>, StoreFault>
 fn stored_of_run<S: Alter>(
     conn: &mut Connection<S>,
     provider: &str,
-    run: &str,
+    run: &Name,
 ) -> Result<Option<StoredResult>, StoreFault>
     ensures { CalmQueriesInPlace S.Store conn.old conn.new result
         (λ found s. option_map (λ r. numbers_are r.number r.content r.provider_version r.pass) found
         ≡ option_map (by_numbers s.versions) (run_result s provider.now (Some run.now))) }
 {
+    run.is_name();
     let rows = done!(select(
         conn,
         "SELECT number, content, provider_version, pass FROM results WHERE provider = ?1 AND run = ?2",
-        params![provider, run],
+        params![provider, run.as_str()],
     ));
     first_result(&rows)
 }
@@ -203,7 +205,7 @@ fn stored_of_run<S: Alter>(
 pub fn result_of_run<S: Alter>(
     conn: &mut Connection<S>,
     provider: &str,
-    run: &str,
+    run: &Name,
 ) -> Result<Option<ResultRow>, StoreFault>
     ensures { CalmQueriesInPlace S.Store conn.old conn.new result
         (λ found s. option_map (λ r. told r.number r.content r.provider_version r.pass r.checked) found

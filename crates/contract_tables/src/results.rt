@@ -1,43 +1,82 @@
 //! A result comes in: its row, the mark that the broker checked it, and that it is the latest one for its content and
 //! its version.
-ghost use Rattle.std.specs.Prelude.{option_map};
+ghost use Rattle.std.specs.Prelude.{◌≡◌, IfSome, unwrap_or};
 ghost use Rattle.sqlite.specs.Held.{state};
 ghost use Rattle.table_access.specs.Calls.{CallsStore};
 ghost use Rattle.broker_tables.specs.Holds.{IsBroker, Changes, ChangesAndAnswers};
 ghost use Rattle.broker_tables.specs.ChangeRefusals.{IsCalmStoring};
-ghost use Rattle.contract_tables.specs.Verified.{RecordsResult, run_of, texts_of, AllowsResult, AllowsNextResult, CanAddResult, PutsRow, result_row, Marks, Points, IsCalmOn, AllowsMark, AllowsPoint};
+ghost use Rattle.broker_tables.specs.Rows.{no_run};
+ghost use Rattle.broker_names.specs.Name.{IsName};
+ghost use Rattle.contract_tables.specs.Verified.{RecordsResult, texts_of, AllowsResult, AllowsNextResult, CanAddResult, PutsRow, result_row, Marks, Points, IsCalmOn, AllowsMark, AllowsPoint};
 ghost use Rattle.std.specs.Prelude.{pos, ◌∷◌, [], codes};
 ghost use Rattle.sqlite.specs.declared.types.Value.TheVariants.{Int, Null};
 
 use crate::lookups::result_count;
+use arrayvec::ArrayString;
+use broker_names::name::Name;
 use broker_tables::next_number;
+use itoa::Buffer;
 use sqlite::{Alter, Connection, params};
 use table_access::{StoreFault, change};
 
+/// How many bytes the text has at most that stands for no run: a tab, and ten digits.
+const NO_RUN_LIMIT: usize = 11;
+
+/// What stands for no run in the row of this number: a tab, which no name has, and the number. No memory is taken.
+fn no_run(number: u32) -> ArrayString<NO_RUN_LIMIT>
+    ensures { result.bytes ≡ no_run (pos number) }
+{
+    let mut digits = Buffer::new();
+    let mut text = ArrayString::new();
+    text.push('\t');
+    text.push_str(digits.format(number));
+    text
+}
+
+/// The text of a run, or this one if there is none.
+fn run_text<'a>(run: &'a Option<Name>, none: &'a ArrayString<NO_RUN_LIMIT>) -> &'a str
+    ensures text { result.now ≡ unwrap_or run.now none.now.bytes }
+    ensures name { IfSome run.now IsName }
+{
+    match run {
+        Some(run) => {
+            run.is_name();
+            run.as_str()
+        },
+        None => none.as_str(),
+    }
+}
+
 /// Puts in the row of a result: of a run, or of none.
 #[tactic(auto, unfolding(sqlite_tied::specs::Compute::everything))]
-fn put_result<S: Alter>(
+fn put_result<'a, S: Alter>(
     conn: &mut Connection<S>,
     number: u32,
     content: u32,
-    provider: &str,
+    provider: &'a str,
     version_number: u32,
     pass: bool,
-    run: Option<&str>,
+    run: &'a Option<Name>,
 ) -> Result<(), StoreFault>
     ensures puts { CallsStore S.Store conn.old conn.new result
         (λ _ old new. IsBroker old.now →
-        PutsRow 17
-        (result_row number content provider.now version_number pass (option_map (λ text. text.now) run.entry))
-        old new) }
-    ensures calm { IsCalmStoring S.Store conn.old conn.new result []
-        (texts_of provider.now (option_map (λ text. text.now) run.entry))
-        (AllowsResult number content provider.now version_number (option_map (λ text. text.now) run.entry)) }
+        PutsRow 17 (result_row number content provider.now version_number pass run.now) old new) }
+    ensures calm { IsCalmStoring S.Store conn.old conn.new result [] (texts_of provider.now run.now)
+        (AllowsResult number content provider.now version_number run.now) }
+    ensures name { IfSome run.now IsName }
 {
+    let none = no_run(number);
     change(
         conn,
         "INSERT INTO results (number, content, provider, provider_version, pass, run) VALUES (?1, ?2, ?3, ?4, ?5, ?6)",
-        params![number, content, provider, version_number, pass, run],
+        params![
+            number,
+            content,
+            provider,
+            version_number,
+            pass,
+            run_text(run, &none)
+        ],
     )
 }
 
@@ -104,14 +143,12 @@ pub fn record_result<S: Alter>(
     version_number: u32,
     pass: bool,
     checked: bool,
-    run: Option<&str>,
+    run: &Option<Name>,
 ) -> Result<(), StoreFault>
     ensures changes { Changes S.Store conn.old conn.new result
-        (RecordsResult number content provider.now version_number pass checked
-        (option_map (λ text. text.now) run.entry)) }
+        (RecordsResult number content provider.now version_number pass checked run.now) }
     ensures calm { IsCalmStoring S.Store conn.old conn.new result (codes "latest" ∷ [])
-        (texts_of provider.now (option_map (λ text. text.now) run.entry))
-        (AllowsResult number content provider.now version_number (option_map (λ text. text.now) run.entry)) }
+        (texts_of provider.now run.now) (AllowsResult number content provider.now version_number run.now) }
 {
     done!(put_result(conn, number, content, provider, version_number, pass, run));
     done!(mark(conn, number, checked));
@@ -131,14 +168,13 @@ pub fn add_result<S: Alter>(
     version_number: u32,
     pass: bool,
     checked: bool,
-    run: Option<&str>,
+    run: &Option<Name>,
 ) -> Result<u32, StoreFault>
     ensures changes { ChangesAndAnswers S.Store conn.old conn.new result
-        (AllowsNextResult content provider.now version_number (run_of run.entry))
-        (λ number. RecordsResult number content provider.now version_number pass checked (run_of run.entry)) }
+        (AllowsNextResult content provider.now version_number run.now)
+        (λ number. RecordsResult number content provider.now version_number pass checked run.now) }
     ensures calm { IsCalmStoring S.Store conn.old conn.new result (codes "latest" ∷ [])
-        (texts_of provider.now (run_of run.entry))
-        (CanAddResult content provider.now version_number (run_of run.entry)) }
+        (texts_of provider.now run.now) (CanAddResult content provider.now version_number run.now) }
 {
     let count = done!(result_count(conn));
     let Some(number) = next_number(count) else {

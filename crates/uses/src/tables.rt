@@ -80,5 +80,5 @@ pub fn claim_pass<S: Alter>(
     ensures calm { IsCalmStoring S.Store conn.old conn.new result (codes "latest" ∷ []) (texts_of provider.now None)
         (CanAddResult content provider.now version_number None) }
 {
-    add_result(conn, content, provider, version_number, true, false, None)
+    add_result(conn, content, provider, version_number, true, false, &None)
 }

@@ -1,4 +1,4 @@
-use Rattle.std.{specs.Prelude.{unwrap_or}, proofs.Common.{Ok, ◌∷◌, [], codes, refl, arith, ◌≤◌, ◌^◌, ℕ, List, length, subst, sym, Option}}
+use Rattle.std.proofs.Common.{Ok, ◌∷◌, [], codes, refl, arith, ◌≤◌, ◌^◌, ℕ, List, length, subst, sym}
 use Rattle.sqlite.specs.Held.{state}
 use Rattle.table_access.proofs.CallLemmas.{call_with, seq}
 use Rattle.broker_tables.proofs.{FailLemmas.{taking, taking_then, calm_with}, RoomLemmas.{takes_then}}
@@ -14,13 +14,13 @@ returns-clause-answers g c =
     let number = c.in-Ok.value in
     seq old mid new number c.record_result.result _ _ _ (λ name u puts s held can.
     let it = name s held can.0 in
-    let made = puts it.0 it.2.0 _ (records s it.0 c.args.provider.now c.args.report.now c.args.found c.as_str.result.now _ next number c.as_str.ensures c.run_text.ensures it.1 can.1) in
-    (_, now_recorded s it.0 c.args.provider.now c.args.report.now c.args.found c.as_str.result.now _ next number c.as_str.ensures c.run_text.ensures it.1, (made.0, takes_then 2 2 old.now mid.now new.now it.2.1 made.1)))
+    let made = puts it.0 it.2.0 _ (records s it.0 c.args.provider.now c.args.report.now c.args.found c.as_str.result.now next number c.as_str.ensures it.1 can.1) in
+    (_, now_recorded s it.0 c.args.provider.now c.args.report.now c.args.found c.as_str.result.now next number c.as_str.ensures it.1, (made.0, takes_then 2 2 old.now mid.now new.now it.2.1 made.1)))
     c.in-Ok.ensures.answers c.record_result.ensures.changes
 
 pub returns-clause-calm : goal.returns-clause-calm
 returns-clause-calm g c =
     let number = c.in-Ok.value in
     taking_then _ _ _ _ number c.record_result.result 2 1 _ _ (NamesAs (reported_version c.args.provider.now c.args.report.now)) _
-    (λ s can t names. allows s t c.args.provider.now c.args.report.now c.args.found c.as_str.result.now _ c.args.next number c.as_str.ensures c.run_text.ensures names c.args.version can)
-    (call_with _ _ (Ok number) _ _ (λ n name s held can. name s held can.0.0) c.in-Ok.ensures.answers) c.record_result.ensures.changes (taking _ _ _ c.record_result.result (codes "latest" ∷ []) (refl, tt) 1 (omega arith) _ (calm_with _ _ _ _ c.record_result.result (codes "latest" ∷ []) _ (λ long are. long (subst (λ (t : List ℕ). length t ≤ 10 ^ 7) (sym c.as_str.ensures) are.0, (subst (λ (o : Option (List ℕ)). length (unwrap_or o []) ≤ 10 ^ 7) (sym c.run_text.ensures) are.1.1.0, tt))) c.record_result.ensures.calm))
+    (λ s can t names. allows s t c.args.provider.now c.args.report.now c.args.found c.as_str.result.now c.args.next number c.as_str.ensures names c.args.version can)
+    (call_with _ _ (Ok number) _ _ (λ n name s held can. name s held can.0.0) c.in-Ok.ensures.answers) c.record_result.ensures.changes (taking _ _ _ c.record_result.result (codes "latest" ∷ []) (refl, tt) 1 (omega arith) _ (calm_with _ _ _ _ c.record_result.result (codes "latest" ∷ []) _ (λ long are. long (subst (λ (t : List ℕ). length t ≤ 10 ^ 7) (sym c.as_str.ensures) are.0, (are.1.1.0, tt))) c.record_result.ensures.calm))

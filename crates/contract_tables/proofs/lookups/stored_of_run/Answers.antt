@@ -9,7 +9,7 @@ returns g c =
     let asked = run c.args.provider.now c.args.run.now in
     read_result _ _ c.in-Ok.value c.first_result.result _ _
     (IfOk-weaker c.first_result.result _ _ (λ found read shown s held. (
-      run_found (λ r. r.number) (λ r. r.content) (λ r. r.provider_version) (λ r. r.pass) c.args.provider.now c.args.run.now _ c.in-Ok.value.items s found held
+      run_found (λ r. r.number) (λ r. r.content) (λ r. r.provider_version) (λ r. r.pass) c.args.provider.now c.args.run.now c.is_name.ensures _ c.in-Ok.value.items s found held
           (reads asked _ _ s held _ shown).0 read,
       still asked _ _ held.broker _ shown,
     )) (rw c.deref.ensures.value at c.first_result.ensures.ok))
@@ -17,9 +17,9 @@ returns g c =
     (λ s here shown. IfErr-weaker c.first_result.result _ _
     (λ fault why. why.3 (run_reads c.args.provider.now c.args.run.now _ s here.held here.readable _ (reads asked _ _ s here.held _ shown).0 why.1 (first_has _ why.1 why.2)))
     (rw c.deref.ensures.value at c.first_result.ensures.cause))
-    (rw (c.params-to_sql.ensures, c.params-to_sql-2.ensures) at c.in-Ok.ensures.leaves)
+    (rw (c.params-to_sql.ensures, c.params-to_sql-2.ensures, c.as_str.ensures) at c.in-Ok.ensures.leaves)
 
 pub returns-in-Err : goal.returns-in-Err
 returns-in-Err g c =
-    let said = rw (c.params-to_sql.ensures, c.params-to_sql-2.ensures) at c.in-Err.ensures in
+    let said = rw (c.params-to_sql.ensures, c.params-to_sql-2.ensures, c.as_str.ensures) at c.in-Err.ensures in
     read_err _ _ c.in-Err.fault _ _ _ (why_refused (run c.args.provider.now c.args.run.now) _ _) said.leaves said.cause

@@ -3,7 +3,7 @@ use Rattle.sqlite.specs.Held.{state}
 use Rattle.broker_core.specs.State.{State as Broker}
 use Rattle.broker_tables.{specs.{Holds.{Holds, HoldsAfter}, Room.{TakesRoom}}, proofs.QueryLemmas.{stays_held}}
 use Rattle.table_access.proofs.CallLemmas.{seq, then_ok}
-use Rattle.contract_tables.specs.Verified.{AllowsResult, RecordsResult, result_for, run_of}
+use Rattle.contract_tables.specs.Verified.{AllowsResult, RecordsResult, result_for}
 use Rattle.contract_tables.proofs.results.add_result.Goals as goal
 
 pub returns-clause-changes : goal.returns-clause-changes
@@ -15,7 +15,7 @@ returns-clause-changes g c =
     let content = c.args.content in
     let provider = c.args.provider.now in
     let version = c.args.version_number in
-    let run = run_of c.args.run in
+    let run = c.args.run.now in
     seq old mid new c.in-Ok.value (Ok number) _ _ _ (λ one n two s held allowed.
     let read = one s held in
     let next : number ≡ length s.results + 1 = c.in-Some.ensures.some ∙ ap (λ k. k + 1) read.0 in

@@ -13,7 +13,7 @@ returns-clause-changes g c =
     let new = state g.S.Store c.point_latest.new.conn in
     seq old one new c.in-Ok.value c.point_latest.result _ (λ _. (IsBroker one.now → Marks c.args.checked c.args.number one two) × (IsBroker two.now → Points c.args.content c.args.version_number c.args.number two new)) _
     (λ put _ rest s held t next. subst (HoldsAfter 2 old new) (sym next.4)
-    (now_recorded c.args.number c.args.content c.args.provider.now c.args.version_number c.args.pass c.args.checked _ old one two new s next.0 held next.1 next.2 next.3 (put held.broker) rest.0 rest.1))
+    (now_recorded c.args.number c.args.content c.args.provider.now c.args.version_number c.args.pass c.args.checked _ old one two new s next.0 c.in-Ok.ensures.name held next.1 next.2 next.3 (put held.broker) rest.0 rest.1))
     c.in-Ok.ensures.puts
     (seq one two new c.in-Ok-mark.value c.point_latest.result _ _ (λ _. (IsBroker one.now → Marks c.args.checked c.args.number one two) × (IsBroker two.now → Points c.args.content c.args.version_number c.args.number two new))
     (λ mark _ point. (mark, point)) c.in-Ok-mark.ensures.marks c.point_latest.ensures.points)
