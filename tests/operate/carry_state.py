@@ -68,6 +68,11 @@ def kept_versions(tables: Tables, keep: int, only: list[str]) -> tuple[set[int],
     return kept, {(p, branch) for (p, branch, q), number in heads.items() if q is not None and number not in kept}
 
 
+def has_run(row: Row) -> bool:
+    """Whether the row of a result has a run, which is a name."""
+    return row[5] is not None and not row[5].startswith("\t")
+
+
 def renumbered(numbers: Iterable[int]) -> dict[int, int]:
     return {old: new for new, old in enumerate(sorted(numbers), 1)}
 
@@ -78,7 +83,7 @@ def carried(tables: Tables, keep: int, only: list[str]) -> Carried:
     contents = {content for number, _, content in tables["contracts"] if number in versions}
     latest = {result for _, _, result in tables["latest"]}
     pairs = [row for row in tables["results"] if row[1] in contents and row[3] in versions]
-    results = {row[0] for row in pairs if row[5] is not None or row[0] in latest}
+    results = {row[0] for row in pairs if has_run(row) or row[0] in latest}
     numbers = {"versions": renumbered(versions), "contents": renumbered(contents), "results": renumbered(results)}
     made: Tables = {}
     for table, rows in tables.items():
@@ -89,8 +94,9 @@ def carried(tables: Tables, keep: int, only: list[str]) -> Carried:
         made[table] = {
             tuple(numbers[columns[at]][it] if at in columns else it for at, it in enumerate(row)) for row in whole
         }
+    made["results"] = {row if has_run(row) else (*row[:5], f"\t{row[0]}") for row in made["results"]}
     texts = {body for number, _, body in tables["contents"] if number not in contents}
-    runs = {(row[2], row[5]) for row in tables["results"] if row[5] is not None and row[0] not in results}
+    runs = {(row[2], row[5]) for row in tables["results"] if has_run(row) and row[0] not in results}
     kept = {names[it] for it in versions}
     return Carried(made, numbers, kept, set(names.values()) - kept, texts, runs, cut)
 

@@ -16,6 +16,9 @@ NUMBERS = {"version_number": "versions", "provider_version": "versions", "conten
 # Of each branch its newest version, and the newest that has a contract with each provider, which is what is asked for.
 NEWEST = "SELECT pacticipant, branch, max(number) number FROM old.branches JOIN old.versions ON number = version_number"
 HEADS = f"{NEWEST} JOIN old.contracts USING (version_number) GROUP BY pacticipant, branch, provider"
+# In the column of a run: a name, or of a result without one a tab and the result's number, or NULL in an older row.
+HAS_RUN = "run >= ' '"
+NO_RUN = "char(9) || k_number.new"
 # What is kept of the numbered tables, as old numbers. A result is kept if it is the latest of its content and provider
 # version, or has a run: a report that is sent again then finds its run, and isn't stored as a newer result.
 KEPT = {
@@ -26,9 +29,9 @@ KEPT = {
         UNION SELECT number FROM ({NEWEST} GROUP BY 1, 2 UNION {HEADS})
           WHERE branch IN named OR NOT EXISTS (SELECT * FROM named) ORDER BY 1""",
     "contents": "SELECT DISTINCT content FROM old.contracts JOIN kept_versions ON version_number = old ORDER BY 1",
-    "results": """SELECT number FROM old.results r JOIN kept_contents c ON r.content = c.old
+    "results": f"""SELECT number FROM old.results r JOIN kept_contents c ON r.content = c.old
         JOIN kept_versions v ON r.provider_version = v.old
-        WHERE run IS NOT NULL OR number IN (SELECT result FROM old.latest) ORDER BY 1""",
+        WHERE {HAS_RUN} OR number IN (SELECT result FROM old.latest) ORDER BY 1""",
 }
 # A branch by which an older contract would be found than before, since a newer one is dropped: it isn't carried.
 CUT = f"SELECT DISTINCT pacticipant, branch FROM ({HEADS}) WHERE number NOT IN (SELECT old FROM kept_versions)"
@@ -43,7 +46,8 @@ RULES = [
     *(COUNTED.format(it) for it in KEPT),
     "SELECT 'digests' FROM {db}.contents WHERE digest <> sha256(body)",
     "SELECT 'a text twice' FROM {db}.contents GROUP BY digest HAVING count(*) > 1",
-    "SELECT 'a run twice' FROM {db}.results WHERE run IS NOT NULL GROUP BY provider, run HAVING count(*) > 1",
+    f"SELECT 'a run twice' FROM {{db}}.results WHERE {HAS_RUN} GROUP BY provider, run HAVING count(*) > 1",
+    "SELECT 'no run' FROM {db}.results WHERE run < ' ' AND run <> char(9) || number",
     NAMED.format("results", "provider_version", "provider"),
     NAMED.format("deployed", "version_number", "pacticipant"),
     f"SELECT 'latest' FROM ({LATEST} EXCEPT {BY_RESULTS})",
@@ -134,7 +138,8 @@ def fill(db: sqlite3.Connection, table: str) -> Table:
     columns = [str(it[1]) for it in db.execute(f"PRAGMA main.table_info({table})")]
     kept = {it: NUMBERS.get(it, table) for it in columns if it in NUMBERS or it == "number"}
     joins = "".join(f" JOIN kept_{of} AS k_{it} ON k_{it}.old = t.{it}" for it, of in kept.items())
-    values = ", ".join(f"k_{it}.new" if it in kept else f"t.{it}" for it in columns)
+    others = {"run": f"CASE WHEN t.{HAS_RUN} THEN t.run ELSE {NO_RUN} END"}
+    values = ", ".join(f"k_{it}.new" if it in kept else others.get(it, f"t.{it}") for it in columns)
     where = UNCUT if table == "branches" else "true"
     db.execute(f"INSERT INTO main.{table} SELECT {values} FROM old.{table} t{joins} WHERE {where} ORDER BY t.rowid")
     size = " + ".join(f"ifnull(length(CAST({it} AS BLOB)), 0)" for it in columns)
@@ -164,7 +169,8 @@ def copy_rows(db: sqlite3.Connection, names: Tuple[str, str], keep: int, branche
     tables = [fill(db, it) for it in tables_of(db, "main")]
     db.execute("COMMIT")
     test_rules(db, "main", new)
-    runs = count(db, "SELECT count(run) FROM old.results WHERE number NOT IN (SELECT old FROM kept_results)")
+    left = "number NOT IN (SELECT old FROM kept_results)"
+    runs = count(db, f"SELECT count(*) FROM old.results WHERE {HAS_RUN} AND {left}")
     return Rows(tables, runs, count(db, "SELECT count(*) FROM cut"), compare(db))
 
 
