@@ -20,10 +20,12 @@ that takes to sync 4 KiB is printed, and how busy the machine is."""
 import hashlib, http.client, json, os, shutil, sqlite3, statistics, subprocess, sys, tempfile, time
 
 sys.dont_write_bytecode = True
-sys.path.insert(0, f"{os.path.dirname(os.path.dirname(os.path.abspath(__file__)))}/checks")
-from hub import OFFICE, PROGRAM, free_port
-from sums import has_sums, seal
+sys.path.insert(0, os.path.dirname(os.path.dirname(os.path.abspath(__file__))))
+from tests.players.files import has_sums, seal
+from tests.process import TOP, free_port
+from tests.wire import OFFICE
 
+PROGRAM = os.path.abspath(sys.argv[1] if sys.argv[1:] else f"{TOP}/crates/broker/out/broker")
 SIZES = [int(it) for it in sys.argv[2:]] or [1000, 10000]
 TEAM = "shop-team-token-1"
 ROUNDS, GROUP = 200, 100

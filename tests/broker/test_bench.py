@@ -12,6 +12,7 @@ def test_capacity(program: str, room: str) -> None:
 
 
 def test_shared(program: str, room: str) -> None:
-    """Its row of a small file."""
+    """Its rows of small files: results with a run each, and without."""
     rows = run([sys.executable, "bench/shared.py", program, "500"], env={"TMPDIR": room}).split("\n")
-    same("rows", [it.count("|") for it in rows if it.startswith("| 500 |")], [11])
+    found = [it for it in rows if it.startswith(("| 500 | each |", "| 500 | none |"))]
+    same("rows", [it.count("|") for it in found], [12, 12])
