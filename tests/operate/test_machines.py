@@ -9,7 +9,9 @@ from tests.operate.machines_faults import FAULTS
 from tests.process import TOP
 from tests.wire import NotRun, Wrong, same
 
+# Not in the gate yet: on a machine with other work a play may take longer than its limits.
 pytestmark = [
+    pytest.mark.by_hand,
     pytest.mark.root,
     pytest.mark.timing,
     pytest.mark.needs("curl", "findmnt", "gluster", "ip", "keepalived", "nginx", "openssl"),
