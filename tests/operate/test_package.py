@@ -243,7 +243,8 @@ def test_lintian(packages: str) -> None:
 
 def test_carry_is_in_it(packages: str) -> None:
     """The command that makes a smaller file runs from where the package has it."""
-    said = ran(["python3", "-B", f"{packages}/tree/usr/share/holzhebo/tools/carry", "--help"])
+    modules = {**os.environ, "PYTHONPATH": f"{packages}/tree/usr/lib/python3/dist-packages"}
+    said = ran(["python3", "-B", f"{packages}/tree/usr/share/holzhebo/tools/carry", "--help"], env=modules)
     same("its help", (said.status, "--keep N" in said.output), (0, True))
 
 
