@@ -1,23 +1,25 @@
 -- What is told of a database by the format that is found in it.
 use Rattle.std.specs.Prelude.{if◌then◌else◌}
-use Rattle.std.proofs.Common.{◌≡◌, ℕ, ℤ, Bool, pos, List, [], ◌∷◌, map, length, refl, sym, ap, subst, ◌∙◌, Some, None, Option, Ok, Err, true, false, ◌==◌}
+use Rattle.std.proofs.Common.{◌≡◌, ◌≢◌, inl, inr, ℕ, ℤ, Bool, pos, List, [], ◌∷◌, map, length, refl, sym, ap, subst, ◌∙◌, Some, None, Option, Ok, Err, true, false, ◌==◌}
 use Rattle.std.proofs.{lemmas.Bool.{eqb-true, eqb-false}, lemmas.List.{length-map}}
 use Rattle.sqlite.specs.{Table.{Table}, Effect.{Database}, declared.types.Value.TheVariants.{Int}, Order.{Row, column}, Edit.{id_in}}
 use Rattle.sqlite_schema.specs.Names.{same_name}
 use Rattle.table_access.specs.Columns.{whole_at}
 use Rattle.broker_core.specs.Text.{Text}
-use Rattle.broker_tables.specs.{Schema.{in_meta, meta, no_schema}, Making.{IsMarked}, Holds.{IsMeta}}
+use Rattle.broker_tables.specs.{Schema.{in_meta, meta, no_schema}, Making.{IsMarked}, Holds.{IsMeta, format}}
 use Rattle.registry_tables.specs.Format.{IsOfFormat, Finds, table_of}
-use Rattle.broker_database.specs.{declared.opening.OpenFault.TheVariants.{Format}, Opening.{OpensOrRefuses, judgement}}
+use Rattle.broker_database.specs.{declared.opening.OpenFault.TheVariants.{Format}, Opening.{FindsToday, IsMarkedToday, OpensOrRefuses, judgement}}
 
--- the judgement by the format that is found is right, whichever format is wanted
-pub judged : (wanted : ℕ) (db : Database) (found : Option ℕ) → Finds db found → OpensOrRefuses wanted db (judgement wanted found)
-judged wanted db None it = it
-judged wanted db (Some n) it = go (n == wanted) refl
+-- the judgement by the format that is found is right
+pub judged : (db : Database) (found : Option ℕ) → FindsToday db found → OpensOrRefuses db (judgement format found)
+judged db None it = it
+judged db (Some n) it = go (n == format) refl
   where
-    go : (b : Bool) → (n == wanted) ≡ b → OpensOrRefuses wanted db (if b then Ok tt else Err (Format n))
-    go true e = subst (λ k. IsOfFormat k db) (let same : n ≡ wanted = eqb-true n wanted e in same) it
-    go false e = (it, eqb-false n wanted e)
+    go : (b : Bool) → (n == format) ≡ b → OpensOrRefuses db (if b then Ok tt else Err (Format n))
+    go true e =
+        let same : n ≡ format = eqb-true n format e in
+        (subst (λ k. IsOfFormat k db) same it.0, it.1 same)
+    go false e = (it.0, eqb-false n format e)
 
 pub blank_none : (db : Database) (found : Option ℕ) → db.schema ≡ no_schema → Finds db found → found ≡ None
 blank_none db None blank it = refl
@@ -51,3 +53,21 @@ marked_some n office db None marked it =
     absurd (it meta (meta_there n office db marked) (((refl, refl), ((refl, refl), ((refl, refl), tt))), refl) (sym (length-map (db.trees in_meta.tree) _) ∙ ap length marked.row))
 marked_some n office db (Some k) marked it =
     ap Some (one_format n k office (db.trees in_meta.tree) marked.row (subst (λ (t : Table). map (λ row. column row in_meta.format) (db.trees t.tree) ≡ Int (pos k) ∷ []) (meta_is n office db marked it.0 it.1) it.3))
+
+-- ---- of a database that is to be opened
+
+pub blank_unopened : (db : Database) (found : Option ℕ) → db.schema ≡ no_schema → FindsToday db found → found ≡ None
+blank_unopened db None blank it = refl
+blank_unopened db (Some n) blank it = blank_none db (Some n) blank it.0
+
+pub other_unopened : (n : ℕ) (office : Text) (db : Database) (found : Option ℕ) → n ≢ format → IsMarked n office db → FindsToday db found → found ≡ Some n
+other_unopened n office db None other marked (inl foreign) = marked_some n office db None marked foreign
+other_unopened n office db None other marked (inr (tells, declares)) =
+    let is : Some format ≡ Some n = marked_some n office db (Some format) marked tells in
+    absurd (other (let same : n ≡ format = cc in same))
+other_unopened n office db (Some k) other marked it = marked_some n office db (Some k) marked it.0
+
+pub today_opened : (office : Text) (db : Database) (found : Option ℕ) → IsMarkedToday office db → FindsToday db found → found ≡ Some format
+today_opened office db None today (inl foreign) = marked_some format office db None today.0 foreign
+today_opened office db None today (inr (tells, other)) = absurd (other today.1)
+today_opened office db (Some n) today it = marked_some format office db (Some n) today.0 it.0

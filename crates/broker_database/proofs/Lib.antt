@@ -6,6 +6,10 @@ pub mod SchemaLemmas
 pub mod SessionLemmas
 pub mod Blank
 pub mod Judgements
+mod CheckLemmas
+mod CatalogLemmas
+mod DropLemmas
+pub mod NamedRows
 pub mod MigrationLemmas
 pub mod MakeLemmas
 pub mod ListedLemmas

@@ -167,7 +167,7 @@ module _ {X : Type 0} (shown : Held X → State) (settled : (c : Held X) (t : Tr
   periods_lead (OfToday s) (Serving calls) first last trees end are on it clean may = serves_today first last trees end on clean may s it.0 calls are it.1 it.2
   periods_lead (OfFormer s) (Serving calls) first last trees end are on it clean may =
       let held = held_as (λ db. StoresFormer db s) (IsMarked former_format s.office) (shown first) (λ db is. former_marked db s is.tables) (holds_former trees (shown first) on (settled first) s are) in
-      let judged = it.1.tables.marked (given_clean shown it.0 calls last it.2 clean) former_format s.office held in
+      let judged = it.1.tables.marked (given_clean shown it.0 calls last it.2 clean) former_format s.office (λ same. absurd (let wrong : former_format ≡ format = same in cc)) held in
       serves_none first last trees end on clean may (OfFormer s) it.0 calls are it.1 (is_refused (Some former_format) (verdict it.0) (λ ok. let wrong : Err (fault.Format former_format) ≡ Ok tt = ok in cc) judged) it.2
   periods_lead Blank (Serving calls) first last trees end are on it clean may =
       let judged = it.1.tables.blank (given_clean shown it.0 calls last it.2 clean) (holds_blank trees (shown first) on (settled first) are) in

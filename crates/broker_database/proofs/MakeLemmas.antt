@@ -1,13 +1,14 @@
 -- What the transactions leave that make a broker's tables, look for a format, and bring a database up.
 use Rattle.broker_core.specs.{State.{State as Broker, opening}, Text.{Text}}
-use Rattle.broker_database.specs.Migration.{BringsUp, BringsUpOrNot, HasFormerRoomFor, IsFormer, KeepsFormerRoom, OnlyIfNotMigrated, StoresFormer}
+use Rattle.broker_database.specs.Migration.{BringsUp, BringsUpOrNot, FindsFormerAlone, HasFormerRoomFor, IsFormer, KeepsFormerRoom, OnlyIfNotMigrated, StoresFormer}
 use Rattle.broker_database.specs.Opening.{IsFresh, IsUncommitted, MakesOrFails, OnlyIfRefused, OnlyIfStoreFailed, Refuses, open_fault}
 use Rattle.broker_database.specs.{Stored.{HoldsState, Stores}, declared.ending.Failure.{Failure}, declared.ending.Failure.TheVariants.{Call, Commit}}
 use Rattle.broker_database.{specs.Transaction.{Concludes, EndsFor, told}, proofs.{MigrationLemmas.{former_found}, OpenFailures.{looking_fails, unbegun_fails}}}
 use Rattle.broker_database.proofs.{Sound.{opens_sound}, StoreFailures.{transaction_fails}}
 use Rattle.broker_database.proofs.Transaction.{WholeTransaction, adds_nothing, once_at_most, transaction_begun, transaction_ends, transaction_once, transaction_over, transaction_spares, transaction_told, transaction_unchanged, transaction_within, unbegun_ends, unbegun_over, unbegun_unchanged}
 use Rattle.broker_tables.specs.{Former.{former_format}, Holds.{Holds}, Making.{IsBlank, IsCalmOverBetween}, Room.{HasAllNumbers, HasRoomFor}}
-use Rattle.registry_tables.specs.Format.{FailsToFind, FindsFormer, IsOfFormat}
+use Rattle.broker_tables.specs.Schema.{broker_schema}
+use Rattle.registry_tables.specs.Format.{FailsToFind, IsOfFormat}
 use Rattle.sqlite.specs.{Effect.{Database}, Held.{Held}, State.{HasCleanDisk, State, Survives}}
 use Rattle.std.proofs.Common.{Bool, Err, IfErr, IsOk, IsOkAnd, IsTrue, None, Ok, Option, Result, Some, ap, arith, false, inl, inr, is_ok, refl, subst, sym, ℕ, ◌↔◌, ◌∙◌, ◌≡◌, ◌≤◌, ◌⊎◌}
 use Rattle.std.proofs.lemmas.Result.{IfErr-weaker, IfOk-weaker}
@@ -115,10 +116,10 @@ refuses_as office new Store it = it
 -- ---- a database of format 1 is brought up
 
 abbrev pub IsBroughtUp : State → State → Option ℕ → Type 0
-IsBroughtUp mid done found = FindsFormer mid.now found × (found ≡ Some former_format → BringsUp mid.now done.now)
+IsBroughtUp mid done found = FindsFormerAlone mid.now found × (found ≡ Some former_format → BringsUp mid.now done.now × (done.now.schema ≡ broker_schema))
 
 -- nothing is committed but by a database of format 1
-pub former_of : (db : Database) (found : Option ℕ) → FindsFormer db found → found ≡ Some former_format → IsFormer db
+pub former_of : (db : Database) (found : Option ℕ) → FindsFormerAlone db found → found ≡ Some former_format → IsFormer db
 former_of db None it is = absurd (cc)
 former_of db (Some n) it is = let same : n ≡ former_format = cc in (subst (λ k. IsOfFormat k db) same it.0, it.1 same)
 
@@ -133,7 +134,7 @@ pub brought_up : {X : Type 0} (shown : Held X → State) (old mid done new : Hel
     → (HasCleanDisk (shown done) → (shown mid).step_limit ≡ None → IfErr worked (λ fault. FailsToFind (shown mid) (shown done) fault ⊎ IsFormer (shown mid).now))
     → OnlyIfNotMigrated shown old new (result ≡ Err Store) → BringsUpOrNot shown old new result
 brought_up shown old mid done new worked result keeps begun begins works kept concludes looks former = record {
-  found = λ clean. IfOk-weaker result _ _ (λ found it. (it.0, subst (λ (db : Database). FindsFormer db found) it.1 it.2.0)) (transaction_told (shown old) (shown mid) (shown done) (shown new) _ _ result t clean);
+  found = λ clean. IfOk-weaker result _ _ (λ found it. (it.0, subst (λ (db : Database). FindsFormerAlone db found) it.1 it.2.0)) (transaction_told (shown old) (shown mid) (shown done) (shown new) _ _ result t clean);
   ends = λ clean s holds.
       let begun = transaction_begun (shown old) (shown mid) (shown done) (shown new) _ _ result t clean in
       transaction_ends (shown old) (shown mid) (shown done) (shown new) _ _ result t (λ db. StoresFormer db s) (λ db. Stores db s) (λ found. (found ≡ Some former_format) × HoldsState s (shown new) × KeepsFormerRoom (shown old) (shown new)) clean holds
@@ -141,7 +142,7 @@ brought_up shown old mid done new worked result keeps begun begins works kept co
       (λ found was up is commit. (
         is,
         commit (λ db. Stores db s) (stored s found was up is),
-        λ n room. commit (HasRoomFor n) ((up.1 is s was.tables).1 n (subst (HasFormerRoomFor n) (sym begun.1.now_is) room)),
+        λ n room. commit (HasRoomFor n) (((up.1 is).0 s was.tables).1 n (subst (HasFormerRoomFor n) (sym begun.1.now_is) room)),
       ))
       (λ found was up other kept. absurd (other (former_found (shown mid).now s found was.tables up.0)));
   unchanged = transaction_unchanged (shown old) (shown mid) (shown done) (shown new) _ _ result t;
@@ -156,7 +157,7 @@ brought_up shown old mid done new worked result keeps begun begins works kept co
     t = going_up (shown old) (shown mid) (shown done) (shown new) worked result keeps begun begins works kept concludes
 
     stored : (s : Broker) (found : Option ℕ) → StoresFormer (shown mid).now s → IsBroughtUp (shown mid) (shown done) found → found ≡ Some former_format → Stores (shown done).now s
-    stored s found was up is = record { tables = (up.1 is s was.tables).0; contents = was.contents }
+    stored s found was up is = record { tables = ((up.1 is).0 s was.tables).0; contents = was.contents }
 
 -- where BEGIN was refused
 pub not_brought_up : {X : Type 0} (shown : Held X → State) (old new : Held X) (why : StoreFault) → (HasCleanDisk (shown new) → IsLeft (shown old) (shown new)) → (HasCleanDisk (shown new) → FailsToBegin (shown old) (shown new) why) → Survives (shown old) (shown new) (λ _. ⊥)

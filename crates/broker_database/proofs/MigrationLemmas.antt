@@ -13,10 +13,10 @@ use Rattle.broker_core.specs.{Gate.{IsGood, IsPermitted, IsFault, Judges}, Machi
 use Rattle.sqlite_schema.specs.{declared.schema.Column.{Column}, Names.{same_name}}
 use Rattle.broker_tables.specs.{Schema.{no_schema, schema_of, in_meta}, Holds.{IsMeta}, Making.{IsBlank, IsMarked}}
 use Rattle.broker_tables.{specs.Former.{HoldsFormer, IsUnmarked, former_tables, former_format}, proofs.Former.{unmarked}}
-use Rattle.registry_tables.specs.Format.{AreLike, AreKeys, CompareBytes, HasForm, HasFormerTables, HasNoFormat, SharesTree, IsOfFormat, FindsFormer}
+use Rattle.registry_tables.specs.Format.{AreLike, AreKeys, CompareBytes, HasForm, HasFormerTables, HasNoFormat, SharesTree, IsOfFormat}
 use Rattle.command_facts.specs.Primitives.{broker_primitives}
 use Rattle.broker_database.specs.{Calls.{Migrated}, Ends.{IsUnchangedUnless}}
-use Rattle.broker_database.specs.Migration.{StoresFormer, BringsUpOrNot, KeepsFormerRoom, MigratesOrRefuses, WasGood, WasPermitted, WasFault, WasJudged, Showed, JudgesAsBefore, former_kind, former_fault, former_marks}
+use Rattle.broker_database.specs.Migration.{StoresFormer, BringsUpOrNot, FindsFormerAlone, HasFormerAlone, KeepsFormerRoom, MigratesOrRefuses, WasGood, WasPermitted, WasFault, WasJudged, Showed, JudgesAsBefore, former_kind, former_fault, former_marks}
 use Rattle.broker_database.specs.{Opening.{Refuses, IsUnchangedUnlessStore, judgement, open_fault}, Stored.{Stores, HoldsState}}
 use Rattle.broker_database.specs.{declared.opening.OpenFault.{OpenFault}, declared.opening.OpenFault.TheVariants.{Format}}
 use Rattle.broker_database.proofs.{Judgements.{one_told, meta_is, blank_none, marked_some}, OpenFailures.{judgement_is_none}}
@@ -50,10 +50,10 @@ former_schema : HasFormerTables (schema_of former_tables)
 unfolding same_name
 former_schema = (form tables.meta 0 (refl, (refl, (refl, tt))), (form tables.teams 1 (refl, (refl, tt)), (form tables.pacticipants 4 (refl, (refl, tt)), (form tables.versions 6 (refl, (refl, (refl, tt))), (form tables.branches 8 (refl, (refl, tt)), (form tables.environments 10 (refl, (refl, tt)), (form tables.grants 12 (refl, (refl, tt)), (form tables.contents 14 (refl, (refl, (refl, tt))), (form tables.contracts 15 (refl, (refl, (refl, tt))), (form tables.results 17 (refl, (refl, (refl, (refl, (refl, (refl, tt)))))), (form tables.latest 19 (refl, (refl, (refl, tt))), (form tables.deployed 21 (refl, (refl, (refl, (refl, tt)))), (form tables.released 23 (refl, (refl, tt)), tt)))))))))))))
 
-pub former_tables_there : (db : Database) (s : Broker) → HoldsFormer db s → HasFormerTables db.schema
-former_tables_there db s held = subst HasFormerTables (sym held.schema) former_schema
+pub former_tables_there : (db : Database) (s : Broker) → HoldsFormer db s → HasFormerAlone db.schema
+former_tables_there db s held = subst HasFormerAlone (sym held.schema) (former_schema, refl, refl, refl)
 
-pub former_found : (db : Database) (s : Broker) (found : Option ℕ) → HoldsFormer db s → FindsFormer db found → found ≡ Some former_format
+pub former_found : (db : Database) (s : Broker) (found : Option ℕ) → HoldsFormer db s → FindsFormerAlone db found → found ≡ Some former_format
 former_found db s None held (inl foreign) = marked_some former_format s.office db None (former_marked db s held) foreign
 former_found db s None held (inr (tells, lacks)) = absurd (lacks (former_tables_there db s held))
 former_found db s (Some n) held it = marked_some former_format s.office db (Some n) (former_marked db s held) it.0
@@ -69,7 +69,7 @@ former_told db s held (inr (table, at, is, other)) =
     other (subst (λ (t : Table). find (λ u. u.tree == t.tree) db.schema.tables ≡ Some t) (sym (meta_is former_format s.office db (former_marked db s held) table at)) (ap (λ (c : Schema). find (λ u. u.tree == in_meta.tree) c.tables) held.schema))
 
 -- the judgement by what is found is right
-judged_former : (db : Database) (found : Option ℕ) → FindsFormer db found → MigratesOrRefuses db (judgement former_format found)
+judged_former : (db : Database) (found : Option ℕ) → FindsFormerAlone db found → MigratesOrRefuses db (judgement former_format found)
 judged_former db None it = it
 judged_former db (Some n) it = go (n == former_format) refl
   where
@@ -79,11 +79,11 @@ judged_former db (Some n) it = go (n == former_format) refl
         (subst (λ k. IsOfFormat k db) same it.0, it.1 same)
     go false e = (it.0, eqb-false n former_format e)
 
-blank_former : (db : Database) (found : Option ℕ) → db.schema ≡ no_schema → FindsFormer db found → found ≡ None
+blank_former : (db : Database) (found : Option ℕ) → db.schema ≡ no_schema → FindsFormerAlone db found → found ≡ None
 blank_former db None blank it = refl
 blank_former db (Some n) blank it = blank_none db (Some n) blank it.0
 
-marked_former : (n : ℕ) (office : Text) (db : Database) (found : Option ℕ) → n ≢ former_format → IsMarked n office db → FindsFormer db found → found ≡ Some n
+marked_former : (n : ℕ) (office : Text) (db : Database) (found : Option ℕ) → n ≢ former_format → IsMarked n office db → FindsFormerAlone db found → found ≡ Some n
 marked_former n office db None other marked (inl foreign) = marked_some n office db None marked foreign
 marked_former n office db None other marked (inr (tells, lacks)) =
     let is : Some former_format ≡ Some n = marked_some n office db (Some former_format) marked tells in

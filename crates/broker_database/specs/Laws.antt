@@ -1,5 +1,7 @@
 -- What the laws of the machine say of the states that a database holds (this project's own).
-use Rattle.std.specs.Prelude.{◌++◌, List, ◌∷◌, Option}
+use Rattle.std.specs.Prelude.{◌≡◌, ◌++◌, ℕ, List, ◌∷◌, Option, codes}
+use Rattle.sqlite.specs.Order.{Row, column}
+use Rattle.sqlite_rules.specs.Lists.{Has}
 use Rattle.sqlite.specs.Effect.{Database}
 use Rattle.broker_core.specs.declared.answer.Answer.{Answer}
 use Rattle.broker_core.specs.declared.command.Command.{Command}
@@ -14,6 +16,9 @@ use Rattle.broker_core.specs.State.{State as Broker}
 use Rattle.broker_core.specs.Text.{Text}
 use Rattle.command_facts.specs.Primitives.{broker_primitives}
 use Rattle.broker_tables.specs.Former.{HoldsFormer}
+use Rattle.broker_tables.specs.Holds.{IsBroker}
+use Rattle.broker_tables.specs.Rows.{rows_of}
+use Rattle.broker_tables.specs.Schema.{in_versions, in_branches, in_contracts, in_results, in_latest, in_deployed, in_released}
 use Rattle.broker_database.specs.Migration.{JudgesAsBefore}
 use Rattle.broker_database.specs.Stored.{Stores}
 
@@ -47,3 +52,19 @@ abbrev pub StoredStepExists : Type 0
 StoredStepExists =
     (db : Database) (s : Broker) (token : Option Text) (command : Command) → Stores db s
     → CanBeRead broker_primitives s command → (out : Transition) × Step broker_primitives s token command out
+
+-- each row of this table names a version that is there, in the column at this place
+abbrev pub NamesVersions : Database → Text → ℕ → Type 0
+NamesVersions db name place = (r : Row) → Has (rows_of db name) r
+    → (v : Row) × Has (rows_of db (codes "versions")) v × (column v in_versions.number ≡ column r place)
+
+-- In a database that declares what a broker does and obeys it, whoever wrote its rows, no row names a version that isn't
+-- there: of what is deployed or released, of contracts, branches, results and latest results.
+abbrev pub RowsNameVersions : Type 0
+RowsNameVersions = (db : Database) → IsBroker db
+    → NamesVersions db (codes "deployed") in_deployed.version_number
+    × NamesVersions db (codes "released") in_released.version_number
+    × NamesVersions db (codes "contracts") in_contracts.version_number
+    × NamesVersions db (codes "branches") in_branches.version_number
+    × NamesVersions db (codes "results") in_results.provider_version
+    × NamesVersions db (codes "latest") in_latest.provider_version

@@ -1,9 +1,11 @@
 pub mod Stored
 pub mod BrokerView
 pub mod Ends
+pub mod Catalog
 pub mod Headline
 pub mod Opening
 pub mod Migration
+pub mod Renewal
 pub mod Handed
 pub mod Sessions
 pub mod Laws

@@ -1,7 +1,8 @@
 -- how a broker's database of format 1 becomes one of today's, and what was said of a version before
-use Rattle.std.specs.Prelude.{◌≡◌, ◌≢◌, ◌⊎◌, ◌↔◌, ℕ, List, [], ◌∷◌, Bool, false, if◌then◌else◌, IsTrue, IsFalse, IsSome, IsSomeAnd, Option, Some, None, option_map, Result, Ok, Err, IfOk, codes, filter, not}
+use Rattle.std.specs.Prelude.{◌≡◌, ◌≢◌, ◌⊎◌, ◌↔◌, ℕ, List, [], ◌∷◌, Bool, false, if◌then◌else◌, IsTrue, IsFalse, IsSome, IsSomeAnd, Option, Some, None, option_map, MatchOption, Result, Ok, Err, IfOk, codes, filter, length, not}
 use Rattle.std.specs.List.{AllByRecursion}
 use Rattle.sqlite.specs.Effect.{Database}
+use Rattle.sqlite.specs.Schema.{Schema}
 use Rattle.sqlite.specs.Held.{Held}
 use Rattle.sqlite.specs.State.{State, HasCleanDisk}
 use Rattle.table_access.specs.declared.StoreFault.{StoreFault}
@@ -26,12 +27,13 @@ use Rattle.broker_core.specs.Machine.{TakesEffect}
 use Rattle.broker_core.specs.State.{State as Broker, is_gated}
 use Rattle.broker_core.specs.Text.{Text, same_text}
 use Rattle.broker_tables.specs.Holds.{Holds}
-use Rattle.broker_tables.specs.Former.{HoldsFormer, IsUnmarked, former_format}
+use Rattle.broker_tables.specs.Former.{HoldsFormer, IsUnmarked, former_format, former_tables}
+use Rattle.broker_tables.specs.Schema.{schema_of}
 use Rattle.broker_tables.specs.Readable.{IsReadable}
 use Rattle.broker_tables.specs.ChangeRefusals.{AreShort}
 use Rattle.broker_tables.specs.Room.{HasRoomFor, LeaveNumbers, counted_tables}
 use Rattle.broker_tables.specs.Rows.{rows_of}
-use Rattle.registry_tables.specs.Format.{IsOfFormat, IsForeign, HasFormerTables, FindsFormer, FailsToFind}
+use Rattle.registry_tables.specs.Format.{IsOfFormat, IsForeign, HasFormerTables, FailsToFind}
 use Rattle.command_facts.specs.Primitives.{broker_primitives}
 use Rattle.broker_database.specs.Ends.{AddsNoCrashState, CommitsAtMostOnce, IsUnchangedUnless, LeavesNoTransaction}
 use Rattle.broker_database.specs.Opening.{IsFresh, TellsNothing, OnlyIfStoreFailed}
@@ -125,9 +127,22 @@ KeepsFormerRoom old new = (n : ℕ) → HasFormerRoomFor n old.now → HoldsDura
 abbrev pub BringsUp : Database → Database → Type 0
 BringsUp old new = (s : Broker) → HoldsFormer old s → Holds new s × TakesNoFormerRoom old new
 
--- of format 1, and with its tables: what is migrated
+-- The tables of format 1 are there, each with its columns and keys, wherever it is and however it is declared beside
+-- these; and nothing else is: no further table, no index but those of keys, no view and no trigger.
+abbrev pub HasFormerAlone : Schema → Type 0
+HasFormerAlone schema = HasFormerTables schema × (length schema.tables ≡ length former_tables)
+    × (length schema.indexes ≡ length (schema_of former_tables).indexes) × (schema.views ≡ [])
+
+-- of format 1, and with its tables alone: what is migrated
 abbrev pub IsFormer : Database → Type 0
-IsFormer db = IsOfFormat former_format db × HasFormerTables db.schema
+IsFormer db = IsOfFormat former_format db × HasFormerAlone db.schema
+
+-- For private clauses: what is found in a database that is to be migrated: a format, and if that is 1, its tables alone
+-- too; or none of both.
+abbrev pub FindsFormerAlone : Database → Option ℕ → Type 0
+FindsFormerAlone db found = MatchOption found
+    (IsForeign db ⊎ (IsOfFormat former_format db × (¬ (HasFormerAlone db.schema))))
+    (λ n. IsOfFormat n db × (n ≡ former_format → HasFormerAlone db.schema))
 
 -- The state can be read back, so that its names are names, and the digest of its office's token has ten million bytes at
 -- most; that of any token has 64.
@@ -144,15 +159,15 @@ OnlyIfNotMigrated shown old new Answered =
 abbrev pub CanBeMigrated : Database → Type 0
 CanBeMigrated db = (s : Broker) × HoldsFormer db s × CanBeStoredAgain s
 
--- For private clauses: no format is told, or the tables of format 1 are there.
+-- For private clauses: no format is told, or the tables of format 1 are there, and nothing else.
 abbrev pub FailsToBringUp : State → State → StoreFault → Type 0
 FailsToBringUp old new fault = FailsToFind old new fault ⊎ IsFormer old.now
 
--- What is told of a database that is to be migrated, a failure aside: it has the tables of format 1; or its format is
--- another; or it is no broker's, or of format 1 by its meta alone.
+-- What is told of a database that is to be migrated, a failure aside: it has the tables of format 1 alone; or its format
+-- is another; or it is no broker's, or of format 1 by its meta, without its tables or with more.
 abbrev pub MigratesOrRefuses : Database → Result (Unit {0}) OpenFault → Type 0
 MigratesOrRefuses db (Ok u) = IsFormer db
-MigratesOrRefuses db (Err NotABroker) = IsForeign db ⊎ (IsOfFormat former_format db × (¬ (HasFormerTables db.schema)))
+MigratesOrRefuses db (Err NotABroker) = IsForeign db ⊎ (IsOfFormat former_format db × (¬ (HasFormerAlone db.schema)))
 MigratesOrRefuses db (Err (Format n)) = IsOfFormat n db × (n ≢ former_format)
 MigratesOrRefuses db (Err NotEmpty) = ⊥
 MigratesOrRefuses db (Err Memory) = Unit {0}
@@ -170,7 +185,7 @@ MigratesOrFails s old new =
 pub record BringsUpOrNot {X : Type 0} (shown : Held X → State) (old new : Held X)
     (result : Result (Option ℕ) StoreFault) : Type 0 where
   pub found : HasCleanDisk (shown new)
-      → IfOk result (λ found. IsTrue (shown old).is_open × FindsFormer (shown old).now found)
+      → IfOk result (λ found. IsTrue (shown old).is_open × FindsFormerAlone (shown old).now found)
   pub ends : HasCleanDisk (shown new) → (s : Broker) → HoldsFormerState s (shown old)
       → MigratesOrFails s (shown old) (shown new) result
   pub unchanged : HasCleanDisk (shown new)

@@ -1,5 +1,5 @@
 -- how a broker is made on a database, or opened; and, for private clauses, the steps of its making
-use Rattle.std.specs.Prelude.{◌≡◌, ◌≢◌, ◌⊎◌, ◌↔◌, ◌==◌, ◌++◌, ◌∷◌, ℕ, false, IsTrue, List, if◌then◌else◌, Option, Some, None, Result, Ok, Err, OnOk, IfErr}
+use Rattle.std.specs.Prelude.{◌≡◌, ◌≢◌, ◌⊎◌, ◌↔◌, ◌==◌, ◌++◌, ◌∷◌, ℕ, false, IsTrue, MatchOption, List, if◌then◌else◌, Option, Some, None, Result, Ok, Err, OnOk, IfErr}
 use Rattle.sqlite.specs.Effect.{Database}
 use Rattle.sqlite.specs.Table.{Table}
 use Rattle.sqlite.specs.Held.{Held}
@@ -14,7 +14,7 @@ use Rattle.broker_core.specs.Text.{Text}
 use Rattle.broker_tables.specs.Holds.{Holds, format}
 use Rattle.broker_tables.specs.Making.{IsBlank, IsMarked, HasTables}
 use Rattle.broker_tables.specs.Room.{HasAllNumbers}
-use Rattle.broker_tables.specs.Schema.{no_schema, registry_part, contents, contract_part, all_tables}
+use Rattle.broker_tables.specs.Schema.{no_schema, broker_schema, registry_part, contents, contract_part, all_tables}
 use Rattle.registry_tables.specs.Format.{IsOfFormat, IsForeign, HasNoFormat, SharesTree}
 use Rattle.broker_database.specs.Ends.{IsAsBefore, CommitsAtMostOnce, LeavesNoTransaction}
 use Rattle.broker_database.specs.Stored.{Stores, HoldsState}
@@ -73,17 +73,36 @@ RefusesNew office old new fault =
 
 -- ---- what is told of a database
 
+-- Of today's format, with what a broker declares and nothing else: its tables, their CHECKs, keys and REFERENCES, and its
+-- indexes, as SQLite reads the statements that make them. So it is in each database that holds a state.
+abbrev pub IsOfToday : Database → Type 0
+IsOfToday db = IsOfFormat format db × (db.schema ≡ broker_schema)
+
+-- of a broker's format by its meta alone
+abbrev pub DeclaresOther : Database → Type 0
+DeclaresOther db = IsOfFormat format db × (db.schema ≢ broker_schema)
+
+-- For private clauses: what is found in a database that is to be opened: a format, and if that is today's, what a broker
+-- declares too; or none of both.
+abbrev pub FindsToday : Database → Option ℕ → Type 0
+FindsToday db found = MatchOption found (IsForeign db ⊎ DeclaresOther db)
+    (λ n. IsOfFormat n db × (n ≡ format → db.schema ≡ broker_schema))
+
+-- a failure aside
+abbrev pub OpensOrRefuses : Database → Result (Unit {0}) OpenFault → Type 0
+OpensOrRefuses db (Ok u) = IsOfToday db
+OpensOrRefuses db (Err NotABroker) = IsForeign db ⊎ DeclaresOther db
+OpensOrRefuses db (Err (Format n)) = IsOfFormat n db × (n ≢ format)
+OpensOrRefuses db (Err NotEmpty) = ⊥
+OpensOrRefuses db (Err Memory) = Unit {0}
+OpensOrRefuses db (Err Store) = Unit {0}
+
+-- it is marked with today's format, and declares what a broker does
+abbrev pub IsMarkedToday : Text → Database → Type 0
+IsMarkedToday office db = IsMarked format office db × (db.schema ≡ broker_schema)
+
 -- of this format it is to be
 module _ (wanted : ℕ) where
-  -- a failure aside
-  abbrev pub OpensOrRefuses : Database → Result (Unit {0}) OpenFault → Type 0
-  OpensOrRefuses db (Ok u) = IsOfFormat wanted db
-  OpensOrRefuses db (Err NotABroker) = IsForeign db
-  OpensOrRefuses db (Err (Format n)) = IsOfFormat n db × (n ≢ wanted)
-  OpensOrRefuses db (Err NotEmpty) = ⊥
-  OpensOrRefuses db (Err Memory) = Unit {0}
-  OpensOrRefuses db (Err Store) = Unit {0}
-
   -- what is told of a database by the format that is found in it
   abbrev pub judgement : Option ℕ → Result (Unit {0}) OpenFault
   judgement None = Err NotABroker
@@ -161,15 +180,19 @@ module _ {X : Type 0} (shown : Held X → State) (old new : Held X) where
 
   -- The look for a broker's tables.
   pub record TablesFound (given : Result (Unit {0}) OpenFault) : Type 0 where
-    -- a failure aside: the database is of today's format, or it is told what it is instead
-    pub judges : HasCleanDisk (shown new) → OpensOrRefuses format (shown old).now given
+    -- a failure aside: the database is of today's format and declares exactly what a broker does, no view and no trigger
+    -- beside it; or it is told what it is instead
+    pub judges : HasCleanDisk (shown new) → OpensOrRefuses (shown old).now given
     -- Store: on a connection as it is opened, the store failed, or meta has no number as its format
     pub calm : OnlyIfUntold (shown old) (shown new) (given ≡ Err Store)
     -- of a database without tables: NotABroker, or a failure
     pub blank : HasCleanDisk (shown new) → HoldsDurably IsBlank (shown old) → Judged format None given
-    -- of one that is marked with a format: whether that is today's, or a failure
-    pub marked : HasCleanDisk (shown new) → (n : ℕ) (office : List ℕ)
+    -- of one that is marked with another format: which that is, or a failure
+    pub marked : HasCleanDisk (shown new) → (n : ℕ) (office : List ℕ) → n ≢ format
         → HoldsDurably (IsMarked n office) (shown old) → Judged format (Some n) given
+    -- of one that is marked with today's and declares what a broker does: it is one, or a failure
+    pub today : HasCleanDisk (shown new) → (office : List ℕ)
+        → HoldsDurably (IsMarkedToday office) (shown old) → Judged format (Some format) given
     -- the database is as it was
     pub kept : HasCleanDisk (shown new) → OnOk given (IsAsBefore (shown old) (shown new))
     -- where none are found, it is as it was too, or after Store the last commit is the old one

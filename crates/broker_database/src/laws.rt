@@ -5,7 +5,7 @@ ghost use Rattle.broker_core.specs.declared.command.Command.{Command};
 ghost use Rattle.command_facts.specs.Readings.{is_refusal};
 ghost use Rattle.sqlite.specs.Held.{state};
 ghost use Rattle.command_facts.specs.Primitives.{broker_primitives};
-ghost use Rattle.broker_database.specs.Laws.{FormerGateStays, StoredRunsDeployExactly, StoredRunsReleaseExactly, StoredTeamsDiffer, StoredStepExists};
+ghost use Rattle.broker_database.specs.Laws.{FormerGateStays, StoredRunsDeployExactly, StoredRunsReleaseExactly, StoredTeamsDiffer, StoredStepExists, RowsNameVersions};
 ghost use Rattle.broker_database.specs.Life.{KeepsLatest, LivesRun, OpenedFilesHold, OpeningSpares, PeriodsLead};
 ghost use Rattle.broker_database.specs.Life.{Programs, ProgramsLead, two};
 
@@ -142,4 +142,11 @@ pub fn step_exists()
 /// A command has one step, unless one of the two answers that a pattern was refused.
 pub fn step_once()
     ensures { (command : Command) → HasOneStep broker_primitives is_refusal command }
+{}
+
+/// In a database that declares what a broker does and obeys it, as each that is opened, no row of what is deployed or
+/// released, and none of contracts, branches and results, names a version that isn't there, whoever wrote it.
+#[tactic(auto, using(crate::proofs::NamedRows::rows_name_versions))]
+pub fn rows_name_versions()
+    ensures { RowsNameVersions }
 {}

@@ -13,10 +13,12 @@ macro_rules! done {
     };
 }
 
+mod catalog;
 mod ending;
 pub mod laws;
 mod migration;
 mod opening;
+mod renewal;
 mod service;
 
 pub use ending::{Failure, conclude};

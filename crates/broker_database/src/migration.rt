@@ -1,21 +1,25 @@
 //! Making today's database of one that a broker of format 1 left.
-ghost use Rattle.std.specs.Prelude.{◌≡◌, ◌↔◌, [], Some, None, IsTrue, IsOkAnd};
+ghost use Rattle.std.specs.Prelude.{◌≡◌, ◌≢◌, ◌↔◌, [], length, Some, None, IsTrue, IsOkAnd, IfOk, IfErr};
 ghost use Rattle.sqlite.specs.Held.{state};
 ghost use Rattle.table_access.specs.Calls.{CallsStore};
 ghost use Rattle.broker_core.specs.State.{State as BrokerState};
 ghost use Rattle.broker_tables.specs.Making.{IsCalmOver};
-ghost use Rattle.broker_tables.specs.Former.{former_format};
-ghost use Rattle.registry_tables.specs.Format.{BecomesFormat2, FindsFormer, FailsOnlyFor};
+ghost use Rattle.broker_tables.specs.Former.{former_format, former_tables};
+ghost use Rattle.broker_tables.specs.Schema.{broker_schema, schema_of};
+ghost use Rattle.registry_tables.specs.Format.{BecomesFormat2, FailsToFind, FailsOnlyFor};
 ghost use Rattle.broker_database.specs.Calls.{Migrated};
-ghost use Rattle.broker_database.specs.Migration.{BringsUp, BringsUpOrNot, CanBeMigrated, CanBeStoredAgain};
+ghost use Rattle.broker_database.specs.Migration.{BringsUp, BringsUpOrNot, FindsFormerAlone, CanBeMigrated, CanBeStoredAgain};
 ghost use Rattle.broker_database.specs.Migration.{FailsToBringUp, StoresFormer};
 ghost use Rattle.broker_database.specs.Opening.{OnlyIfRefused};
 ghost use Rattle.broker_database.specs.Transaction.{told};
 
+use crate::catalog::{is_broker_schema, is_former_schema};
 use crate::ending::{Failure, conclude};
 use crate::opening::{OpenFault, judge, make_indexes, open_fault};
+use crate::renewal::renew;
 use registry_tables::format_to_migrate;
 use sqlite::{Alter, Connection};
+use sqlite_schema::schema::Schema;
 use table_access::{StoreFault, begin};
 
 /// Makes the tables that format 1 has not, and sets the format.
@@ -38,17 +42,78 @@ fn add_all<S: Alter>(conn: &mut Connection<S>) -> Result<(), StoreFault>
     make_indexes(conn)
 }
 
-/// Looks for the format, and if it is 1 and its tables are there, makes the database one of today's. The answer is the
+/// Whether as many tables and indexes are declared as by a broker of format 1, and no view.
+fn has_no_more(schema: &Schema) -> bool
+    ensures { IsTrue result ↔ (length schema.now.tables ≡ 13) × (length schema.now.indexes ≡ 12)
+        × (schema.now.views ≡ []) }
+{
+    schema.tables.len() == 13 && schema.indexes.len() == 12 && schema.views.as_slice().is_empty()
+}
+
+/// The format, but `None` if it is 1 and a table of it isn't there with its columns and keys, or anything else is.
+fn format_to_bring_up<S: Alter>(conn: &mut Connection<S>) -> Result<Option<u32>, StoreFault>
+    ensures finds { CallsStore S.Store conn.old conn.new result
+        (λ found old new. FindsFormerAlone old.now found × (new.now ≡ old.now)) }
+    ensures cause { FailsOnlyFor (state S.Store conn.old) (state S.Store conn.new) result FailsToFind }
+{
+    match done!(format_to_migrate(conn)) {
+        Some(1) => Ok(if has_no_more(conn.schema()) {
+            Some(1)
+        } else {
+            None
+        }),
+        found => Ok(found),
+    }
+}
+
+/// Makes the tables of format 1 anew, if they aren't declared as a broker of that format declared them.
+fn make_exact<S: Alter>(conn: &mut Connection<S>) -> Result<(), StoreFault>
+    ensures makes { CallsStore S.Store conn.old conn.new result
+        (λ _ old new. old.now.schema ≡ schema_of former_tables → new.now ≡ old.now) }
+    ensures calm { IsCalmOver S.Store conn.old conn.new result CanBeMigrated }
+{
+    if is_former_schema(conn.schema()) {
+        return Ok(());
+    }
+    renew(conn)
+}
+
+/// Whether what was made is declared as a new broker declares it.
+fn confirm<S: Alter>(conn: &Connection<S>) -> Result<(), StoreFault>
+    ensures ok { IfOk result (λ _. (state S.Store conn.now).now.schema ≡ broker_schema) }
+    ensures err { IfErr result (λ fault. (fault ≡ StoreFault.Store)
+        × ((state S.Store conn.now).now.schema ≢ broker_schema)) }
+{
+    if is_broker_schema(conn.schema()) {
+        Ok(())
+    } else {
+        Err(StoreFault::Store)
+    }
+}
+
+/// Makes a database of format 1 one of today's, which declares exactly what a new broker does.
+fn make_today<S: Alter>(conn: &mut Connection<S>) -> Result<(), StoreFault>
+    ensures brings { CallsStore S.Store conn.old conn.new result
+        (λ _ old new. BringsUp old.now new.now × (new.now.schema ≡ broker_schema)) }
+    ensures calm { IsCalmOver S.Store conn.old conn.new result CanBeMigrated }
+{
+    done!(make_exact(conn));
+    done!(add_all(conn));
+    confirm(conn)
+}
+
+/// Looks for the format, and if it is 1 and its tables alone are there, makes the database one of today's. The answer is the
 /// format that was found.
 fn bring_up<S: Alter>(conn: &mut Connection<S>) -> Result<Option<u32>, StoreFault>
     ensures brings { CallsStore S.Store conn.old conn.new result
-        (λ found old new. FindsFormer old.now found × (found ≡ Some former_format → BringsUp old.now new.now)) }
+        (λ found old new. FindsFormerAlone old.now found × (found ≡ Some former_format
+        → BringsUp old.now new.now × (new.now.schema ≡ broker_schema))) }
     ensures cause { FailsOnlyFor (state S.Store conn.old) (state S.Store conn.new) result FailsToBringUp }
     ensures calm { IsCalmOver S.Store conn.old conn.new result CanBeMigrated }
 {
-    match done!(format_to_migrate(conn)) {
+    match done!(format_to_bring_up(conn)) {
         Some(1) => {
-            done!(add_all(conn));
+            done!(make_today(conn));
             Ok(Some(1))
         },
         found => Ok(found),
@@ -85,7 +150,8 @@ fn run<S: Alter>(conn: &mut Connection<S>) -> Result<Option<u32>, Failure>
 /// # Errors
 /// `NotABroker`: there is no table `meta` with its columns, its key and exactly one row; or its format is 1, and a
 /// table of that format isn't there, or has other columns or other keys, or a column that compares texts otherwise than
-/// by their bytes (`COLLATE NOCASE`, `RTRIM`): a name would find another's row there. `Format`: the format in that row
+/// by their bytes (`COLLATE NOCASE`, `RTRIM`): a name would find another's row there; or anything else is there: another
+/// table, an index but those of keys, a view, a trigger. `Format`: the format in that row
 /// is this other one; today's is refused too. After both, and after `Memory`, the database is as it was.
 /// `Store`: the database refused the commit, or another call for another cause than memory, or the format isn't a number
 /// from 0 to 2^32 - 1; the last commit is the old one, and after a refused commit a crash may leave today's database,

@@ -10,14 +10,15 @@ ghost use Rattle.broker_tables.specs.Schema.{registry_part, contents, contract_p
 ghost use Rattle.broker_tables.specs.Holds.{Holds, format};
 ghost use Rattle.broker_tables.specs.Making.{IsBlank, HasTables, HasShortKeys, IsCalmOver};
 ghost use Rattle.broker_tables.specs.ChangeRefusals.{AreShort};
-ghost use Rattle.registry_tables.specs.Format.{Finds};
+ghost use Rattle.registry_tables.specs.Format.{FailsToFind, FailsOnlyFor};
 ghost use Rattle.command_facts.specs.Primitives.{broker_primitives};
 ghost use Rattle.broker_database.specs.Ends.{IsAsBefore, IsUnchangedUnless, CommitsAtMostOnce, LeavesNoTransaction};
 ghost use Rattle.broker_tables.specs.Room.{HasAllNumbers};
 ghost use Rattle.broker_database.specs.Opening as spec;
-ghost use Rattle.broker_database.specs.Opening.{MakesRest, MakesOrFails, OnlyIfUntold, OnlyIfRefused, TablesMade, TablesFound, judgement};
+ghost use Rattle.broker_database.specs.Opening.{FindsToday, MakesRest, MakesOrFails, OnlyIfUntold, OnlyIfRefused, TablesMade, TablesFound, judgement};
 ghost use Rattle.broker_database.specs.Transaction.{told};
 
+use crate::catalog::is_broker_schema;
 use crate::ending::{Failure, conclude, undo};
 use broker_names::name::Token;
 use caller_facts::callers::digest_of;
@@ -33,8 +34,9 @@ pub enum OpenFault {
     /// A table is there already, the broker's or another.
     #[error("the database has tables")]
     NotEmpty,
-    /// There is no table `meta` with its columns, its key and exactly one row; or, of a database that is to be
-    /// migrated, a table of format 1 isn't there with its columns and its keys, or compares texts otherwise than by
+    /// There is no table `meta` with its columns, its key and exactly one row; or its format is today's, and the tables
+    /// and indexes that are declared aren't exactly a broker's, or a view or a trigger is there; or, of a database that
+    /// is to be migrated, a table of format 1 isn't there with its columns and its keys, or compares texts otherwise than by
     /// their bytes.
     #[error("not a broker's database")]
     NotABroker,
@@ -173,24 +175,43 @@ pub(crate) fn judge(wanted: u32, found: Option<u32>) -> Result<(), OpenFault>
     }
 }
 
-/// The format that the database is of, if a broker's tables are there; nothing is changed.
+/// The format that the database is of, but `None` if it is today's and what is declared isn't exactly what a broker
+/// declares; nothing is changed.
+fn format_to_open<S: Alter>(conn: &mut Connection<S>) -> Result<Option<u32>, StoreFault>
+    ensures finds { CallsStore S.Store conn.old conn.new result
+        (λ found old new. FindsToday old.now found × (new.now ≡ old.now)) }
+    ensures cause { FailsOnlyFor (state S.Store conn.old) (state S.Store conn.new) result FailsToFind }
+{
+    match done!(format_of(conn)) {
+        Some(2) => Ok(if is_broker_schema(conn.schema()) {
+            Some(2)
+        } else {
+            None
+        }),
+        found => Ok(found),
+    }
+}
+
+/// The format that the database is of, if a broker's tables are there and nothing else; nothing is changed.
 fn find_format<S: Alter>(conn: &mut Connection<S>) -> Result<Option<u32>, StoreFault>
     ensures found { HasCleanDisk (state S.Store conn.new)
-        → IfOk result (λ found. IsTrue (state S.Store conn.old).is_open × Finds (state S.Store conn.old).now found) }
+        → IfOk result (λ found. IsTrue (state S.Store conn.old).is_open × FindsToday (state S.Store conn.old).now found) }
     ensures same { HasCleanDisk (state S.Store conn.new) → IsAsBefore (state S.Store conn.old) (state S.Store conn.new) }
     ensures calm { OnlyIfUntold (state S.Store conn.old) (state S.Store conn.new) (result ≡ Err StoreFault.Store) }
     ensures over { LeavesNoTransaction (state S.Store conn.old) (state S.Store conn.new) }
     ensures survives { Survives (state S.Store conn.old) (state S.Store conn.new) (λ _. ⊥) }
 {
     done!(begin(conn));
-    let found = format_of(conn);
+    let found = format_to_open(conn);
     undo(conn, found)
 }
 
 /// Looks for a broker's tables of today's format, and changes nothing. A broker makes `meta` before each other table.
 ///
-/// `NotABroker`: there is no table `meta` with its columns, its key and exactly one row. `Format`: the format in that
-/// row is this other one. `Memory` and `Store` as of [`create`]; `Store` also if the format isn't a number from 0 to
+/// `NotABroker`: there is no table `meta` with its columns, its key and exactly one row; or its format is today's, and
+/// what is declared isn't exactly what a broker declares: each table with its columns, CHECKs, keys and REFERENCES, and
+/// each index, as SQLite reads the statements that make them, and no view, trigger or other object. `Format`: the format
+/// in that row is this other one. `Memory` and `Store` as of [`create`]; `Store` also if the format isn't a number from 0 to
 /// 2^32 - 1.
 pub fn open<S: Alter>(conn: &mut Connection<S>) -> Result<(), OpenFault>
     ensures { TablesFound (state S.Store) conn.old conn.new result }

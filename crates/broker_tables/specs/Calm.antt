@@ -24,7 +24,7 @@ pub record Serves (c : State) (s : Broker) : Type 0 where
 abbrev pub FailsOnlyBy : {A : Type 0} → State → State → Result A StoreFault → (StoreFault → Type 0) → Type 0
 FailsOnlyBy old new r Cause = HasCleanDisk new → (s : Broker) → Serves old s → IfErr r Cause
 
--- the store failed, which ended the transaction, or a growth was refused
+-- the store failed, which ended the transaction, or the fault is Memory, whatever its cause
 abbrev pub HasFailedOrMemory : State → State → StoreFault → Type 0
 HasFailedOrMemory old new fault = HasFailed old new fault ⊎ (fault ≡ Memory)
 

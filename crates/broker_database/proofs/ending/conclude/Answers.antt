@@ -1,4 +1,4 @@
-use Rattle.std.proofs.Common.{◌≡◌, ◌∙◌, Ok, Err, Result, Bool, false, IsTrue, IfErr, refl}
+use Rattle.std.proofs.Common.{◌≡◌, ◌∙◌, Ok, Err, Result, Bool, IsTrue, IfErr, refl}
 use Rattle.sqlite.specs.{Held.{Held}, State.{State}}
 use Rattle.table_access.specs.{declared.StoreFault.{StoreFault}, declared.StoreFault.TheVariants.{Memory, Store}}
 use Rattle.broker_database.{specs.Transaction.{EndsFor, Finishes, called, conclusion, told}, proofs.Transaction.{outlives_as}}

@@ -10,7 +10,7 @@ returns-clause-refused g c s fit =
     made_refused shown CanBeMigrated (λ db. StoresFormer db s) s c.args.conn.now c.begin.new.conn c.bring_up-found.new.conn c.conclude.new.conn _ _ c.conclude.result
     (going_up (shown c.args.conn.now) (shown c.begin.new.conn) (shown c.bring_up-found.new.conn) (shown c.conclude.new.conn) c.bring_up-found.result (told c.conclude.result) c.is_former-keeps.result
     c.in-Ok.ensures.begun c.begin.ensures.survives c.bring_up-found.ensures.brings c.is_former-keeps.ensures c.conclude.ensures.concludes)
-    c.bring_up-found.ensures.calm c.conclude.ensures.refused (λ db is. (s, is.tables, fit)) (λ found up is was. (up.1 is s was.tables).0)
+    c.bring_up-found.ensures.calm c.conclude.ensures.refused (λ db is. (s, is.tables, fit)) (λ found up is was. ((up.1 is).0 s was.tables).0)
 
 pub returns-clause-migrates : goal.returns-clause-migrates
 returns-clause-migrates g c =
