@@ -4,6 +4,8 @@
 mod built;
 mod parts;
 mod searches;
+mod weights;
 
 pub use parts::parts_of;
 pub use searches::{BuiltPatterns, Searches};
+pub use weights::weight;

@@ -1,6 +1,8 @@
 pub mod Each
 pub mod ChoiceLemmas
 pub mod MatchingLemmas
+pub mod GatheredLemmas
+pub mod PartLemmas
 pub mod PatternLemmas
 mod AcceptedPatterns
 pub mod OrderLemmas

@@ -18,7 +18,7 @@ is_some-view (Some t) = refl
 begins_here : (part bs : List ℕ) → begins part bs ≡ true → HasSubslice bs part
 begins_here part bs h = ([], drop (length part) bs, sym (ap (λ xs. xs ++ drop (length part) bs) ((bytes_eq-Decides part (take (length part) bs)).0 h) ∙ take-append-drop (length part) bs))
 
-contains_sound : (part bs : List ℕ) → contains part bs ≡ true → HasSubslice bs part
+pub contains_sound : (part bs : List ℕ) → contains part bs ≡ true → HasSubslice bs part
 contains_sound part [] h = begins_here part [] h
 contains_sound part (b ∷ bs) h =
     ⊎_elim (λ e. begins_here part (b ∷ bs) e) (λ e. let rest = contains_sound part bs e in (b ∷ rest.0, rest.1, ap (λ xs. b ∷ xs) rest.2)) (or_cases (begins part (b ∷ bs)) (contains part bs) h)
@@ -27,7 +27,7 @@ contains_front : (part bs : List ℕ) → begins part bs ≡ true → contains p
 contains_front part [] h = h
 contains_front part (b ∷ bs) h = rw h refl
 
-contains_complete : (part a b : List ℕ) → contains part (a ++ (part ++ b)) ≡ true
+pub contains_complete : (part a b : List ℕ) → contains part (a ++ (part ++ b)) ≡ true
 contains_complete part [] b = contains_front part (part ++ b) ((bytes_eq-Decides part (take (length part) (part ++ b))).1 (sym (take_at part b (length part) refl)))
 contains_complete part (x ∷ a) b = or_right (begins part (x ∷ (a ++ (part ++ b)))) (contains part (a ++ (part ++ b))) (contains_complete part a b)
 

@@ -4,10 +4,12 @@ pub mod Lists
 pub mod Trees
 pub mod Kept
 pub mod Rules
+pub mod MatcherView
 pub mod RuleViews
 pub mod Choice
 pub mod Matching
 pub mod Tables
+pub mod Gathered
 pub mod RuleReading
 pub mod RegexRefusals
 pub mod Walks

@@ -3,19 +3,10 @@ use Rattle.std.specs.Prelude.{◌≡◌, ℕ, List, map, String, string_bytes}
 use Rattle.std.specs.List.{AllByRecursion}
 use Rattle.std.specs.declared.alloc.Global.{Global}
 use Rattle.pact_rules.specs.Rules as rules
-use Rattle.pact_rules.specs.declared.table.Matcher.{Matcher}
-use Rattle.pact_rules.specs.declared.table.Matcher.TheVariants.{Equality, SameType, Regex, Include, Integer, IsNull}
-use Rattle.pact_rules.specs.declared.table.Entry.{Entry}
+pub use Rattle.pact_rules.specs.MatcherView.{matcher_view}
+use Rattle.pact_rules.specs.declared.entry.Entry.{Entry}
 use Rattle.pact_rules.specs.declared.table.BodyRule.{BodyRule}
 use Rattle.pact_rules.specs.declared.table.HeaderRule.{HeaderRule}
-
-abbrev pub matcher_view : Matcher → rules.Matcher
-matcher_view Equality = rules.equality
-matcher_view (SameType min max) = rules.same_type min max
-matcher_view (Regex p) = rules.regex (string_bytes p)
-matcher_view (Include t) = rules.include (string_bytes t)
-matcher_view Integer = rules.integer
-matcher_view IsNull = rules.is_null
 
 abbrev pub entry_view : Entry → rules.Entry
 entry_view e = record { any = e.any; matchers = map matcher_view e.matchers.items }

@@ -7,12 +7,12 @@ ghost use Rattle.pact_rules.specs.Matching.{holds as holds_of, entry_holds, same
 ghost use Rattle.pact_rules.specs.Matching.{are_alike as are_alike_of, have_one_key_set as have_one_key_set_of};
 ghost use Rattle.serde_json.specs.Find.{as_number, as_integer};
 ghost use Rattle.pact_rules.specs.Matching.{text_form as text_form_of, within, at_least, at_most, contains};
-ghost use Rattle.pact_rules.specs.Matching.{has_keys_of as has_keys};
+ghost use Rattle.pact_rules.specs.Matching.{has_keys_of as has_keys, equal_here};
 ghost use Rattle.pact_rules.specs.Rules.{IsRegex};
 ghost use Rattle.pact_rules.specs.RegexRefusals.{CanFail};
 ghost use Rattle.pact_rules.specs.declared.matching.MatchFault.TheVariants.{Memory, Pattern};
 
-use crate::table::{Entry, Matcher};
+use crate::table::Matcher;
 use pact_patterns::{BuiltPatterns, Searches};
 use serde_json::{Map, Value};
 use std::alloc::{AllocError, AllocFailed, Global};
@@ -80,7 +80,7 @@ pub fn holds(
 }
 
 /// The same by searches that are kept from one value to the next, so that a pattern that was built isn't built again.
-pub fn holds_with(
+pub(crate) fn holds_with(
     alloc: Global,
     searches: &mut Searches<'_>,
     matcher: &Matcher,
@@ -94,7 +94,7 @@ pub fn holds_with(
     ensures fails { IfErr result (CanFail (matcher_view matcher.now)) }
 {
     match matcher {
-        Matcher::Equality => Ok(are_alike(expected, actual) && have_one_key_set(expected, actual)),
+        Matcher::Equality => Ok(are_equal(expected, actual)),
         Matcher::SameType { min, max } => Ok(
             are_of_one_kind(expected, actual)
                 && (!own_place || is_within(*min, *max, expected, actual)),
@@ -113,7 +113,7 @@ pub fn holds_with(
 }
 
 /// The text of a scalar that has one.
-fn text_form(alloc: Global, value: &Value) -> Result<Option<String>, AllocError>
+pub(crate) fn text_form(alloc: Global, value: &Value) -> Result<Option<String>, AllocError>
     ensures { IfOk result (λ o.
         option_map (λ s. string_bytes s) o ≡ text_form_of (view value.now)) }
 {
@@ -129,7 +129,7 @@ fn text_form(alloc: Global, value: &Value) -> Result<Option<String>, AllocError>
     }
 }
 
-fn is_whole(value: &Value) -> bool
+pub(crate) fn is_whole(value: &Value) -> bool
     ensures { result ≡ is_some (option_and_then as_integer (as_number (view value.now))) }
 {
     match value {
@@ -138,7 +138,7 @@ fn is_whole(value: &Value) -> bool
     }
 }
 
-fn are_of_one_kind(a: &Value, b: &Value) -> bool
+pub(crate) fn are_of_one_kind(a: &Value, b: &Value) -> bool
     ensures { result ≡ same_kind (view a.now) (view b.now) }
 {
     match (a, b) {
@@ -176,6 +176,13 @@ fn is_same_whole(a: Option<i128>, b: Option<i128>) -> bool
     }
 }
 
+/// Whether an `Equality` matcher holds of two values.
+pub(crate) fn are_equal(a: &Value, b: &Value) -> bool
+    ensures { result ≡ equal_here (view a.now) (view b.now) }
+{
+    are_alike(a, b) && have_one_key_set(a, b)
+}
+
 fn have_one_key_set(a: &Value, b: &Value) -> bool
     ensures { result ≡ have_one_key_set_of (view a.now) (view b.now) }
 {
@@ -185,7 +192,12 @@ fn have_one_key_set(a: &Value, b: &Value) -> bool
     }
 }
 
-fn is_within(min: Option<u64>, max: Option<u64>, expected: &Value, actual: &Value) -> bool
+pub(crate) fn is_within(
+    min: Option<u64>,
+    max: Option<u64>,
+    expected: &Value,
+    actual: &Value,
+) -> bool
     ensures { result ≡ within min max (view expected.now) (view actual.now) }
 {
     match (expected, actual) {

@@ -12,9 +12,11 @@ ghost use Rattle.pact_rules.specs.RuleReading.{include_at, matchers_in};
 ghost use Rattle.pact_rules.specs.declared.rule_fault.RuleFault.{RuleFault as RuleFaultModel};
 ghost use Rattle.pact_rules.specs.declared.rule_fault.RuleFault.TheVariants.{Memory, Unsupported};
 
+use crate::entry::Entry;
+use crate::gathered::gathered_of_many;
 use crate::patterns::Patterns;
 use crate::rule_fault::{RuleFault, Word};
-use crate::table::{Entry, Matcher};
+use crate::table::Matcher;
 use serde_json::{Map, Value};
 use std::alloc::Global;
 
@@ -236,5 +238,10 @@ pub(crate) fn entry_of(
     };
     let any = combine_of(optional_member(members, "combine"))?;
     let matchers = matchers_of(alloc, patterns, in_header, items)?;
-    Ok(Entry { any, matchers })
+    let many = gathered_of_many(alloc, any, &matchers)?;
+    Ok(Entry {
+        any,
+        matchers,
+        many,
+    })
 }

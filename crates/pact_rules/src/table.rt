@@ -15,6 +15,7 @@ ghost use Rattle.pact_rules.specs.Rules.{IsOrderedBy, name_key, has_regex as has
 ghost use Rattle.pact_rules.specs.Tables.{header_entry};
 ghost use Rattle.pact_rules.specs.declared.matching.MatchFault.TheVariants.{Pattern};
 
+use crate::entry::Entry;
 use crate::matching::MatchFault;
 use pact_paths::{Path, Step, weight};
 use pact_patterns::BuiltPatterns;
@@ -38,13 +39,6 @@ pub enum Matcher {
     Integer,
     /// Null.
     IsNull,
-}
-
-/// An entry of a table: it holds if all its matchers hold, or with `any` if at least one does.
-#[derive(Drop)]
-pub struct Entry {
-    pub any: bool,
-    pub matchers: Vec<Matcher>,
 }
 
 #[derive(Drop)]

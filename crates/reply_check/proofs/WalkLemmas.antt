@@ -1,15 +1,13 @@
 -- The entry that a walk chooses, and where a pattern comes from.
 use Rattle.std.specs.List.{list_any}
-use Rattle.std.proofs.Common.{◌≡◌, ◌∙◌, ℕ, zero, suc, ◌<◌, Bool, true, List, [], ◌∷◌, map, length, get_or, Option, Some, None, option_map, option_and_then, Result, Ok, Err, IfOk, IsTrue, ◌↔◌, subst, slice_get, refl, sym, ap}
+use Rattle.std.proofs.Common.{◌≡◌, ◌∙◌, ℕ, zero, suc, Bool, true, List, [], ◌∷◌, map, Option, Some, None, option_map, option_and_then, Result, Ok, Err, IfOk, IsTrue, ◌↔◌, subst, slice_get, refl, sym, ap}
 use Rattle.std.proofs.{lemmas.Bool.{or_right}, lemmas.Option.{same_Some, slice_get-map}}
 use Rattle.pact_paths.specs.Paths.{Location}
 use Rattle.pact_rules.specs.{Matching.{entry_holds}, Walks.{Walk, HasReached, own_place, own_place_of}}
-use Rattle.pact_rules.specs.{Rules.{Rules, IsInOrder, BodyRule, Entry, is_regex, has_regex}, RuleViews.{matcher_view}, Choice.{best, chosen}}
-use Rattle.pact_rules.proofs.{ChoiceLemmas.{got}, WalkLemmas.{IsThere, best_there}}
+use Rattle.pact_rules.{specs.{Rules.{Rules, IsInOrder, BodyRule, Entry, is_regex, has_regex}, Choice.{best, chosen}}, proofs.WalkLemmas.{IsThere, best_there}}
 use Rattle.serde_json.specs.Data.{Data}
 use Rattle.pact_file.proofs.Steps.{map_some}
 use Rattle.reply_check.{specs.{Computed.{meets_here, meets_rule, fits}, Fitting.{Fits}}, proofs.FittingLemmas.{fits_decides}}
-use Rattle.pact_rules.specs.declared.table.Matcher as code
 
 -- ---- the chosen entry
 
@@ -33,9 +31,6 @@ pub any_at : {A : Type 0} (p : A → Bool) (xs : List A) (i : ℕ) (x : A) → s
 any_at p [] i x is h = absurd cc
 any_at p (y ∷ ys) zero x is h = rw (ap p (same_Some y x is) ∙ h) refl
 any_at p (y ∷ ys) (suc i) x is h = or_right (p y) (list_any p ys) (any_at p ys i x is h)
-
-pub regex_among : (ms : List code.Matcher) (i : ℕ) (m : code.Matcher) → i < length ms → m ≡ get_or ms i m → is_regex (matcher_view m) ≡ true → list_any is_regex (map matcher_view ms) ≡ true
-regex_among ms i m within is h = any_at is_regex (map matcher_view ms) i (matcher_view m) (got matcher_view ms i m within is) h
 
 -- a body entry with a pattern is in the table
 pub regex_chosen : (rules : Rules) (index : ℕ) (e : Entry) → slice_get (map (λ (r : BodyRule). r.entry) rules.body) index ≡ Some e → list_any is_regex e.matchers ≡ true → has_regex rules ≡ true

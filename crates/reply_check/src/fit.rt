@@ -15,9 +15,7 @@ ghost use Rattle.reply_check.specs.Computed.{fits as fits_of, items_fit as items
 ghost use Rattle.reply_check.specs.Computed.{members_fit as members_fit_of, meets_here as meets_here_of, example};
 ghost use Rattle.reply_check.specs.Computed.{expected_items, expected_members};
 
-use pact_rules::{
-    Alive, Entry, MatchFault, RuleTable, Searches, Step, are_alike, has_keys_of, holds_with,
-};
+use pact_rules::{Alive, Entry, MatchFault, RuleTable, Searches, Step, are_alike, has_keys_of};
 use serde_json::{Map, Value};
 use std::alloc::Global;
 
@@ -218,10 +216,5 @@ pub(crate) fn entry_holds(
         (view expected.now) (view actual.now) own_place) }
     ensures pattern { IfErr result (λ e. e ≡ Pattern → entry_has_regex (entry_view entry.now) ≡ true) }
 {
-    for matcher in &entry.matchers {
-        if holds_with(alloc, searches, matcher, expected, actual, own_place)? == entry.any {
-            return Ok(entry.any);
-        }
-    }
-    Ok(!entry.any)
+    entry.holds_with(alloc, searches, expected, actual, own_place)
 }

@@ -1,6 +1,6 @@
 use Rattle.std.{specs.List.{list_any}, proofs.Common.{◌≡◌, drop, map}}
 use Rattle.pact_rules.specs.{Rules.{is_regex}, RuleViews.{matcher_view}}
-use Rattle.pact_rules.proofs.table.Entry.has_regex.Given as goal
+use Rattle.pact_rules.proofs.entry.Entry.has_regex.Given as goal
 
 -- there is one just where there is one among those that are left
 abbrev pub invariant-loop-matcher : goal.invariant-loop-matcher
