@@ -76,8 +76,8 @@ impl<S: Alter> Broker<S> {
 
     /// Opens the database that a broker left. Nothing is changed.
     ///
-    /// `NotABroker`: there is no table `meta` with its columns, its key and exactly one row.
-    /// `Format`: the format in that row is this other one. `Memory` and `Store` as of `create`; `Store` also if the
+    /// `NotABroker`: there is no table `meta` with its columns, its key and exactly one row; or what is declared isn't
+    /// exactly what a broker declares. `Format`: the format in that row is this other one. `Memory` and `Store` as of `create`; `Store` also if the
     /// format isn't a number from 0 to 2^32 - 1.
     pub fn open(conn: Connection<S>) -> Result<Broker<S>, Refused<S>>
         ensures { Opened (state S.Store) conn result }

@@ -1,34 +1,37 @@
 -- What the statements for an environment ask and show wherever the broker's tables are there, whatever their CHECKs, keys
 -- and references, STRICT or not.
-use Rattle.std.specs.{Prelude.{if◌then◌else◌, is_some, ◌↔◌}, List.{AllZip}}
-use Rattle.std.proofs.Common.{◌≡◌, ◌==◌, ◌∙◌, ℕ, codes, List, [], ◌∷◌, Bool, true, false, IsTrue, Some, None, slice_get, refl, sym, ap, subst, ◌&&◌}
-use Rattle.std.proofs.lemmas.Bool.{and_from}
-use Rattle.sqlite.specs.{declared.types.Value.TheVariants.{Null, Text}, Order.{Row, column, value_cmp}, Term.{col}, Query.{Query}, Table.{Table}}
+use Rattle.std.specs.{Prelude.{if◌then◌else◌}, List.{AllZip}}
+use Rattle.std.proofs.Common.{◌≡◌, ◌==◌, ◌∙◌, ℕ, pos, codes, List, [], ◌∷◌, Bool, true, false, Option, Some, None, refl, sym, ap, subst, ◌&&◌}
+use Rattle.sqlite.specs.{declared.types.Value.TheVariants.{Null, Int, Text}, Order.{Row, column}, Term.{eval_all}, Query.{Query}, Table.{Table}}
 use Rattle.sqlite.specs.{Schema.{Schema}, Collation.TheVariants.{Binary}, State.{State, Shown}, Listing.{understood}}
-use Rattle.sqlite_sql.specs.{declared.ops.BinaryOp.TheVariants.{Compare, Is}, declared.ops.CompareOp.TheVariants.{Eq}, Ops.{binary, is_true}}
+use Rattle.sqlite_sql.specs.{declared.ops.BinaryOp.TheVariants.{Compare}, declared.ops.CompareOp.TheVariants.{Eq}, Ops.{binary, is_true}}
 use Rattle.sqlite_schema.specs.declared.schema.Column.{Column}
-use Rattle.sqlite_keyed.proofs.RuleLemmas.{first_of_both, second_of_both}
 use Rattle.sqlite_tied.specs.Compute.{everything}
-use Rattle.table_access.{specs.{Statements.{from_table}, Reading.{AreRead}}, proofs.Values.{equal_text}}
+use Rattle.table_access.specs.Reading.{AreRead}
 use Rattle.broker_core.specs.{declared.answer.DeployedItem.{DeployedItem}, declared.command.Version.{Version}}
-use Rattle.broker_tables.specs.Schema.{broker_schema, texts, numbers, versions, deployed, released, in_versions, in_deployed, in_released}
-use Rattle.broker_tables.specs.Asking.{HasColumns, HasBrokerTables}
-use Rattle.broker_tables.proofs.{AnyTables.{laid_out, lays, named_as, set_out, sets_out, AsksOf, is_answer_of, any_kept}, Listed.{has_read}}
-use Rattle.broker_tables.proofs.VersionRows.{text_test}
+use Rattle.broker_tables.specs.Schema.{broker_schema, texts, numbers, versions, contracts, deployed, released, in_versions, in_contracts, in_deployed, in_released}
+use Rattle.broker_tables.{specs.Asking.{HasColumns, HasBrokerTables}, proofs.AnyTables.{laid_out, lays, named_as, set_out, sets_out, AsksOf, is_answer_of}}
+use Rattle.broker_tables.proofs.{Listed.{has_read}, VersionRows.{text_test}}
 use Rattle.deploy_tables.specs.{Listings.{IsDeployedRow, IsReleasedRow}, AnyThere.{HasNull, EachDeployedIsThere, EachReleasedIsThere}}
-use Rattle.deploy_tables.proofs.{LeftRows.{from_left, goes_with}, VersionRows.{on_number, in_environment}, ContractsThere.{unnumbered_terms, null_is}}
+use Rattle.deploy_tables.specs.{ContractsThere.{IsContractIfAny}, declared.contracts_there.NumberedContract.{NumberedContract}}
+use Rattle.deploy_tables.proofs.{LeftRows.{from_left, goes_with, some_shown}, VersionRows.{on_number, in_environment}}
+use Rattle.deploy_tables.proofs.ContractsThere.{if_any_sql, if_any_query, ons, if_any, first_number}
 use Rattle.deploy_tables.proofs.DeployedState as deployed_list
 use Rattle.deploy_tables.proofs.ReleasedRows as released_list
 
 -- ---- the schema
 
--- tables that have the broker's names and places, of which three are these
-abbrev with_places : Schema → (ℕ → Table) → Table → Table → Table → Schema
-with_places s given v d r = record s {
-  tables = laid_out broker_schema.tables (λ n. if n == 3 then v else (if n == 11 then d else (if n == 12 then r else given n)));
+-- tables that have the broker's names and places, of which four are these
+abbrev with_places : Schema → (ℕ → Table) → Table → Table → Table → Table → Schema
+with_places s given v c d r = record s {
+  tables = laid_out broker_schema.tables (λ n. if n == 3 then v else (if n == 8 then c else (if n == 11 then d else (if n == 12 then r else given n))));
 }
 
 -- the columns, of which those that are compared are STRICT or not
+abbrev contract_columns : (ℕ → Column) → Bool → Bool → List Column
+contract_columns cs x y = record (named_as (numbers (codes "version_number")) (cs 0)) { is_strict = x } ∷ record (named_as (texts (codes "provider")) (cs 1)) { is_strict = y }
+    ∷ named_as (numbers (codes "content")) (cs 2) ∷ []
+
 abbrev deployed_columns : (ℕ → Column) → Bool → Bool → List Column
 deployed_columns ds x y = record (named_as (texts (codes "environment")) (ds 0)) { is_strict = x } ∷ named_as (texts (codes "pacticipant")) (ds 1)
     ∷ named_as (texts (codes "instance")) (ds 2) ∷ record (named_as (numbers (codes "version_number")) (ds 3)) { is_strict = y } ∷ []
@@ -36,39 +39,38 @@ deployed_columns ds x y = record (named_as (texts (codes "environment")) (ds 0))
 abbrev released_columns : (ℕ → Column) → Bool → Bool → List Column
 released_columns rs x y = record (named_as (texts (codes "environment")) (rs 0)) { is_strict = x } ∷ record (named_as (numbers (codes "version_number")) (rs 1)) { is_strict = y } ∷ []
 
-abbrev declared : Schema → (ℕ → Table) → (ℕ → Column) → (ℕ → Column) → (ℕ → Column) → Bool → Bool → Bool → Bool → Schema
-declared s given vs ds rs x y z w = with_places s given
+abbrev declared : Schema → (ℕ → Table) → (ℕ → Column) → (ℕ → Column) → (ℕ → Column) → (ℕ → Column) → Bool → Bool → Bool → Bool → Bool → Bool → Schema
+declared s given vs cs ds rs a b x y z w = with_places s given
     (record (given 3) { columns = set_out versions.columns vs; key = Some 0 })
+    (record (given 8) { columns = contract_columns cs a b; key = None })
     (record (given 11) { columns = deployed_columns ds x y; key = None })
     (record (given 12) { columns = released_columns rs z w; key = None })
 
 -- a schema that has the tables is such a one
-is_declared : (s : Schema) → HasBrokerTables s → (given : ℕ → Table) × (vs ds rs : ℕ → Column)
-    × (s ≡ declared s given vs ds rs (ds 0).is_strict (ds 3).is_strict (rs 0).is_strict (rs 1).is_strict)
+is_declared : (s : Schema) → HasBrokerTables s → (given : ℕ → Table) × (vs cs ds rs : ℕ → Column)
+    × (s ≡ declared s given vs cs ds rs (cs 0).is_strict (cs 1).is_strict (ds 0).is_strict (ds 3).is_strict (rs 0).is_strict (rs 1).is_strict)
 is_declared s h =
     let all = lays broker_schema.tables s.tables h in
     let from_versions = (subst (AllZip HasColumns broker_schema.tables) all.1 h).1.1.1 in
-    let from_deployed = from_versions.1.1.1.1.1.1.1.1 in
+    let from_contracts = from_versions.1.1.1.1.1 in
+    let from_deployed = from_contracts.1.1.1 in
     let vs = sets_out versions.columns (all.0 3).columns from_versions.0.3 in
+    let cs = sets_out contracts.columns (all.0 8).columns from_contracts.0.3 in
     let ds = sets_out deployed.columns (all.0 11).columns from_deployed.0.3 in
     let rs = sets_out released.columns (all.0 12).columns from_deployed.1.0.3 in (
       all.0,
       vs.0,
+      cs.0,
       ds.0,
       rs.0,
       ap (λ ts. record s { tables = ts }) all.1 ∙ (λ i. with_places s all.0
           (record (all.0 3) { columns = vs.1 i; key = from_versions.0.2 i })
+          (record (all.0 8) { columns = cs.1 i; key = from_contracts.0.2 i })
           (record (all.0 11) { columns = ds.1 i; key = from_deployed.0.2 i })
           (record (all.0 12) { columns = rs.1 i; key = from_deployed.1.0.2 i })),
     )
 
 -- ---- the texts
-
-abbrev pub null_sql : List ℕ
-null_sql = codes "SELECT environment FROM deployed WHERE environment = ?1 AND version_number IS NULL"
-
-abbrev pub null_query : Query
-null_query = from_table in_deployed.tree unnumbered_terms (col 1 in_deployed.environment ∷ []) []
 
 abbrev pub deployed_sql : List ℕ
 deployed_sql = codes "SELECT d.pacticipant, d.instance, v.version FROM deployed d LEFT JOIN versions v ON v.number = d.version_number WHERE d.environment = ?1 ORDER BY d.pacticipant, d.instance"
@@ -82,37 +84,49 @@ released_sql = codes "SELECT v.pacticipant, v.version FROM released r LEFT JOIN 
 abbrev pub released_query : Query
 released_query = from_left in_released.tree in_versions.tree (on_number in_released.version_number) in_environment released_list.list_project released_list.list_order
 
-module _ (s : Schema) (given : ℕ → Table) (vs ds rs : ℕ → Column) where
-  null_declared : (x y z w : Bool) (e : List ℕ) → AsksOf (declared s given vs ds rs x y z w) null_sql (Text e ∷ []) null_query
+module _ (s : Schema) (given : ℕ → Table) (vs cs ds rs : ℕ → Column) where
+  if_any_declared : (a b x y z w : Bool) (e p : List ℕ) → AsksOf (declared s given vs cs ds rs a b x y z w) if_any_sql (Text e ∷ Text p ∷ []) if_any_query
   unfolding understood everything
-  null_declared true true z w e = record { names = _; means = record { is = refl; plain = (refl, refl); unlisted = refl }; runs = record { whole = refl; typed = refl; sumless = refl } }
-  null_declared true false z w e = record { names = _; means = record { is = refl; plain = (refl, refl); unlisted = refl }; runs = record { whole = refl; typed = refl; sumless = refl } }
-  null_declared false true z w e = record { names = _; means = record { is = refl; plain = (refl, refl); unlisted = refl }; runs = record { whole = refl; typed = refl; sumless = refl } }
-  null_declared false false z w e = record { names = _; means = record { is = refl; plain = (refl, refl); unlisted = refl }; runs = record { whole = refl; typed = refl; sumless = refl } }
+  if_any_declared true true true true z w e p = record { names = _; means = record { is = refl; plain = (refl, refl); unlisted = refl }; runs = record { whole = refl; typed = refl; sumless = refl } }
+  if_any_declared true true true false z w e p = record { names = _; means = record { is = refl; plain = (refl, refl); unlisted = refl }; runs = record { whole = refl; typed = refl; sumless = refl } }
+  if_any_declared true true false true z w e p = record { names = _; means = record { is = refl; plain = (refl, refl); unlisted = refl }; runs = record { whole = refl; typed = refl; sumless = refl } }
+  if_any_declared true true false false z w e p = record { names = _; means = record { is = refl; plain = (refl, refl); unlisted = refl }; runs = record { whole = refl; typed = refl; sumless = refl } }
+  if_any_declared true false true true z w e p = record { names = _; means = record { is = refl; plain = (refl, refl); unlisted = refl }; runs = record { whole = refl; typed = refl; sumless = refl } }
+  if_any_declared true false true false z w e p = record { names = _; means = record { is = refl; plain = (refl, refl); unlisted = refl }; runs = record { whole = refl; typed = refl; sumless = refl } }
+  if_any_declared true false false true z w e p = record { names = _; means = record { is = refl; plain = (refl, refl); unlisted = refl }; runs = record { whole = refl; typed = refl; sumless = refl } }
+  if_any_declared true false false false z w e p = record { names = _; means = record { is = refl; plain = (refl, refl); unlisted = refl }; runs = record { whole = refl; typed = refl; sumless = refl } }
+  if_any_declared false true true true z w e p = record { names = _; means = record { is = refl; plain = (refl, refl); unlisted = refl }; runs = record { whole = refl; typed = refl; sumless = refl } }
+  if_any_declared false true true false z w e p = record { names = _; means = record { is = refl; plain = (refl, refl); unlisted = refl }; runs = record { whole = refl; typed = refl; sumless = refl } }
+  if_any_declared false true false true z w e p = record { names = _; means = record { is = refl; plain = (refl, refl); unlisted = refl }; runs = record { whole = refl; typed = refl; sumless = refl } }
+  if_any_declared false true false false z w e p = record { names = _; means = record { is = refl; plain = (refl, refl); unlisted = refl }; runs = record { whole = refl; typed = refl; sumless = refl } }
+  if_any_declared false false true true z w e p = record { names = _; means = record { is = refl; plain = (refl, refl); unlisted = refl }; runs = record { whole = refl; typed = refl; sumless = refl } }
+  if_any_declared false false true false z w e p = record { names = _; means = record { is = refl; plain = (refl, refl); unlisted = refl }; runs = record { whole = refl; typed = refl; sumless = refl } }
+  if_any_declared false false false true z w e p = record { names = _; means = record { is = refl; plain = (refl, refl); unlisted = refl }; runs = record { whole = refl; typed = refl; sumless = refl } }
+  if_any_declared false false false false z w e p = record { names = _; means = record { is = refl; plain = (refl, refl); unlisted = refl }; runs = record { whole = refl; typed = refl; sumless = refl } }
 
-  deployed_declared : (x y z w : Bool) (e : List ℕ) → AsksOf (declared s given vs ds rs x y z w) deployed_sql (Text e ∷ []) deployed_query
+  deployed_declared : (a b x y z w : Bool) (e : List ℕ) → AsksOf (declared s given vs cs ds rs a b x y z w) deployed_sql (Text e ∷ []) deployed_query
   unfolding understood everything
-  deployed_declared true true z w e = record { names = _; means = record { is = refl; plain = (refl, refl); unlisted = refl }; runs = record { whole = refl; typed = refl; sumless = refl } }
-  deployed_declared true false z w e = record { names = _; means = record { is = refl; plain = (refl, refl); unlisted = refl }; runs = record { whole = refl; typed = refl; sumless = refl } }
-  deployed_declared false true z w e = record { names = _; means = record { is = refl; plain = (refl, refl); unlisted = refl }; runs = record { whole = refl; typed = refl; sumless = refl } }
-  deployed_declared false false z w e = record { names = _; means = record { is = refl; plain = (refl, refl); unlisted = refl }; runs = record { whole = refl; typed = refl; sumless = refl } }
+  deployed_declared a b true true z w e = record { names = _; means = record { is = refl; plain = (refl, refl); unlisted = refl }; runs = record { whole = refl; typed = refl; sumless = refl } }
+  deployed_declared a b true false z w e = record { names = _; means = record { is = refl; plain = (refl, refl); unlisted = refl }; runs = record { whole = refl; typed = refl; sumless = refl } }
+  deployed_declared a b false true z w e = record { names = _; means = record { is = refl; plain = (refl, refl); unlisted = refl }; runs = record { whole = refl; typed = refl; sumless = refl } }
+  deployed_declared a b false false z w e = record { names = _; means = record { is = refl; plain = (refl, refl); unlisted = refl }; runs = record { whole = refl; typed = refl; sumless = refl } }
 
-  released_declared : (x y z w : Bool) (e : List ℕ) → AsksOf (declared s given vs ds rs x y z w) released_sql (Text e ∷ []) released_query
+  released_declared : (a b x y z w : Bool) (e : List ℕ) → AsksOf (declared s given vs cs ds rs a b x y z w) released_sql (Text e ∷ []) released_query
   unfolding understood everything
-  released_declared x y true true e = record { names = _; means = record { is = refl; plain = (refl, refl); unlisted = refl }; runs = record { whole = refl; typed = refl; sumless = refl } }
-  released_declared x y true false e = record { names = _; means = record { is = refl; plain = (refl, refl); unlisted = refl }; runs = record { whole = refl; typed = refl; sumless = refl } }
-  released_declared x y false true e = record { names = _; means = record { is = refl; plain = (refl, refl); unlisted = refl }; runs = record { whole = refl; typed = refl; sumless = refl } }
-  released_declared x y false false e = record { names = _; means = record { is = refl; plain = (refl, refl); unlisted = refl }; runs = record { whole = refl; typed = refl; sumless = refl } }
+  released_declared a b x y true true e = record { names = _; means = record { is = refl; plain = (refl, refl); unlisted = refl }; runs = record { whole = refl; typed = refl; sumless = refl } }
+  released_declared a b x y true false e = record { names = _; means = record { is = refl; plain = (refl, refl); unlisted = refl }; runs = record { whole = refl; typed = refl; sumless = refl } }
+  released_declared a b x y false true e = record { names = _; means = record { is = refl; plain = (refl, refl); unlisted = refl }; runs = record { whole = refl; typed = refl; sumless = refl } }
+  released_declared a b x y false false e = record { names = _; means = record { is = refl; plain = (refl, refl); unlisted = refl }; runs = record { whole = refl; typed = refl; sumless = refl } }
 
 module _ (s : Schema) (h : HasBrokerTables s) (e : List ℕ) where
-  pub null_asks : AsksOf s null_sql (Text e ∷ []) null_query
-  null_asks = let it = is_declared s h in subst (λ t. AsksOf t null_sql (Text e ∷ []) null_query) (sym it.4) (null_declared s it.0 it.1 it.2 it.3 _ _ _ _ e)
+  pub if_any_asks : (p : List ℕ) → AsksOf s if_any_sql (Text e ∷ Text p ∷ []) if_any_query
+  if_any_asks p = let it = is_declared s h in subst (λ t. AsksOf t if_any_sql (Text e ∷ Text p ∷ []) if_any_query) (sym it.5) (if_any_declared s it.0 it.1 it.2 it.3 it.4 _ _ _ _ _ _ e p)
 
   pub deployed_asks : AsksOf s deployed_sql (Text e ∷ []) deployed_query
-  deployed_asks = let it = is_declared s h in subst (λ t. AsksOf t deployed_sql (Text e ∷ []) deployed_query) (sym it.4) (deployed_declared s it.0 it.1 it.2 it.3 _ _ _ _ e)
+  deployed_asks = let it = is_declared s h in subst (λ t. AsksOf t deployed_sql (Text e ∷ []) deployed_query) (sym it.5) (deployed_declared s it.0 it.1 it.2 it.3 it.4 _ _ _ _ _ _ e)
 
   pub released_asks : AsksOf s released_sql (Text e ∷ []) released_query
-  released_asks = let it = is_declared s h in subst (λ t. AsksOf t released_sql (Text e ∷ []) released_query) (sym it.4) (released_declared s it.0 it.1 it.2 it.3 _ _ _ _ e)
+  released_asks = let it = is_declared s h in subst (λ t. AsksOf t released_sql (Text e ∷ []) released_query) (sym it.5) (released_declared s it.0 it.1 it.2 it.3 it.4 _ _ _ _ _ _ e)
 
 -- ---- the rows
 
@@ -133,13 +147,12 @@ module _ (e : List ℕ) (old new : State) (h : HasBrokerTables old.now.schema) (
       (is_answer_of old new (released_asks old.now.schema h e) rows shown) r is.0 (ap (λ b. b && true) (in_there r is.1))
       (λ has. let it = has_read IsReleasedRow rows items _ read has in let clash : Null ≡ Text it.0.name = it.2.1 in cc)
 
-  is_null : is_true (binary (Is Binary) Null Null) ≡ true
-  unfolding binary value_cmp lib.Ieee.is_nan lib.Ieee.lt
-  is_null = refl
-
-  pub null_shown : (has : Bool) → Shown null_sql (Text e ∷ []) old new rows → has ≡ is_some (slice_get rows 0) → IsTrue has ↔ HasNull e old.now
-  null_shown has shown is =
-      let any = any_kept old new (null_asks old.now.schema h e) rows shown has is in (
-        λ t. let it = any.0 t in (it.0, (it.1, equal_text (column it.0 in_deployed.environment) e (first_of_both _ _ it.2)), null_is (column it.0 in_deployed.version_number) (first_of_both _ true (second_of_both _ _ it.2))),
-        λ d. any.1 (d.0, d.1.0, and_from _ _ (in_there d.0 d.1.1) (ap (λ b. b && true) (subst (λ v. is_true (binary (Is Binary) v Null) ≡ true) (sym d.2) is_null))),
-      )
+  -- what each deployed version has as a contract is read only if none of them is NULL
+  pub none_null : (p : List ℕ) (items : List (Option NumberedContract)) → Shown if_any_sql (Text e ∷ Text p ∷ []) old new rows → AreRead IsContractIfAny rows items → ¬ (HasNull e old.now)
+  none_null p items shown read d =
+      let row = some_shown old.now (Text e ∷ Text p ∷ []) in_deployed.tree in_contracts.tree ons in_environment if_any [] rows
+      (is_answer_of old new (if_any_asks old.now.schema h e p) rows shown) d.0 d.1.0 (λ s. ap (λ b. b && true) (in_there d.0 d.1.1)) in
+      let it = has_read IsContractIfAny rows items (eval_all if_any ((Text e ∷ Text p ∷ []) ∷ d.0 ∷ row.0 ∷ [])) read row.1 in
+      let number = first_number (eval_all if_any ((Text e ∷ Text p ∷ []) ∷ d.0 ∷ row.0 ∷ [])) it.0 it.2 in
+      let clash : Null ≡ Int (pos number.0) = sym d.2 ∙ number.1 in
+      cc

@@ -1,72 +1,79 @@
--- The contracts with a provider of the versions that stand in an environment: rows of deployed and of released, each
--- joined with the contracts of its version.
-use Rattle.std.{specs.Prelude.{Contains, ◌↔◌}, proofs.Common.{◌≡◌, ◌++◌, inl, inr, ℕ, pos, codes, List, [], ◌∷◌, Bool, true, refl, sym, ap, subst, ◌∙◌, Some}}
+-- The contracts with a provider of the versions that stand in an environment: rows of deployed, each beside the contract
+-- of its version or NULL, and rows of released that have one.
+use Rattle.std.specs.{Prelude.{Contains, ◌↔◌, filter_map}, List.{list_all}}
+use Rattle.std.proofs.Common.{◌≡◌, ◌++◌, inl, inr, ℕ, ℤ, pos, codes, List, [], ◌∷◌, Bool, true, refl, sym, ap, subst, ◌∙◌, Option, Some, None}
 use Rattle.sqlite_rules.specs.Lists.{Has}
 use Rattle.sqlite_tied.specs.Compute.{everything}
-use Rattle.broker_tables.specs.{Schema.{in_versions, in_contracts, in_deployed, in_released}, Numbers.{number_of}, Holds.{Holds, IsBroker}}
-use Rattle.broker_tables.proofs.{Asked.{Asked, IsShown, EachShown, of_table}, VersionRows.{whole_test, text_test, row_number}, References.{refers_version}}
-use Rattle.broker_tables.proofs.Placed.{contracts, at_contracts, listed}
+use Rattle.broker_tables.specs.{Schema.{in_versions, in_contracts, in_deployed, in_released}, Numbers.{number_of}, Holds.{Holds}}
+use Rattle.broker_tables.proofs.{Asked.{Asked, IsShown}, VersionRows.{whole_test, text_test, row_number}, References.{refers_version}}
+use Rattle.broker_tables.proofs.{Listed.{read_has, has_read}, Placed.{contracts, at_contracts, listed}}
 use Rattle.deploy_tables.specs.declared.contracts_there.NumberedContract.{NumberedContract}
-use Rattle.deploy_tables.{specs.ContractsThere.{IsDeployedIn, IsReleasedIn, TellsContracts, IsNumberedRow}, proofs.DeployedState.{deployed_in}}
-use Rattle.deploy_tables.proofs.{ReleasedRows.{released_in}, VersionRows.{same_pos, Names}, MatrixLoop.{both_ways, both_of}}
+use Rattle.deploy_tables.specs.ContractsThere.{IsDeployedIn, IsReleasedIn, IsContractThere, TellsContracts, TellsContractsIfAny, IsNumberedRow, IsContractIfAny}
+use Rattle.deploy_tables.proofs.{DeployedState.{deployed_in}, LeftRows.{from_left_by, env_shown, shown_env, is_beside}, ReleasedRows.{released_in}}
+use Rattle.deploy_tables.proofs.{VersionRows.{same_pos, Names, in_environment}, MatrixLoop.{both_ways, both_of}}
 use Rattle.contract_tables.proofs.{ItemLists.{and_tests, last_test}, JoinRows.{pair_of, item_of_pair}}
-use Rattle.sqlite.specs.{Edit.{id_in}, declared.types.Value.{Value}, declared.types.Value.TheVariants.{Null, Int, Text}, Order.{Row, column, value_cmp}}
-use Rattle.sqlite.specs.{Term.{Term, lit, col, op2}, Collation.TheVariants.{Binary}, Effect.{Database, Answers}, Listing.{understood}}
-use Rattle.sqlite_keyed.proofs.RuleLemmas.{first_of_both, second_of_both}
-use Rattle.sqlite_sql.specs.{declared.ops.BinaryOp.TheVariants.{Compare, Is}, declared.ops.CompareOp.TheVariants.{Eq}, Ops.{binary, is_true}}
-use Rattle.table_access.specs.{Columns.{text, whole_at}, Statements.{from_both, from_table, keeps_both}, Reading.{AreRead}}
-use Rattle.table_access.proofs.Members.{pair_has, has_pair}
+use Rattle.sqlite.specs.{Edit.{id_in}, declared.types.Value.TheVariants.{Null, Int, Text}, Order.{Row, column}, Term.{Term, col, op2, holds, eval_all}}
+use Rattle.sqlite.specs.{Query.{Query}, Collation.TheVariants.{Binary}, Effect.{Database}, Listing.{understood}}
+use Rattle.sqlite_sql.specs.{declared.ops.BinaryOp.TheVariants.{Compare}, declared.ops.CompareOp.TheVariants.{Eq}}
+use Rattle.table_access.{specs.{Columns.{text, whole_at}, Statements.{from_both, keeps_both}, Reading.{AreRead}}, proofs.Members.{pair_has, has_pair}}
 use Rattle.broker_core.specs.{declared.command.Version.{Version}, Text.{Text as Words, version}, State.{State as Broker}, Gate.{Stands}}
+use Rattle.broker_core.proofs.Lists.{Contains-from_filter_map, Contains-filter_map}
 use Rattle.contract_tables.proofs.ContractRows as contract_rows
-use Rattle.deploy_tables.proofs.DeployedRows as deployed_rows
 
 -- ---- the two statements
 
--- ON the contract's version is the one at this place, WHERE the environment and the provider are the parameters. The
--- environment is at the same place in deployed and in released
-abbrev terms : ℕ → List Term
-terms place = op2 (Compare Eq Binary) (col 2 in_contracts.version_number) (col 1 place) ∷ op2 (Compare Eq Binary) (col 1 in_deployed.environment) (col 0 0)
-    ∷ op2 (Compare Eq Binary) (col 2 in_contracts.provider) (col 0 1) ∷ []
+-- the contract's version is the one at this place
+abbrev of_version : ℕ → Term
+of_version place = op2 (Compare Eq Binary) (col 2 in_contracts.version_number) (col 1 place)
+
+-- the provider and the environment are the parameters. The environment is at the same place in deployed and in released
+abbrev with_provider : Term
+with_provider = op2 (Compare Eq Binary) (col 2 in_contracts.provider) (col 0 1)
+
+abbrev terms : List Term
+terms = of_version in_released.version_number ∷ op2 (Compare Eq Binary) (col 1 in_released.environment) (col 0 0) ∷ with_provider ∷ []
 
 abbrev pub project : List Term
 project = col 2 in_contracts.version_number ∷ col 2 in_contracts.content ∷ []
 
-pub of_deployed : (e p : Words)
-    → Asked (codes "SELECT c.version_number, c.content FROM deployed d JOIN contracts c ON c.version_number = d.version_number WHERE d.environment = ?1 AND c.provider = ?2")
-    (Text e ∷ Text p ∷ []) (from_both in_deployed.tree in_contracts.tree (terms in_deployed.version_number) project [])
+abbrev pub ons : List Term
+ons = of_version in_deployed.version_number ∷ with_provider ∷ []
+
+abbrev pub if_any : List Term
+if_any = col 1 in_deployed.version_number ∷ col 2 in_contracts.version_number ∷ col 2 in_contracts.content ∷ []
+
+abbrev pub if_any_sql : List ℕ
+if_any_sql = codes "SELECT d.version_number, c.version_number, c.content FROM deployed d LEFT JOIN contracts c ON c.version_number = d.version_number AND c.provider = ?2 WHERE d.environment = ?1"
+
+abbrev pub if_any_query : Query
+if_any_query = from_left_by in_deployed.tree in_contracts.tree ons in_environment if_any []
+
+pub of_deployed : (e p : Words) → Asked if_any_sql (Text e ∷ Text p ∷ []) if_any_query
 unfolding understood everything
 of_deployed e p = record { names = _; means = record { is = refl; plain = (refl, refl); unlisted = refl }; runs = record { whole = refl; typed = refl; sumless = refl } }
 
 pub of_released : (e p : Words)
     → Asked (codes "SELECT c.version_number, c.content FROM released r JOIN contracts c ON c.version_number = r.version_number WHERE r.environment = ?1 AND c.provider = ?2")
-    (Text e ∷ Text p ∷ []) (from_both in_released.tree in_contracts.tree (terms in_released.version_number) project [])
+    (Text e ∷ Text p ∷ []) (from_both in_released.tree in_contracts.tree terms project [])
 unfolding understood everything
 of_released e p = record { names = _; means = record { is = refl; plain = (refl, refl); unlisted = refl }; runs = record { whole = refl; typed = refl; sumless = refl } }
 
--- ---- a row without a version
-
-abbrev pub unnumbered_terms : List Term
-unnumbered_terms = op2 (Compare Eq Binary) (col 1 in_deployed.environment) (col 0 0) ∷ op2 (Is Binary) (col 1 in_deployed.version_number) (lit Null) ∷ []
-
-pub unnumbered : (e : Words) → Asked (codes "SELECT environment FROM deployed WHERE environment = ?1 AND version_number IS NULL")
-    (Text e ∷ []) (from_table in_deployed.tree unnumbered_terms (col 1 in_deployed.environment ∷ []) [])
-unfolding understood everything
-unnumbered e = record { names = _; means = record { is = refl; plain = (refl, refl); unlisted = refl }; runs = record { whole = refl; typed = refl; sumless = refl } }
-
--- whether a value is NULL
-pub null_is : (v : Value) → is_true (binary (Is Binary) v Null) ≡ true → v ≡ Null
-unfolding binary value_cmp
-null_is Null h = refl
-null_is _ h = absurd cc
-
--- no held state has one
-pub none_unnumbered : (e : Words) (db : Database) → IsBroker db → EachShown (unnumbered e) db (λ row. ⊥)
-none_unnumbered e db broker = of_table (unnumbered e) db (λ row. ⊥) (λ r has kept.
-    let null = null_is (column r in_deployed.version_number) (first_of_both _ true (second_of_both _ _ kept)) in
-    let clash : Null ≡ Int (whole_at in_deployed.version_number r) = sym null ∙ deployed_rows.numbers db broker r has in
-    cc)
-
 -- ---- rows of a table that name an environment and a version, joined with the contracts
+
+-- the same contract
+same_contract : (x y : NumberedContract) → pos y.number ≡ pos x.number → pos y.content ≡ pos x.content → y ≡ x
+same_contract x y number content i = record { number = same_pos y.number x.number number i; content = same_pos y.content x.content content i }
+
+-- a number is read first, also where there is no contract
+pub first_number : (row : Row) (found : Option NumberedContract) → IsContractIfAny row found → (n : ℕ) × (column row 0 ≡ Int (pos n))
+first_number row None read = read.0
+first_number row (Some x) read = (x.number, read.0)
+
+-- what is read of the row of a contract is that contract
+is_contract : (row : Row) (x : NumberedContract) (n : ℤ) (found : Option NumberedContract) → column row 1 ≡ Int n → id_in (column row 0) ≡ pos x.number
+    → id_in (column row 2) ≡ pos x.content → IsContractIfAny row found → found ≡ Some x
+is_contract row x n None there number content read = let clash : Null ≡ Int n = sym read.1 ∙ there in absurd cc
+is_contract row x n (Some y) there number content read = ap Some (same_contract x y (sym (ap id_in read.0) ∙ number) (sym (ap id_in read.2) ∙ content))
 
 module _ (db : Database) (s : Broker) (held : Holds db s) (e p : Words) where
   abbrev params : Row
@@ -81,43 +88,106 @@ module _ (db : Database) (s : Broker) (held : Holds db s) (e p : Words) where
       let number : whole_at in_contracts.version_number c ≡ pos it.0 = sym v.2 ∙ it.2 in
       (w, (it.0, it.1, number, λ content value. contract_rows.row_content db s held w it.0 it.1 c p content has number provider value))
 
+  -- what is tested of a contract
+  is_provider : (r c : Row) → Has (db.trees in_contracts.tree) c → (holds (params ∷ r ∷ c ∷ []) with_provider ≡ true) ↔ (text in_contracts.provider c ≡ p)
+  is_provider r c has = text_test (column c in_contracts.provider) (Text p) (text in_contracts.provider c) p (contract_rows.providers db held.broker c has) refl
+
   module _ (t place : ℕ) (Is : Version → Type 0) (names : Names db s t place e Is) where
-    abbrev joins : Row → Row → Bool
-    joins = keeps_both (terms place) params
+    is_of_version : (r c : Row) → Has (db.trees t) r → Has (db.trees in_contracts.tree) c
+        → (holds (params ∷ r ∷ c ∷ []) (of_version place) ≡ true) ↔ (whole_at in_contracts.version_number c ≡ whole_at place r)
+    is_of_version r c hr hc =
+        whole_test (column c in_contracts.version_number) (column r place) (whole_at in_contracts.version_number c) (whole_at place r)
+        (contract_rows.numbers db held.broker c hc) (names.numbers r hr)
 
-    -- what ON and WHERE test
-    parts_of : (r c : Row) → Has (db.trees t) r → Has (db.trees in_contracts.tree) c → (joins r c ≡ true) ↔ ((whole_at in_contracts.version_number c ≡ whole_at place r) × ((text in_deployed.environment r ≡ e) × (text in_contracts.provider c ≡ p)))
-    parts_of r c hr hc =
-        and_tests (whole_test (column c in_contracts.version_number) (column r place) (whole_at in_contracts.version_number c) (whole_at place r) (contract_rows.numbers db held.broker c hc) (names.numbers r hr))
-        (and_tests (text_test (column r in_deployed.environment) (Text e) (text in_deployed.environment r) e (names.environments r hr) refl)
-        (last_test (text_test (column c in_contracts.provider) (Text p) (text in_contracts.provider c) p (contract_rows.providers db held.broker c hc) refl)))
+    is_there : (r c : Row) → Has (db.trees t) r → (holds (params ∷ r ∷ c ∷ []) (op2 (Compare Eq Binary) (col 1 in_deployed.environment) (col 0 0)) ≡ true) ↔ (text in_deployed.environment r ≡ e)
+    is_there r c has = text_test (column r in_deployed.environment) (Text e) (text in_deployed.environment r) e (names.environments r has) refl
 
-    told : (rows : List Row) (items : List NumberedContract) → Answers db (record { lets = []; body = from_both t in_contracts.tree (terms place) project [] }) params rows → AreRead IsNumberedRow rows items → TellsContracts s p Is items
-    told rows items h read x = (
-      λ c.
-          let q = pair_of db params (terms place) project IsNumberedRow rows items read t in_contracts.tree h x c in
-          let it = pair_has joins (db.trees in_contracts.tree) (db.trees t) q.0 q.1 in
-          let join = (parts_of q.0.0 q.0.1 it.0 it.1).0 it.2 in
-          let number : whole_at in_contracts.version_number q.0.1 ≡ pos x.number = ap id_in q.2.0 in
-          let of = row_contract q.0.1 it.1 join.1.1 in
-          let known = of.1.1 ∙ ap Some (same_pos of.1.0 x.number (sym of.1.2 ∙ number)) in
-          (of.0, names.row_is q.0.0 of.0 x.number it.0 join.1.0 known (sym join.0 ∙ number), known, of.1.3 x.content (ap id_in q.2.1)),
-      λ is.
-          let r = names.is_row is.0 x.number is.2 is.1 in
-          let c = contract_rows.content_row db s held is.0 x.number is.2 p x.content is.3 in
-          let kept = has_pair joins (db.trees in_contracts.tree) (db.trees t) r.0 c.0 r.1 c.1 ((parts_of r.0 c.0 r.1 c.1).1 (c.2 ∙ sym r.3, (r.2, c.3))) in
-          let y = item_of_pair db params (terms place) project IsNumberedRow rows items read t in_contracts.tree h (r.0, c.0) kept in
-          let number : y.0.number ≡ x.number = same_pos y.0.number x.number (sym (ap id_in y.2.0) ∙ c.2) in
-          let value : y.0.content ≡ x.content = same_pos y.0.content x.content (sym (ap id_in y.2.1) ∙ c.4) in
-          let same : y.0 ≡ x = (λ i. record { number = number i; content = value i }) in
-          subst (Contains items) same y.1,
-    )
+    -- the two rows of a contract
+    contract_there : (x : NumberedContract) (r c : Row) → Has (db.trees t) r → Has (db.trees in_contracts.tree) c → whole_at in_contracts.version_number c ≡ whole_at place r
+        → text in_deployed.environment r ≡ e → text in_contracts.provider c ≡ p → whole_at place r ≡ pos x.number → whole_at in_contracts.content c ≡ pos x.content → IsContractThere s p Is x
+    contract_there x r c hr hc same there provider number content =
+        let of = row_contract c hc provider in
+        let known = of.1.1 ∙ ap Some (same_pos of.1.0 x.number (sym of.1.2 ∙ same ∙ number)) in
+        (of.0, names.row_is r of.0 x.number hr there known number, known, of.1.3 x.content content)
 
-  pub deployed_told : (rows : List Row) (items : List NumberedContract) → IsShown (of_deployed e p) db rows → AreRead IsNumberedRow rows items → TellsContracts s p (IsDeployedIn s e) items
-  deployed_told = told in_deployed.tree in_deployed.version_number (IsDeployedIn s e) (deployed_in db s held e)
+    there_contract : (x : NumberedContract) → IsContractThere s p Is x
+        → (r c : Row) × Has (db.trees t) r × Has (db.trees in_contracts.tree) c × (text in_deployed.environment r ≡ e) × (whole_at place r ≡ pos x.number)
+        × (whole_at in_contracts.version_number c ≡ pos x.number) × (text in_contracts.provider c ≡ p) × (whole_at in_contracts.content c ≡ pos x.content)
+    there_contract x is =
+        let r = names.is_row is.0 x.number is.2 is.1 in
+        let c = contract_rows.content_row db s held is.0 x.number is.2 p x.content is.3 in
+        (r.0, c.0, r.1, c.1, r.2, r.3, c.2, c.3, c.4)
+
+  -- what is deployed, beside its contract or NULL
+  abbrev deployed : Names db s in_deployed.tree in_deployed.version_number e (IsDeployedIn s e)
+  deployed = deployed_in db s held e
+
+  goes_if : (r c : Row) → Has (db.trees in_deployed.tree) r → Has (db.trees in_contracts.tree) c
+      → (list_all (holds (params ∷ r ∷ c ∷ [])) ons ≡ true) ↔ ((whole_at in_contracts.version_number c ≡ whole_at in_deployed.version_number r) × (text in_contracts.provider c ≡ p))
+  goes_if r c hr hc = and_tests (is_of_version in_deployed.tree in_deployed.version_number (IsDeployedIn s e) deployed r c hr hc) (last_test (is_provider r c hc))
+
+  kept_if : (r c : Row) → Has (db.trees in_deployed.tree) r → (list_all (holds (params ∷ r ∷ c ∷ [])) in_environment ≡ true) ↔ (text in_deployed.environment r ≡ e)
+  kept_if r c has = last_test (is_there in_deployed.tree in_deployed.version_number (IsDeployedIn s e) deployed r c has)
+
+  pub deployed_told : (rows : List Row) (items : List (Option NumberedContract)) → IsShown (of_deployed e p) db rows → AreRead IsContractIfAny rows items
+      → TellsContractsIfAny s p (IsDeployedIn s e) items
+  deployed_told rows items h read x = (
+    λ c.
+        let row = read_has IsContractIfAny rows items (Some x) read c in
+        let it = shown_env db params in_deployed.tree in_contracts.tree ons in_environment if_any [] rows h row.0 row.1 in
+        elim it.3 [
+          | inl with ↦
+              let join = (goes_if it.0 it.1 it.2 with.0).0 with.1 in
+              contract_there in_deployed.tree in_deployed.version_number (IsDeployedIn s e) deployed x it.0 it.1 it.2 with.0 join.0 ((kept_if it.0 it.1 it.2).0 it.4) join.1
+              (ap id_in (sym (ap (λ row. column row 0) it.5) ∙ row.2.0)) (ap id_in (sym (ap (λ row. column row 2) it.5) ∙ row.2.2))
+          | inr null ↦ absurd (row.2.1 (ap (λ row. column row 1) it.5 ∙ ap (λ row. column row in_contracts.version_number) null))
+        ],
+    λ is.
+        let it = there_contract in_deployed.tree in_deployed.version_number (IsDeployedIn s e) deployed x is in
+        let beside = is_beside db params in_deployed.tree in_contracts.tree ons in_environment if_any [] rows h it.0 it.1 it.3 ((goes_if it.0 it.1 it.2 it.3).1 (it.6 ∙ sym it.5, it.7)) in
+        let shown = env_shown db params in_deployed.tree in_contracts.tree ons in_environment if_any [] rows h it.0 it.1 it.2 beside ((kept_if it.0 it.1 it.2).1 it.4) in
+        let y = has_read IsContractIfAny rows items (eval_all if_any (params ∷ it.0 ∷ it.1 ∷ [])) read shown in
+        subst (Contains items) (is_contract (eval_all if_any (params ∷ it.0 ∷ it.1 ∷ [])) x (whole_at in_contracts.version_number it.1) y.0
+        (contract_rows.numbers db held.broker it.1 it.3) it.5 it.8 y.2) y.1,
+  )
+
+  -- what is released, joined with its contract
+  abbrev released : Names db s in_released.tree in_released.version_number e (IsReleasedIn s e)
+  released = released_in db s held e
+
+  abbrev joins : Row → Row → Bool
+  joins = keeps_both terms params
+
+  parts_of : (r c : Row) → Has (db.trees in_released.tree) r → Has (db.trees in_contracts.tree) c
+      → (joins r c ≡ true) ↔ ((whole_at in_contracts.version_number c ≡ whole_at in_released.version_number r) × ((text in_released.environment r ≡ e) × (text in_contracts.provider c ≡ p)))
+  parts_of r c hr hc =
+      and_tests (is_of_version in_released.tree in_released.version_number (IsReleasedIn s e) released r c hr hc)
+      (and_tests (is_there in_released.tree in_released.version_number (IsReleasedIn s e) released r c hr) (last_test (is_provider r c hc)))
 
   pub released_told : (rows : List Row) (items : List NumberedContract) → IsShown (of_released e p) db rows → AreRead IsNumberedRow rows items → TellsContracts s p (IsReleasedIn s e) items
-  released_told = told in_released.tree in_released.version_number (IsReleasedIn s e) (released_in db s held e)
+  released_told rows items h read x = (
+    λ c.
+        let q = pair_of db params terms project IsNumberedRow rows items read in_released.tree in_contracts.tree h x c in
+        let it = pair_has joins (db.trees in_contracts.tree) (db.trees in_released.tree) q.0 q.1 in
+        let join = (parts_of q.0.0 q.0.1 it.0 it.1).0 it.2 in
+        contract_there in_released.tree in_released.version_number (IsReleasedIn s e) released x q.0.0 q.0.1 it.0 it.1 join.0 join.1.0 join.1.1 (sym join.0 ∙ ap id_in q.2.0) (ap id_in q.2.1),
+    λ is.
+        let it = there_contract in_released.tree in_released.version_number (IsReleasedIn s e) released x is in
+        let kept = has_pair joins (db.trees in_contracts.tree) (db.trees in_released.tree) it.0 it.1 it.2 it.3 ((parts_of it.0 it.1 it.2 it.3).1 (it.6 ∙ sym it.5, (it.4, it.7))) in
+        let y = item_of_pair db params terms project IsNumberedRow rows items read in_released.tree in_contracts.tree h (it.0, it.1) kept in
+        subst (Contains items) (same_contract x y.0 (sym (ap id_in y.2.0) ∙ it.6) (sym (ap id_in y.2.1) ∙ it.8)) y.1,
+  )
+
+-- ---- those that there are
+
+pub among_told : (s : Broker) (p : Words) (Is : Version → Type 0) (found : List (Option NumberedContract)) (those : List NumberedContract) → those ≡ filter_map (λ one. one) found
+    → TellsContractsIfAny s p Is found → TellsContracts s p Is those
+among_told s p Is found those are told x = both_ways (
+  λ c.
+      let it = Contains-from_filter_map (λ one. one) found x (subst (λ xs. Contains xs x) are c) in
+      subst (Contains found) it.2 it.1,
+  λ c. subst (λ xs. Contains xs x) (sym are) (Contains-filter_map (λ one. one) found (Some x) x c refl),
+) (told x)
 
 -- ---- both
 

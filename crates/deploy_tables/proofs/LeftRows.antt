@@ -1,7 +1,7 @@
 -- A LEFT JOIN shows a row also of what names nothing of the other table, with NULL for the other's columns. Where each row
 -- names one, it shows what the JOIN shows.
 use Rattle.std.specs.List.{flat_map, list_all}
-use Rattle.std.proofs.Common.{◌≡◌, ◌∙◌, inl, inr, ℕ, List, [], ◌∷◌, ◌++◌, Bool, true, false, ◌&&◌, cond, filter, refl, sym, ap, subst}
+use Rattle.std.proofs.Common.{◌≡◌, ◌∙◌, ◌⊎◌, inl, inr, ℕ, List, [], ◌∷◌, ◌++◌, Bool, true, false, ◌&&◌, cond, filter, refl, sym, ap, subst}
 use Rattle.std.proofs.lemmas.List.Sorted.{Contains-permutation}
 use Rattle.sqlite.specs.{declared.types.Value.TheVariants.{Null}, Order.{Row}, Tree.{Trees}, Term.{Term, Env, holds, eval_all}}
 use Rattle.sqlite.specs.{Query.{Query, inner, end, IsAnswer, Output, output}, Program.{overlay}, Effect.{Database, Answers}}
@@ -10,12 +10,16 @@ use Rattle.sqlite_sql.specs.Query.{left, or_nulls}
 use Rattle.sqlite_value.specs.declared.keys.Key.{Key}
 use Rattle.sqlite_typing.specs.Types.{accepts_program}
 use Rattle.sqlite_rules.specs.Lists.{Has}
-use Rattle.table_access.{specs.Statements.{from_both}, proofs.{Members.{has_filter, filter_has, has_map, has_contains, contains_has}, Steps.{bare}}}
-use Rattle.broker_core.proofs.Judgement.{Contains-flat_map}
+use Rattle.table_access.{specs.Statements.{from_both}, proofs.{Members.{has_filter, filter_has, has_map, map_has, has_contains, contains_has}, Steps.{bare}}}
+use Rattle.table_access.proofs.Answered.{permuted_has}
+use Rattle.broker_core.proofs.Judgement.{Contains-flat_map, Contains-from_flat_map}
 
--- SELECT project FROM a table LEFT JOIN another ON on WHERE terms ORDER BY order
+-- SELECT project FROM a table LEFT JOIN another ON ons WHERE terms ORDER BY order; by one test
+abbrev pub from_left_by : ℕ → ℕ → List Term → List Term → List Term → List (Term × Key) → Query
+from_left_by t u ons terms project order = record (from_both t u terms project order) { from = inner t (left u ons end) }
+
 abbrev pub from_left : ℕ → ℕ → Term → List Term → List Term → List (Term × Key) → Query
-from_left t u on terms project order = record (from_both t u terms project order) { from = inner t (left u (on ∷ []) end) }
+from_left t u on = from_left_by t u (on ∷ [])
 
 -- ---- lists
 
@@ -35,6 +39,17 @@ kept_twice {X} {Y} a b f (x ∷ xs) = elim (a x) as (λ t. flat_map (λ x. cond 
 not_null : (rows : List Row) (row : Row) → Has rows row → or_nulls rows ≡ rows
 not_null [] row has = absurd has
 not_null (r ∷ rows) row has = refl
+
+-- one of them, or the row with NULL
+or_null_has : (rows : List Row) (row : Row) → Has (or_nulls rows) row → Has rows row ⊎ (row ≡ [])
+or_null_has [] row (inl is) = inr is
+or_null_has [] row (inr none) = absurd none
+or_null_has (r ∷ rows) row has = inl has
+
+-- there is always one
+some_or_null : (rows : List Row) → (row : Row) × Has (or_nulls rows) row
+some_or_null [] = ([], inl refl)
+some_or_null (r ∷ rows) = (r, inl refl)
 
 -- ---- the JOIN
 
@@ -75,46 +90,96 @@ module _ (db : Database) (params : Row) (t u : ℕ) (on : Term) (terms project :
         };
   }
 
--- ---- what it shows wherever a row names nothing
+-- ---- what it shows, also where a row names nothing
 
 has_flat : {X Y : Type 0} (f : X → List Y) (xs : List X) (x : X) (y : Y) → Has xs x → Has (f x) y → Has (flat_map f xs) y
 has_flat f xs x y has here = contains_has (flat_map f xs) y (Contains-flat_map f xs x y (has_contains xs x has) (has_contains (f x) y here))
 
-module _ (db : Database) (params : Row) (t u : ℕ) (on : Term) (terms project : List Term) (order : List (Term × Key)) (rows : List Row)
-    (h : Answers db (record { lets = []; body = from_left t u on terms project order }) params rows) where
+flat_has : {X Y : Type 0} (f : X → List Y) (xs : List X) (y : Y) → Has (flat_map f xs) y → (x : X) × Has xs x × Has (f x) y
+flat_has f xs y has = let it = Contains-from_flat_map f xs y (has_contains (flat_map f xs) y has) in (it.0, contains_has xs it.0 it.1, contains_has (f it.0) y it.2)
+
+if_has : {X : Type 0} (b : Bool) (x y : X) → Has (cond b (x ∷ []) []) y → (b ≡ true) × (y ≡ x)
+if_has true x y (inl is) = (refl, is)
+if_has true x y (inr none) = absurd none
+if_has false x y none = absurd none
+
+module _ (db : Database) (params : Row) (t u : ℕ) (ons terms project : List Term) (order : List (Term × Key)) (rows : List Row)
+    (h : Answers db (record { lets = []; body = from_left_by t u ons terms project order }) params rows) where
   abbrev q : Query
-  q = from_left t u on terms project order
+  q = from_left_by t u ons terms project order
 
   abbrev all : Trees
   all = overlay db.trees []
 
-  abbrev goes : Row → Row → Bool
-  goes r s = holds (params ∷ r ∷ s ∷ []) on && true
+  abbrev pub goes : Row → Row → Bool
+  goes r s = list_all (holds (params ∷ r ∷ s ∷ [])) ons
+
+  abbrev keeps : Row → Row → Bool
+  keeps r s = list_all (holds (params ∷ r ∷ s ∷ [])) terms
+
+  -- those that go with a row, or the row with NULL
+  abbrev pub beside : Row → List Row
+  beside r = or_nulls (filter (goes r) (db.trees u))
 
   abbrev shown_of : Row → List Env
-  shown_of r = flat_map (λ s. cond (list_all (holds (params ∷ r ∷ s ∷ [])) terms) ((params ∷ r ∷ s ∷ []) ∷ []) []) (or_nulls (filter (goes r) (all u)))
+  shown_of r = flat_map (λ s. cond (keeps r s) ((params ∷ r ∷ s ∷ []) ∷ []) []) (or_nulls (filter (goes r) (all u)))
 
   answer : IsAnswer q (overlay db.trees []) params rows
   answer = h.answer Null
 
   -- a row is shown of each that WHERE keeps, with one that goes with it, or NULL
-  env_shown : (r s : Row) → Has (db.trees t) r → Has (or_nulls (filter (goes r) (db.trees u))) s → list_all (holds (params ∷ r ∷ s ∷ [])) terms ≡ true
-      → Has rows (eval_all project (params ∷ r ∷ s ∷ []))
+  pub env_shown : (r s : Row) → Has (db.trees t) r → Has (beside r) s → keeps r s ≡ true → Has rows (eval_all project (params ∷ r ∷ s ∷ []))
   env_shown r s hr hs kept =
       let env : Env = params ∷ r ∷ s ∷ [] in
       let one : Has (shown_of r) env =
-      has_flat (λ s. cond (list_all (holds (params ∷ r ∷ s ∷ [])) terms) ((params ∷ r ∷ s ∷ []) ∷ []) []) (or_nulls (filter (goes r) (all u))) s env
+      has_flat (λ s. cond (keeps r s) ((params ∷ r ∷ s ∷ []) ∷ []) []) (or_nulls (filter (goes r) (all u))) s env
       (subst (λ ss. Has (or_nulls (filter (goes r) ss)) s) (sym (bare db.trees u)) hs) (subst (λ b. Has (cond b (env ∷ []) []) env) (sym kept) (inl refl)) in
       let staged : Has answer.staged env = subst (λ es. Has es env) (sym answer.grouped) (has_flat shown_of (all t) r env (subst (λ rs. Has rs r) (sym (bare db.trees t)) hr) one) in
       let put = subst (λ os. Has os (output q env)) (sym answer.distinct) (has_map (output q) answer.staged env staged) in
       let sorted = contains_has answer.ordered (output q env) (Contains-permutation answer.kept answer.ordered (output q env) answer.same (has_contains answer.kept (output q env) put)) in
       subst (λ rs. Has rs (eval_all project env)) (sym answer.shown) (has_map (λ (o : Output). o.1) answer.ordered (output q env) sorted)
 
+  -- and no other row is
+  pub shown_env : (row : Row) → Has rows row
+      → (r s : Row) × Has (db.trees t) r × (Has (db.trees u) s × (goes r s ≡ true) ⊎ (s ≡ [])) × (keeps r s ≡ true) × (row ≡ eval_all project (params ∷ r ∷ s ∷ []))
+  shown_env row has =
+      let o = map_has (λ (o : Output). o.1) answer.ordered row (subst (λ rs. Has rs row) answer.shown has) in
+      let kept = subst (λ os. Has os o.0) answer.distinct (permuted_has answer.kept answer.ordered o.0 answer.same o.1) in
+      let env = map_has (output q) answer.staged o.0 kept in
+      let of_r = flat_has shown_of (all t) env.0 (subst (λ es. Has es env.0) answer.grouped env.1) in
+      let r = of_r.0 in
+      let of_s = flat_has (λ s. cond (keeps r s) ((params ∷ r ∷ s ∷ []) ∷ []) []) (or_nulls (filter (goes r) (all u))) env.0 of_r.2 in
+      let s = of_s.0 in
+      let is = if_has (keeps r s) (params ∷ r ∷ s ∷ []) env.0 of_s.2 in (
+        r,
+        s,
+        subst (λ rs. Has rs r) (bare db.trees t) of_r.1,
+        elim (or_null_has (filter (goes r) (db.trees u)) s (subst (λ ss. Has (or_nulls (filter (goes r) ss)) s) (bare db.trees u) of_s.1)) [
+          | inl one ↦ inl (filter_has (goes r) (db.trees u) s one)
+          | inr null ↦ inr null
+        ],
+        is.0,
+        o.2 ∙ ap (λ (o : Output). o.1) env.2 ∙ ap (eval_all project) {y = params ∷ r ∷ s ∷ []} is.1,
+      )
+
+  -- one that goes with it is beside a row
+  pub is_beside : (r s : Row) → Has (db.trees u) s → goes r s ≡ true → Has (beside r) s
+  is_beside r s has go = let one = has_filter (goes r) (db.trees u) s has go in subst (λ ss. Has ss s) (sym (not_null (filter (goes r) (db.trees u)) s one)) one
+
+  -- a row is shown of each that WHERE keeps, whatever goes with it
+  pub some_shown : (r : Row) → Has (db.trees t) r → ((s : Row) → keeps r s ≡ true) → (s : Row) × Has rows (eval_all project (params ∷ r ∷ s ∷ []))
+  some_shown r has kept = let s = some_or_null (filter (goes r) (db.trees u)) in (s.0, env_shown r s.0 has s.1 (kept s.0))
+
+module _ (db : Database) (params : Row) (t u : ℕ) (on : Term) (terms project : List Term) (order : List (Term × Key)) (rows : List Row)
+    (h : Answers db (record { lets = []; body = from_left t u on terms project order }) params rows) where
+  abbrev goes_by : Row → Row → Bool
+  goes_by = goes db params t u (on ∷ []) terms project order rows h
+
   -- where the row with NULL isn't shown, there is one that goes with it
   pub goes_with : (r : Row) → Has (db.trees t) r → list_all (holds (params ∷ r ∷ [] ∷ [])) terms ≡ true → (¬ Has rows (eval_all project (params ∷ r ∷ [] ∷ [])))
       → (s : Row) × Has (db.trees u) s × (holds (params ∷ r ∷ s ∷ []) on ≡ true)
-  goes_with r hr kept none = go (filter (goes r) (db.trees u)) refl
+  goes_with r hr kept none = go (filter (goes_by r) (db.trees u)) refl
     where
-      go : (xs : List Row) → filter (goes r) (db.trees u) ≡ xs → (s : Row) × Has (db.trees u) s × (holds (params ∷ r ∷ s ∷ []) on ≡ true)
-      go [] is = absurd (none (env_shown r [] hr (subst (λ ss. Has (or_nulls ss) []) (sym is) (inl refl)) kept))
-      go (s ∷ xs) is = let it = filter_has (goes r) (db.trees u) s (subst (λ ss. Has ss s) (sym is) (inl refl)) in (s, it.0, first_of_both _ true it.1)
+      go : (xs : List Row) → filter (goes_by r) (db.trees u) ≡ xs → (s : Row) × Has (db.trees u) s × (holds (params ∷ r ∷ s ∷ []) on ≡ true)
+      go [] is = absurd (none (env_shown db params t u (on ∷ []) terms project order rows h r [] hr (subst (λ ss. Has (or_nulls ss) []) (sym is) (inl refl)) kept))
+      go (s ∷ xs) is = let it = filter_has (goes_by r) (db.trees u) s (subst (λ ss. Has ss s) (sym is) (inl refl)) in (s, it.0, first_of_both _ true it.1)

@@ -1,5 +1,5 @@
 -- The rows of each query of these tables can be read, if the state that the database holds can.
-use Rattle.std.{specs.Prelude.{IsUtf8}, proofs.Common.{◌≡◌, inl, inr, ℕ, List, [], ◌∷◌, true, refl, sym, subst, arith}}
+use Rattle.std.{specs.{Prelude.{IsUtf8}, List.{list_all}}, proofs.Common.{◌≡◌, ◌⊎◌, inl, inr, ℕ, List, [], ◌∷◌, true, refl, sym, ap, subst, arith}}
 use Rattle.sqlite_rules.specs.Lists.{Has}
 use Rattle.table_access.specs.{Columns.{text, whole_at}, Reading.{IsNumberRow}, Statements.{shows, from_table, from_both, keeps_both}}
 use Rattle.table_access.proofs.Answered.{pair_shown}
@@ -8,8 +8,11 @@ use Rattle.broker_tables.specs.{Schema.{in_versions, in_contracts, in_deployed, 
 use Rattle.broker_tables.proofs.Asked.{Asked, IsShown, EachShown, EachReads, of_both, of_table, number_reads}
 use Rattle.broker_tables.proofs.Placed.{contracts, at_contracts, deployed, at_deployed, released, at_released, listed, wholes_in}
 use Rattle.broker_tables.proofs.{ReadableRows.{number_cell, name_cell, to_version_low, version_named, to_pacticipant_named}, VersionRows.{owners, names}}
-use Rattle.deploy_tables.{specs.Listings.{ReadsAsDeployed, ReadsAsReleased}, proofs.{ContractsThere.{project}, VersionNames.{names_of, name_project}}}
-use Rattle.sqlite.specs.{Order.{Row}, Term.{Term, col, eval_all}, Query.{Query}, Effect.{Database, Answers}}
+use Rattle.deploy_tables.specs.{Listings.{ReadsAsDeployed, ReadsAsReleased}, ContractsThere.{ReadsAsContractIfAny}}
+use Rattle.deploy_tables.proofs.{ContractsThere.{project, ons, if_any, of_deployed}, VersionNames.{names_of, name_project}, VersionRows.{in_environment}}
+use Rattle.deploy_tables.proofs.LeftRows.{shown_env}
+use Rattle.sqlite.specs.{declared.types.Value.TheVariants.{Text}, Order.{Row, column}, Term.{Term, col, holds, eval_all}, Query.{Query}}
+use Rattle.sqlite.specs.Effect.{Database, Answers}
 use Rattle.sqlite_value.specs.declared.keys.Key.{Key}
 use Rattle.contract_tables.{specs.Listings.{ReadsAsNumbers, ReadsAsMarked}, proofs.ReadableRows.{IsLowAt, contract_content}}
 use Rattle.deploy_tables.proofs.DeployedRows as deployed_rows
@@ -88,6 +91,30 @@ names_reads n db s held readable = of_table (names_of n) db _ (λ v has kept.
     (name_cell shown 0 (text in_versions.pacticipant v) (omega arith) (owners db held.broker v has) named.0, name_cell shown 1 (text in_versions.version v) (omega arith) (names db held.broker v has) named.1))
 
 -- ---- the contracts of what is there
+
+module _ (e p : List ℕ) (db : Database) (s : Broker) (held : Holds db s) (readable : IsReadable s) where
+  abbrev params : Row
+  params = Text e ∷ Text p ∷ []
+
+  -- what is shown of a row beside its contract, or NULL
+  abbrev if_any_row : Row → Row → Row
+  if_any_row r c = eval_all if_any (params ∷ r ∷ c ∷ [])
+
+  if_any_reads_row : (r c : Row) → Has (db.trees in_deployed.tree) r → Has (db.trees in_contracts.tree) c × (list_all (holds (params ∷ r ∷ c ∷ [])) ons ≡ true) ⊎ (c ≡ [])
+      → ReadsAsContractIfAny (if_any_row r c)
+  if_any_reads_row r c hr beside =
+      let number = deployed_number db s held readable r hr in (
+        number_cell (if_any_row r c) 0 (whole_at in_deployed.version_number r) (omega arith) number.0 number.1,
+        elim beside [
+          | inl with ↦ let content = contract_content db s held readable c with.0 in inr (number_cell (if_any_row r c) 2 (whole_at in_contracts.content c) (omega arith) content.0 content.1)
+          | inr null ↦ inl (ap (λ q. column q in_contracts.version_number) null)
+        ],
+      )
+
+  pub if_any_reads : EachShown (of_deployed e p) db ReadsAsContractIfAny
+  if_any_reads rows h row has =
+      let it = shown_env db params in_deployed.tree in_contracts.tree ons in_environment if_any [] rows h row has in
+      subst ReadsAsContractIfAny (sym it.5) (if_any_reads_row it.0 it.1 it.2 it.3)
 
 -- each row that a JOIN with contracts shows
 pub contracts_reads : {sql : List ℕ} {params : Row} {terms : List Term} {t : ℕ} (asked : Asked sql params (from_both t in_contracts.tree terms project []))

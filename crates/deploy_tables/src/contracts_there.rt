@@ -1,17 +1,18 @@
 //! The contracts with one provider of all versions that are in an environment, by the numbers of the versions.
-ghost use Rattle.std.specs.Prelude.{◌≡◌, ◌↔◌, false, IsTrue};
-ghost use Rattle.table_access.specs.Calls.{HasFailed};
-ghost use Rattle.broker_tables.specs.Asking.{TellsOfAny};
+ghost use Rattle.std.specs.Prelude.{◌≡◌, ◌↔◌, IfOk, IsTrue, filter_map};
+ghost use Rattle.sqlite.specs.Order.{column};
+ghost use Rattle.sqlite.specs.declared.types.Value.TheVariants.{Null};
 ghost use Rattle.deploy_tables.specs.AnyThere.{AnswersOnlyIf, HasNull};
 ghost use Rattle.broker_core.specs.Gate.{Stands};
-ghost use Rattle.broker_tables.specs.Calm.{CalmQueries, CalmQueriesInPlace};
+ghost use Rattle.broker_tables.specs.Calm.{CalmQueries};
 ghost use Rattle.contract_tables.specs.Listings.{FailsAsNumbers};
-ghost use Rattle.deploy_tables.specs.ContractsThere.{IsDeployedIn, IsReleasedIn, TellsContracts, IsNumberedRow};
+ghost use Rattle.deploy_tables.specs.ContractsThere.{IsDeployedIn, IsReleasedIn, TellsContracts, TellsContractsIfAny, IsNumberedRow, IsContractIfAny, FailsAsContractIfAny};
 
 use crate::lists::add;
+use sqlite::types::ValueRef;
 use sqlite::{Alter, Connection, Row, params};
-use std::alloc::Global;
-use table_access::{ReadRow, StoreFault, has_row, list_of, number_at, number_in};
+use std::alloc::{AllocError, Global};
+use table_access::{ReadRow, StoreFault, list_of, number_at, number_in};
 
 /// The contract of a version with a provider: the version's number, and that of the content.
 #[derive(Clone, Copy, Debug)]
@@ -37,6 +38,77 @@ impl ReadRow for NumberedRow {
     }
 }
 
+/// Whether NULL is in a column, or there is no such column.
+fn is_null(row: &Row, at: usize) -> bool
+    ensures { IsTrue result ↔ (column row.now at ≡ Null) }
+{
+    match row.get_ref(at) {
+        Ok(ValueRef::Null) => true,
+        Ok(_) => false,
+        Err(_) => true,
+    }
+}
+
+/// A version's number, and its contract, if it has one: that number again and a content, or NULL for both.
+struct ContractIfAnyRow;
+
+impl ReadRow for ContractIfAnyRow {
+    type Item = Option<NumberedContract>;
+
+    ghost reads_as = { IsContractIfAny };
+
+    ghost fails_as = { FailsAsContractIfAny };
+
+    fn read(_alloc: Global, row: &Row) -> Result<Option<NumberedContract>, StoreFault> {
+        let version = number_in(row)?;
+        if is_null(row, 1) {
+            return Ok(None);
+        }
+        let content = number_at(row, 2)?;
+        Ok(Some(NumberedContract {
+            number: version,
+            content,
+        }))
+    }
+}
+
+/// The contract with the provider of each version that is deployed in the environment, or that it has none, in no order.
+/// That of a version in two instances is there twice. `StoreFault::Store` also if a row of what is deployed there has no
+/// version: NULL, as in a table that was declared without NOT NULL.
+fn contracts_if_any<S: Alter>(
+    alloc: Global,
+    conn: &mut Connection<S>,
+    environment: &str,
+    provider: &str,
+) -> Result<Vec<Option<NumberedContract>>, StoreFault>
+    ensures answers { CalmQueries S.Store conn.old conn.new result
+        (λ found s. TellsContractsIfAny s provider.now (IsDeployedIn s environment.now) found.items) }
+    ensures null { AnswersOnlyIf S.Store conn.old conn.new result (λ db. ¬ (HasNull environment.now db)) }
+{
+    list_of::<ContractIfAnyRow, S>(
+        alloc,
+        conn,
+        "SELECT d.version_number, c.version_number, c.content FROM deployed d LEFT JOIN contracts c ON c.version_number = d.version_number AND c.provider = ?2 WHERE d.environment = ?1",
+        params![environment, provider],
+    )
+}
+
+/// The contracts that there are.
+fn contracts_among(
+    alloc: Global,
+    found: &[Option<NumberedContract>],
+) -> Result<Vec<NumberedContract>, AllocError>
+    ensures { IfOk result (λ contracts. contracts.items ≡ filter_map (λ one. one) found.now) }
+{
+    let mut contracts = Vec::new(alloc);
+    for one in found {
+        if let Some(contract) = *one {
+            contracts.push(contract)?;
+        }
+    }
+    Ok(contracts)
+}
+
 /// The contracts with the provider of the versions that are deployed in the environment, in no order. That of a version
 /// in two instances is there twice.
 fn deployed_contracts<S: Alter>(
@@ -45,15 +117,15 @@ fn deployed_contracts<S: Alter>(
     environment: &str,
     provider: &str,
 ) -> Result<Vec<NumberedContract>, StoreFault>
-    ensures { CalmQueries S.Store conn.old conn.new result
+    ensures answers { CalmQueries S.Store conn.old conn.new result
         (λ found s. TellsContracts s provider.now (IsDeployedIn s environment.now) found.items) }
+    ensures null { AnswersOnlyIf S.Store conn.old conn.new result (λ db. ¬ (HasNull environment.now db)) }
 {
-    list_of::<NumberedRow, S>(
-        alloc,
-        conn,
-        "SELECT c.version_number, c.content FROM deployed d JOIN contracts c ON c.version_number = d.version_number WHERE d.environment = ?1 AND c.provider = ?2",
-        params![environment, provider],
-    )
+    let found = done!(contracts_if_any(alloc, conn, environment, provider));
+    match contracts_among(alloc, &found) {
+        Ok(contracts) => Ok(contracts),
+        Err(_) => Err(StoreFault::Memory),
+    }
 }
 
 /// The contracts with the provider of the versions that are released in the environment, in no order.
@@ -74,36 +146,6 @@ fn released_contracts<S: Alter>(
     )
 }
 
-/// Whether a row of what is deployed in the environment has NULL in place of a version, as in a table that was declared
-/// without NOT NULL. A JOIN would leave it out.
-fn has_unnumbered<S: Alter>(conn: &mut Connection<S>, environment: &str) -> Result<bool, StoreFault>
-    ensures answers { CalmQueriesInPlace S.Store conn.old conn.new result (λ found s. found ≡ false) }
-    ensures null { TellsOfAny S.Store conn.old conn.new result
-        (λ found db. IsTrue found ↔ HasNull environment.now db) HasFailed }
-{
-    has_row(
-        conn,
-        "SELECT environment FROM deployed WHERE environment = ?1 AND version_number IS NULL",
-        params![environment],
-    )
-}
-
-/// The contracts with the provider of the versions that are deployed and of those that are released.
-fn both_contracts<S: Alter>(
-    alloc: Global,
-    conn: &mut Connection<S>,
-    environment: &str,
-    provider: &str,
-) -> Result<Vec<NumberedContract>, StoreFault>
-    ensures { CalmQueries S.Store conn.old conn.new result
-        (λ found s. TellsContracts s provider.now (Stands s environment.now) found.items) }
-{
-    let mut all = done!(deployed_contracts(alloc, conn, environment, provider));
-    let released = done!(released_contracts(alloc, conn, environment, provider));
-    done!(add(&mut all, released));
-    Ok(all)
-}
-
 /// The contracts with the provider of the versions that are in the environment, in no order. That of a version in two
 /// instances, or deployed and released, is there more than once.
 ///
@@ -120,8 +162,8 @@ pub(crate) fn contracts_there<S: Alter>(
         (λ found s. TellsContracts s provider.now (Stands s environment.now) found.items) }
     ensures null { AnswersOnlyIf S.Store conn.old conn.new result (λ db. ¬ (HasNull environment.now db)) }
 {
-    if done!(has_unnumbered(conn, environment)) {
-        return Err(StoreFault::Store);
-    }
-    both_contracts(alloc, conn, environment, provider)
+    let mut all = done!(deployed_contracts(alloc, conn, environment, provider));
+    let released = done!(released_contracts(alloc, conn, environment, provider));
+    done!(add(&mut all, released));
+    Ok(all)
 }

@@ -1,5 +1,10 @@
-use Rattle.broker_tables.proofs.QueryLemmas.{calm_then}
+use Rattle.deploy_tables.proofs.{ContractsThere.{standing_told}, MatrixLoop.{query_failed, calm_both}}
 use Rattle.deploy_tables.proofs.contracts_there.contracts_there.Goals as goal
 
 pub returns-clause-answers : goal.returns-clause-answers
-returns-clause-answers g c = calm_then _ _ _ c.in-Ok.value c.both_contracts.result _ _ _ (λ s one found two. two) c.in-Ok.ensures.answers c.both_contracts.ensures
+returns-clause-answers g c =
+    calm_both _ _ _ _ _ _ _ _ _ (λ s one two. standing_told s c.args.environment.now c.args.provider.now _ _ _ one two c.in-Ok-add.ensures.added)
+    c.in-Ok.ensures.answers c.in-Ok-released_contracts.ensures
+
+pub returns-in-Err-released_contracts-clause-answers : goal.returns-in-Err-released_contracts-clause-answers
+returns-in-Err-released_contracts-clause-answers g c = query_failed _ _ _ _ _ _ _ _ c.in-Ok.ensures.answers c.in-Err-released_contracts.ensures

@@ -1,9 +1,8 @@
-use Rattle.broker_tables.proofs.Asked.{lists}
-use Rattle.deploy_tables.proofs.{ContractsThere.{of_deployed, deployed_told}, ReadableRows.{contracts_reads}}
+use Rattle.broker_tables.proofs.QueryLemmas.{calm_answers}
+use Rattle.deploy_tables.proofs.ContractsThere.{among_told}
 use Rattle.deploy_tables.proofs.contracts_there.deployed_contracts.Goals as goal
 
-pub returns : goal.returns
-returns g c =
-    let said = rw (c.params-to_sql.ensures, c.params-to_sql-2.ensures) at c.list_of.ensures in
-    lists (of_deployed c.args.environment.now c.args.provider.now) _ _ (λ row fault why is. why.1) (λ s held rows h list are. deployed_told _ s held c.args.environment.now c.args.provider.now rows list.items h are)
-    (contracts_reads (of_deployed c.args.environment.now c.args.provider.now) _) said.leaves said.cause
+pub returns-in-Ok-contracts_among-clause-answers : goal.returns-in-Ok-contracts_among-clause-answers
+returns-in-Ok-contracts_among-clause-answers g c =
+    calm_answers _ _ _ c.in-Ok-contracts_among.contracts _ _
+    (λ s told. among_told s c.args.provider.now _ _ _ (rw c.deref.ensures.value at c.in-Ok-contracts_among.ensures) told) c.in-Ok.ensures.answers
