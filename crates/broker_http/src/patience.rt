@@ -4,7 +4,8 @@ ghost use Rattle.broker_http.specs.Calls.{IsServed};
 use crate::served::{Served, StreamFault};
 use crate::serving::{Turn, serve_for};
 use broker_database::Service;
-use http_messages::patience::{Door, Incoming, Limits, Outgoing, PeerReader, PeerWriter, Wait};
+use http_messages::hurry::limits_after;
+use http_messages::patience::{Door, Incoming, Outgoing, PeerReader, PeerWriter, Wait};
 use http_messages::turn::TurnOver;
 use http_routes::RouteTable;
 use std::alloc::Global;
@@ -20,9 +21,10 @@ impl<R: PeerReader, D: Door, C: Clock> Turn<Incoming<'_, '_, R, D, C>> for InTur
     }
 }
 
-/// Answers what the peer asks, as `serve` does, and waits for it as the limits say. If one is over, the reader or the
-/// writer has failed to `serve`. If the peer's turn is over while others wait, it ends with `StreamFault::Turn`, between
-/// two messages. It gives the peer's two sides back.
+/// Answers what the peer asks, as `serve` does, and waits for it as the limits of `broker serve` say, once another peer
+/// that is ready has waited for so many milliseconds. If one is over, the reader or the writer has failed to `serve`. If
+/// the peer's turn is over while others wait, it ends with `StreamFault::Turn`, between two messages. It gives the peer's
+/// two sides back.
 pub fn serve_peer<'a, B: Service, R: PeerReader + Drop, W: PeerWriter + Drop, D: Door, C: Clock>(
     alloc: Global,
     routes: &RouteTable,
@@ -31,12 +33,13 @@ pub fn serve_peer<'a, B: Service, R: PeerReader + Drop, W: PeerWriter + Drop, D:
     writer: W,
     door: &'a mut D,
     clock: &'a C,
-    limits: Limits,
+    waited: u64,
 ) -> (Result<Served, StreamFault>, R, W)
     ensures { IsServed B.shown (B.seen broker.old) (B.seen broker.new)
         (R.remaining reader) (R.remaining result.1)
         (W.contents writer) (W.contents result.2) result.0 }
 {
+    let limits = limits_after(waited);
     let wait = Cell::new(Wait::First);
     let mut incoming = Incoming::new(reader, door, clock, limits, &wait);
     let mut outgoing = Outgoing::new(writer, clock, limits, &wait);

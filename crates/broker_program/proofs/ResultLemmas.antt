@@ -9,16 +9,6 @@ pub on_err : {T E P : Type 0} (r : Result T E) → P → OnErr r P
 on_err (Ok x) p = tt
 on_err (Err y) p = p
 
--- a result that is handed on, with another error
-module _ {T E F : Type 0} (f : E → F) where
-  pub handed_ok : (r : Result T E) (s : Result T F) (P : T → Type 0) → MatchResult r (λ x. s ≡ Ok x) (λ e. s ≡ Err (f e)) → IfOk r P → IfOk s P
-  handed_ok (Ok x) s P is p = subst (λ (t : Result T F). IfOk t P) (sym is) p
-  handed_ok (Err e) s P is p = subst (λ (t : Result T F). IfOk t P) (sym is) tt
-
-  pub handed_err : (r : Result T E) (s : Result T F) (Q : F → Type 0) → MatchResult r (λ x. s ≡ Ok x) (λ e. s ≡ Err (f e)) → IfErr r (λ e. Q (f e)) → IfErr s Q
-  handed_err (Ok x) s Q is q = subst (λ (t : Result T F). IfErr t Q) (sym is) tt
-  handed_err (Err e) s Q is q = subst (λ (t : Result T F). IfErr t Q) (sym is) q
-
 -- of a result that is told in other words, the error
 pub told_err : {T B E F : Type 0} (h : T → B) (f : E → F) (r : Result T E) (s : Result B F) (Q : F → Type 0) → MatchResult r (λ x. s ≡ Ok (h x)) (λ e. s ≡ Err (f e)) → IfErr r (λ e. Q (f e)) → IfErr s Q
 told_err {T} {B} {E} {F} h f (Ok x) s Q is q = subst (λ (t : Result B F). IfErr t Q) (sym is) tt

@@ -1,5 +1,5 @@
 -- a call on the database in a file that failed, and what is left of the file (this project's own choice)
-use Rattle.std.specs.Prelude.{◌≡◌, ◌⊎◌, ⊤, Option, None, Some, Ok, Err}
+use Rattle.std.specs.Prelude.{◌≡◌, ◌⊎◌, ⊤, Ok, Err}
 use Rattle.sqlite_disk.specs.declared.Disk.{Ghosts}
 use Rattle.sqlite_disk.specs.declared.Files.{Files}
 use Rattle.sqlite.specs.Files.{FailsToClose, FailsToOpenFiles, IsCleanLeft, IsClosed, LeavesFiles, file_state, image_of}
@@ -43,11 +43,6 @@ abbrev pub IsReopeningFault : RunFault → Type 0
 IsReopeningFault f = IsFromOutside f ⊎ IsOpeningFault f
 
 module _ {D : Type 0} {g : Ghosts D} where
-  -- For private clauses: what is left of files that weren't opened, if they were taken.
-  abbrev pub left_of : Option (Leftover D g) → Left D g
-  left_of None = Nothing
-  left_of (Some rest) = Unopened rest
-
   -- The connection's files couldn't be closed, and the store is what is left of them.
   pub record IsNotClosed (conn : Held (FileStore D g)) (fault : RunFault) (store : FileStore D g) : Type 0 where
     pub closed : IsClosed conn store

@@ -127,6 +127,14 @@ module _ {D I O E : Type 0} {g : Ghosts D} (held : Image) (remaining : I → Opt
       (before : I) × (after : I) × (old : O) × (new : O) × (untold : E) × (told : E)
       × Ran words before after old new untold told end
 
+-- these words were run over files of a disk, and it ended with this status
+abbrev pub RanTo : {D I O E : Type 0} (g : Ghosts D) (held : Image) (remaining : I → Option (List ℕ))
+    (contents : O → Option (List ℕ)) (shows : E → Option (List ℕ))
+    → List Text → (before after : I) (old new : O) (untold told : E) → ℕ → Type 0
+RanTo {D} g held remaining contents shows words before after old new untold told status =
+    (end : Ended D g) × (status ≡ end.status)
+    × Ran held remaining contents shows words before after old new untold told end
+
 -- the status of a process whose words can't be read, for an error of this kind: 2 for a word that isn't UTF-8
 abbrev pub IsUnread : ErrorKind → ℕ → Type 0
 IsUnread kind status = ((kind ≡ InvalidData) × (status ≡ 2)) ⊎ ((kind ≢ InvalidData) × (status ≡ 3))

@@ -1,18 +1,22 @@
 //! A broker in a file.
-ghost use Rattle.std.specs.Prelude.{◌≡◌, ◌↔◌, true, false, Ok, Err, IfErr, IfOk, IsTrue, MatchResult};
+ghost use Rattle.std.specs.Prelude.{◌≡◌, ◌↔◌, ◌+◌, ◌*◌, ◌/◌, ◌<◌, ◌≤◌, true, false, Ok, IfErr, IfOk, IsTrue};
+ghost use Rattle.sqlite_std_file.specs.File.{file_is_usable, IsFresh};
 ghost use Rattle.sqlite.specs.Files.{file_state};
 ghost use Rattle.sqlite.specs.WalFiles.{image_at};
 ghost use Rattle.broker_database.specs.Calls.{Opened};
 ghost use Rattle.broker_program.specs.Files.{ClosesAs, GivesUpAs, LeavesStore, OpensBroker, OpensOn};
 ghost use Rattle.broker_program.specs.Reasons.{FailsToOpen};
 ghost use Rattle.program_io.specs.Reported.{IsFromOutside};
-ghost use Rattle.broker_program.specs.FileRefusals.{FailsToConnect, GivesUpUnopened, IsNotClosed, left_of, told_of};
+ghost use Rattle.broker_program.specs.FileRefusals.{FailsToConnect, GivesUpUnopened, IsNotClosed, told_of};
 
 use crate::left::Left;
+use crate::seed::{store_options, with_pages};
 use broker_service::{Broker, OpenFault};
 use command_line::FilePath;
 use program_io::fault::RunFault;
-use sqlite::{Connection, Error, ErrorCode, FileFrom, FileStore, Files, Leftover, Start};
+use sqlite::{Connection, Error, ErrorCode, FileFrom, FileStore, Files, Leftover, Options, Start};
+use sqlite_std_file::OpenError;
+use std::io::Read;
 use std::{fs, io};
 
 /// A connection over a file that held what `S` says.
@@ -48,17 +52,61 @@ pub(crate) fn told_of(error: &Error) -> RunFault
     }
 }
 
-/// What opening gave is handed on: the connection, or what is told of the error and what is left of the files.
-fn opened_of<S: Start>(
-    opened: Result<FileConnection<S>, (Error, Option<Leftover<FileFrom<S>>>)>,
-) -> Result<FileConnection<S>, Failed<S>>
-    ensures { MatchResult opened (λ connection. result ≡ Ok connection)
-        (λ failed. result ≡ Err (told_of failed.0, left_of failed.1)) }
+/// How many pages the file of this path has, which a database's file says in its first bytes; none if it isn't there, or
+/// is something else.
+fn pages_in(rt: &HostRuntime, path: &str) -> io::Result<usize> {
+    if !fs::metadata(rt, path)?.is_file() {
+        return Ok(0);
+    }
+    let mut file = fs::open(rt, path)?;
+    let mut head = [0; 18];
+    file.read_exact(&mut head)?;
+    Ok(pages_of(file.metadata()?.len() as usize, head[16], head[17]))
+}
+
+/// How many pages a file of so many bytes has, whose header has these two bytes as the size of one. 1 is 65,536.
+fn pages_of(bytes: usize, high: u8, low: u8) -> usize
+    ensures sized { 512 ≤ 256 * high + low → result ≡ bytes / (256 * high + low) }
+    ensures largest { 256 * high + low < 512 → result ≡ bytes / 65536 }
 {
-    match opened {
-        Ok(connection) => Ok(connection),
-        Err((error, Some(rest))) => Err((told_of(&error), Left::Unopened(rest))),
-        Err((error, None)) => Err((told_of(&error), Left::Nothing)),
+    let size = 256 * high as usize + low as usize;
+    if size < 512 {
+        bytes / 65536
+    } else {
+        bytes / size
+    }
+}
+
+/// The options of a store over the file of this path.
+fn options_for(rt: &HostRuntime, path: &str) -> Result<Options, RunFault>
+    ensures { IfErr result (λ fault. fault ≡ RunFault.File) }
+{
+    let options = store_options(rt).map_err(|_| RunFault::File)?;
+    Ok(with_pages(options, pages_in(rt, path).unwrap_or(0)))
+}
+
+/// The database file of this path and its log, which are made if they aren't there. `File`: they can't be read or
+/// written, another program has them open, or the path is one that SQLite takes for no file; `Memory`: there was no
+/// memory for it.
+fn take_files<S: Start>(
+    rt: &HostRuntime,
+    path: &str,
+    start: S,
+) -> Result<Files<FileFrom<S>>, RunFault>
+    ensures usable { IfOk result (λ files. IsTrue (file_is_usable S.Start files.log) × IsTrue (file_is_usable S.Start files.db)) }
+    ensures fresh { IfOk result (λ files. IsFresh true files.log × IsFresh false files.db) }
+    ensures cause { IfErr result IsFromOutside }
+{
+    if path == ":memory:" || path.starts_with("file:") {
+        return Err(RunFault::File);
+    }
+    match sqlite_std_file::open(rt, path, start) {
+        Ok(files) => Ok(files),
+        Err(OpenError::OutOfMemory) => Err(RunFault::Memory),
+        Err(OpenError::Io(error)) if error.kind() == io::ErrorKind::OutOfMemory => {
+            Err(RunFault::Memory)
+        },
+        Err(_) => Err(RunFault::File),
     }
 }
 
@@ -72,8 +120,21 @@ pub(crate) fn connect<S: Start>(
     ensures ok { IfOk result (OpensOn (image_at S.Start)) }
     ensures cause { IfErr result (λ failed. FailsToConnect (image_at S.Start) failed.0 failed.1) }
 {
-    let opened = Connection::open_from(rt, path.as_str(), true, start);
-    opened_of(opened)
+    let options = match options_for(rt, path.as_str()) {
+        Ok(options) => options,
+        Err(fault) => return Err((fault, Left::Nothing)),
+    };
+    let files = match take_files(rt, path.as_str(), start) {
+        Ok(files) => files,
+        Err(fault) => return Err((fault, Left::Nothing)),
+    };
+    match Connection::open_files_with(rt.alloc(), files, options, true) {
+        Ok(mut connection) => {
+            connection.set_clock(rt);
+            Ok(connection)
+        },
+        Err((error, rest)) => Err((told_of(&error), Left::Unopened(rest))),
+    }
 }
 
 /// Whether a file is there, by what the system says of it.

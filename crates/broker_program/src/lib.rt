@@ -18,6 +18,6 @@ mod serve;
 pub use command_line::{FilePath, Line, read_line};
 pub use left::{CutService, Ended, Left, Processed, Service, Unread};
 pub use process::run_process;
-pub use running::run;
+pub use running::{run, run_from};
 pub use seed::NoSeed;
 pub use serve::serve_each;

@@ -8,7 +8,7 @@ ghost use Rattle.program_io.specs.Written.{IsLineOut};
 ghost use Rattle.broker_program.specs.Running.{IsUnread, Ran, RanOver, TellsUnread, unread_text};
 
 use crate::left::{Ended, Processed, Unread};
-use crate::running::run;
+use crate::running::run_from;
 use program_io::output::put_line;
 use sqlite::{FileFrom, Start};
 use std::alloc::{AllocError, Global};
@@ -41,7 +41,7 @@ fn run_texts<S: Start, R: Read, W: Write, E: Write>(
     ensures idle { OnErr result ((input.new ≡ input.old) × (output.new ≡ output.old) × (errors.new ≡ errors.old)) }
 {
     let words = words_of(rt.alloc(), texts)?;
-    Ok(run(rt, words.as_slice(), start, input, output, errors))
+    Ok(run_from(rt, words.as_slice(), start, input, output, errors))
 }
 
 /// What a process ends with whose words can't be read, and what standard error says: 2 if a word isn't UTF-8, and else
@@ -109,9 +109,9 @@ fn process_words(rt: &HostRuntime) -> io::Result<Vec<String>> {
     Ok(words)
 }
 
-/// Runs the process's words over its standard streams as `run` does, and answers the status to end with. The words come
-/// with it, with how their run ended: the status is that of these words. If they can't be read their error comes: the
-/// status is 2 if a word isn't UTF-8, and 3, with `memory` on standard error, if there is no memory for them. The
+/// Runs the process's words over its standard streams as `run_from` does, and answers the status to end with. The words
+/// come with it, with how their run ended: the status is that of these words. If they can't be read their error comes:
+/// the status is 2 if a word isn't UTF-8, and 3, with `memory` on standard error, if there is no memory for them. The
 /// streams keep nothing back, so that there is nothing to flush.
 pub fn run_process<S: Start>(
     rt: &HostRuntime,

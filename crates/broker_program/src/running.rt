@@ -4,7 +4,7 @@ ghost use Rattle.sqlite.specs.WalFiles.{image_at};
 ghost use Rattle.clap.specs.Values.{kind_of};
 ghost use Rattle.command_line.specs.Lines.{texts_of};
 ghost use Rattle.program_io.specs.Reported.{IsReported};
-ghost use Rattle.broker_program.specs.Running.{CommandEndsOn, CommandFailsOn, IsFaultOn, LineRan, Ran};
+ghost use Rattle.broker_program.specs.Running.{CommandEndsOn, CommandFailsOn, IsFaultOn, LineRan, Ran, RanTo};
 ghost use Rattle.broker_program.specs.Words.{LacksMemory, TellsMistake, TellsOfWords, TellsText};
 
 use crate::can_i_deploy::{Question, ask};
@@ -22,7 +22,8 @@ use program_io::fault::RunFault;
 use program_io::normalise::normalise;
 use program_io::output::put_line;
 use program_io::report::report;
-use sqlite::{FileFrom, Start};
+use sqlite::{FileFrom, Start, Unknown};
+use sqlite_disk::Disk;
 use std::alloc::Global;
 use std::io::{Read, Write};
 
@@ -199,7 +200,7 @@ fn run_line<S: Start, R: Read, W: Write, E: Write>(
 ///
 /// `S` stands for what the file of the command held, if it has one. What is left of it comes with the status: it was
 /// closed, or given up as it was, after a failure too; or it couldn't be opened. Of `check` the bytes come that it read.
-pub fn run<S: Start, R: Read, W: Write, E: Write>(
+pub fn run_from<S: Start, R: Read, W: Write, E: Write>(
     rt: &HostRuntime,
     words: &[&str],
     start: S,
@@ -221,4 +222,22 @@ pub fn run<S: Start, R: Read, W: Write, E: Write>(
             }
         }
     }
+}
+
+/// Runs the command that the words name as `run_from` does, over a file of which nothing is said, and answers the status
+/// that the program ends with.
+pub fn run<R: Read, W: Write, E: Write>(
+    rt: &HostRuntime,
+    words: &[&str],
+    input: &mut R,
+    output: &mut W,
+    errors: &mut E,
+) -> u8
+    ensures { RanTo ⟦<FileFrom<Unknown> as Disk>⟧ (image_at ⟦<Unknown as Start>⟧) R.remaining W.contents E.contents
+        (texts_of words.now) input.old input.new output.old output.new errors.old errors.new result }
+{
+    let ended = run_from(rt, words, Unknown, input, output, errors);
+    let status = ended.status;
+    drop(ended);
+    status
 }

@@ -18,7 +18,6 @@ use crate::seed::NoSeed;
 use broker_http::RouteTable;
 use broker_http::patience::serve_peer;
 use command_line::FilePath;
-use http_messages::patience::LIMITS;
 use program_io::entrance::{Peers, Sockets};
 use program_io::fault::RunFault;
 use program_io::listening::listen_on;
@@ -38,6 +37,7 @@ fn serve_next<S: Start, P: Peers>(
     ensures { ServesNext broker.old broker.new (P.queue peers.old) (P.queue peers.new) }
 {
     if let Some((reader, writer)) = peers.next() {
+        let waited = peers.others_wait();
         let (_, reader, writer) = serve_peer(
             rt.alloc(),
             routes,
@@ -46,7 +46,7 @@ fn serve_next<S: Start, P: Peers>(
             writer,
             peers.door(),
             rt,
-            LIMITS,
+            waited,
         );
         peers.let_go(reader, writer);
     }

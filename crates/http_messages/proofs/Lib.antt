@@ -2,3 +2,4 @@ mod LinesLemmas
 pub mod MessagesLemmas
 mod OptionsLemmas
 mod ReadingLemmas
+mod RoomLemmas

@@ -9,3 +9,6 @@ pub mod Messages
 pub mod Views
 pub mod Reading
 pub mod Waits
+pub mod Arrival
+pub mod Waited
+pub mod Room

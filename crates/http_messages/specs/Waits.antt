@@ -1,5 +1,5 @@
 -- how long a peer is waited for, in nanoseconds (this project's own)
-use Rattle.std.specs.Prelude.{◌≡◌, ◌≢◌, ◌⊎◌, ◌+◌, ◌*◌, ◌≤◌, ℕ, Result, Ok, Err}
+use Rattle.std.specs.Prelude.{◌≡◌, ◌≢◌, ◌⊎◌, ◌+◌, ◌-◌, ◌*◌, ◌≤◌, ℕ, max, min, Result, Ok, Err}
 use Rattle.std.specs.Duration.{as_nanos}
 use Rattle.std.specs.IoError.{error_kind}
 use Rattle.std.specs.declared.io.Error.{Error}
@@ -12,19 +12,42 @@ use Rattle.http_messages.specs.declared.patience.Awaited.{Awaited}
 use Rattle.http_messages.specs.declared.patience.Awaited.TheVariants as awaits
 use Rattle.std.specs.declared.time.Duration.{Duration}
 
--- How long `broker serve` waits for a peer, in milliseconds: ten seconds for a message and for an answer, two for the
+-- How long `broker serve` waits for a peer, in milliseconds: ten seconds for a message and two for an answer, two for the
 -- rest of a message while another peer waits; then a second for a peer's first bytes, five milliseconds for those of a
 -- later message, and a second for all its messages, which those that wait share.
 abbrev pub serve_limits : Limits
 serve_limits = record {
   message = 10000;
   late = 2000;
-  answer = 10000;
+  answer = 2000;
   first = 1000;
   next = 5;
   turn = 1000;
   look = 20;
 }
+
+-- what is left of a limit once another peer has waited for so long: a look at least
+abbrev pub left_of : (limit waited : ℕ) → ℕ
+left_of limit waited = max (limit - waited) serve_limits.look
+
+-- How long it waits for a peer that is let in once another, whose message is whole, has waited for so long: of what this
+-- one may take of others, so much is gone.
+abbrev pub limits_after : ℕ → Limits
+limits_after waited = record serve_limits {
+  late = left_of serve_limits.late waited;
+  answer = left_of serve_limits.answer waited;
+  turn = left_of serve_limits.turn waited;
+}
+
+-- none of these limits is longer than that of `broker serve`
+pub record AreWithin (limits : Limits) : Type 0 where
+  pub message : limits.message ≤ serve_limits.message
+  pub late : limits.late ≤ serve_limits.late
+  pub answer : limits.answer ≤ serve_limits.answer
+  pub first : limits.first ≤ serve_limits.first
+  pub next : limits.next ≤ serve_limits.next
+  pub turn : limits.turn ≤ serve_limits.turn
+  pub look : limits.look ≤ serve_limits.look
 
 -- milliseconds
 abbrev pub millis : ℕ → ℕ
@@ -56,8 +79,10 @@ IsAwaited limits (waits.Message spent) most awaited = awaited ≡ awaits.More sp
 IsAwaited limits (waits.Answer spent) most awaited =
     ((most ≡ head_limit) × (awaited ≡ awaits.First limits.next)) ⊎ ((most ≢ head_limit) × IsMoreOfNew awaited)
 
--- so much is spent of the limit of the answer that is waited for, none of a new one
-abbrev pub IsSpentOnAnswer : Wait → Duration → Type 0
-IsSpentOnAnswer waits.First spent = as_nanos spent ≡ 0
-IsSpentOnAnswer (waits.Message before) spent = as_nanos spent ≡ 0
-IsSpentOnAnswer (waits.Answer before) spent = spent ≡ before
+-- So much is spent of the limit of the answer that is waited for: of a new one, what its message took while another peer
+-- waited, but for a look.
+abbrev pub IsSpentOnAnswer : Limits → Wait → Duration → Type 0
+IsSpentOnAnswer limits waits.First spent = as_nanos spent ≡ 0
+IsSpentOnAnswer limits (waits.Message before) spent =
+    as_nanos spent ≡ min (as_nanos before.wanted) (millis limits.answer - millis limits.look)
+IsSpentOnAnswer limits (waits.Answer before) spent = spent ≡ before

@@ -10,7 +10,7 @@ ghost use Rattle.std.specs.Duration.{as_nanos, max_nanos};
 ghost use Rattle.std.specs.Io.{ReadsAtMost, WritesAtMost};
 ghost use Rattle.std.specs.Io.KnownBytes.{ReadConsumes, WriteAppends};
 ghost use Rattle.std.specs.IoError.{error_kind};
-ghost use Rattle.http_messages.specs.Waits.{IsAwaited, IsSpentOnAnswer, IsVain, Waits, millis};
+ghost use Rattle.http_messages.specs.Waits.{AreWithin, IsAwaited, IsSpentOnAnswer, IsVain, Waits, millis};
 
 use crate::messages::HEAD_LIMIT;
 use crate::turn::{TurnOver, end_of_turn};
@@ -41,7 +41,7 @@ pub struct Limits {
 pub const LIMITS: Limits = Limits {
     message: 10_000,
     late: 2_000,
-    answer: 10_000,
+    answer: 2_000,
     first: 1_000,
     next: 5,
     turn: 1_000,
@@ -229,7 +229,7 @@ fn counted<A, C: Clock>(
 }
 
 /// Whether a wait that failed so may go on: it came to its end, or a signal cut it short.
-fn is_unfinished(kind: ErrorKind) -> bool
+pub(crate) fn is_unfinished(kind: ErrorKind) -> bool
     ensures { result ≡ true ↔ (kind ≡ ErrorKind.WouldBlock) ⊎ (kind ≡ ErrorKind.Interrupted) }
 {
     kind == ErrorKind::WouldBlock || kind == ErrorKind::Interrupted
@@ -259,17 +259,23 @@ fn waits_for(limits: Limits, wait: Wait, most: usize) -> Awaited
     }
 }
 
-/// How long it was waited for an answer to be taken, if it is one that is waited for.
-fn spent_on_answer(wait: Wait) -> Duration
-    ensures { IsSpentOnAnswer wait result }
+/// How much is spent of the limit of the answer that is waited for: of a new one, what its message took of others, so
+/// that both together take no more of them, but for one look at the end.
+fn spent_on_answer(limits: Limits, wait: Wait) -> Duration
+    ensures { IsSpentOnAnswer limits wait result }
 {
     match wait {
+        Wait::First => Duration::ZERO,
+        Wait::Message(spent) => shorter(
+            spent.wanted,
+            Duration::from_millis(limits.answer).saturating_sub(Duration::from_millis(limits.look)),
+        ),
         Wait::Answer(spent) => spent,
-        Wait::First | Wait::Message(_) => Duration::ZERO,
     }
 }
 
-/// What a peer sends, as far as it is waited for. Where the wait is cut short by a signal, it goes on.
+/// What a peer sends, as far as it is waited for. Where the wait is cut short by a signal, it goes on. No limit is longer
+/// than that of `broker serve`.
 #[derive(Drop)]
 pub struct Incoming<'a, 'w, R: PeerReader, D: Door, C: Clock> {
     pub peer: R,
@@ -280,6 +286,7 @@ pub struct Incoming<'a, 'w, R: PeerReader, D: Door, C: Clock> {
     pub wanted: Option<Instant>,
     /// What is waited for, which the other side of the connection sets too.
     pub wait: &'w Cell<Wait>,
+    ghost within: { AreWithin limits },
 }
 
 impl<'a, 'w, R: PeerReader, D: Door, C: Clock> Incoming<'a, 'w, R, D, C> {
@@ -291,6 +298,7 @@ impl<'a, 'w, R: PeerReader, D: Door, C: Clock> Incoming<'a, 'w, R, D, C> {
         limits: Limits,
         wait: &'w Cell<Wait>,
     ) -> Incoming<'a, 'w, R, D, C>
+        requires { AreWithin limits }
         ensures { (result.peer ≡ peer) × (result.limits ≡ limits) }
     {
         Incoming {
@@ -305,7 +313,8 @@ impl<'a, 'w, R: PeerReader, D: Door, C: Clock> Incoming<'a, 'w, R, D, C> {
 }
 
 impl<R: PeerReader, D: Door, C: Clock> Incoming<'_, '_, R, D, C> {
-    /// How long the peer has been served while others wait, if some do now.
+    /// How long the peer has been served while others wait, if some do now. If none was seen to before, as long as it
+    /// was waited for the answer to be taken, since nobody looked meanwhile.
     fn served(&mut self, is_wanted: bool) -> io::Result<Duration>
         ensures peer { self.new.peer ≡ self.old.peer }
     {
@@ -317,7 +326,7 @@ impl<R: PeerReader, D: Door, C: Clock> Incoming<'_, '_, R, D, C> {
             Some(since) => since.elapsed(self.clock),
             None => {
                 self.wanted = Some(Instant::now(self.clock)?);
-                Ok(Duration::ZERO)
+                Ok(spent_on_answer(self.limits, self.wait.get()))
             }
         }
     }
@@ -411,7 +420,8 @@ impl<R: PeerReader, D: Door, C: Clock> Read for Incoming<'_, '_, R, D, C> {
     }
 }
 
-/// What a peer takes, as far as it is waited for. Where the wait is cut short by a signal, it goes on.
+/// What a peer takes, as far as it is waited for. Where the wait is cut short by a signal, it goes on. No limit is longer
+/// than that of `broker serve`.
 #[derive(Drop)]
 pub struct Outgoing<'a, 'w, W: PeerWriter, C: Clock> {
     pub peer: W,
@@ -419,6 +429,7 @@ pub struct Outgoing<'a, 'w, W: PeerWriter, C: Clock> {
     pub limits: Limits,
     /// What is waited for, which the other side of the connection sets too.
     pub wait: &'w Cell<Wait>,
+    ghost within: { AreWithin limits },
 }
 
 impl<'a, 'w, W: PeerWriter, C: Clock> Outgoing<'a, 'w, W, C> {
@@ -429,6 +440,7 @@ impl<'a, 'w, W: PeerWriter, C: Clock> Outgoing<'a, 'w, W, C> {
         limits: Limits,
         wait: &'w Cell<Wait>,
     ) -> Outgoing<'a, 'w, W, C>
+        requires { AreWithin limits }
         ensures { (result.peer ≡ peer) × (result.limits ≡ limits) }
     {
         Outgoing {
@@ -476,7 +488,7 @@ impl<W: PeerWriter, C: Clock> Write for Outgoing<'_, '_, W, C> {
     ghost contents = { λ outgoing. W.contents outgoing.peer };
 
     fn write(&mut self, buf: &[u8]) -> io::Result<usize> {
-        let mut spent = spent_on_answer(self.wait.get());
+        let mut spent = spent_on_answer(self.limits, self.wait.get());
         let sent = self.write_on(buf, &mut spent);
         self.wait.set(Wait::Answer(spent));
         sent

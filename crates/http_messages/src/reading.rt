@@ -2,7 +2,7 @@
 ghost use Rattle.std.specs.Prelude.{◌≡◌, ◌≢◌, ℕ, ◌+◌, ◌<◌, ◌≤◌, Bool, true, false, max, length, drop, take, vec_len, IfOk, IfErr, OnOk, OnErr, MatchOption};
 ghost use Rattle.std.specs.Io.KnownBytes.{IsAtEnd};
 ghost use Rattle.http_messages.specs.Limits.{head_limit, body_limit};
-ghost use Rattle.http_messages.specs.Messages.{HasMessage, HasNoHead, HasNoMessage, IsHeadFound};
+ghost use Rattle.http_messages.specs.Messages.{HasNoHead, IsHeadFound};
 ghost use Rattle.http_messages.specs.Reading.{Gains, LeavesAtFault, ReadsMessage, FailsToReadMessage, TellsFailure};
 ghost use Rattle.http_messages.specs.Views.{announced};
 
@@ -49,20 +49,6 @@ fn announced(head: &Result<Head, Refused>) -> usize
     match head {
         Ok(head) => head.body_len,
         Err(_) => 0,
-    }
-}
-
-/// Whether a whole message is at the front of these bytes.
-pub fn is_message_there(bytes: &[u8]) -> bool
-    ensures there { result ≡ true → HasMessage bytes.now }
-    ensures none { result ≡ false → HasNoMessage bytes.now }
-{
-    match whole_head(bytes) {
-        Some(head_len) => {
-            let body_len = announced(&read_head(&bytes[..head_len]));
-            head_len + body_len <= bytes.len()
-        }
-        None => false,
     }
 }
 

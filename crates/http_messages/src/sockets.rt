@@ -58,7 +58,7 @@ trait Sink {
         ensures wait { Waits (waited self.old) (waited self.new) result (limit self.old) };
 }
 
-impl Source for &TcpStream {
+impl Source for TcpStream {
     fn limit_reads(&mut self, within: Duration) -> io::Result<()> {
         self.set_read_timeout(Some(within))
     }
@@ -68,7 +68,7 @@ impl Source for &TcpStream {
     }
 }
 
-impl Sink for &TcpStream {
+impl Sink for TcpStream {
     fn limit_writes(&mut self, within: Duration) -> io::Result<()> {
         self.set_write_timeout(Some(within))
     }
@@ -98,13 +98,13 @@ fn send_within<S: Sink>(sink: &mut S, buf: &[u8], within: Duration) -> io::Resul
     sink.write_limited(buf)
 }
 
-impl PeerReader for &TcpStream {
+impl PeerReader for TcpStream {
     fn receive(&mut self, buf: &mut [u8], within: Duration) -> io::Result<usize> {
         receive_within(self, buf, within)
     }
 }
 
-impl PeerWriter for &TcpStream {
+impl PeerWriter for TcpStream {
     fn send(&mut self, buf: &[u8], within: Duration) -> io::Result<usize> {
         send_within(self, buf, within)
     }

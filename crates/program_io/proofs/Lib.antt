@@ -1,3 +1,4 @@
 pub mod ResultLemmas
-mod ListeningLemmas
+mod EntranceLemmas
+mod NormaliseLemmas
 pub mod VerdictLemmas

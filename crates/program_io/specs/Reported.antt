@@ -1,6 +1,5 @@
 -- what standard error shows of a command that failed, and why a command on pact files does (this project's own choice)
 use Rattle.std.specs.Prelude.{◌≡◌, ◌≢◌, ◌⊎◌, ◌↔◌, ⊤, ℕ, List, Option, Result, Ok, Err}
-use Rattle.std.specs.Io.KnownBytes.{Consumes, IsAtEnd}
 use Rattle.std.specs.declared.io.ErrorKind.{ErrorKind}
 use Rattle.std.specs.declared.io.ErrorKind.TheVariants.{OutOfMemory}
 use Rattle.broker_names.specs.Name.{IsName, IsToken}
@@ -16,7 +15,7 @@ use Rattle.reply_check.specs.declared.fault.CheckFault.TheVariants as check_faul
 use Rattle.reply_check.specs.declared.fault.RepliesFault.TheVariants as replies_fault
 use Rattle.reply_check.specs.declared.reply.Reply.{Reply}
 use Rattle.program_io.specs.Faults.{fault_text}
-use Rattle.program_io.specs.Written.{IsLineOut}
+use Rattle.program_io.specs.Written.{IsLineOut, IsReadUpTo}
 use Rattle.program_io.specs.declared.check.FilesRead.{FilesRead}
 use Rattle.program_io.specs.declared.check.FilesRead.TheVariants as files
 use Rattle.program_io.specs.declared.fault.RunFault.{RunFault}
@@ -67,7 +66,7 @@ IsRepliesFault pact recorded _ = ⊥
 -- the fault of `normalise`, by what was read
 abbrev pub FailsToNormalise : Option (List ℕ) → Option (List ℕ) → RunFault → Type 0
 FailsToNormalise before after f =
-    IsFromOutside f ⊎ ((file : List ℕ) × Consumes before after file × IsAtEnd after × IsPactFault file f)
+    IsFromOutside f ⊎ ((file : List ℕ) × IsReadUpTo before after file × IsPactFault file f)
 
 -- The fault of `check`, by what was read: the pact file couldn't be; or it has a fault, or the other couldn't be; or
 -- the other has one, or what was to be written couldn't be.

@@ -1,16 +1,17 @@
 -- what the commands on pact files write: one line on standard output (this project's own choice)
-use Rattle.std.specs.Prelude.{◌≡◌, ◌<◌, ℕ, List, [], ◌∷◌, ◌++◌, length, Bool, true, false, Option, Result, Ok, Err, codes}
-use Rattle.std.specs.Prelude.{decimal, take}
+use Rattle.std.specs.Prelude.{◌≡◌, ◌⊎◌, ◌+◌, ◌<◌, ◌≤◌, ⊤, ℕ, List, [], ◌∷◌, ◌++◌, length, Bool, true, false, Option, Result, Ok, Err, codes}
+use Rattle.std.specs.Prelude.{IfSome, decimal, take}
 use Rattle.std.specs.List.{flat_map}
 use Rattle.std.specs.Io.KnownBytes.{Appends, Consumes, IsAtEnd}
 use Rattle.http_responses.specs.declared.writing.WriteFault.{WriteFault}
+use Rattle.pact_file.specs.File.{most_bytes}
 use Rattle.pact_file.specs.Normal.{Normal}
 use Rattle.pact_file.specs.Pact.{Pact, normal_text}
 use Rattle.reply_check.specs.Replies.{RepliesRead}
 use Rattle.reply_check.specs.Verdicts.{AreFailing, AreKnown}
 use Rattle.reply_check.specs.declared.reply.Reply.{Reply}
 use Rattle.program_io.specs.declared.check.FilesRead.{FilesRead}
-use Rattle.program_io.specs.declared.check.FilesRead.TheVariants.{Both}
+use Rattle.program_io.specs.declared.check.FilesRead.TheVariants as files
 
 abbrev pub newline : List ℕ
 newline = codes "\n"
@@ -23,6 +24,22 @@ IsBegun bytes old new = (n : ℕ) × (n < length bytes) × Appends old new (take
 abbrev pub IsLineOut : List ℕ → Result (Unit {0}) WriteFault → Option (List ℕ) → Option (List ℕ) → Type 0
 IsLineOut text (Ok u) old new = Appends old new (text ++ newline)
 IsLineOut text (Err fault) old new = IsBegun (text ++ newline) old new
+
+-- ---- what is read
+
+-- what a reader gave: all that it had, or one byte more than a pact file may have
+abbrev pub IsReadUpTo : (before after : Option (List ℕ)) → List ℕ → Type 0
+IsReadUpTo before after file = Consumes before after file × (IsAtEnd after ⊎ (length file ≡ most_bytes + 1))
+
+-- these are the first bytes of what it had, so many at most, if that is known
+abbrev pub IsFrontOf : Option (List ℕ) → List ℕ → Type 0
+IsFrontOf before file = IfSome before (λ bytes. file ≡ take (most_bytes + 1) bytes)
+
+-- no more than that of the files, and of the replies no more than there may be
+abbrev pub AreBounded : FilesRead → Type 0
+AreBounded files.Neither = ⊤
+AreBounded (files.Pact file) = length file.items ≤ most_bytes + 1
+AreBounded (files.Both file recorded) = (length file.items ≤ most_bytes + 1) × (length recorded.items ≤ most_bytes)
 
 -- ---- normalise
 
@@ -79,11 +96,11 @@ module _ (pact : Pact) (recorded : List ℕ) (old new : Option (List ℕ)) where
 module _ (old new : Option (List ℕ)) where
   -- of the two files that were read
   abbrev pub Checks : FilesRead → Bool → Type 0
-  Checks (Both file recorded) passes =
+  Checks (files.Both file recorded) passes =
       (pact : Pact) × Normal file.items (Ok pact) × TellsVerdict pact recorded.items old new passes
   Checks _ passes = ⊥
 
   abbrev pub ChecksUntil : FilesRead → Type 0
-  ChecksUntil (Both file recorded) =
+  ChecksUntil (files.Both file recorded) =
       (pact : Pact) × Normal file.items (Ok pact) × BeginsVerdict pact recorded.items old new
   ChecksUntil _ = ⊥

@@ -1,20 +1,21 @@
 //! Recorded replies of a provider against a pact file.
-ghost use Rattle.std.specs.Prelude.{◌≡◌, ◌⊎◌, ◌++◌, Ok, IfErr, IfOk, IsErrAnd, MatchResult, OnErr, OnOk, string_bytes, codes};
+ghost use Rattle.std.specs.Prelude.{◌≡◌, ◌⊎◌, ◌<◌, ◌≤◌, ◌++◌, Ok, length, IfErr, IfOk, IsErrAnd, MatchResult, OnErr, OnOk, string_bytes, codes};
 ghost use Rattle.std.specs.IoError.{error_kind};
 ghost use Rattle.std.specs.Io.KnownBytes.{Appends};
 ghost use Rattle.std.specs.List.{flat_map};
 ghost use Rattle.program_io.specs.Reported.{FailsToCheck, IsFromOutside, IsReadFault, IsRepliesFault};
-ghost use Rattle.program_io.specs.Written.{AreFailingBy, BeginsVerdict, Checks, ChecksUntil, IsBegun, TellsVerdict};
-ghost use Rattle.program_io.specs.Written.{newline, place_text, verdict_text};
+ghost use Rattle.program_io.specs.Written.{AreBounded, AreFailingBy, BeginsVerdict, Checks, ChecksUntil, IsBegun, IsFrontOf};
+ghost use Rattle.program_io.specs.Written.{TellsVerdict, newline, place_text, verdict_text};
 
+use crate::bounded::{MOST_READ, fault_of_read, read_most};
 use crate::fault::RunFault;
 use crate::normalise::pact_of;
 use crate::output::write_line;
 use pact_file::Pact;
 use reply_check::{Verdict, read_replies};
 use std::alloc::{AllocError, Global};
-use std::io::{ErrorKind, Write};
-use std::{fs, io};
+use std::fs::File;
+use std::io::{self, Read, Write};
 
 /// What was read of the two files that are compared.
 #[derive(Drop)]
@@ -27,24 +28,41 @@ pub enum FilesRead {
     Both(Vec<u8>, Vec<u8>),
 }
 
-/// What a file has, by what reading it gave. `File`: it couldn't be read.
-fn read_of(read: io::Result<Vec<u8>>) -> Result<Vec<u8>, RunFault>
-    ensures whole { MatchResult read (λ bytes. result ≡ Ok bytes)
+/// What a file has, by what opening it gave, but no more than `MOST_READ` bytes. `File`: it couldn't be opened or read.
+fn read_opened<R: Read + Drop>(alloc: Global, opened: io::Result<R>) -> Result<Vec<u8>, RunFault>
+    ensures read { MatchResult opened (λ file. IfOk result (λ bytes. IsFrontOf (R.remaining file) bytes.items))
         (λ error. IsErrAnd result (IsReadFault (error_kind error))) }
+    ensures most { IfOk result (λ bytes. length bytes.items ≤ MOST_READ) }
     ensures cause { IfErr result IsFromOutside }
 {
-    match read {
-        Ok(bytes) => Ok(bytes),
-        Err(error) if error.kind() == ErrorKind::OutOfMemory => Err(RunFault::Memory),
-        Err(_) => Err(RunFault::File),
+    match opened {
+        Ok(file) => {
+            let mut file = file;
+            read_most(alloc, &mut file)
+        }
+        Err(error) => Err(fault_of_read(error.kind())),
     }
 }
 
 /// What is in the file of this path.
 fn read_file(rt: &HostRuntime, path: &str) -> Result<Vec<u8>, RunFault>
-    ensures { IfErr result IsFromOutside }
+    ensures most { IfOk result (λ bytes. length bytes.items ≤ MOST_READ) }
+    ensures cause { IfErr result IsFromOutside }
 {
-    read_of(fs::read(rt, path))
+    read_opened(rt.alloc(), File::open(rt, path))
+}
+
+/// The recorded replies in the file of this path. `File`: they are longer than a pact file may be, too.
+fn read_recorded(rt: &HostRuntime, path: &str) -> Result<Vec<u8>, RunFault>
+    ensures most { IfOk result (λ bytes. length bytes.items < MOST_READ) }
+    ensures cause { IfErr result IsFromOutside }
+{
+    let bytes = read_file(rt, path)?;
+    if bytes.len() < MOST_READ {
+        Ok(bytes)
+    } else {
+        Err(RunFault::File)
+    }
 }
 
 /// The verdict of the pact on the replies that a file has.
@@ -131,13 +149,15 @@ fn check_read<W: Write>(
     replies: &str,
     output: &mut W,
 ) -> (Result<bool, RunFault>, FilesRead)
+    requires { length file.items ≤ MOST_READ }
     ensures ok { IfOk result.0 (Checks (W.contents output.old) (W.contents output.new) result.1) }
     ensures err { OnErr result.0 ((output.new ≡ output.old)
         ⊎ ChecksUntil (W.contents output.old) (W.contents output.new) result.1) }
     ensures cause { IfErr result.0 (FailsToCheck result.1) }
+    ensures bound { AreBounded result.1 }
 {
     match pact_of(rt.alloc(), file.as_slice()) {
-        Ok(pact) => match read_file(rt, replies) {
+        Ok(pact) => match read_recorded(rt, replies) {
             Ok(recorded) => {
                 let told = tell_verdict(rt.alloc(), &pact, recorded.as_slice(), output);
                 drop(pact);
@@ -150,7 +170,8 @@ fn check_read<W: Write>(
 }
 
 /// Compares the replies in a file with the pact in another, writes the verdict and a newline, and says whether it is a
-/// pass. What was read of the files comes with it: the file of replies is read once the pact is found to be one.
+/// pass. What was read of the files comes with it: the file of replies is read once the pact is found to be one. Of a file
+/// that is too long no more is read than shows it.
 pub fn check<W: Write>(
     rt: &HostRuntime,
     pact: &str,
@@ -162,6 +183,7 @@ pub fn check<W: Write>(
     ensures err { OnErr result.0 ((output.new ≡ output.old)
         ⊎ ChecksUntil (W.contents output.old) (W.contents output.new) result.1) }
     ensures cause { IfErr result.0 (FailsToCheck result.1) }
+    ensures bound { AreBounded result.1 }
 {
     match read_file(rt, pact) {
         Ok(file) => check_read(rt, file, replies, output),

@@ -1,14 +1,13 @@
 //! Peers that come in one after the other, to be served by a function that is proved of whatever they send and take.
-ghost use Rattle.std.specs.Prelude.{◌≡◌, ◌≢◌, ◌+◌, ◌<◌, length, refl, MatchOption};
+ghost use Rattle.std.specs.Prelude.{◌≡◌, ◌≢◌, ◌+◌, ◌<◌, length, refl, IfSome, MatchOption};
 ghost use Rattle.std.specs.Borrow.{sem, Lends};
 ghost use Rattle.program_io.specs.Entrance.{IsLetGo, IsLetIn, IsLost, Queue, peer_of, queue_of};
 ghost use Rattle.program_io.specs.Lending.{LendsEntrance};
 
 use crate::listening::{Connections, Entrance};
+use http_messages::arrival::{Begun, Waiting};
 use http_messages::patience::{Door, PeerReader, PeerWriter};
-use std::io;
 use std::net::TcpStream;
-use std::time::Duration;
 
 /// Peers that come in one after the other. Each that is let in is let go before the next one.
 pub trait Peers {
@@ -48,6 +47,11 @@ pub trait Peers {
     fn door(&mut self) -> &mut Self::Door
         ensures* writes_back { sem 𝓛 (Lends Self.row Self.Door.row self.entry result (with_door self.old)) };
 
+    /// For how many milliseconds those wait that are ready, as far as is known.
+    fn others_wait(&self) -> u64 {
+        0
+    }
+
     /// Lets the one go that is in.
     fn let_go(&mut self, reader: Self::Reader, writer: Self::Writer)
         requires { length (queue self.old).went < length (queue self.old).came }
@@ -57,32 +61,22 @@ pub trait Peers {
     ghost stays: { (peers : Self) (door : Self.Door) → queue (with_door peers door) ≡ queue peers };
 }
 
-/// One of the two sides of a connection.
-#[derive(Drop)]
-pub struct Side {
-    stream: TcpStream,
-}
-
-impl PeerReader for Side {
-    fn receive(&mut self, buf: &mut [u8], within: Duration) -> io::Result<usize> {
-        let mut stream = &self.stream;
-        stream.receive(buf, within)
-    }
-}
-
-impl PeerWriter for Side {
-    fn send(&mut self, buf: &[u8], within: Duration) -> io::Result<usize> {
-        let mut stream = &self.stream;
-        stream.send(buf, within)
-    }
-}
-
-/// The two sides of a connection.
-fn sides_of(stream: TcpStream) -> Option<(Side, Side)> {
+/// The two sides of a connection, of which so much was read.
+fn sides_of(begun: Begun<TcpStream>) -> Option<(Begun<TcpStream>, TcpStream)>
+    ensures { IfSome result (λ sides. sides.0 ≡ begun) }
+{
+    begun.peer().set_nonblocking(false).ok()?;
     // Else an answer in two parts would wait for the peer to acknowledge the first.
-    let _ = stream.set_nodelay(true);
-    let writer = stream.try_clone().ok()?;
-    Some((Side { stream }, Side { stream: writer }))
+    let _ = begun.peer().set_nodelay(true);
+    let writer = begun.peer().try_clone().ok()?;
+    Some((begun, writer))
+}
+
+/// The two sides of a connection that waited.
+fn sides_of_waiting(waiting: Waiting<TcpStream>) -> Option<(Begun<TcpStream>, TcpStream)>
+    ensures { IfSome result (λ sides. (sides.0.peer ≡ waiting.stream) × (sides.0.sent ≡ waiting.sent)) }
+{
+    sides_of(waiting.into_begun()?)
 }
 
 /// Counts a connection that was to be served as lost.
@@ -135,9 +129,9 @@ impl Sockets {
 impl Peers for Sockets {
     type Door = Entrance;
 
-    type Reader = Side;
+    type Reader = Begun<TcpStream>;
 
-    type Writer = Side;
+    type Writer = TcpStream;
 
     ghost queue = { λ s. queue_of s.connections.left s.connections.served s.gone s.connections.lost };
 
@@ -156,15 +150,15 @@ impl Peers for Sockets {
     }
 
     /// One whose connection has no second handle is lost too.
-    fn next(&mut self) -> Option<(Side, Side)> {
+    fn next(&mut self) -> Option<(Begun<TcpStream>, TcpStream)> {
         match self.connections.next() {
-            Some(stream) => {
-                let sides = sides_of(stream);
-                if sides.is_none() {
+            Some(waiting) => match sides_of_waiting(waiting) {
+                Some(sides) => Some(sides),
+                None => {
                     lose(&mut self.connections);
+                    None
                 }
-                sides
-            }
+            },
             None => None,
         }
     }
@@ -173,7 +167,11 @@ impl Peers for Sockets {
         door_of(&mut self.connections)
     }
 
-    fn let_go(&mut self, reader: Side, writer: Side) {
+    fn others_wait(&self) -> u64 {
+        self.connections.entrance.others_wait()
+    }
+
+    fn let_go(&mut self, reader: Begun<TcpStream>, writer: TcpStream) {
         drop(reader);
         drop(writer);
         let gone = one_more(self.gone, self.connections.served);

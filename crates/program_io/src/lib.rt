@@ -2,6 +2,7 @@
 //! files, the forms of tokens and names among the options, and where connections come in.
 #![tactic(auto)]
 
+mod bounded;
 pub mod check;
 pub mod entrance;
 pub mod fault;

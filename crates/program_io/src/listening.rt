@@ -1,83 +1,15 @@
-//! Where connections come in, an address of loopback, and which of them comes next.
-ghost use Rattle.std.specs.Prelude.{◌≡◌, ◌≢◌, ◌+◌, ◌<◌, ◌≤◌, ◌↔◌, ◌⊎◌, true, false, length, max, position};
-ghost use Rattle.std.specs.Prelude.{IfErr, IfOk, IfSome, IsTrue, MatchOption};
-ghost use Rattle.program_io.specs.Listening.{AreTakenIn, IsReady, ListensOn, next_of};
+//! Where connections come in, and which of them comes next.
+ghost use Rattle.std.specs.Prelude.{◌≡◌, ◌≢◌, ◌+◌, ◌<◌, ◌≤◌, ◌↔◌, length, max, IfErr, IfOk, IfSome, IsTrue, MatchOption};
+ghost use Rattle.http_messages.specs.Arrival.{is_ready};
+ghost use Rattle.http_messages.specs.Room.{KeepsReady};
+ghost use Rattle.program_io.specs.Listening.{ListensOn};
 
 use crate::fault::RunFault;
 use crate::loopback::{LoopbackListener, listener_on};
-use http_messages::messages::HEAD_LIMIT;
+use http_messages::arrival::Waiting;
 use http_messages::patience::Door;
-use http_messages::reading::is_message_there;
-use std::io::ErrorKind;
+use http_messages::room::{MOST_WAITING, look, next_of, others_wait, places, take_in};
 use std::net::TcpStream;
-
-/// How many connections are taken in at most while another is served. Others wait at the system.
-const MOST_WAITING: usize = 64;
-
-/// Whether a peer that has sent this so far is ready to be served: a message is whole, or as much has come as is looked
-/// at, or nothing more comes.
-fn is_ready(sent: &[u8]) -> bool
-    ensures ready { result ≡ true → IsReady sent.now }
-    ensures waits { result ≡ false → ¬ (IsReady sent.now) }
-{
-    sent.is_empty() || sent.len() >= HEAD_LIMIT || is_message_there(sent)
-}
-
-/// A connection that has come in and waits.
-#[derive(Drop)]
-struct Waiting {
-    stream: TcpStream,
-    /// Whether its peer was found ready; it stays so.
-    is_ready: bool,
-}
-
-impl Waiting {
-    /// One that can't be looked at without a wait is taken for ready.
-    fn new(stream: TcpStream) -> Waiting {
-        let is_ready = stream.set_nonblocking(true).is_err();
-        Waiting { stream, is_ready }
-    }
-
-    /// Looks at what the peer has sent, and leaves it there.
-    fn look(&mut self) {
-        if self.is_ready {
-            return;
-        }
-        let mut sent = [0u8; HEAD_LIMIT];
-        self.is_ready = match self.stream.peek(&mut sent) {
-            Ok(count) => is_ready(&sent[..count]),
-            Err(error) => {
-                error.kind() != ErrorKind::WouldBlock && error.kind() != ErrorKind::Interrupted
-            }
-        };
-    }
-
-    /// The connection, to be served. None if it is lost.
-    fn into_stream(self) -> Option<TcpStream> {
-        self.stream.set_nonblocking(false).ok()?;
-        Some(self.stream)
-    }
-}
-
-/// The place of the first of these that was found ready.
-fn first_ready(waiting: &[Waiting]) -> Option<usize>
-    ensures first { result ≡ position (λ it. it.is_ready) waiting.now }
-    ensures within { IfSome result (λ place. place < length waiting.now) }
-{
-    waiting.iter().position(|it| it.is_ready)
-}
-
-/// The place of the one that comes next of these, which wait in the order in which they came.
-fn next_of(waiting: &[Waiting]) -> Option<usize>
-    ensures next { result ≡ next_of (λ it. it.is_ready) waiting.now }
-    ensures within { IfSome result (λ place. place < length waiting.now) }
-{
-    match first_ready(waiting) {
-        Some(place) => Some(place),
-        None if waiting.is_empty() => None,
-        None => Some(0),
-    }
-}
 
 /// Where connections come in.
 #[derive(Drop)]
@@ -85,56 +17,87 @@ pub struct Entrance {
     /// It doesn't block, but while nobody is served.
     listener: LoopbackListener,
     /// Those that came in while another was served, in this order.
-    waiting: Vec<Waiting>,
+    waiting: Vec<Waiting<TcpStream>>,
     /// How many more are to be taken in.
     room: u32,
+    /// How many were taken in and are gone, and weren't told of.
+    gone: u32,
+    rt: HostRuntime,
+    ghost fits: { gone + room ≤ 4294967295 },
 }
 
 impl Entrance {
-    /// Whether nobody more is taken in now: as many wait as may, or all that will be served.
+    /// Whether all that will be served were taken in.
     fn is_full(&self) -> bool
-        ensures { IsTrue result ↔ ((self.now.room ≡ 0) ⊎ (MOST_WAITING ≤ length self.now.waiting.items)) }
+        ensures { IsTrue result ↔ (self.now.room ≡ 0) }
     {
-        self.room == 0 || self.waiting.len() >= MOST_WAITING
+        self.room == 0
     }
 
-    /// Takes in those that have come, as many as may wait, and only what will be served. They wait behind the others.
-    fn gather(&mut self)
-        ensures came { AreTakenIn self.old.waiting.items self.new.waiting.items self.old.room self.new.room }
-        ensures most { length self.new.waiting.items ≤ max (length self.old.waiting.items) MOST_WAITING }
+    /// Takes in this one, which has come, and says how many are gone for it: this one, another or none.
+    fn admit(&mut self, stream: TcpStream) -> u32
+        ensures ready { KeepsReady (λ it. is_ready it.arrived) self.old.waiting.items self.new.waiting.items }
+        ensures counts { length self.old.waiting.items + 1 ≡ length self.new.waiting.items + result }
         ensures stay { length self.old.waiting.items ≤ length self.new.waiting.items }
+        ensures most { length self.new.waiting.items ≤ max (length self.old.waiting.items) MOST_WAITING }
+        ensures same { (self.new.room ≡ self.old.room) × (self.new.gone ≡ self.old.gone) }
     {
-        for _ in 0..MOST_WAITING {
-            if self.is_full() || self.waiting.reserve(1).is_err() {
+        if stream.set_nonblocking(true).is_err() {
+            return 1;
+        }
+        match Waiting::new(self.rt.alloc(), stream) {
+            Some(it) => take_in(&mut self.waiting, it),
+            None => 1,
+        }
+    }
+
+    /// Takes in those that have come, but no more than will be served. They wait behind the others. Who is ready stays.
+    fn gather(&mut self)
+        ensures ready { KeepsReady (λ it. is_ready it.arrived) self.old.waiting.items self.new.waiting.items }
+        ensures counts { length self.old.waiting.items + self.old.room + self.old.gone
+            ≡ length self.new.waiting.items + self.new.room + self.new.gone }
+        ensures stay { length self.old.waiting.items ≤ length self.new.waiting.items }
+        ensures most { length self.new.waiting.items ≤ max (length self.old.waiting.items) MOST_WAITING }
+    {
+        for _ in 0..places(&self.waiting) {
+            if self.is_full() {
                 return;
             }
             let Ok((stream, _)) = self.listener.accept() else {
                 return;
             };
+            let gone = self.admit(stream);
             self.room -= 1;
-            let _ = self.waiting.push(Waiting::new(stream));
+            self.gone += gone;
         }
     }
 
     /// The next one that comes in. None if it was lost.
-    fn wait_for_one(&mut self) -> Option<TcpStream> {
+    fn wait_for_one(&mut self) -> Option<Waiting<TcpStream>> {
         self.room = self.room.saturating_sub(1);
         self.listener.set_nonblocking(false).ok()?;
         let found = self.listener.accept();
         self.listener.set_nonblocking(true).ok()?;
-        Some(found.ok()?.0)
+        Waiting::new(self.rt.alloc(), found.ok()?.0)
     }
 
     /// The next connection, of those that wait, or else once one has come in. None if it was lost.
-    fn next(&mut self) -> Option<TcpStream> {
-        self.gather();
-        for it in self.waiting.iter_mut() {
-            it.look();
+    fn next(&mut self) -> Option<Waiting<TcpStream>> {
+        if self.gone > 0 {
+            self.gone -= 1;
+            return None;
         }
+        self.gather();
+        look(&mut self.waiting, &self.rt);
         match next_of(&self.waiting) {
-            Some(place) => self.waiting.remove(place).into_stream(),
+            Some(place) => Some(self.waiting.remove(place)),
             None => self.wait_for_one(),
         }
+    }
+
+    /// For how many milliseconds those that are ready wait.
+    pub(crate) fn others_wait(&self) -> u64 {
+        others_wait(&self.waiting, &self.rt)
     }
 }
 
@@ -143,11 +106,16 @@ impl Door for Entrance {
 
     fn has_another(&mut self) -> bool {
         self.gather();
+        look(&mut self.waiting, &self.rt);
         !self.waiting.is_empty()
     }
 
     fn others(&mut self) -> u32 {
         self.gather();
+        // So that nobody goes whom nobody looked at.
+        if self.waiting.len() >= MOST_WAITING {
+            look(&mut self.waiting, &self.rt);
+        }
         u32::try_from(self.waiting.len()).unwrap_or(u32::MAX)
     }
 }
@@ -171,17 +139,18 @@ pub struct Connections {
 impl Connections {
     /// The next connection, once one has come in; it counts among those served. None if it was lost, and then it counts
     /// among those.
-    pub fn next(&mut self) -> Option<TcpStream>
+    pub fn next(&mut self) -> Option<Waiting<TcpStream>>
         requires { self.old.left ≢ 0 }
         ensures left { (self.old.left ≡ self.new.left + 1) × (self.new.all ≡ self.old.all) }
         ensures taken { MatchOption result (self.new.served ≡ self.old.served)
             (λ _. self.new.served ≡ self.old.served + 1) }
+        ensures lost { IfSome result (λ _. self.new.lost ≡ self.old.lost) }
     {
         self.left -= 1;
         match self.entrance.next() {
-            Some(stream) => {
+            Some(found) => {
                 self.served += 1;
-                Some(stream)
+                Some(found)
             }
             None => {
                 self.lost += 1;
@@ -206,6 +175,8 @@ pub fn listen_on(rt: &HostRuntime, listen: &str, connections: u32) -> Result<Con
             listener,
             waiting: Vec::new(rt.alloc()),
             room: connections,
+            gone: 0,
+            rt: *rt,
         },
         left: connections,
         served: 0,

@@ -62,7 +62,8 @@ fn if_asked(found: SocketAddr, asked: SocketAddr) -> Option<SocketAddr>
 
 /// The listener, if the system says that it listens on the address that was asked for, and that address.
 fn bound_to(listener: TcpListener, asked: SocketAddr) -> Option<(LoopbackListener, SocketAddr)>
-    ensures { IfSome result (λ found. IsOfLoopback found.1 × HasPortOf asked found.1) }
+    ensures bound { IfSome result (λ found. IsOfLoopback found.1 × HasPortOf asked found.1) }
+    ensures same { IfSome result (λ found. found.0.listener ≡ listener) }
 {
     let bound = if_asked(listener.local_addr().ok()?, asked)?;
     Some((LoopbackListener { listener }, bound))

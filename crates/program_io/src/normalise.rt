@@ -1,30 +1,16 @@
 //! The normal text of a pact file.
 ghost use Rattle.std.specs.Prelude.{◌≡◌, ◌⊎◌, Ok, IfErr, IfOk, OnErr, OnOk, string_bytes};
-ghost use Rattle.std.specs.Io.KnownBytes.{Consumes, IsAtEnd};
 ghost use Rattle.pact_file.specs.Normal.{Normal};
 ghost use Rattle.program_io.specs.Reported.{FailsToNormalise, IsFromOutside, IsPactFault};
 ghost use Rattle.program_io.specs.Written.{BeginsNormalText, IsNormalText, Normalises, NormalisesUntil};
 ghost use Rattle.program_io.specs.Written.{TellsNormalText};
 
+use crate::bounded::read_most;
 use crate::fault::RunFault;
 use crate::output::write_line;
 use pact_file::{Pact, read_pact};
 use std::alloc::Global;
-use std::io::{ErrorKind, Read, Write};
-
-/// All that the reader gives.
-fn read_all<R: Read>(alloc: Global, input: &mut R) -> Result<Vec<u8>, RunFault>
-    ensures ok { IfOk result (λ bytes. Consumes (R.remaining input.old) (R.remaining input.new) bytes.items
-        × IsAtEnd (R.remaining input.new)) }
-    ensures err { IfErr result IsFromOutside }
-{
-    let mut bytes = Vec::new(alloc);
-    match input.read_to_end(&mut bytes) {
-        Ok(_) => Ok(bytes),
-        Err(error) if error.kind() == ErrorKind::OutOfMemory => Err(RunFault::Memory),
-        Err(_) => Err(RunFault::File),
-    }
-}
+use std::io::{Read, Write};
 
 /// The pact of a pact file.
 pub(crate) fn pact_of(alloc: Global, file: &[u8]) -> Result<Pact, RunFault>
@@ -61,7 +47,8 @@ fn write_normal_text<W: Write>(alloc: Global, file: &[u8], output: &mut W) -> Re
     write_line(output, text.as_str())
 }
 
-/// Writes the normal text of the pact file that the reader gives, and a newline.
+/// Writes the normal text of the pact file that the reader gives, and a newline. Of one that is too long, no more is read
+/// than shows it.
 pub fn normalise<R: Read, W: Write>(
     alloc: Global,
     input: &mut R,
@@ -75,6 +62,6 @@ pub fn normalise<R: Read, W: Write>(
         (W.contents output.old) (W.contents output.new)) }
     ensures cause { IfErr result (FailsToNormalise (R.remaining input.old) (R.remaining input.new)) }
 {
-    let file = read_all(alloc, input)?;
+    let file = read_most(alloc, input)?;
     write_normal_text(alloc, file.as_slice(), output)
 }

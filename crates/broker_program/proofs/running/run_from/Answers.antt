@@ -1,7 +1,7 @@
 use Rattle.sqlite.specs.WalFiles.{image_at}
 use Rattle.command_line.specs.Lines.{texts_of}
 use Rattle.broker_program.proofs.WordsLemmas.{words_ran}
-use Rattle.broker_program.proofs.running.run.Goals as goal
+use Rattle.broker_program.proofs.running.run_from.Goals as goal
 
 pub returns-in-Err : goal.returns-in-Err
 returns-in-Err g c =
