@@ -6,17 +6,17 @@ use Rattle.sqlite.specs.{Held.{Held}, Recovery.{Image}, Effect.{Database}, State
 use Rattle.sqlite.{specs.{declared.FileStore.{FileStore}, declared.file.Leftover.{Leftover}}, proofs.Callers.{finds_again}}
 use Rattle.table_access.specs.Durability.{HoldsDurably}
 use Rattle.broker_core.specs.State.{State as Broker}
-use Rattle.broker_tables.specs.{Holds.{format}, Making.{IsMarked}}
+use Rattle.broker_tables.specs.Holds.{format}
 use Rattle.broker_database.specs.{BrokerView.{BrokerView}, Calls.{Opened}, Life.{AreTreesOf, IsKeptIn, HoldsAsBefore, OpenedFilesHold, OpeningSpares}}
-use Rattle.broker_database.specs.{Life.Kept.{Blank, OfToday}, Opening.{Judged}, Stored.{Stores, HoldsState}, declared.opening.Refused.{Refused}}
+use Rattle.broker_database.specs.{Life.Kept.{Blank, OfToday}, Opening.{IsMarkedToday, Judged}, Stored.{Stores, HoldsState}, declared.opening.Refused.{Refused}}
 use Rattle.broker_database.specs.declared.opening.OpenFault.{OpenFault}
 use Rattle.uses.specs.Reopening.{KeepState, KeepsOverCrash, KeepsAsFiles, AreClosed, IsLeftOf, IsOpenedOver, IsOpenedAgain, IsOfDatabase, LosesNothing}
 use Rattle.uses.specs.declared.reopening.NotReopened.{NotReopened}
 
--- a database that holds a state has the mark of today's format
-marked : (s : Broker) (c : State) → HoldsState s c → HoldsDurably (IsMarked format s.office) c
-marked s c holds =
-    let has = λ (db : Database) (it : Stores db s). let r : IsMarked format s.office db = record { tables = _; indexes = _; schema = it.tables.broker.schema; row = it.tables.meta } in r in
+-- a database that holds a state has the mark of today's format, and declares what a broker does
+today : (s : Broker) (c : State) → HoldsState s c → HoldsDurably (IsMarkedToday s.office) c
+today s c holds =
+    let has = λ (db : Database) (it : Stores db s). let r : IsMarkedToday s.office db = (record { tables = _; indexes = _; schema = it.tables.broker.schema; row = it.tables.meta }, it.tables.broker.schema) in r in
     record {
       held = λ now. let it = holds.held now in record { autocommit = it.autocommit; same = it.same; sound = it.sound; has = has c.committed it.has };
       left = λ t may. let d = holds.left t may in record { schema = d.schema; sound = d.sound; has = has _ d.has };
@@ -81,7 +81,7 @@ module _ {D : Type 0} (g : Ghosts D) where
         let it = found was in
         let held = (keep it.1.honest).found conn it.0 it.1 in (
           λ trees may. held.left trees (elim (opened.tables.survives.crash clean trees may) [ inl old ↦ old | inr none ↦ absurd none ]),
-          failed r.fault (opened.tables.marked clean format s.office (marked s (file_state {D = D} {g = g} conn) held)),
+          failed r.fault (opened.tables.today clean s.office (today s (file_state {D = D} {g = g} conn) held)),
         )
 
   module _ (old : BrokerView (FileStore D g)) (files : Files D) (closed : AreClean g files.log files.db → AreClosed old files) where

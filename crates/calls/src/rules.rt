@@ -1,0 +1,244 @@
+//! Trees of values, weights, the rule that is chosen, and what matchers hold of.
+use pact_rules::{Path, RuleTable, Step, holds, weight};
+use pact_trees::{Tree, TreeFault, tree_of};
+use serde_json::Value;
+use std::alloc::Global;
+use std::collections::BTreeMap;
+use std::test::Fail;
+
+/// A step by its word: a number is an index, any other word a key.
+fn step_of(alloc: Global, word: &str) -> Result<Step, Fail> {
+    match word.parse::<u64>() {
+        Ok(index) => Ok(Step::Index(index)),
+        Err(_) => Ok(Step::Key(String::from_str(alloc, word)?)),
+    }
+}
+
+/// A location by the words of its steps.
+fn location(alloc: Global, words: &[&str]) -> Result<Vec<Step>, Fail> {
+    let mut steps = Vec::new(alloc);
+    for word in words {
+        steps.push(step_of(alloc, word)?)?;
+    }
+    Ok(steps)
+}
+
+fn table(alloc: Global, rules: &str) -> Result<RuleTable, Fail> {
+    let value = Value::from_str(alloc, rules)?;
+    Ok(RuleTable::read(alloc, &value)?)
+}
+
+/// The tree of a JSON text's value, or the first fault.
+fn tree_in(alloc: Global, text: &str) -> Result<Result<Tree, TreeFault>, Fail> {
+    let value = Value::from_str(alloc, text)?;
+    Ok(tree_of(alloc, &value))
+}
+
+/// So many lists, one in another, with a text in the innermost one.
+fn lists(alloc: Global, depth: usize, innermost: &str) -> Result<String, Fail> {
+    let (begin, end) = ("[".repeat(alloc, depth)?, "]".repeat(alloc, depth)?);
+    Ok(format!(in alloc; "{begin}{innermost}{end}")?)
+}
+
+/// How many lists there are, what is in the innermost, and why no tree is made of it.
+const DEPTHS: [(usize, &str, Option<TreeFault>); 5] = [
+    (100, "", None),
+    (101, "", Some(TreeFault::TooDeep)),
+    (101, "1.5", Some(TreeFault::TooDeep)),
+    (100, "1.5", Some(TreeFault::NotWhole)),
+    (100, "0", None),
+];
+
+#[test]
+fn depths(rt: HostRuntime) -> Result<(), Fail> {
+    for (depth, innermost, wanted) in DEPTHS {
+        let text = lists(rt.alloc(), depth, innermost)?;
+        let tree = tree_in(rt.alloc(), text.as_str())?;
+        assert_eq!(rt;
+            tree.err(),
+            wanted,
+            "{depth} lists, and in them {innermost}"
+        );
+    }
+    Ok(())
+}
+
+/// Texts of numbers, and which whole number each is.
+const NUMBERS: [(&str, Option<i128>); 9] = [
+    ("0", Some(0)),
+    ("-1", Some(-1)),
+    ("18446744073709551615", Some(18446744073709551615)),
+    ("18446744073709551616", None),
+    ("-9223372036854775808", Some(-9223372036854775808)),
+    ("-9223372036854775809", None),
+    ("1.5", None),
+    ("1.0", None),
+    ("1e2", None),
+];
+
+#[test]
+fn numbers(rt: HostRuntime) -> Result<(), Fail> {
+    for (text, number) in NUMBERS {
+        let tree = tree_in(rt.alloc(), text)?;
+        let wanted = number.map(Tree::Whole).ok_or(TreeFault::NotWhole);
+        assert!(rt; tree == wanted, "{text}");
+    }
+    Ok(())
+}
+
+const EACH_KIND: &str = "{\"b\":{},\"a\":[null,true,-3,\"x\"]}";
+
+/// The tree of `EACH_KIND`, put together.
+fn each_kind(alloc: Global) -> Result<Tree, Fail> {
+    let text = Tree::Text(String::from_str(alloc, "x")?);
+    let items = vec![in alloc; Tree::Null, Tree::Truth(true), Tree::Whole(-3), text]?;
+    let mut members = BTreeMap::new(alloc);
+    drop(members.insert(String::from_str(alloc, "a")?, Tree::List(items))?);
+    let inner = Tree::Object(BTreeMap::new(alloc));
+    drop(members.insert(String::from_str(alloc, "b")?, inner)?);
+    Ok(Tree::Object(members))
+}
+
+#[test]
+fn kinds(rt: HostRuntime) -> Result<(), Fail> {
+    let tree = tree_in(rt.alloc(), EACH_KIND)??;
+    assert!(rt; tree == each_kind(rt.alloc())?);
+    Ok(())
+}
+
+/// What each path weighs at `$.item1.level[1].id`.
+const WEIGHTS: [(&str, u64); 11] = [
+    ("$", 2),
+    ("$.item1", 4),
+    ("$.item1.level", 8),
+    ("$.item1.level[1]", 16),
+    ("$.item1.level[1].id", 32),
+    ("$.item1.level[*]", 8),
+    ("$.item1.level[*].id", 16),
+    ("$.*.level[*].id", 8),
+    ("$.item2", 0),
+    ("$.item1.level['1'].id", 0),
+    ("$.item1.level[1].id.x", 0),
+];
+
+#[test]
+fn weights(rt: HostRuntime) -> Result<(), Fail> {
+    let alloc = rt.alloc();
+    let steps = location(alloc, &["item1", "level", "1", "id"])?;
+    for (text, wanted) in WEIGHTS {
+        let path = Path::read(alloc, text)?;
+        assert_eq!(rt; weight(&path, &steps), wanted, "{text}");
+    }
+    Ok(())
+}
+
+/// The path that is chosen at a location, or the empty text if none is.
+fn path_chosen(alloc: Global, rules: &str, words: &[&str]) -> Result<String, Fail> {
+    let table = table(alloc, rules)?;
+    let steps = location(alloc, words)?;
+    match table.choose(&steps) {
+        Some(index) => Ok(table.path(index).text(alloc)?),
+        None => Ok(String::new(alloc)),
+    }
+}
+
+/// Of the paths that weigh most the one with more tokens is chosen, then the one with the lesser text.
+const CHOICES: [(&str, &[&str], &str); 4] = [
+    (
+        "{\"body\":{\"$.item1.level\":{\"matchers\":[{\"match\":\"type\"}]},\"$.item1.level[*]\":{\"matchers\":[{\"match\":\"type\"}]},\"$.*.level[*].id\":{\"matchers\":[{\"match\":\"type\"}]}}}",
+        &["item1", "level", "1", "id"],
+        "$[*].level[*].id",
+    ),
+    (
+        "{\"body\":{\"$.item1.level\":{\"matchers\":[{\"match\":\"type\"}]},\"$.*.level[*].id\":{\"matchers\":[{\"match\":\"type\"}]},\"$.item1.level[1]\":{\"matchers\":[{\"match\":\"type\"}]}}}",
+        &["item1", "level", "1", "id"],
+        "$.item1.level[1]",
+    ),
+    (
+        "{\"body\":{\"$.*.b\":{\"matchers\":[{\"match\":\"type\"}]},\"$.a.*\":{\"matchers\":[{\"match\":\"type\"}]}}}",
+        &["a", "b"],
+        "$.a[*]",
+    ),
+    (
+        "{\"body\":{\"$.item2\":{\"matchers\":[{\"match\":\"type\"}]}}}",
+        &["item1"],
+        "",
+    ),
+];
+
+#[test]
+fn choices(rt: HostRuntime) -> Result<(), Fail> {
+    for (rules, words, wanted) in CHOICES {
+        let text = path_chosen(rt.alloc(), rules, words)?;
+        assert_eq!(rt; text.as_str(), wanted);
+    }
+    Ok(())
+}
+
+/// Whether the matcher of the whole value in these rules holds; `None` if there is none.
+fn is_held(
+    alloc: Global,
+    rules: &str,
+    expected: &str,
+    actual: &str,
+    own_place: bool,
+) -> Result<Option<bool>, Fail> {
+    let table = table(alloc, rules)?;
+    let Some(index) = table.choose(&[]) else {
+        return Ok(None);
+    };
+    let Some(matcher) = table.entry(index).matchers.first() else {
+        return Ok(None);
+    };
+    let example = Value::from_str(alloc, expected)?;
+    let sent = Value::from_str(alloc, actual)?;
+    Ok(Some(holds(alloc, matcher, &example, &sent, own_place)?))
+}
+
+const EQUALITY: &str = "{\"body\":{\"$\":{\"matchers\":[{\"match\":\"equality\"}]}}}";
+
+const BOUNDED: &str =
+    "{\"body\":{\"$\":{\"matchers\":[{\"match\":\"type\",\"min\":1,\"max\":2}]}}}";
+
+const DIGITS: &str =
+    "{\"body\":{\"$\":{\"matchers\":[{\"match\":\"regex\",\"regex\":\"^[0-9]+$\"}]}}}";
+
+const PART: &str = "{\"body\":{\"$\":{\"matchers\":[{\"match\":\"include\",\"value\":\"ru\"}]}}}";
+
+const INTEGER: &str = "{\"body\":{\"$\":{\"matchers\":[{\"match\":\"integer\"}]}}}";
+
+const IS_NULL: &str = "{\"body\":{\"$\":{\"matchers\":[{\"match\":\"null\"}]}}}";
+
+/// The rules, the expected and the actual value, whether the place is the matcher's own, and whether it holds.
+const MATCHERS: [(&str, &str, &str, bool, bool); 21] = [
+    (EQUALITY, "1", "1", true, true),
+    (EQUALITY, "1", "2", true, false),
+    (EQUALITY, "[1]", "[2]", true, true),
+    (EQUALITY, "[1]", "[]", true, false),
+    (EQUALITY, "{\"a\":1}", "{\"b\":1}", true, false),
+    (BOUNDED, "[1]", "[]", true, false),
+    (BOUNDED, "[1]", "[]", false, true),
+    (BOUNDED, "[1]", "[1,2,3]", true, false),
+    (BOUNDED, "[1]", "[1,2]", true, true),
+    (BOUNDED, "1", "\"a\"", true, false),
+    (DIGITS, "1", "12", true, true),
+    (DIGITS, "1", "\"12\"", true, true),
+    (DIGITS, "1", "null", true, false),
+    (DIGITS, "1", "\"1a\"", true, false),
+    (PART, "1", "true", true, true),
+    (PART, "1", "false", true, false),
+    (PART, "1", "[\"ru\"]", true, false),
+    (INTEGER, "1", "7", true, true),
+    (INTEGER, "1", "\"7\"", true, false),
+    (IS_NULL, "1", "null", true, true),
+    (IS_NULL, "1", "0", true, false),
+];
+
+#[test]
+fn matchers(rt: HostRuntime) -> Result<(), Fail> {
+    for (rules, expected, actual, own_place, wanted) in MATCHERS {
+        let held = is_held(rt.alloc(), rules, expected, actual, own_place)?;
+        assert!(rt; held == Some(wanted), "{expected} {actual}");
+    }
+    Ok(())
+}
