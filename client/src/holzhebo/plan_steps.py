@@ -10,16 +10,13 @@ versions, since all of these are in FROM. Whether FROM is gated doesn't matter. 
 that is only claimed is no fault in FROM, and the matrix of each step's version says which are. desk/plan.js is the
 same for the page."""
 import concurrent.futures
-from typing import Any, Dict, FrozenSet, Iterable, List, NamedTuple, Optional, Protocol, Sequence, Tuple
+from typing import Dict, FrozenSet, Iterable, List, NamedTuple, Optional, Protocol, Sequence, Tuple
 from urllib.parse import quote, urlencode
 
-Json = Any
+from holzhebo.faults import Json, Stop
+
 # How many questions are asked at once, and how often it is begun again if something changes meanwhile.
 AT_ONCE, TRIES = 6, 3
-
-
-class Stop(Exception):
-    """Why there is no plan to say."""
 
 
 class Changed(Exception):

@@ -2,22 +2,12 @@
 import re
 from typing import Any, Dict, Iterable, List, Set
 
-from .plan import Plan
-from .plan_steps import Fault, Json, Step, Version
+from holzhebo.faults import Json
+from holzhebo.gate.sentences import FAULTS, GONE
 
-WHO = {
-    "absent": ["provider"],
-    "missing": ["provider"],
-    "claimed": ["provider"],
-    "failed": ["consumer", "provider"],
-}
-SENTENCES = {
-    "absent": "no {provider} is in {target}, which {one} calls: deploy one there first",
-    "missing": "{other} has no result for the contract of {one}: verify it, and send the result",
-    "failed": "{other} fails the contract of {one}: one of both has to change, and then a result that passes",
-    "claimed": "{other} only claims to keep the contract of {one}: send the replies that were recorded",
-}
-GONE = "{one} calls {provider}, which is to go: another version of {consumer} has to do without it"
+from .plan import Plan
+from .plan_steps import Fault, Step, Version
+
 LAST = "This is as the broker answers now. Each step is judged again as it is recorded, and a team needs its grant."
 # A version that is a hash, of which so many digits are enough if they say which it is.
 HASH, DIGITS = re.compile("[0-9a-f]{20,}"), 8
@@ -25,7 +15,7 @@ HASH, DIGITS = re.compile("[0-9a-f]{20,}"), 8
 
 def actors(fault: Fault) -> List[str]:
     """The services whose teams can act."""
-    return [{"consumer": fault.consumer.pacticipant, "provider": fault.provider}[it] for it in WHO[fault.kind]]
+    return [{"consumer": fault.consumer.pacticipant, "provider": fault.provider}[it] for it in FAULTS[fault.kind].by]
 
 
 def printable(text: object) -> str:
@@ -65,11 +55,12 @@ class Teller:
 
     def sentence(self, fault: Fault) -> str:
         one, other = fault.sides()
-        names = {"consumer": printable(one.pacticipant), "provider": printable(fault.provider), "target": self.target}
-        sentence = GONE if fault.kind == "absent" and fault.provider in self.gone else SENTENCES[fault.kind]
+        names = {"provider": printable(fault.provider), "environment": self.target}
+        told = GONE if fault.kind == "absent" and fault.provider in self.gone else FAULTS[fault.kind]
         stays = [it for it in (one, other) if it in self.kept]
         way_out = [f"; or take {self.name(it)} out of {self.target}" for it in stays]
-        return sentence.format(**names, one=self.name(one), other=self.name(other)) + "".join(way_out)
+        so = told.so.format(**names, one=self.name(one), other=self.name(other))
+        return f"{so}: {told.act}" + "".join(way_out)
 
     def team(self, service: str) -> str:
         contact = self.contacts.get(service)

@@ -13,6 +13,11 @@ def short(text: object, most: int = 60) -> str:
     return whole if len(whole) <= most else whole[: most - 3] + "..."
 
 
+def reason(why: BaseException) -> str:
+    """Why something can't be done, as the system says it."""
+    return short(getattr(why, "strerror", None) or str(why) or type(why).__name__, 100)
+
+
 def tell(text: str = "") -> None:
     """Prints lines in one write, so that a reader that ends early never meets half of them."""
     sys.stdout.write(text + "\n")

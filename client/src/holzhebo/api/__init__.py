@@ -13,10 +13,10 @@
 Each other answer is raised as `Refused`, with a sentence, the broker's JSON in `answer` and the status of HTTP in
 `http_status`; a broker that doesn't answer as `Stop`, of which `Refused` is one. Nothing here prints but a note on
 standard error while a broker that doesn't answer is asked again."""
+from holzhebo.api.address import Way
 from holzhebo.api.answers import Changed, Checked, Claimed, Deployed, Environment, Lack, Matrix, Permission
 from holzhebo.api.answers import Published, Released, Row
 from holzhebo.api.broker import Broker, NotPermitted, Refused
-from holzhebo.api.http import Way
 from holzhebo.faults import Stop
 
 __all__ = ["Broker", "Changed", "Checked", "Claimed", "Deployed", "Environment", "Lack", "Matrix", "NotPermitted"]

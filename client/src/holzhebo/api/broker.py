@@ -3,7 +3,8 @@ import json, time, urllib.parse
 from typing import Any, Callable, Dict, List, Optional, Tuple, Type, TypeVar
 
 from holzhebo.api import answers, policy
-from holzhebo.api.http import Address, Answer, Line, NoAnswer, Request, Way
+from holzhebo.api.address import Address, Way
+from holzhebo.api.http import Answer, Line, NoAnswer, Request
 from holzhebo.api.sentences import Names, member, sentence_of
 from holzhebo.api.shapes import BadShape, shaped
 from holzhebo.faults import Json, Stop

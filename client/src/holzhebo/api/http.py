@@ -1,12 +1,12 @@
 """Requests over HTTP/1.1, each with an end by the clock; no redirect is followed."""
-import base64, contextlib, http.client, os, re, socket, ssl, threading, urllib.parse
-from typing import Any, Dict, Iterator, NamedTuple, Optional
+import base64, contextlib, http.client, socket, ssl, threading, urllib.parse
+from typing import Any, Dict, Iterator, List, NamedTuple, Optional
 
-from holzhebo.faults import Json, Stop
-from holzhebo.text import short, shown
+from holzhebo.api.address import Address, Way
+from holzhebo.faults import Json
+from holzhebo.text import reason
 
 MOST_BYTES = 1048576
-LOOPBACK = re.compile(r"localhost|127(\.[0-9]{1,3}){3}|::1")
 
 
 class Answer(NamedTuple):
@@ -44,55 +44,6 @@ class Request(NamedTuple):
     target: str
     headers: Dict[str, str]
     body: Optional[bytes]
-
-
-class Address:
-    """An address of HTTP, without a user."""
-
-    def __init__(self, text: str) -> None:
-        found = re.fullmatch(r"(?i)https?://([\w.-]+|\[[0-9a-fA-F:.]+\])(?::([0-9]{1,5}))?([/?].*)?", text)
-        if not found or int(found[2] or 80) not in range(1, 65536):
-            raise Stop(f"{'this' if '@' in text else short(text)} is no address, as https://broker.example.org")
-        parts = urllib.parse.urlsplit(text)
-        self.is_https, self.host = parts.scheme == "https", parts.hostname or ""
-        self.port = parts.port or (443 if self.is_https else 80)
-        self.path, self.query = parts.path, parts.query
-        self.is_loopback = LOOPBACK.fullmatch(self.host) is not None
-
-    def name(self) -> str:
-        host = f"[{self.host}]" if ":" in self.host else self.host
-        return f"{host}:{self.port}"
-
-
-class Way(NamedTuple):
-    """How an address is reached: the file of certificates that are trusted beside the system's, and the proxy
-    between."""
-
-    cacert: Optional[str] = None
-    proxy: Optional[str] = None
-
-    def context(self) -> ssl.SSLContext:
-        try:
-            found = ssl.create_default_context()
-            if self.cacert:
-                found.load_verify_locations(self.cacert)
-            return found
-        except OSError as why:
-            raise Stop(f"{shown(self.cacert)} can't be used: {reason(why)}") from None
-
-
-def proxy_of(address: Address) -> Optional[str]:
-    """The proxy that the environment names for an address: HTTPS_PROXY or HTTP_PROXY, unless NO_PROXY has its host. An
-    address of this machine has none."""
-    kind = "https" if address.is_https else "http"
-    found = os.environ.get(f"{kind}_proxy") or os.environ.get(f"{kind.upper()}_PROXY")
-    if not found or address.is_loopback:
-        return None
-    left_out = os.environ.get("no_proxy") or os.environ.get("NO_PROXY") or ""
-    for it in (name.strip().lower().lstrip(".") for name in left_out.split(",")):
-        if it == "*" or it and (address.host.lower() == it or address.host.lower().endswith(f".{it}")):
-            return None
-    return found
 
 
 class Response(http.client.HTTPResponse):
@@ -176,10 +127,6 @@ def ended_after(line: http.client.HTTPConnection, seconds: float) -> Iterator[th
         timer.cancel()
 
 
-def reason(why: BaseException) -> str:
-    return short(getattr(why, "strerror", None) or str(why) or type(why).__name__, 100)
-
-
 class Line:
     """A connection to an address, which is kept from one request to the next if the other side keeps it."""
 
@@ -227,11 +174,32 @@ class Line:
 
 
 def connect(line: http.client.HTTPConnection) -> None:
-    try:
-        line.connect()
-    except (OSError, http.client.HTTPException, UnicodeError) as why:
+    """Opens a connection within its time. Names, several addresses and TLS can't be ended together from outside, so
+    they have a thread of their own, which is left if it is late."""
+    ended: List[Optional[BaseException]] = []
+    is_left = threading.Event()
+
+    def attempt() -> None:
+        try:
+            line.connect()
+            ended.append(None)
+        except BaseException as why:
+            ended.append(why)
+        if is_left.is_set():
+            line.close()
+
+    worker = threading.Thread(target=attempt, daemon=True)
+    worker.start()
+    worker.join(line.timeout)
+    if not ended or isinstance(ended[0], socket.timeout):
+        is_left.set()
+        raise NoAnswer(f"doesn't answer within {line.timeout:g} seconds", False)
+    why = ended[0]
+    if isinstance(why, (OSError, http.client.HTTPException, UnicodeError)):
         is_refused = isinstance(why, ConnectionRefusedError)
         raise NoAnswer("refuses the connection" if is_refused else reason(why), False) from None
+    if why is not None:
+        raise why
 
 
 def exchange_on(line: http.client.HTTPConnection, request: Request, seconds: float, most: int) -> "tuple[Answer, bool]":

@@ -33,6 +33,10 @@ UNKNOWN = {
 }
 
 
+# Of replies that weren't judged: a pattern of the contract, or what it is looked for in, is too large.
+PATTERN = "too much work for patterns"
+
+
 def member(value: Json, key: str) -> Json:
     return value.get(key) if isinstance(value, dict) else None
 
@@ -66,6 +70,8 @@ def sentence_of(answer: Answer, names: Optional[Names] = None) -> str:
         return unknown_of(said.get("what"), names or {})
     if word == "taken":
         return taken_of(said.get("what"), names or {})
+    if word == "pattern":
+        return PATTERN
     if word == "bad form":
         return f"the broker refuses the form: {shown(said.get('fault'))}"
     if 300 <= answer.status < 400:

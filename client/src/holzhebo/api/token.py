@@ -7,11 +7,14 @@ from holzhebo.files import read_text
 from holzhebo.text import shown
 
 
-def token_in(text: str) -> str:
-    """The token that a text is, or that is in it as curl's line."""
+FORM = "16 to 128 ASCII letters, digits and -._~+/="
+
+
+def token_in(text: str, where: str = "") -> str:
+    """The token that a text is, or that is in it as curl's line. The fault names where the text is from."""
     token = re.sub(r"(?i)^authorization:[ \t]*bearer[ \t]+", "", text.strip())
     if not re.fullmatch(r"[A-Za-z0-9._~+/=-]{16,128}", token):
-        raise Stop("token: it isn't 16 to 128 ASCII letters, digits and -._~+/=")
+        raise Stop(f"{where} has no token: that is {FORM}" if where else f"token: it isn't {FORM}")
     return token
 
 

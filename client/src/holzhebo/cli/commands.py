@@ -102,13 +102,13 @@ def can_i_deploy(parser: Parser) -> None:
 
 def instance(parser: Parser) -> None:
     text = "The instance, as canary; without it the one without a name"
-    parser.add_argument("--instance", "--application-instance", metavar="NAME", help=text)
+    parser.add_argument("--instance", "--application-instance", metavar="NAME", type=str, help=text)
 
 
 def deploy(parser: Parser) -> None:
     names(parser, "pacticipant", "version", "environment")
     text = "Then record that the version is no longer in this instance"
-    parser.add_argument("--then-undeploy", metavar="NAME", help=text)
+    parser.add_argument("--then-undeploy", metavar="NAME", type=str, help=text)
     instance(parser)
     asks(parser)
 

@@ -2,8 +2,8 @@
 import atexit, os, re
 from typing import Dict, List, Optional, Sequence
 
+from holzhebo.api.address import Address, Way, proxy_of
 from holzhebo.api.broker import Broker
-from holzhebo.api.http import Address, Way, proxy_of
 from holzhebo.api.token import token_in
 from holzhebo.cli.parser import Arguments, environ
 from holzhebo.faults import USAGE, Json, Stop

@@ -2,8 +2,8 @@
 import email.utils, time
 from typing import List, Optional, Tuple
 
-from holzhebo.api.broker import Broker
-from holzhebo.api.http import proxy_of
+from holzhebo.api.address import proxy_of
+from holzhebo.api.broker import Broker, Refused
 from holzhebo.cli.context import broker_of, config_path, tell_json, url_and_config
 from holzhebo.cli.parser import Arguments
 from holzhebo.faults import DONE, UNDONE, Stop
@@ -45,6 +45,8 @@ def look(args: Arguments, rows: List[Row]) -> None:
         return
     rows.append(("ok", "token", "the broker knows it"))
     rows.extend(known(broker, it) for it in args.pacticipant)
+    for it in args.environment:
+        rows.extend(there(broker, it, args.pacticipant))
 
 
 def without_user(url: str) -> str:
@@ -63,7 +65,38 @@ def clock(date: Optional[str]) -> Row:
 
 
 def known(broker: Broker, pacticipant: str) -> Row:
-    """Whether the broker knows a pacticipant. Whose it is can be asked only with one of its versions."""
+    """Whether the broker knows a pacticipant."""
     if broker.knows_pacticipant(pacticipant):
         return "ok", pacticipant, "the broker knows it"
     return "wrong", pacticipant, "the broker doesn't know it"
+
+
+def there(broker: Broker, environment: str, pacticipants: List[str]) -> List[Row]:
+    """Whether the broker knows an environment; and what the token may do for the pacticipants, which can be asked only
+    with a version of each: with one that is there."""
+    try:
+        said = broker.environment(environment)
+    except Refused as why:
+        if why.is_unknown("environment"):
+            return [("wrong", environment, str(why))]
+        raise
+    versions = {it.pacticipant: it.version for it in said.released}
+    versions.update({it.pacticipant: it.version for it in said.deployed})
+    marks = ["gated" if said.gated else "not gated"] + ["strict"] * said.strict
+    rows: List[Row] = [("ok", environment, ", ".join(marks))]
+    for it in pacticipants:
+        found = rules(broker, it, versions[it]) if it in versions else "isn't there, so whose it is can't be asked"
+        rows.append(("ok", f"{it} in {environment}", found))
+    return rows
+
+
+def rules(broker: Broker, pacticipant: str, version: str) -> str:
+    """What the token may do for a pacticipant, by the rules of docs/DEFINITIONS.md: who may ask for the matrix is of its
+    team, or the office."""
+    try:
+        broker.matrix(pacticipant, version)
+    except Refused as why:
+        if why.http_status == 403:
+            return f"{version}; another team's: this token may not ask for it, publish or deploy (A6, A3, A4, A7)"
+        raise
+    return f"{version}; this token may ask for it (A6), and if it isn't the office's or one that reads, publish (A3, A4)"

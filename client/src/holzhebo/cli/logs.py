@@ -1,5 +1,5 @@
-"""who, metrics and report: what needs no broker."""
-import sqlite3, sys
+"""who and report: what needs no broker."""
+import os, sqlite3, sys
 
 from holzhebo.cli.context import tell_json, tell_rows
 from holzhebo.cli.parser import Arguments
@@ -8,10 +8,17 @@ from holzhebo.files import replace_file
 from holzhebo.proxy.log import change_of, logs_of, requests_of
 from holzhebo.text import note, shown, tell
 
+# The page's desk.json, where the package of Debian has it.
+NAMES = "/etc/holzhebo/desk.json"
+
 
 def who(args: Arguments) -> int:
+    if args.page is not None:
+        from holzhebo.proxy.page import write_who
+
+        return write_who(args.page, requests_of(logs_of(args.log, True)))
     if args.environment is None and args.since is None:
-        raise Stop("what: give an environment, or --since", status=USAGE)
+        raise Stop("what: give an environment, --since or --page", status=USAGE)
     rows, first = [], ""
     for it in requests_of(logs_of(args.log, True)):
         first = first or it.time
@@ -33,14 +40,6 @@ def who(args: Arguments) -> int:
     return DONE
 
 
-def metrics(args: Arguments) -> int:
-    from holzhebo.pact.json import compact
-    from holzhebo.proxy.metrics import counted
-
-    found = counted(requests_of(logs_of(args.log, False)))
-    return written(args, compact(found.json()) if args.json else found.text())
-
-
 def written(args: Arguments, text: str) -> int:
     """Prints a text, or puts it in the place of a file at once."""
     if args.output is None:
@@ -55,8 +54,9 @@ def report(args: Arguments) -> int:
     from holzhebo.report.page import report as made
 
     paths = [args.copy, *([args.earlier] if args.earlier is not None else [])]
+    names = args.names or (NAMES if os.path.exists(NAMES) else None)
     try:
-        text = made(paths, args.json).rstrip("\n")
+        text = made(paths, args.json, names).rstrip("\n")
     except (Refused, OSError, sqlite3.Error) as why:
         note(shown(why))
         return NO

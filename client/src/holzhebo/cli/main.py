@@ -1,5 +1,5 @@
 """`holzhebo`: which command, its words, and how it ends."""
-import importlib, io, os, sys
+import contextlib, importlib, io, os, signal, sys
 from typing import List, Optional, Tuple
 
 from holzhebo import VERSION
@@ -16,7 +16,7 @@ The token is never a word of a command line. What may be sent twice is sent agai
 503, 504, a refused or a closed connection; and all of it if nothing was sent, or a proxy answers 429.
 Each command ends with a status. 0: done, passed, permitted. 1: failed, refused, not permitted.
 2: invalid command line. 3: it couldn't be done; one line on standard error says why."""
-EPIPE = 141
+EPIPE, TERMINATED = 141, 143
 
 
 def get_parser() -> Parser:
@@ -93,7 +93,14 @@ def attempt(command: Command, args: Arguments) -> int:
         return why.status
 
 
+def end(*_: object) -> None:
+    """Ends the program as SIGTERM asks, by which builds are cancelled: what was done is still said."""
+    sys.exit(TERMINATED)
+
+
 def main() -> int:
+    with contextlib.suppress(ValueError):  # only the first thread may
+        signal.signal(signal.SIGTERM, end)
     for stream in sys.stdout, sys.stderr:
         if isinstance(stream, io.TextIOWrapper):
             stream.reconfigure(errors="backslashreplace")

@@ -75,9 +75,7 @@ def environment(args: Arguments) -> int:
 
 
 def replace_token(args: Arguments) -> int:
-    _, has_readers = tokens.replace_token(args.file, args.new_token_file, args.into, args.caddy)
+    tokens.replace_token(args.file, args.new_token_file, args.into, args.caddy)
     said = f"{shown(args.new_token_file)} has the new token. Reload the proxy; then the old one is answered 401."
-    if has_readers:
-        said += f"\nThe tokens of {tokens.READERS} that only read do so by the new one from then on."
     tell('{"answer":"done"}' if args.json else said)
     return DONE

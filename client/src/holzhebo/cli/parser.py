@@ -8,12 +8,25 @@ from holzhebo.text import shown
 Arguments = argparse.Namespace
 
 
+def given(text: str) -> str:
+    if not text:
+        raise argparse.ArgumentTypeError("it is empty")
+    return text
+
+
 class Parser(argparse.ArgumentParser):
     """The parser of a command's words; what is wrong with them ends the program with 2."""
 
     def __init__(self, **how: Any) -> None:
         how.setdefault("formatter_class", argparse.RawDescriptionHelpFormatter)
         super().__init__(**how, allow_abbrev=False)
+
+    def add_argument(self, *names: Any, **how: Any) -> argparse.Action:
+        """Adds a word or an option. None may be empty, as a variable that isn't set makes it, unless its type is
+        another."""
+        if how.get("action", "append") == "append":
+            how.setdefault("type", given)
+        return super().add_argument(*names, **how)
 
     def error(self, message: str) -> NoReturn:
         print(f"error: {shown(message)}\n\nFor more information, try '--help'.", file=sys.stderr)
@@ -55,6 +68,27 @@ def number(text: str) -> int:
     return value
 
 
+def size(text: str) -> int:
+    value = int(text)
+    if not 1 <= value < 2**63:
+        raise ValueError
+    return value
+
+
+def count(text: str) -> int:
+    value = int(text)
+    if not 0 <= value < 2**63:
+        raise ValueError
+    return value
+
+
+def port(text: str) -> int:
+    value = int(text)
+    if not 1 <= value <= 65535:
+        raise ValueError
+    return value
+
+
 def moment(text: str) -> Any:
     from holzhebo.proxy.log import moment as read
 
@@ -86,7 +120,7 @@ def asks(parser: Parser) -> None:
     for name, how in COMMON.items():
         parser.add_argument(name, *SPELLINGS.get(name, []), **how)
     refused = {"dest": "token_word", "metavar": "TOKEN", "help": argparse.SUPPRESS}
-    parser.add_argument("-k", "--broker-token", **refused)  # type: ignore[arg-type]
+    parser.add_argument("-k", "--broker-token", **refused)
     parser.add_argument("-o", "--output", choices=["json", "table"], help=argparse.SUPPRESS)
 
 
@@ -97,7 +131,7 @@ def says_json(parser: Parser) -> None:
 def lists(parser: Parser) -> None:
     """An option of a command that prints a list."""
     text = "Print each item so, as '{pacticipant} {version}'; \\t and \\n are a tab and a new line"
-    parser.add_argument("--format", metavar="TEXT", help=text)
+    parser.add_argument("--format", metavar="TEXT", type=str, help=text)
 
 
 def which(parser: Parser) -> None:

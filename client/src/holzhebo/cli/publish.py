@@ -176,13 +176,22 @@ def publish(args: Arguments) -> int:
     files = [looked_at(path, program, args.as_it_is) for path in files_in(words)]
     clashes = {it.path: clash_of(files[:at], it) for at, it in enumerate(files)}
     if any(it.found.faults or clashes[it.path] for it in files):
-        return ended(args, [unsent(it, version, clashes[it.path]) for it in files], files, NO)
+        tell_all(args, [unsent(it, version, clashes[it.path]) for it in files], files)
+        return NO
     if args.branch is not None:
         for consumer in sorted({it.names[0] for it in files if it.names}):
             broker.name_version(consumer, version, args.branch)
-    done = [publish_file(broker, it, version) for it in files]
+    done: List[Publication] = []
+    try:
+        for it in files:
+            done.append(publish_file(broker, it, version))
+    finally:  # if it is interrupted, nobody knows whether the file on its way is stored
+        for at, it in enumerate(files[len(done) :]):
+            outcome = "not sent" if at else "not known"
+            done.append(Publication(it.path, outcome, it.sides(version), "it was interrupted", None))
+        tell_all(args, done, files)
     outcomes = {it.outcome for it in done}
-    return ended(args, done, files, UNDONE if "not sent" in outcomes else NO if "refused" in outcomes else DONE)
+    return UNDONE if "not sent" in outcomes else NO if "refused" in outcomes else DONE
 
 
 def clash_of(before: List[File], it: File) -> str:
@@ -200,14 +209,14 @@ def unsent(it: File, version: str, clash: str) -> Publication:
     return Publication(it.path, "not sent", it.sides(version), "another file is refused, and nothing is sent", None)
 
 
-def ended(args: Arguments, done: List[Publication], files: List[File], status: int) -> int:
+def tell_all(args: Arguments, done: List[Publication], files: List[File]) -> None:
     if args.json:
         rows = [
             {**it._asdict(), "found": findings_json(it.found, file.left_out) if it.found else None}
             for it, file in zip(done, files)
         ]
         tell_json(rows)
-        return status
+        return
     for it, file in zip(done, files):
         tell(f"{it.outcome:8}  {shown(it.path)}: {it.sides}{': ' if it.sides else ''}{it.why}")
         if it.found:
@@ -216,7 +225,6 @@ def ended(args: Arguments, done: List[Publication], files: List[File], status: i
     standing = [it for it in done if it.outcome in ("new", "known")]
     if len(standing) < len(done):
         tell(f"stored, and this stays: {len(standing)} of {counted(len(done), 'contract')}")
-    return status
 
 
 def register(args: Arguments) -> int:

@@ -14,7 +14,8 @@ from holzhebo.pact.program import program_at
 from holzhebo.text import counted, listed, note, shown, tell, tell_table
 from holzhebo.verify.contracts import Contract, Wanted, contracts_of, run_of
 from holzhebo.verify.provider import Played, Provider
-from holzhebo.verify.session import Session, Verdict, left_out, replies_of, status_of, verdict_json
+from holzhebo.verify.session import NOT_JUDGED, NOT_SENT, Session, Verdict, left_out, replies_of, status_of
+from holzhebo.verify.session import verdict_json
 
 
 def wanted_of(args: Arguments) -> Wanted:
@@ -50,7 +51,7 @@ def verify_each(args: Arguments, wanted: Wanted, verdicts: List[Verdict]) -> int
     search = contracts_of(broker, wanted)
     session = Session(broker, provider, args.version, args.run, args.jobs, args.filter, program_at(args.program))
     for name, why in search.failed:
-        verdicts.append(Verdict(name, None, [], "not sent", None, why))
+        verdicts.append(Verdict(name, None, [], NOT_SENT, None, why))
         tell_verdict(args, verdicts[-1])
     kept = (lambda contract, played: record(args.record, contract, played)) if args.record else (lambda *_: None)
     for it in session.verdicts(list(search.found.values()), kept):
@@ -67,11 +68,14 @@ def verify_each(args: Arguments, wanted: Wanted, verdicts: List[Verdict]) -> int
 
 
 def tell_end(args: Arguments, verdicts: List[Verdict]) -> None:
-    """Says at the end what was sent and what wasn't, if something wasn't."""
+    """Says at the end which contracts have a result and which haven't, if one hasn't."""
     sent = [it for it in verdicts if it.result is not None]
     if len(sent) < len(verdicts) and len(verdicts) > 1 and not args.json:
-        left = listed([it.name for it in verdicts if it.result is None])
-        tell(f"sent: {len(sent)} of {counted(len(verdicts), 'contract')}; not sent: {left}")
+        unjudged = [it.name for it in verdicts if it.outcome == NOT_JUDGED]
+        left = [it.name for it in verdicts if it.result is None and it.outcome != NOT_JUDGED]
+        lists = {"not sent": left, NOT_JUDGED: unjudged}
+        more = "".join(f"; {what}: {listed(names)}" for what, names in lists.items() if names)
+        tell(f"sent: {len(sent)} of {counted(len(verdicts), 'contract')}{more}")
     for it in verdicts:
         if it.disagrees:
             note(f"{it.name}: the broker and this client disagree; the broker's verdict counts")
@@ -223,26 +227,31 @@ def fetched(paths: List[str]) -> List[str]:
 
 def result(args: Arguments) -> int:
     """Claims one result after another; one that can't be sent doesn't stop the others."""
-    broker, told, files, undone = broker_of(args), [], fetched(args.file), False
-    for path in files:
-        try:
-            said = send_result(broker, args, path)
-            told.append(said)
-            line = f"{args.outcome} is claimed, result {said['result']}"
-            if said["answer"] == "already":
-                line = (
-                    f"{args.outcome} was claimed by this run before, as result {said['result']}: a later result counts"
-                )
-        except Stop as why:
-            told.append({"answer": "not sent", "file": path, "why": str(why)})
-            undone, line = True, ""
-            names_it = len(files) == 1 or str(why).startswith(shown(path))
-            note(str(why) if names_it else f"{shown(path)}: {why}")
-        if line and not args.json:
-            tell(f"{shown(path)}: {line}")
-    if args.json:
-        tell_json(told)
-    return UNDONE if undone else DONE
+    broker, told, files = broker_of(args), [], fetched(args.file)  # type: Broker, List[Json], List[str]
+    try:
+        for path in files:
+            try:
+                told.append(send_result(broker, args, path))
+                tell_claimed(args, path, told[-1])
+            except Stop as why:
+                told.append({"answer": NOT_SENT, "file": path, "why": str(why)})
+                names_it = len(files) == 1 or str(why).startswith(shown(path))
+                note(str(why) if names_it else f"{shown(path)}: {why}")
+    finally:  # if it is interrupted, nobody knows whether the one on its way is stored
+        for at, path in enumerate(files[len(told) :]):
+            told.append({"answer": NOT_SENT if at else "not known", "file": path, "why": "it was interrupted"})
+            note(f"{shown(path)}: {told[-1]['answer']}: it was interrupted")
+        if args.json:
+            tell_json(told)
+    return UNDONE if any(it["answer"] == NOT_SENT for it in told) else DONE
+
+
+def tell_claimed(args: Arguments, path: str, said: Json) -> None:
+    line = f"{args.outcome} is claimed, result {said['result']}"
+    if said["answer"] == "already":
+        line = f"{args.outcome} was claimed by this run before, as result {said['result']}: a later result counts"
+    if not args.json:
+        tell(f"{shown(path)}: {line}")
 
 
 def send_result(broker: Broker, args: Arguments, path: str) -> Json:

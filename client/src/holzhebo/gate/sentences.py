@@ -1,26 +1,53 @@
-"""The faults that the gate finds, in sentences: what a pair lacks, and who has to act. The report has them too."""
-from typing import Dict, Tuple
+"""The faults that the gate finds, in sentences: what a pair lacks, and who has to act. The client, its plan and its report
+have them from here; the page has the same in desk/gate.js, which tests/desk holds to these."""
+from typing import Dict, NamedTuple, Tuple
 
 from holzhebo.api import Lack
 from holzhebo.text import shown
 
-SENTENCES: Dict[str, Tuple[str, str]] = {
-    "absent": ("no {provider} is in {environment}, which {one} needs", "{provider} has to be deployed there first"),
-    "missing": ("{other} has no result for the contract of {one}", "The build of {provider} has to verify it"),
-    "failed": ("{other} fails the contract of {one}", "{provider} has to meet it, or {consumer} to ask for less"),
-    "claimed": ("{other} only claims to meet the contract of {one}", "The build of {provider} has to send its replies"),
+
+class Told(NamedTuple):
+    """What is so, what has to be done, and whose team can do it: that of the consumer or of the provider."""
+
+    so: str
+    act: str
+    by: Tuple[str, ...] = ("provider",)
+
+
+FAULTS: Dict[str, Told] = {
+    "absent": Told(
+        "{one} calls {provider}, of which no version is in {environment}",
+        "deploy a version of it there first",
+    ),
+    "missing": Told(
+        "{other} has no result for the contract of {one}",
+        "verify the contract, and send the result",
+    ),
+    "failed": Told(
+        "{other} fails the contract of {one}, by its latest result",
+        "one of them has to change; then a result that passes is needed",
+        ("consumer", "provider"),
+    ),
+    "claimed": Told(
+        "{other} only claims to keep the contract of {one}, and {environment} wants it checked",
+        "send the replies that were recorded",
+    ),
 }
+# Of a service that is to go, in a plan.
+GONE = Told(
+    "{one} calls {provider}, which is to go",
+    "another version of it has to do without what is to go",
+    ("consumer",),
+)
 
 
 def sentence_of(lack: Lack, environment: str) -> str:
     """What a pair lacks, and who has to act. A kind that isn't known here is named."""
     one, other = f"{lack.consumer} {lack.consumer_version}", f"{lack.provider} {lack.provider_version}"
-    names = {
-        "provider": lack.provider,
-        "consumer": lack.consumer,
-        "environment": environment,
-        "one": one,
-        "other": other,
-    }
-    what, who = SENTENCES.get(lack.kind, (f"{{one}} and {{provider}}: {shown(lack.kind)}", "See docs/DEFINITIONS.md"))
-    return f"{what}. {who}.".format(**{key: shown(it) for key, it in names.items()})
+    sides = {"consumer": shown(lack.consumer), "provider": shown(lack.provider)}
+    if lack.kind not in FAULTS:
+        return f"{shown(one)} and {sides['provider']}: {shown(lack.kind)}. See docs/DEFINITIONS.md."
+    so, act, by = FAULTS[lack.kind]
+    teams = " and ".join(f"the team of {sides[it]}" for it in by)
+    names = {"one": shown(one), "other": shown(other), "environment": shown(environment)}
+    return f"{so.format(**sides, **names)}. To act: {teams}: {act}."

@@ -35,6 +35,7 @@ WAY_OUT = (
     "write a whole example with a rule `type`: a library's verifier then still takes fractions, recorded replies can't"
     " have any; or let the provider send a text, as 19.99 in quotes, or a smaller unit, as 1999 cents"
 )
+IN_REQUEST = "write a text, as 19.99 in quotes, or a smaller unit, as 1999 cents, if the provider takes one of these"
 
 
 def read_numbers(found: Findings, file: Json) -> None:
@@ -42,7 +43,9 @@ def read_numbers(found: Findings, file: Json) -> None:
     if deep:
         found.fault("6.2", deep[0], "it nests deeper than 100 levels", "write a flatter example")
     for path, text in numbers_not_whole(file):
-        found.fault("6.1", path, f"the number {short(text)} isn't whole, or isn't from -2^63 to 2^64 - 1", WAY_OUT)
+        is_sent = re.match(r"\$\.interactions\[\d+\]\.(request|providerStates?)\b", path) is not None
+        what = f"the number {short(text)} isn't whole, or isn't from -2^63 to 2^64 - 1"
+        found.fault("6.1", path, what, IN_REQUEST if is_sent else WAY_OUT)
 
 
 def read_head(found: Findings, file: Json) -> None:

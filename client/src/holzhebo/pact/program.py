@@ -2,12 +2,12 @@
 import json, os, subprocess, tempfile
 from typing import Dict, List, Optional
 
-from holzhebo.api.http import reason
+from holzhebo.api.sentences import PATTERN
 from holzhebo.faults import DONE, NO, UNDONE, Json, Stop
 from holzhebo.files import write_file
 from holzhebo.pact.findings import Fault, Findings
 from holzhebo.pact.rules import PATTERNS
-from holzhebo.text import short, shown
+from holzhebo.text import reason, short, shown
 
 
 SECONDS = 60
@@ -31,7 +31,7 @@ class Program:
     def fault(self, content: bytes) -> Optional[str]:
         """The first fault of a pact file."""
         done = self.run(["normalise"], content)
-        line = said_by(done).rstrip("\n")
+        line = said_by(done)
         if done.returncode not in (DONE, UNDONE) or done.returncode and not line.startswith("pact "):
             raise Stop(f"{self.path} normalise ends with {done.returncode}: {short(line)}")
         return line if done.returncode else None
@@ -54,7 +54,9 @@ class Program:
                 write_file(words[-1], text)
             done = self.run(words)
         if done.returncode not in (DONE, NO):
-            raise Stop(f"{self.path} check ends with {done.returncode}: {short(said_by(done))}")
+            line = said_by(done)
+            why = PATTERN if line == "check 2" else f"check ends with {done.returncode}: {short(line)}"
+            raise Stop(f"{shown(self.path)}: {why}")
         said = done.stdout.split()
         if said[:1] != [b"pass" if done.returncode == DONE else b"fail"] or not all(it.isdigit() for it in said[1:]):
             raise Stop(f"{shown(self.path)} check says: {short(repr(done.stdout))}")
@@ -69,7 +71,7 @@ class Program:
 
 
 def said_by(done: "subprocess.CompletedProcess[bytes]") -> str:
-    return done.stderr.decode("utf-8", "replace")
+    return done.stderr.decode("utf-8", "replace").rstrip("\n")
 
 
 def program_at(path: Optional[str]) -> Optional[Program]:

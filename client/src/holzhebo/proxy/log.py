@@ -7,6 +7,8 @@ from holzhebo.pact.json import member
 from holzhebo.text import note, short, shown
 
 LOGS = ["/var/log/nginx/broker.log", "/var/log/caddy/broker.log"]
+# What a target may have before its path (RFC 9112, 3.2.2): Caddy logs it, and the broker doesn't get it.
+ADDRESS = re.compile(r"[A-Za-z][A-Za-z0-9+.-]*://[^/?]*")
 
 
 class Logged(NamedTuple):
@@ -32,7 +34,8 @@ def logged(line: str) -> Logged:
     else:
         texts = [said[it] for it in ("time", "team", "method", "path", "body")]
         seconds = said["seconds"]
-    time, team, method, path, body = map(str, texts)
+    time, team, method, target, body = map(str, texts)
+    path = target[it.end() :] if (it := ADDRESS.match(target)) else target
     return Logged(moment(time), time, team, method, path, body, int(said["status"]), float(seconds))
 
 
@@ -82,7 +85,7 @@ def change_of(it: Logged, environment: Optional[str]) -> Dict[str, str]:
     told = {"time": it.time, "team": it.team or "unknown"}
     if environment is None:
         return {**told, "method": it.method, "path": it.path, "body": it.body}
-    parts = it.path.split("/")
+    parts = it.path.partition("?")[0].split("/")
     if len(parts) != 4 or parts[1] != "environments" or urllib.parse.unquote(parts[2]) != environment:
         return {}
     told["change"] = parts[3]

@@ -1,15 +1,13 @@
 """The proxy's files of tokens, which examples/nginx.conf and examples/Caddyfile read."""
 import contextlib, fcntl, os, re
-from typing import Callable, Dict, Iterator, List, Tuple
+from typing import Callable, Dict, Iterator, List
 
 from holzhebo.api.token import new_token, token_in
 from holzhebo.faults import Stop
-from holzhebo.files import read_text, replace_file
+from holzhebo.files import read_file, read_text, replace_file
 from holzhebo.text import shown
 
 ENTRY = re.compile(r'\s*"~\^\\Q(.*)\\E\$" "(.*)";?\s*')
-READER = re.compile(r'(\s*"~\^GET \\Q.*\\E\$" ")(.*)(";?\s*)')
-READERS = "broker-readers"
 NO_NAME = re.compile(r'["$\\{}\x00-\x1f\x7f]')
 Lines = List[str]
 
@@ -19,6 +17,12 @@ def is_name_for_proxy(name: str) -> None:
     found = NO_NAME.search(name)
     if found:
         raise Stop(f"the proxy's file can't have the name {shown(name)}: it has {shown(found[0])!r}")
+
+
+def lines_of(path: str) -> Lines:
+    """The lines of a file as its bytes are: a name may have what ends a line elsewhere, as U+2028."""
+    lines = read_file(path).decode("utf-8", "surrogateescape").split("\n")
+    return lines if lines[-1] else lines[:-1]
 
 
 def entries_of(lines: Lines) -> Dict[str, str]:
@@ -43,7 +47,7 @@ def alone_with(path: str) -> Iterator[None]:
 
 def rewrite(path: str, change: Callable[[Lines], Lines]) -> None:
     """Writes the lines of a file again. It is replaced at once, and keeps its owner and its rights."""
-    lines = read_text(path).splitlines()
+    lines = lines_of(path)
     try:
         like = os.stat(path)
     except OSError as why:
@@ -63,19 +67,14 @@ def put_team(path: str, token: str, team: str, is_caddy: bool) -> None:
         rewrite(path, lambda lines: with_places(lines, {token: team}, is_caddy))
 
 
-def replaced_readers(lines: Lines, leaked: str, token: str) -> Lines:
-    """The lines of tokens that only read, with the new token in the place of the one that leaked."""
-    found = [(line, READER.fullmatch(line)) for line in lines]
-    return [f"{it[1]}{token}{it[3]}" if it and it[2] == leaked else line for line, it in found]
-
-
-def replace_token(leaked_file: str, new_file: str, path: str, is_caddy: bool) -> Tuple[str, bool]:
+def replace_token(leaked_file: str, new_file: str, path: str, is_caddy: bool) -> None:
     """Blocks a token at the proxy. If it was itself in the place of another one, the new token is so from then on. An
     older token isn't taken for the new one, since it may be another team's. Tokens that only read by the one that
-    leaked read by the new one: whether there were any is given too."""
+    leaked, or are for builds of its team, go on: the proxy puts it in their place after it looks for those that
+    leaked."""
     leaked = token_in(read_text(leaked_file))
     with alone_with(path):
-        place = entries_of(read_text(path).splitlines()).get(leaked, leaked)
+        place = entries_of(lines_of(path)).get(leaked, leaked)
         if not place:
             raise Stop(f"the proxy blocks the token of {shown(leaked_file)} already")
         token, is_new = new_token(new_file)
@@ -86,9 +85,3 @@ def replace_token(leaked_file: str, new_file: str, path: str, is_caddy: bool) ->
         except Stop:
             os.remove(new_file)
             raise
-        readers = os.path.join(os.path.dirname(os.path.realpath(path)), READERS)
-        lines = read_text(readers).splitlines() if os.path.exists(readers) else []
-        changed = replaced_readers(lines, leaked, token)
-        if changed != lines:
-            rewrite(readers, lambda _: changed)
-    return token, changed != lines

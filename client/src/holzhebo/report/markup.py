@@ -39,15 +39,14 @@ def sentence(pattern: str, **parts: str) -> Markup:
     return joined(values[it] if at % 2 else it for at, it in enumerate(cut))
 
 
-def table(heads: Sequence[str], rows: Sequence[Sequence[str]], nothing: str) -> Markup:
-    """A table with these heads, or what is said if it has no rows."""
+def table(caption: str, heads: Sequence[str], rows: Sequence[Sequence[str]], nothing: str) -> Markup:
+    """A table with these heads, or what is said if it has no rows. One that is too wide is scrolled, also by keyboard."""
     if not rows:
         return element("p", nothing)
     head = element("tr", *(element("th", it, scope="col") for it in heads))
     body = [element("tr", element("th", row[0], scope="row"), *(element("td", it) for it in row[1:])) for row in rows]
-    return element(
-        "div", element("table", element("thead", head), element("tbody", *body)), class_="wide", tabindex="0"
-    )
+    parts = element("caption", caption), element("thead", head), element("tbody", *body)
+    return element("div", element("table", *parts), class_="wide", tabindex="0", role="region", aria_label=caption)
 
 
 def listed(lines: Sequence[str], nothing: str) -> Markup:

@@ -15,7 +15,7 @@ def registry(copy: Copy) -> Markup:
         owned = [named(it) for it, owner in copy.owners.items() if owner == team]
         granted = copy.rows("SELECT environment FROM grants WHERE team = ? ORDER BY 1", team)
         rows.append([named(str(team)), joined(owned, ", "), joined((named(str(it)) for it, in granted), ", ")])
-    return table(("team", "owns", "may change what is in"), rows, "There is no team.")
+    return table("Teams", ("team", "owns", "may change what is in"), rows, "There is no team.")
 
 
 UNUSED = {
@@ -49,14 +49,15 @@ def evidence(copy: Copy) -> Markup:
         needed = set().union(*(needs(copy, there, it) for it in numbers))
         count = collections.Counter(outcome(copy, it) for it in needed)
         rows.append([headed(there), *(f"{count[it]:,}" for it in KINDS)])
-    first = table(("what the versions that are there need", *KINDS), rows, "There is no environment.")
+    caption = "How the needs of what is there are met"
+    first = table(caption, ("what the versions that are there need", *KINDS), rows, "There is no environment.")
     text = """SELECT r.provider, count(*),
             sum(r.pass AND k.result IS NOT NULL), sum(NOT r.pass AND k.result IS NOT NULL),
             sum(r.pass AND k.result IS NULL), sum(NOT r.pass AND k.result IS NULL)
         FROM results r LEFT JOIN checked_results k ON k.result = r.number GROUP BY 1 ORDER BY 1"""
     counts = [[named(str(name)), *(f"{it:,}" for it in numbers)] for name, *numbers in copy.rows(text)]
     heads = ("all results of a provider", "results", *(f"{a}, {b}" for a in KINDS[:2] for b in ("pass", "failure")))
-    return joined([first, table(heads, counts, "There is no result.")])
+    return joined([first, table("Results of each provider", heads, counts, "There is no result.")])
 
 
 # Since an earlier copy
@@ -128,7 +129,8 @@ def sizes(copy: Copy, earlier: Optional[Copy]) -> Markup:
     count = copy.number(text)
     rows.append(["bytes of the texts of contracts", f"{count:,}", *(f"{count - it:+,}" for it in before)])
     heads = ["rows", "now", *(["since the earlier copy"] if earlier else [])]
-    return joined([table(heads, rows, ""), *([growth(copy, earlier)] if earlier else [])])
+    found = table("The tables of the file", heads, rows, "")
+    return joined([found, *([growth(copy, earlier)] if earlier else [])])
 
 
 def growth(copy: Copy, earlier: Copy) -> Markup:

@@ -2,14 +2,16 @@
 import collections, tempfile, time
 from typing import List, Optional
 
+from holzhebo.desk.names import named_in
 from holzhebo.faults import Json
 from holzhebo.pact.json import compact
 from holzhebo.report.board import board, outdated, refusals
-from holzhebo.report.copy import Copy
+from holzhebo.report.copy import Copy, Refused
 from holzhebo.report.gate import needs, outcome
 from holzhebo.report.markup import element, joined
 from holzhebo.report.names import KINDS, TABLES, attach, changes, evidence, registry, sizes, unused
 from holzhebo.report.picture import picture
+from holzhebo.report.work import work_json, work_list
 
 
 STYLE = """
@@ -21,6 +23,9 @@ body { margin: 0 auto; max-width: 76rem; padding: 1rem; background: var(--sheet)
 h2 { margin: 2.5rem 0 .5rem; border-bottom: 2px solid var(--line) }
 h3 { margin: 1rem 0 0; font-size: 1rem }
 ul { margin: .2rem 0 }
+nav ol { columns: 20rem; padding-left: 1.5rem }
+a { color: inherit }
+caption { text-align: left; color: var(--soft) }
 bdi { white-space: pre-wrap }
 small, p.about { color: var(--soft) }
 .wide { overflow-x: auto; margin: 0 0 1.5rem }
@@ -56,6 +61,7 @@ def page(copy: Copy, earlier: Optional[Copy]) -> str:
         "What is where": board(copy),
         "Who consumes whom": picture(copy),
         "Consumers with another contract than their newest": outdated(copy),
+        "What providers have to verify": work_list(copy),
         "Owners and grants": registry(copy),
         "Names that nothing uses": unused(copy),
         "Claimed and checked": evidence(copy),
@@ -64,7 +70,10 @@ def page(copy: Copy, earlier: Optional[Copy]) -> str:
     }
     body = [element("h1", "A broker's report"), element("p", f"The {dated(copy)}.")]
     body.append(element("p", ABOUT, class_="about"))
-    body += [element("section", element("h2", title), part) for title, part in sections.items()]
+    links = [element("li", element("a", title, href=f"#part-{at}")) for at, title in enumerate(sections, 1)]
+    body.append(element("nav", element("ol", *links), aria_label="Contents"))
+    for at, (title, part) in enumerate(sections.items(), 1):
+        body.append(element("section", element("h2", title, id=f"part-{at}"), part))
     head = '<meta charset="utf-8"><meta name="viewport" content="width=device-width">'
     head += f'<meta http-equiv="Content-Security-Policy" content="{POLICY}">'
     head += f"<title>A broker's report</title><style>{STYLE}</style>"
@@ -72,8 +81,8 @@ def page(copy: Copy, earlier: Optional[Copy]) -> str:
 
 
 def numbers(copy: Copy) -> Json:
-    """What a machine reads: of each environment what today's gate would refuse and how needs are met; rows and
-    bytes."""
+    """What a machine reads: of each environment what the gate would have refused and how needs are met; what is to be
+    verified; rows and bytes."""
     environments = {}
     for there in copy.environments:
         present = set().union(*there.there.values())
@@ -89,13 +98,26 @@ def numbers(copy: Copy) -> Json:
             "needs": {it: count[it] for it in KINDS},
         }
     rows = {it: copy.number(f"SELECT count(*) FROM {it}") for it in TABLES}
-    return {"made": moment(copy.made), "bytes": copy.size, "environments": environments, "rows": rows}
+    found = {"made": moment(copy.made), "bytes": copy.size, "environments": environments, "rows": rows}
+    return {**found, "toVerify": work_json(copy)}
 
 
-def report(paths: List[str], as_json: bool) -> str:
+def order_in(path: Optional[str]) -> List[str]:
+    """The environments in the order of the page's desk.json."""
+    if path is None:
+        return []
+    names = named_in(path, "environments")
+    if not isinstance(names, list):
+        raise Refused(f"{path} can't be read, or names no environments")
+    return [it for it in names if isinstance(it, str)]
+
+
+def report(paths: List[str], as_json: bool, names: Optional[str] = None) -> str:
     """The page, or its numbers as JSON, of a copy and of an earlier one if there is a second path."""
+    order = order_in(names)
     with tempfile.TemporaryDirectory() as room:
         copy, *others = [Copy(it, room) for it in paths]
+        copy.environments.sort(key=lambda it: order.index(it.name) if it.name in order else len(order))
         for it in others:
             attach(copy, it, room)
         return compact(numbers(copy)) + "\n" if as_json else page(copy, others[0] if others else None)

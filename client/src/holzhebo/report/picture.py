@@ -118,4 +118,5 @@ def picture(copy: Copy) -> Markup:
     high = max(y for _, y in places.values()) + HEIGHT + 20
     size = {"viewBox": f"0 0 {wide} {high}", "width": str(wide), "height": str(high), "role": "img"}
     drawn = element("svg", element("title", "Who consumes whom"), element("defs", marker), *arrows, *boxes, **size)
-    return joined([element("p", LEGEND), element("div", drawn, class_="wide", tabindex="0")])
+    fields = {"class_": "wide", "tabindex": "0", "role": "region", "aria_label": "Who consumes whom"}
+    return joined([element("p", LEGEND), element("div", drawn, **fields)])

@@ -5,10 +5,12 @@ from typing import List
 from holzhebo.faults import Json
 from holzhebo.text import listed, short, shown
 from holzhebo.verify.provider import NOT_PLAYED, Played
-from holzhebo.verify.session import Verdict
+from holzhebo.verify.session import NOT_JUDGED, NOT_SENT, Verdict
 
 Element = xml.etree.ElementTree.Element
 Below = xml.etree.ElementTree.SubElement
+# What is said of replies without a verdict.
+LACKING = {NOT_SENT: "sent", NOT_JUDGED: "judged"}
 
 
 def title(interaction: Json) -> str:
@@ -42,8 +44,8 @@ def junit(verdicts: List[Verdict], ended_by: str = "") -> str:
         suite = Below(suites, "testsuite", {"name": verdict.name})
         for it in verdict.played:
             add_case(suite, verdict, it)
-        if verdict.outcome == "not sent" and not any(it.outcome == NOT_PLAYED for it in verdict.played):
-            add_error(suite, verdict.name, "the replies are sent", verdict.why)
+        if verdict.outcome in LACKING and not any(it.outcome == NOT_PLAYED for it in verdict.played):
+            add_error(suite, verdict.name, f"the replies are {LACKING[verdict.outcome]}", verdict.why)
         if verdict.disagrees:
             add_error(suite, verdict.name, "the broker and this client agree", "they don't: see the lines of the cases")
     if ended_by:

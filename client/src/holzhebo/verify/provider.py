@@ -1,16 +1,17 @@
 """A running provider: where it is, whether it is there, and its answers."""
 import contextlib, http.client, json, re, threading, time
-from typing import Dict, List, NamedTuple, Optional
+from typing import Dict, Iterator, List, NamedTuple, Optional
 
-from holzhebo.api.http import Address, NoAnswer, Request, connect, exchange, line_to, reason
+from holzhebo.api.address import Address
+from holzhebo.api.http import NoAnswer, Request, connect, exchange, line_to
 from holzhebo.faults import Json, Stop
 from holzhebo.files import read_text
-from holzhebo.text import shown
+from holzhebo.text import reason, shown
 from holzhebo.verify.contracts import Contract
 from holzhebo.verify.reply import recorded
 from holzhebo.verify.request import Unplayable, request_of
 
-PLAYED, NOT_PLAYED, CLOSED = "played", "not played", "closed"
+PLAYED, NOT_PLAYED, SILENT = "played", "not played", "silent"
 
 
 class Played(NamedTuple):
@@ -111,6 +112,19 @@ class Provider:
         if not 200 <= answer.status < 300:
             raise Unplayable(f"the state {shown(state['name'])} can't be {verb}: {answer.status}")
 
+    @contextlib.contextmanager
+    def in_states(self, contract: Contract, states: List[Json]) -> Iterator[None]:
+        """Sets the states, and takes those back that were set, however what is done in them ends."""
+        stand: List[Json] = []
+        try:
+            for it in states:
+                self.set_state(contract, it, "setup")
+                stand.insert(0, it)
+            yield
+        finally:
+            for it in stand if self.has_teardown else ():
+                self.set_state(contract, it, "teardown")
+
     def play(self, contract: Contract, interaction: Json) -> Played:
         """Plays a request, between the states that it asks for. A provider that is there and gives no answer fails the
         interaction; one that isn't there, or that answers more than is read, doesn't."""
@@ -120,12 +134,8 @@ class Provider:
             return Played(interaction, NOT_PLAYED, None, why)
         try:
             request = request_of(interaction, self.url, self.headers)
-            for state in states if self.states else ():
-                self.set_state(contract, state, "setup")
-            played = self.answered(interaction, request)
-            for state in reversed(states) if self.states and self.has_teardown else ():
-                self.set_state(contract, state, "teardown")
-            return played
+            with self.in_states(contract, states if self.states else []):
+                return self.answered(interaction, request)
         except Unplayable as why:
             return Played(interaction, NOT_PLAYED, None, str(why))
         except (ValueError, http.client.HTTPException) as why:
@@ -137,14 +147,12 @@ class Provider:
             return Played(interaction, PLAYED, found.response, "", gone=found.gone)
         except NoAnswer as why:
             said = f"the provider {why}"
-            if why.is_limit or not why.was_sent:
-                return Played(interaction, NOT_PLAYED, None, said)
-            return Played(interaction, CLOSED if why.is_closed else PLAYED, None, said)
+            return Played(interaction, NOT_PLAYED if why.is_limit or not why.was_sent else SILENT, None, said)
 
     def settled(self, played: List[Played]) -> List[Played]:
-        """Connections that were closed fail an interaction only if the provider has answered something at all."""
+        """What got no answer fails an interaction only if the provider has answered something at all."""
         outcome = PLAYED if self.was_heard.is_set() else NOT_PLAYED
-        return [it._replace(outcome=outcome) if it.outcome == CLOSED else it for it in played]
+        return [it._replace(outcome=outcome) if it.outcome == SILENT else it for it in played]
 
 
 def said_of(why: NoAnswer) -> str:

@@ -2,7 +2,8 @@
 import json, re, urllib.parse
 from typing import Dict, Iterator, Optional
 
-from holzhebo.api.http import Address, Request
+from holzhebo.api.address import Address
+from holzhebo.api.http import Request
 from holzhebo.faults import Json
 from holzhebo.pact.faults import is_header_value
 from holzhebo.pact.json import ascii_lower, children, member

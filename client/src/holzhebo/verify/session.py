@@ -5,6 +5,7 @@ from concurrent.futures import ThreadPoolExecutor
 from typing import Callable, Iterator, List, NamedTuple, Optional
 
 from holzhebo.api import Broker, Refused, Stop
+from holzhebo.api.sentences import member
 from holzhebo.faults import DONE, NO, UNDONE, Json
 from holzhebo.pact.program import Program
 from holzhebo.text import counted, shown
@@ -13,11 +14,13 @@ from holzhebo.verify.differs import explained
 from holzhebo.verify.provider import NOT_PLAYED, Played, Provider
 
 KEYS = ("description", "providerStates")
+# Of a contract without a verdict: nobody got the replies; or who did couldn't compare them with it.
+NOT_SENT, NOT_JUDGED = "not sent", "not judged"
 
 
 class Verdict(NamedTuple):
-    """What became of a contract: passed, failed or not sent; the number of the result, or why there is none.
-    `disagrees`: what this client finds surely isn't what the broker says."""
+    """What became of a contract: passed, failed, not sent or not judged; the number of the result, or why there is
+    none. `disagrees`: what this client finds surely isn't what the broker says."""
 
     name: str
     contract: Optional[Contract]
@@ -71,8 +74,11 @@ class Session:
         beside = [at for at in range(len(interactions)) if at not in alone]
         play: Callable[[int], Played] = lambda at: self.provider.play(contract, interactions[at])
         found = {at: play(at) for at in alone}
-        with ThreadPoolExecutor(max(1, self.jobs)) as workers:
+        workers = ThreadPoolExecutor(max(1, self.jobs))
+        try:
             found.update(zip(beside, workers.map(play, beside)))
+        finally:  # what ends the run doesn't wait for them
+            workers.shutdown(wait=False, cancel_futures=True)
         return self.provider.settled([found[at] for at in range(len(interactions))])
 
     def verdict(self, contract: Contract, played: List[Played]) -> Verdict:
@@ -82,7 +88,7 @@ class Session:
         name = contract.name()
         if unplayed:
             why = f"{counted(len(unplayed), 'interaction')} can't be played"
-            return Verdict(name, contract, played, "not sent", None, why)
+            return Verdict(name, contract, played, NOT_SENT, None, why)
         if self.text is not None:
             return self.judged_here(contract, played, f"only {counted(len(played), 'interaction')} by --filter")
         if not contract.versions:
@@ -95,18 +101,22 @@ class Session:
             if not all(0 <= at < len(played) for at in said.failing):
                 raise Stop("the address answers, but not as a broker: $.failing")
         except Refused as why:
-            return Verdict(name, contract, played, "not sent", None, str(why))
+            outcome = NOT_JUDGED if member(why.answer, "answer") == "pattern" else NOT_SENT
+            return Verdict(name, contract, played, outcome, None, str(why))
         except Stop as why:
             self.broker.patience = 0
-            return Verdict(name, contract, played, "not sent", None, str(why))
+            return Verdict(name, contract, played, NOT_SENT, None, str(why))
         before = "" if said.is_new else "the same run sent it before"
         return judged(contract, played, said.failing, said.result, before)
 
     def judged_here(self, contract: Contract, played: List[Played], why: str) -> Verdict:
         if self.program is None:
-            return Verdict(contract.name(), contract, played, "not sent", None, why)
+            return Verdict(contract.name(), contract, played, NOT_SENT, None, why)
         pact = json.dumps({**json.loads(contract.text), "interactions": [it.interaction for it in played]})
-        failing = self.program.failing(pact, {"replies": replies_of(played)})
+        try:
+            failing = self.program.failing(pact, {"replies": replies_of(played)})
+        except Stop as fault:
+            return Verdict(contract.name(), contract, played, NOT_JUDGED, None, str(fault))
         return judged(contract, played, failing, None, why)
 
     def verdicts(
@@ -123,12 +133,11 @@ class Session:
 
 
 def status_of(verdicts: List[Verdict]) -> int:
-    """A failure decides; then what wasn't sent, and what isn't understood."""
+    """What isn't understood decides; then a failure, and then what has no verdict."""
     outcomes = {it.outcome for it in verdicts}
-    is_undone = "not sent" in outcomes or any(it.disagrees for it in verdicts)
     if any(it.disagrees for it in verdicts):
         return UNDONE
-    return NO if "failed" in outcomes else UNDONE if is_undone else DONE
+    return NO if "failed" in outcomes else UNDONE if {NOT_SENT, NOT_JUDGED} & outcomes else DONE
 
 
 def left_out(verdict: Verdict) -> List[str]:

@@ -1,0 +1,57 @@
+"""Addresses of HTTP, and the way to them."""
+import os, re, ssl, urllib.parse
+from typing import NamedTuple, Optional
+
+from holzhebo.faults import Stop
+from holzhebo.text import reason, short, shown
+
+LOOPBACK = re.compile(r"localhost|127(\.[0-9]{1,3}){3}|::1")
+
+
+class Address:
+    """An address of HTTP, without a user."""
+
+    def __init__(self, text: str) -> None:
+        found = re.fullmatch(r"(?i)https?://([\w.-]+|\[[0-9a-fA-F:.]+\])(?::([0-9]{1,5}))?([/?].*)?", text)
+        if not found or int(found[2] or 80) not in range(1, 65536):
+            raise Stop(f"{'this' if '@' in text else short(text)} is no address, as https://broker.example.org")
+        parts = urllib.parse.urlsplit(text)
+        self.is_https, self.host = parts.scheme == "https", parts.hostname or ""
+        self.port = parts.port or (443 if self.is_https else 80)
+        self.path, self.query = parts.path, parts.query
+        self.is_loopback = LOOPBACK.fullmatch(self.host) is not None
+
+    def name(self) -> str:
+        host = f"[{self.host}]" if ":" in self.host else self.host
+        return f"{host}:{self.port}"
+
+
+class Way(NamedTuple):
+    """How an address is reached: the file of certificates that are trusted beside the system's, and the proxy
+    between."""
+
+    cacert: Optional[str] = None
+    proxy: Optional[str] = None
+
+    def context(self) -> ssl.SSLContext:
+        try:
+            found = ssl.create_default_context()
+            if self.cacert:
+                found.load_verify_locations(self.cacert)
+            return found
+        except OSError as why:
+            raise Stop(f"{shown(self.cacert)} can't be used: {reason(why)}") from None
+
+
+def proxy_of(address: Address) -> Optional[str]:
+    """The proxy that the environment names for an address: HTTPS_PROXY or HTTP_PROXY, unless NO_PROXY has its host. An
+    address of this machine has none."""
+    kind = "https" if address.is_https else "http"
+    found = os.environ.get(f"{kind}_proxy") or os.environ.get(f"{kind.upper()}_PROXY")
+    if not found or address.is_loopback:
+        return None
+    left_out = os.environ.get("no_proxy") or os.environ.get("NO_PROXY") or ""
+    for it in (name.strip().lower().lstrip(".") for name in left_out.split(",")):
+        if it == "*" or it and (address.host.lower() == it or address.host.lower().endswith(f".{it}")):
+            return None
+    return found
