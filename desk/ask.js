@@ -182,11 +182,13 @@ export async function settings() {
   return { environments, contacts: new Map(Object.entries(contacts ?? {})), builds, who };
 }
 
-/** Who put what into an environment, oldest first, as `holzhebo who ENVIRONMENT --json` writes it, if desk.json says
- * that such files are beside it; nothing if there is none. */
+/** Who put what into an environment, oldest first, as `holzhebo who --page` writes it, if desk.json says that such files
+ * are beside it; nothing if there is none. A file's name has the environment as an address has it, so in the file's own
+ * address it is written so twice. */
 export async function whoDid({ who }, environment) {
   if (who !== true) return [];
-  const { status, text } = await fetched(`who-${encodeURIComponent(environment)}.json`, {}), found = parsed(text);
+  const name = encodeURIComponent(encodeURIComponent(environment));
+  const { status, text } = await fetched(`who-${name}.json`, {}), found = parsed(text);
   const line = { change: TEXT, pacticipant: TEXT, version: TEXT, instance: TEXT, team: TEXT, time: TEXT };
   return status === 200 && has({ found }, { found: [line] }) ? found : [];
 }

@@ -43,7 +43,7 @@ async function today(service, number, environment) {
 const PUTS = ['deployments', 'releases'];
 
 /** Who put it there, and when, if the proxy's log says so. */
-function when(who, service, it) {
+export function when(who, service, it) {
   const isIt = each => PUTS.includes(each.change) && each.pacticipant === service && each.version === it.version
     && each.instance === it.instance;
   const found = who.filter(isIt).at(-1);

@@ -1,7 +1,7 @@
 // The matrix of a version: what it calls, and who calls it, with the latest results. What has one content and one
 // result is one row, and versions of a provider with one outcome are one column.
-import { matrixOf } from './ask.js';
-import { listings } from './board.js';
+import { matrixOf, whoDid } from './ask.js';
+import { listings, when } from './board.js';
 import { consumerOf, contractLink, providerOf } from './gate.js';
 import { count, el, form, heading, input, link, named, numbered, table, version } from './nodes.js';
 import { buildOf, go } from './place.js';
@@ -34,7 +34,8 @@ function several(pacticipant, versions, where, why) {
   const there = versions.filter(it => where.has(key(pacticipant, it)));
   const first = there.length ? there : versions.slice(0, 1);
   const others = versions.filter(it => !first.includes(it));
-  const place = it => (there.length ? el('small', {}, ' in ', where.get(key(pacticipant, it)).join(', ')) : '');
+  const names = it => where.get(key(pacticipant, it)).map(each => each.environment).join(', ');
+  const place = it => (there.length ? el('small', {}, ' in ', names(it)) : '');
   const shown = first.map((it, at) => [at ? ', ' : '', numbered(it, versions), place(it)]);
   const all = [named(pacticipant), ' ', shown];
   if (others.length === 0) return el('span', { class: 'several' }, all);
@@ -46,16 +47,25 @@ function several(pacticipant, versions, where, why) {
   return el('span', { class: 'several' }, all, ' ', rest);
 }
 
-/** Which environments have a version. */
-async function whereAre(environments) {
+/** Which environments have a version, and who put it there, if the proxy's log says so. */
+async function whereAre(settings) {
   const found = new Map();
-  for (const all of await listings(environments)) {
-    for (const it of [...all.deployed, ...all.released]) {
+  for (const all of await listings(settings.environments)) {
+    const { environment } = all, who = await whoDid(settings, environment);
+    for (const it of [...all.deployed, ...all.released.map(each => ({ ...each, instance: '' }))]) {
       const name = key(it.pacticipant, it.version), known = found.get(name) ?? [];
-      found.set(name, known.includes(all.environment) ? known : [...known, all.environment]);
+      const place = { environment, by: when(who, it.pacticipant, it) };
+      if (!known.some(each => each.environment === environment)) found.set(name, [...known, place]);
     }
   }
   return found;
+}
+
+/** Where the version of the matrix is. */
+function placeOf(places) {
+  if (!places) return '';
+  const each = ({ environment, by }, at) => [at ? ', ' : '', named(environment), by ? [' ', by] : ''];
+  return el('p', { class: 'act' }, 'It is in ', places.map(each), '.');
 }
 
 /** The columns: versions of one provider with one outcome are one, whose latest result is shown. */
@@ -70,9 +80,9 @@ function columnsOf(rows) {
 export async function matrix(settings, service, number) {
   const words = form('Show', [input('service', service), input('version', number)], (...them) => go('matrix', ...them));
   if (!(service && number)) return [heading('The matrix of a version'), words];
-  const [{ rows }, where] = await Promise.all([matrixOf(service, number), whereAre(settings.environments)]);
+  const [{ rows }, where] = await Promise.all([matrixOf(service, number), whereAre(settings)]);
   const it = { pacticipant: service, version: number };
-  const top = [heading('The matrix of ', version(service, number)), words];
+  const top = [heading('The matrix of ', version(service, number)), words, placeOf(where.get(key(service, number)))];
   if (rows.length === 0) return [top, el('p', {}, 'It has no contracts, and no results.', buildOf(settings, it))];
   const isOwn = row => row.consumer === service && row.consumerVersion === number;
   const calls = columnsOf(rows.filter(isOwn)), callers = rows.filter(row => !isOwn(row));

@@ -22,9 +22,12 @@ export function placed(all) {
   return [...all.deployed.map(it => place(it, 'deploy', it.instance)), ...released];
 }
 
-/** What the other environment hasn't, with what it replaces there; and what stays there. What is only released there is
- * released. */
-export function stepsOf(from, to) {
+/** How what is there came, and how it is ended. */
+const ENDS = { deploy: 'undeploy', release: 'end-support' };
+
+/** What the other environment hasn't, with what it replaces there, and the end of what goes; and what stays there. What
+ * is only released there is released. */
+export function stepsOf(from, to, gone = []) {
   const there = placed(to), at = new Map(there.map(it => [it.place, it])), has = new Set(there.map(idOf));
   const known = how => new Set(there.filter(it => it.how === how).map(it => it.pacticipant));
   const deployed = known('deploy'), released = known('release'), steps = new Map();
@@ -35,15 +38,20 @@ export function stepsOf(from, to) {
     const step = { pacticipant: it.pacticipant, version: it.version, old: isRelease ? undefined : old };
     steps.set(place, { ...step, how: isRelease ? 'release' : 'deploy', instance: isRelease ? '' : it.instance });
   }
+  for (const it of there.filter(each => gone.includes(each.pacticipant))) {
+    steps.set(it.place, { ...it, old: it, how: ENDS[it.how], ends: true });
+  }
   return { steps: [...steps.values()], kept: there.filter(it => !steps.has(it.place)) };
 }
 
 // What is known
 
-/** Collects faults: those of two versions by their pair, those of absent providers by the consumer; each once. */
+/** Collects faults: those of two versions by their pair, those of absent providers by the consumer; each once. Those of
+ * services that go are by the version that calls them. */
 class Faults {
   bad = new Map();
   absent = new Map();
+  without = new Map();
   known = new Map();
 
   add(it) {
@@ -60,11 +68,14 @@ export class Changed extends Error {}
 
 /** The faults of each step's version with what is in the other environment, and with the other steps' versions, which
  * are all in the first: two answers of the gate a step. A strict environment needs the matrix too, if the first isn't
- * strict: a pass that is only claimed is no fault there. Nothing is asked if the gate of the other one is open. */
-export async function faultsOf(steps, from, to, { gate, matrix }) {
+ * strict: a pass that is only claimed is no fault there. Of services that go the first has nothing, so what calls them
+ * is what its gate says of each version that comes, stays or is replaced. Nothing is asked if the gate of the other one
+ * is open. */
+export async function faultsOf(steps, from, to, { gate, matrix }, kept = [], gone = []) {
   const found = new Faults();
   if (!to.gated) return found;
-  const news = [...new Map(steps.map(it => [idOf(it), it])).values()], isNew = new Set(news.map(idOf));
+  const once = all => [...new Map(all.map(it => [idOf(it), it])).values()], comes = steps.filter(it => !it.ends);
+  const news = once(comes), isNew = new Set(news.map(idOf));
   const all = asked => Promise.all(news.map(asked));
   const [now, then, claims] = await Promise.all([
     all(it => gate(it.pacticipant, it.version, to.environment)),
@@ -86,6 +97,10 @@ export async function faultsOf(steps, from, to, { gate, matrix }) {
     const it = { consumer, consumerVersion, kind: 'claimed', provider, providerVersion };
     if (row.success && row.evidence === 'claimed' && isBetween(it)) found.add(it);
   }
+  const stay = gone.length > 0 ? once([...news, ...kept, ...comes.map(it => it.old).filter(Boolean)]) : [];
+  const answers = await Promise.all(stay.map(it => gate(it.pacticipant, it.version, from.environment)));
+  const calls = ({ faults }) => faults.filter(it => gone.includes(it.provider));
+  stay.forEach((it, at) => found.without.set(idOf(it), calls(answers[at])));
   return found;
 }
 
@@ -95,21 +110,30 @@ export async function faultsOf(steps, from, to, { gate, matrix }) {
 export const MOST_SPLITS = 500, FEW_SPLITS = 50;
 
 /** What the gate says of a step after others. Which steps are done decides it, and not their order. Done steps only
- * take faults away, but for clashes: a new version that doesn't go with another new one. So without clashes a step that
- * is permitted stays so, and the order is found by doing each as soon as it is permitted. With a clash there is no
- * order of all: the later one of the two is refused. */
+ * take faults away, but for clashes: a new version that doesn't go with another new one, or that calls a service that
+ * goes. So without clashes a step that is permitted stays so, and the order is found by doing each as soon as it is
+ * permitted. With a clash there is no order of all: the later one of the two is refused. Ending something is never
+ * refused by the gate; it counts as refused if what is there afterwards calls it. */
 export class Plan {
   constructor({ steps, kept, faults }) {
-    const between = (it, other) => (other && faults.bad.get(pairOf(it, other))) ?? [];
-    const table = of => steps.map(it => new Map(steps.map((other, y) => [y, between(it, of(other))])
+    const between = (it, other) => (it.ends || !other ? [] : faults.bad.get(pairOf(it, other)) ?? []);
+    const calls = (version, it) => faults.without.get(idOf(version))?.filter(each => each.provider === it.pacticipant);
+    const without = (version, it) => (it.ends ? calls(version, it) ?? [] : []);
+    const ends = (one, other) => (one.ends === other.ends ? [] : [...without(one, other), ...without(other, one)]);
+    const clashes = (one, other) => (one.ends || other.ends ? ends(one, other) : between(one, other));
+    const isBefore = (one, other) => one.ends && other.old && !other.ends;
+    const needs = (one, other) => (isBefore(one, other) ? without(other.old, one) : between(one, other.old));
+    const table = of => steps.map(it => new Map(steps.map((other, y) => [y, of(it, other)])
       .filter(([, found]) => found.length > 0)));
+    const stays = [...new Map(kept.map(it => [idOf(it), it])).values()];
     Object.assign(this, { steps, all: steps.map((_, x) => x) });
-    this.fixed = steps.map(it => [...new Set(kept.flatMap(other => between(it, other)))]);
-    this.clash = table(it => it);
-    this.first = table(it => it.old);
+    this.fixed = steps.map(it => stays.flatMap(other => [...between(it, other), ...without(other, it)]));
+    this.clash = table(clashes);
+    this.first = table(needs);
     this.touched = this.all.map(x => this.all.filter(y => this.clash[x].has(y) || this.first[x].has(y)));
-    const bring = service => this.all.filter(y => steps[y].pacticipant === service);
-    this.lacks = steps.map(it => (faults.absent.get(idOf(it)) ?? []).map(fault => [fault, bring(fault.provider)]));
+    const bring = service => this.all.filter(y => steps[y].pacticipant === service && !steps[y].ends);
+    const absent = it => (it.ends ? [] : faults.absent.get(idOf(it)) ?? []);
+    this.lacks = steps.map(it => absent(it).map(fault => [fault, bring(fault.provider)]));
   }
 
   found(x, done, ignoresClashes = false) {
@@ -168,8 +192,8 @@ export class Plan {
     return { order: best, isSure: splits <= most };
   }
 
-  /** The faults of which each by itself leaves no order of all steps: with what stays, of two new versions, and of an
-   * absent provider that no step brings. */
+  /** The faults of which each by itself leaves no order of all steps: with what stays, of two new versions, of an
+   * absent provider that no step brings, and of what calls a service that goes. */
   necessary() {
     const clashes = this.clash.flatMap(row => [...row.values()].flat());
     const nobody = this.lacks.flat().filter(([, ys]) => ys.length === 0).map(([fault]) => fault);

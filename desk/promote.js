@@ -11,12 +11,22 @@ const TRIES = 3;
 /** A line that the filter looks at, also by words that aren't shown. */
 const line = (words, ...children) => el('li', { 'data-words': words.join(' ') }, children);
 
+/** Services that go are in the other environment, and the first has nothing of them. */
+function mustGo(from, to, gone) {
+  const has = (all, service) => placed(all).some(it => it.pacticipant === service);
+  for (const it of gone) {
+    if (has(from, it)) throw new Failure(say`${it} is in ${from.environment}, so it can’t go.`);
+    if (!has(to, it)) throw new Failure(say`${it} isn’t in ${to.environment}.`);
+  }
+}
+
 /** What is known: both environments, and the plan. */
-async function known(source, target) {
+async function known(source, target, gone) {
   for (let tries = 0; tries < TRIES; tries += 1) {
-    const two = await Promise.all([source, target].map(listing)), [from, to] = two, { steps, kept } = stepsOf(from, to);
-    const questions = { gate: canDeploy, matrix: matrixOf };
-    const faults = await faultsOf(steps, from, to, questions).catch(it => {
+    const two = await Promise.all([source, target].map(listing)), [from, to] = two;
+    mustGo(from, to, gone);
+    const { steps, kept } = stepsOf(from, to, gone), questions = { gate: canDeploy, matrix: matrixOf };
+    const faults = await faultsOf(steps, from, to, questions, kept, gone).catch(it => {
       if (it instanceof Changed) return null;
       throw it;
     });
@@ -29,8 +39,8 @@ async function known(source, target) {
 
 /** Says a plan; `name` shows a version, `team` says whose a service is. */
 class Teller {
-  constructor({ from, to, kept, plan }, settings) {
-    Object.assign(this, { plan, to, settings, steps: plan.steps, contacts: settings.contacts });
+  constructor({ from, to, kept, plan }, settings, gone) {
+    Object.assign(this, { plan, from, to, settings, gone, steps: plan.steps, contacts: settings.contacts });
     ({ order: this.order, isSure: this.isSure } = plan.largest());
     this.name = versionsAmong([...placed(from), ...placed(to)]);
     this.left = plan.all.filter(x => !this.order.includes(x));
@@ -67,10 +77,19 @@ class Teller {
     return el('p', { class: 'verdict no' }, `✕ ${counts}; ${left.length} not with them.`);
   }
 
+  /** The same view, where these services go. */
+  where(text, gone) {
+    return link(text, 'promote', this.from.environment, this.to.environment, ...gone);
+  }
+
   /** A step: the version, which leads to what the gate says of it now; its place; what is in that now. */
   step(x) {
     const it = this.steps[x], as = it.instance ? say` as ${it.instance}` : '';
-    const where = it.how === 'release' ? ' as a release' : as;
+    const where = it.how === 'release' || it.how === 'end-support' ? ' as a release' : as;
+    if (it.ends) {
+      const stays = this.where('it stays', this.gone.filter(each => each !== it.pacticipant));
+      return [this.named(x), where, el('small', {}, ' goes (', stays, ')')];
+    }
     const old = it.old ? [' for ', this.name(it.pacticipant, it.old.version).lastChild] : ' new there';
     const version = link(this.named(x), 'ask', it.pacticipant, it.version, this.to.environment);
     return [version, where, el('small', {}, old, buildOf(this.settings, it))];
@@ -118,19 +137,32 @@ class Teller {
     const { consumer, consumerVersion, provider, providerVersion, kind } = fault;
     const called = kind === 'absent' ? named(provider) : this.side(provider, providerVersion);
     const text = [isInRing ? ' ↻ ' : ' ', this.side(consumer, consumerVersion), ' calls ', called, ' '];
-    return line([consumerVersion, providerVersion ?? ''], tag(kind, 'no'), text, contractLink(fault, 'contract'));
+    const why = tag(this.kind(fault) === GOES ? 'is to go' : kind, 'no');
+    return line([consumerVersion, providerVersion ?? ''], why, text, contractLink(fault, 'contract'));
+  }
+
+  /** The kind of a fault; apart is that of a service that is called and is to go. */
+  kind({ kind, provider }) {
+    return kind === 'absent' && this.gone.includes(provider) ? GOES : kind;
+  }
+
+  /** The services whose teams can act: of one that is to go, who calls it. */
+  actors(fault) {
+    return this.kind(fault) === GOES ? [fault.consumer] : actors(fault);
   }
 
   /** What each team has to do: by team, then by kind. A service without a contact is a team of its own. */
   acts() {
     const inRing = new Set(this.circles.flat().map(([, fault]) => fault)), teams = new Map();
     for (const fault of [...this.plan.necessary(), ...inRing]) {
-      for (const service of actors(fault)) {
+      for (const service of this.actors(fault)) {
         const team = String(this.contacts.get(service) ?? service), kinds = teams.get(team) ?? new Map();
-        teams.set(team, kinds.set(fault.kind, new Set([...kinds.get(fault.kind) ?? [], fault])));
+        const each = this.kind(fault);
+        teams.set(team, kinds.set(each, new Set([...kinds.get(each) ?? [], fault])));
       }
     }
-    const kind = ([each, all]) => el('div', { class: 'pairs' }, el('p', { class: 'act' }, REASONS[each].act),
+    const act = each => (each === GOES ? DO_WITHOUT : REASONS[each].act);
+    const kind = ([each, all]) => el('div', { class: 'pairs' }, el('p', { class: 'act' }, act(each)),
       el('ul', {}, [...all].map(it => this.pair(it, inRing.has(it)))));
     const todo = ([team, kinds]) =>
       el('div', { class: 'todo' }, el('h4', {}, named(team)), el('div', {}, [...kinds].map(kind)));
@@ -138,26 +170,31 @@ class Teller {
     return el('section', {}, el('h3', {}, 'Who has to act'), sorted.map(todo));
   }
 
-  /** What only the other environment has, and no step is about. */
+  /** What only the other environment has, and no step is about; with a link that has a service go of which the first
+   * has nothing. */
   stayers() {
-    const { only } = this, to = this.to.environment;
+    const { only } = this, to = this.to.environment, here = new Set(placed(this.from).map(it => it.pacticipant));
     if (only.length === 0) return '';
     const as = it => (it.how === 'release' ? ' (released)' : it.instance ? [' (as ', named(it.instance), ')'] : '');
-    const names = only.map((it, at) => [at ? ', ' : '', this.name(it.pacticipant, it.version), as(it)]);
+    const where = it => this.where('it goes', [...this.gone, it.pacticipant]);
+    const goes = it => (here.has(it.pacticipant) ? '' : [' (', where(it), ')']);
+    const names = only.map((it, at) => [at ? ', ' : '', this.name(it.pacticipant, it.version), as(it), goes(it)]);
     return el('p', { class: 'act' }, 'Only ', named(to), ' has ', names, ': this stays there, and is counted.');
   }
 }
 
+const GOES = 'goes', DO_WITHOUT = 'another version of it has to do without what is to go.';
 const CIRCLE = '↻ Neither can go before the other, nor as another instance: one of the pairs marked so has to pass.';
 const UNSURE = 'Not all orders were looked at: a longer one may exist.';
 const GRANTS = 'Which team has a grant isn’t known here. Each step is judged again as it is recorded.';
 
-export async function promote(settings, source, target) {
+export async function promote(settings, source, target, ...gone) {
   const names = [...new Set([...settings.environments, source, target].filter(Boolean))];
   const fields = [choice('from', names, source), choice('to', names, target ?? names.at(-1))];
   const words = form('Show', fields, (...them) => go('promote', ...them));
   if (!(source && target)) return [heading('What may go from one environment to another?'), words];
-  const it = new Teller(await known(source, target), settings), parts = [];
+  const going = [...new Set(gone)].filter(Boolean), all = await known(source, target, going);
+  const it = new Teller(all, settings, going), parts = [];
   if (it.left.length) parts.push(it.stays(), it.acts());
   if (it.order.length) parts.push(it.ordered());
   const looks = { rows: 'li', holders: '.pairs, .todo', hint: 'a service, a version, a team' };

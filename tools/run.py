@@ -17,13 +17,18 @@ import argparse, contextlib, errno, http.client, io, json, os, re, secrets, shle
 import sys, tempfile, threading, time
 from typing import IO, Any, Dict, Iterator, List, NoReturn, Sequence
 
-from desk_server import HOST, Answer, Desk
-
 TOP = os.path.dirname(os.path.dirname(os.path.abspath(__file__)))
+sys.path.insert(0, f"{TOP}/client/src")
+from holzhebo import faults
+from holzhebo.api.address import Address
+from holzhebo.api.token import token_in
+from holzhebo.desk.page import files_in
+from holzhebo.desk.server import HOST, Desk
+from holzhebo.files import read_text
+
 PROGRAM = "crates/broker/out/broker"
 # The tokens of the demo, which everybody knows.
 OFFICE, RED, BLUE, READING = "office-token-0001", "red-team-token-0001", "blue-team-token-0001", "desk-token-000001"
-TOKEN = re.compile(r"[A-Za-z0-9._~+/=-]{16,128}")
 # The seconds that a program may take to end.
 PATIENCE = 20
 Process = subprocess.Popen[bytes]
@@ -138,19 +143,12 @@ def words_of(line: Sequence[str]) -> Words:
     return words
 
 
-def token_in(path: str) -> str:
-    """The token of a file, which is all of it, or is in it as curl's line."""
+def token_of(path: str) -> str:
+    """The token of a file."""
     try:
-        with open(path, encoding="utf-8") as it:
-            text = it.read(10000)
-    except OSError as why:
-        raise Stop(f"{path} can't be read: {why.strerror}") from None
-    except ValueError:
-        text = ""
-    token = re.sub(r"(?i)^authorization:[ \t]*bearer[ \t]+", "", text.strip())
-    if not TOKEN.fullmatch(token):
-        raise Stop(f"{path} has no token: that is 16 to 128 ASCII letters, digits and -._~+/=")
-    return token
+        return token_in(read_text(path), path)
+    except faults.Stop as why:
+        raise Stop(str(why)) from None
 
 
 def taken(number: int, use: str, option: str, why: OSError) -> Stop:
@@ -174,10 +172,10 @@ def reserved(number: int) -> socket.socket:
 def page_on(words: Words, reading: str, office: str) -> Desk:
     """The page's server, which has no broker yet."""
     try:
-        it = Desk(words.page_port, f"{TOP}/desk", words.port, reading, office)
+        it = Desk(words.page_port, files_in(f"{TOP}/desk"), Address(f"http://{HOST}:{words.port}"))
     except OSError as why:
         raise taken(words.page_port, "the page", "--page-port", why) from None
-    it.is_there = lambda: False
+    it.reading, it.office, it.is_there = reading, office, lambda: False
     threading.Thread(target=it.serve_forever, daemon=True).start()
     return it
 
@@ -236,18 +234,13 @@ def name_all(desk: Desk, file: str) -> None:
     except (OSError, sqlite3.Error) as why:
         note(f"the page names no environments, since they can't be read: {why}")
         names = {"environments": [], "contacts": {}}
-    give_names(desk, json.dumps(names).encode())
+    desk.give_names(json.dumps(names).encode())
 
 
 def name_demo(desk: Desk) -> None:
     """Gives the page the environments of the demo."""
     with open(f"{TOP}/examples/demo-desk.json", "rb") as it:
-        give_names(desk, it.read())
-
-
-def give_names(desk: Desk, names: bytes) -> None:
-    usual = desk.pages["/desk/desk.json"]
-    desk.pages["/desk/desk.json"] = Answer(200, usual.kind, names, usual.fields)
+        desk.give_names(it.read())
 
 
 # The broker
@@ -295,7 +288,7 @@ def fill(broker: Process, url: str) -> None:
         while demo.poll() is None and broker.poll() is None:
             look()
         with contextlib.suppress(subprocess.TimeoutExpired):
-            broker.wait(1 if demo.returncode else 0)
+            broker.wait(5 if demo.returncode else 0)
     if broker.poll() is None and demo.returncode != 0:
         raise Stop(f"the demo isn't there whole: examples/demo.sh ends with {how(demo.returncode)}")
 
@@ -343,7 +336,7 @@ def run(words: Words, files: List[str]) -> None:
         raise Stop(f"there is no file {words.file}")
     reading, office = (READING, OFFICE) if words.file is None else ("", "")
     if words.token_file is not None:
-        reading, office = secrets.token_hex(24), token_in(words.token_file)
+        reading, office = secrets.token_hex(24), token_of(words.token_file)
     place, desk = reserved(words.port), page_on(words, reading, office)
     if words.file is None:
         with started([f"{TOP}/tools/need", "curl"]) as need:
