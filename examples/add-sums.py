@@ -1,13 +1,13 @@
 #!/usr/bin/env python3
 """Makes a copy with page sums of a stopped broker's file that has none, as files of an earlier program have none.
 
-    add-sums.py FILE NEW     FILE stays as it is; NEW is made, with the same rows
+    add-sums.py FILE NEW     FILE stays as it is; NEW is made, with the same rows, whole or not at all
 
 Needs sqlite3 (the Debian package), which copies the rows into pages that keep eight bytes free. This script then writes
 into each page its sum, as SQLite's extension cksumvfs computes it. Stop the service first, make a backup, and serve NEW
 in the place of FILE only when `broker can-i-deploy` over it answers as over FILE. Ends with 1 and without NEW if
-something is wrong."""
-import os, struct, subprocess, sys
+something is wrong; if it is killed, NEW.part may be left, which the next run removes."""
+import contextlib, os, struct, subprocess, sys
 
 PAGE, RESERVED, SUM = 4096, 20, 8
 
@@ -35,27 +35,40 @@ def checksum(page):
     return struct.pack("<2I", first, second)
 
 
+def make(old, new):
+    """Makes the copy, and syncs it."""
+    sqlite3(old, f".filectrl reserve_bytes {SUM}", "VACUUM INTO '%s'" % new.replace("'", "''"))
+    if rows(new) != rows(old):
+        sys.exit(f"{new} has other rows than {old}")
+    with open(new, "r+b") as it:
+        if it.read(RESERVED + 1)[RESERVED] != SUM:
+            sys.exit("this sqlite3 leaves no room for the sums")
+        it.seek(0)
+        while page := it.read(PAGE):
+            it.seek(-SUM, os.SEEK_CUR)
+            it.write(checksum(page[:-SUM]))
+        it.flush()
+        os.fsync(it.fileno())
+
+
 def main():
+    if len(sys.argv) != 3:
+        sys.exit("usage: add-sums.py FILE NEW")
     old, new = sys.argv[1:]
     if not os.path.isfile(old) or os.path.exists(new):
         sys.exit(f"{old} isn't there, or {new} is there already")
     os.umask(0o077)
+    part = f"{new}.part"
     try:
-        sqlite3(old, f".filectrl reserve_bytes {SUM}", "VACUUM INTO '%s'" % new.replace("'", "''"))
-        if rows(new) != rows(old):
-            sys.exit(f"{new} has other rows than {old}")
-        with open(new, "r+b") as it:
-            if it.read(RESERVED + 1)[RESERVED] != SUM:
-                sys.exit("this sqlite3 leaves no room for the sums")
-            it.seek(0)
-            while page := it.read(PAGE):
-                it.seek(-SUM, os.SEEK_CUR)
-                it.write(checksum(page[:-SUM]))
-            os.fsync(it.fileno())
-    except SystemExit:
-        if os.path.exists(new):
-            os.remove(new)
-        raise
+        with contextlib.suppress(FileNotFoundError):
+            os.remove(part)
+        make(old, part)
+        os.rename(part, new)
+    except OSError as why:
+        sys.exit(f"{new} can't be made: {why.strerror}")
+    finally:
+        with contextlib.suppress(OSError):
+            os.remove(part)
     print(f"{new} holds the rows of {old}, with sums")
 
 

@@ -5,7 +5,7 @@
 #   user or as root. Without BROKER nobody may have the file open, so stop the service first.
 # Needs sqlite3 (the Debian package sqlite3), Linux, and beside the copy as much room again as it takes. COPY is one
 # file with all rows. Ends with 0 if it is there and tested; else with 1 and without it. While another of these scripts
-# works on FILE, it waits for up to ten minutes.
+# works on FILE, it waits for as long as that may take by the size of FILE: ten minutes, and ten seconds for each MB.
 #
 # Why a copy of a broker that serves is right: it is paused (signal STOP) while its two files are copied byte for byte.
 # They are then what is there if the program is killed at that moment, and this is a sound file with all that was
@@ -88,7 +88,8 @@ go_on() {
 }
 
 paused='' room='' near='' child=''
-trap 'exit 1' HUP INT TERM
+# By itself: a signal that comes as the script ends would end it before what it has to do at EXIT.
+trap 'clean_up; exit 1' HUP INT TERM
 # It ends with 1 also if a command failed with another status, or a signal in the middle of $(..) ended bash with 2.
 clean_up() {
   ended=$?

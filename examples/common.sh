@@ -14,13 +14,13 @@ whole_path() {
   printf '%s\n' "${folder%/}/$(basename -- "$1")"
 }
 
-# lock FILE: waits until no other of these scripts works on FILE, for up to ten minutes. The lock is that of the folder
-# of FILE, by descriptor 9. A script that calls another one hands it on, and the other one has it then.
+# lock FILE: waits until no other of these scripts works on FILE, for as long as one may take. The lock is that of the
+# folder of FILE, by descriptor 9. A script that calls another one hands it on, and the other one has it then.
 lock() {
   local folder
   folder=$(dirname -- "$1")
   [ "/proc/$$/fd/9" -ef "$folder" ] || exec 9< "$folder"
-  flock -w 600 9 || fail "nothing is done: for ten minutes another script has worked on $1"
+  flock -w "$(most "$1")" 9 || fail "nothing is done: for $(most "$1") seconds another script has worked on $1"
 }
 
 # make_room NAME: sets room to a new folder beside NAME, for what is unfinished. Nobody removes it as long as this
@@ -55,8 +55,15 @@ as_owner() {
 is_open() { [ -e "$1" ] && grep -q ":$(stat -c %i -- "$1") 10737418" /proc/locks; }
 
 # patience FILE: how many seconds an opening of it may take on a machine with much other work: it takes longer as the
-# file grows, a second of a processor for each 8 to 50 MB.
-patience() { echo $((60 + $(stat -L -c %s -- "$1") / 1000000)); }
+# file grows, a second of a processor for each 8 to 50 MB. By this these scripts, and so the units, wait for an opening,
+# for a copy, and for one another.
+patience() {
+  local size
+  size=$(stat -L -c %s -- "$1" 2> /dev/null) || size=0
+  echo $((60 + size / 1000000))
+}
+# most FILE: how many seconds a script that works on it may take, as it opens and compares copies of it several times.
+most() { echo $((10 * $(patience "$1"))); }
 
 # The copies of keep-copies.sh: broker-DATE.db, with the date in UTC. Earlier ones have colons in it.
 today() { date -u +%Y-%m-%dT%H%M%SZ; }

@@ -16,6 +16,7 @@ here=$(dirname -- "$0")
 mapfile -t newest < <(copies "$folder" | tail -n 2 | tac)
 part=$(mktemp -- "$report.part.XXXXXX")
 trap 'rm -f -- "$part"' EXIT
-trap 'exit 1' HUP INT TERM
-"$here/../tools/report" "${newest[@]/#/$folder/}" > "$part"
+trap 'rm -f -- "$part"; exit 1' HUP INT TERM
+timeout --foreground "$(most "$file")" "$here/../tools/report" "${newest[@]/#/$folder/}" > "$part" ||
+  fail "there is no new page: the report of ${newest[0]} isn't made"
 mv -- "$part" "$report"

@@ -58,11 +58,13 @@ stopped='' room=''
 clean_up() {
   ended=$?
   trap '' HUP INT TERM
+  trap - EXIT
   [ -z "$room" ] || end_restore || echo "run restore.sh again: $room is half done" >&2
   [ -z "$stopped" ] || begin || echo "$service is stopped: start it" >&2
   [ "$ended" = 0 ] || exit 1
 }
-trap 'exit 1' HUP INT TERM
+# By itself: a signal that comes as the script ends would end it before what it has to do at EXIT.
+trap 'clean_up; exit 1' HUP INT TERM
 trap clean_up EXIT
 
 # Nobody else restores this file now, so these are of runs that were killed.
@@ -94,11 +96,12 @@ if [ -z "$service" ]; then
   echo "$file is restored: start the broker"
   exit
 fi
-begin
+begin || { stopped=; fail "$file is restored, but $service doesn't start: journalctl -u $service"; }
 stopped=
 # A broker that serves answers so to anybody; the opening of a large file takes a while.
-for _ in $(seq $((5 * $(patience "$file")))); do
-  said=$(curl -q -sS -m 10 --noproxy '*' "$url/" 2>&1) && break
+last=$((SECONDS + $(patience "$file")))
+until said=$(curl -q -sS -m 10 --noproxy '*' "$url/" 2>&1); do
+  [ "$SECONDS" -lt "$last" ] || break
   sleep 0.2
 done
 [ "$said" = '{"answer":"no route"}' ] || fail "$file is restored, but $service doesn't answer at $url: $said"

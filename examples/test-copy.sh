@@ -14,7 +14,8 @@ copy=$(whole_path "$copy")
 umask 077
 
 copying='' room=''
-trap 'exit 1' HUP INT TERM
+# By itself: a signal that comes as the script ends would end it before what it has to do at EXIT.
+trap 'clean_up; exit 1' HUP INT TERM
 clean_up() {
   ended=$?
   kill ${copying:-} 2> /dev/null || true
@@ -46,6 +47,6 @@ esac
 lend "$room/b.db"
 said=$(sqlite3 -bail "$room/b.db" 'PRAGMA integrity_check; PRAGMA foreign_key_check' 2>&1) || true
 [ "$said" = ok ] || fail "$copy isn't sound: $said"
-sqlite3 "$room/b.db" "SELECT 'format ' || format || ' with ' || (SELECT count(*) FROM contracts) || ' contracts'
-  FROM meta"
+sqlite3 "$room/b.db" "SELECT 'format ' || format || ' with ' || n || iif(n = 1, ' contract', ' contracts')
+  FROM meta, (SELECT count(*) AS n FROM contracts)"
 exit $ended

@@ -8,8 +8,8 @@ The broker locks its file when it opens it, and holds the lock for as long as it
 a machine that it doesn't hear for five seconds (examples/cluster/volume.options); then another machine may serve. A
 change can't be made here after that, since the volume refuses the write. But a question may be answered from memory,
 without the file. So this asks the volume twice a second whose lock it is. If it isn't the broker's, or if the last
-answer that it is was asked for more than LIMIT seconds ago, the broker is killed. Nothing that was acknowledged is
-lost by it.
+answer that it is was asked for more than LIMIT seconds ago, the broker is killed. So it is if the volume fails, as
+when its process here has ended, since its lock is given up at once then. Nothing that was acknowledged is lost by it.
 
 A replica that was away and is connected again has no lock of the broker, and gets what it writes only by healing,
 until the broker opens its file again. So once that was seen LOOKS times, the broker is ended too, and systemd starts
@@ -22,8 +22,8 @@ import contextlib, fcntl, glob, os, re, signal, socket, struct, subprocess, sys,
 # Less than the seconds after which the volume gives up the lock, by more than a busy machine may be late.
 LIMIT = 3.5
 PAUSE = 0.5
-# How often a replica has to be seen to be back, each ten pauses.
-LOOKS = 2
+# How often a replica has to be seen to be back, and after how many pauses each time.
+LOOKS, BETWEEN = 2, 4
 # The bytes that a database's lock is on: SQLite's pending, reserved and shared ones.
 FIRST, COUNT = 0x40000000, 512
 LOCK = "hhqqi4x"
@@ -65,17 +65,22 @@ class Lock:
     def watch(self) -> None:
         turn = 0
         while not self.lost:
-            with contextlib.suppress(OSError):
-                self.ask()
-                turn += 1
-                if self.held_at and turn % 10 == 0:
+            self.ask()
+            turn += 1
+            if self.held_at and turn % BETWEEN == 0:
+                with contextlib.suppress(OSError):
                     self.look()
             time.sleep(PAUSE if self.held_at else 0.05)
 
     def ask(self) -> None:
         """Whose lock it is."""
         began = time.monotonic()
-        found = holder(self.file)
+        try:
+            found = holder(self.file)
+        except OSError as why:
+            if self.held_at:
+                self.lost = f"the volume fails: {why.strerror}"
+            return
         if found == self.process:
             self.held_at = began
         elif self.held_at:
@@ -114,8 +119,14 @@ def notify(text: str) -> None:
             it.sendall(text.encode())
 
 
+def as_others() -> None:
+    """This process comes before others at the processors (broker.conf); the broker doesn't."""
+    with contextlib.suppress(OSError):
+        os.sched_setscheduler(0, os.SCHED_OTHER, os.sched_param(0))
+
+
 def run(file: str, address: str, words: list[str]) -> int:
-    broker = subprocess.Popen(words)
+    broker = subprocess.Popen(words, preexec_fn=as_others)
     for number in signal.SIGTERM, signal.SIGINT:
         signal.signal(number, lambda *_: broker.kill())
     lock, is_ready = Lock(file, broker.pid), False
