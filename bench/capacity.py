@@ -1,5 +1,5 @@
 #!/usr/bin/env python3
-"""Measures how much one broker holds, and prints it as tables for docs/OPERATING.md.
+"""Measures how much one broker holds, and prints it as tables for docs/LIMITS.md.
 
     bench/capacity.py PROGRAM [N ..]     PROGRAM is the path of `broker`; N are numbers of contracts: 1000 10000 if none
                                          is given

@@ -1,5 +1,5 @@
 #!/usr/bin/env python3
-"""Measures a file with many builds whose contracts don't change, and prints a row for docs/OPERATING.md.
+"""Measures a file with many builds whose contracts don't change, and prints a row for docs/LIMITS.md.
 
     bench/shared.py PROGRAM [N ..] [--pairs P]     PROGRAM is the path of `broker`; N are numbers of results: 100000 if
                                                    none is given

@@ -8,8 +8,9 @@ prints."""
 import contextlib, os, re, shutil, time
 
 import ledger
+from definitions import TOP, text_of
 from edits import BODIES, edits_of, functions_of, only_functions, rounds_of, taken_as_proved, texts_with
-from judge import goals_in, named_by, sentence, why_not_refused
+from judge import goals_in, lines_of, misnamed, named_by, sentence, why_not_refused
 from kit import Said, rt, version
 from lanes import Task
 from measured import Row, measured
@@ -51,12 +52,14 @@ class Tries:
 
     def try_alone(self, edit):
         said = self.check([edit], [])
-        why = why_not_refused(said)
-        if why:
-            self.lost[edit] = why
-            print(f"wrong bodies: {ledger.name_of(edit)}: {why}", flush=True)
+        if why := why_not_refused(said):
+            self.lose(edit, why)
         else:
             self.tell_refused(edit, functions_of(self.name, edit), said)
+
+    def lose(self, edit, why):
+        self.lost[edit] = why
+        print(f"wrong bodies: {ledger.name_of(edit)}: {why}", flush=True)
 
     def tell_refused(self, edit, functions, said):
         """Notes by which function and sentence it is refused: its own function's, if that says so."""
@@ -71,23 +74,48 @@ class Tries:
         functions = {it: only_functions(functions_of(self.name, it)) for it in edits}
         said = self.check_only(edits, set().union(*functions.values()))
         for edit in edits:
-            if said and any(goals_in(it, said.text) is not None for it in functions[edit]):
-                self.tell_refused(edit, functions[edit], said)
-            else:
+            if not said or all(goals_in(it, said.text) is None for it in functions[edit]):
                 self.try_alone(edit)
+            elif any(misnamed(it, said.text) for it in functions[edit]):
+                self.try_without_misnamed(edit, functions[edit], said)
+            else:
+                self.tell_refused(edit, functions[edit], said)
 
-    def check_only(self, edits, functions):
-        """A check of these functions, but for what has no name by which it can be asked for. Each other one is taken as
-        proved, or, where that can't be, is checked if they call it."""
-        names, proofs = {named_by(it) for it in functions}, taken_as_proved(self.name, functions)
+    def try_without_misnamed(self, edit, functions, said):
+        """Tries it without the answers to goals that its functions don't have, or without all, if it is no answer but
+        what they are made of that isn't there. A goal that is left unproved and had no answer refuses it; if none is
+        left, but it isn't proved either, it is as before: the proof at hand fails."""
+        before, answers, dropped = said, {}, set()
+        while said and (found := set().union(*(misnamed(it, said.text) for it in functions))):
+            if any(answers.get(path) == "" for path, _ in found):
+                break
+            for path, name in found:
+                text = answers.get(path, text_of(f"{TOP}/crates/{self.name}/{path}"))
+                own = re.search(rf"(?ms)^pub {re.escape(name)} : .*?(?:\n\n|\Z)", text)
+                dropped.update([name] if own else re.findall(r"(?m)^pub (\S+) :", text))
+                answers[path] = text.replace(own[0], "") if own else ""
+            said = self.check_only([edit], functions, answers)
+        for it in sorted(functions, key=named_by):
+            if left := [goal for goal in said and goals_in(it, said.text) or [] if goal not in dropped]:
+                self.refused[edit] = named_by(it), sentence(it, left)
+                return
+        if said and not [told for it in functions for told in lines_of(it, said.text)]:
+            self.lose(edit, "NOT REFUSED: it is proved without the answers to goals that it doesn't have")
+        else:
+            self.tell_refused(edit, functions, before)
+
+    def check_only(self, edits, functions, answers={}):
+        """A check of these functions with these answers, but for what has no name by which it can be asked for. Each
+        other one is taken as proved, or, where that can't be, is checked if they call it."""
+        names, proofs = {named_by(it) for it in functions}, {**taken_as_proved(self.name, functions), **answers}
         while names:
             words = [word for it in sorted(names) for word in ("--only", it)] + ["--allow-holes"]
             said = self.check(edits, words, proofs)
             unknown = re.search(r"has no function `([^`]+)`", said.text) if said.status == 2 else None
             if unknown and unknown[1] in names:
                 names.remove(unknown[1])
-            elif proofs and not re.search(r"^fn \S+: ", said.text, re.M):
-                proofs = {}
+            elif proofs != answers and not re.search(r"^fn \S+: ", said.text, re.M):
+                proofs = answers
             else:
                 return said
         return None

@@ -6,7 +6,8 @@
     fn broker_names::name::Name::new: no proof: ..; it calls `broker_names::name::is_valid`, which isn't proved
 
 and its last lines have `logic=proved` or `logic=not-proved` of a whole crate. An edit is refused if its own function
-is such a line, for a goal of its own: that what it calls isn't proved is no refusal of it."""
+is such a line, for a goal of its own: that what it calls isn't proved is no refusal of it, nor is it one that the check
+can't follow what the edit borrows."""
 import re
 
 from definitions import text_of
@@ -14,6 +15,11 @@ from sources import CLAUSE, closing
 
 LINE = re.compile(r"^fn (\S+): (no proof: .*|not proved.*|could not tell.*)$", re.M)
 GOALS = re.compile(r"`search` did not prove ((?:`[^`]+`(?:, )?)+)")
+# That it isn't proved only since something else isn't.
+RESTS = re.compile(r"it calls|it stands on|a call of `[^`]+`, which has no proof")
+NOT_FOLLOWED = "the borrow checker does not cover this function yet"
+# What is said of an answer to a goal that the edited function doesn't have; of those that it has nothing is said then.
+MISNAMED = "error: .*has no `([^`]+)` that can be named from here"
 
 
 def named_by(function):
@@ -39,13 +45,24 @@ def goals_in(function, said):
     for told in lines_of(function, said):
         if goals := GOALS.search(told):
             return re.findall(r"`([^`]+)`", goals[1])
-        if not re.search("it calls|it stands on", told):
-            return []
-        *modules, name = named_by(function).split("::")
-        wrong = rf"(?m)^(?:\./)?(proofs/(?:\S+/)?{'/'.join([*modules, ''])}\+?{re.escape(name)}/\S+): error"
-        if place := re.search(wrong, said):
+        if NOT_FOLLOWED in told:
+            return None
+        if place := re.search(f"{wrong_in(function)}: error", said):
             return [place[1]]
+        if not RESTS.search(told):
+            return []
     return None
+
+
+def wrong_in(function):
+    """The place of an error in the function's own proof, as the beginning of a line."""
+    *modules, name = named_by(function).split("::")
+    return rf"(?m)^(?:\./)?(proofs/(?:\S+/)?{'/'.join([*modules, ''])}\+?{re.escape(name)}/\S+)"
+
+
+def misnamed(function, said):
+    """The answers to goals that the edited function doesn't have, each by its file and its name."""
+    return {(place.partition(":")[0], name) for place, name in re.findall(f"{wrong_in(function)}: {MISNAMED}", said)}
 
 
 def sentence(function, goals):
@@ -66,6 +83,8 @@ def sentence(function, goals):
 
 def why_not_refused(said):
     """What to say of an edit that was tried by itself, in a check of the whole crate, if it isn't refused."""
+    if NOT_FOLLOWED in said.text:
+        return f"NOT TRIED: {NOT_FOLLOWED}: {re.search(f'{NOT_FOLLOWED}: (.*)', said.text)[1][:300]}"
     if "logic=not-proved" in said.text or "could not tell" in said.text and said.status == 3:
         return None
     if "logic=proved" in said.text:

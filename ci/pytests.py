@@ -1,5 +1,6 @@
 """The tests of tests/, over a built program, by pytest: what may run side by side, as much at once as there are
-processors, and beside it what measures times, two at once, to which the others yield the processors."""
+processors, and beside it what measures times, two at once, to which the others yield the processors. What of these
+fails is run once more at the end, with nothing beside it, as a slow moment of the machine looks like a slow program."""
 import contextlib, os, re, shutil, signal, subprocess, sys, tempfile, time
 import xml.etree.ElementTree as xml
 
@@ -9,15 +10,21 @@ from kit import processors
 PYTEST = ["/usr/bin/python3", "-m", "pytest", "tests"]
 # Where the JUnit files are, and what pytest keeps between two runs for --lf.
 REPORTS = f"{TOP}/out/tests"
-# What measures times is nearly all waiting, and its limits are far longer than what two at once take from each other.
-HALVES = {"side by side": ("not timing", str(processors())), "that measure times": ("timing", "2")}
+# How long all of a run may take, in seconds; a test by itself has a limit of its own (tests/conftest.py).
+LONGEST = 3600
+# Each run, with its marks and how many at once. What measures times is nearly all waiting, and its limits are far longer
+# than what two at once take from each other.
+SIDE, TIMES, AGAIN = "side by side", "that measure times", "that measure times once more"
+RUNS = {SIDE: ("not timing", str(processors())), TIMES: ("timing", "2"), AGAIN: ("timing", "1")}
+# Of more that fail none is run once more: that is no slow moment of the machine.
+MOST_AGAIN = 30
 
 
-class Half:
+class Run:
     """Those tests that have a mark or haven't, by a pytest of their own."""
 
     def __init__(self, name, room, words):
-        marks, count = HALVES[name]
+        marks, count = RUNS[name]
         self.name, self.began = name, time.time()
         self.report, self.log = f"{REPORTS}/{name.replace(' ', '-')}.xml", f"{room}/{name}.log"
         with contextlib.suppress(FileNotFoundError):
@@ -26,7 +33,7 @@ class Half:
         by += ["-q", "-ra", "--color", "no", "-o", "junit_family=xunit1", "--junitxml", self.report]
         # For --lf; one that has no test which failed last has none to run again.
         by += ["-o", f"cache_dir={TOP}/out/pytest-{marks.replace(' ', '-')}", "--lfnf", "none"]
-        is_timing = name == "that measure times"
+        is_timing = marks == "timing"
         with open(self.log, "wb") as log:
             how = {"cwd": TOP, "stdin": subprocess.DEVNULL, "stdout": log, "stderr": log, "start_new_session": True}
             how["preexec_fn"] = None if is_timing else lambda: os.nice(10)
@@ -47,13 +54,17 @@ class Half:
                 return self.process.wait(60)
             except subprocess.TimeoutExpired:
                 done = re.findall(r"\[ *(\d+%)\]", self.said())
-                print(f"{time.time() - self.began:6.0f} s  tests {self.name}: {done[-1] if done else '0%'}", flush=True)
+                took = time.time() - self.began
+                print(f"{took:6.0f} s  tests {self.name}: {done[-1] if done else '0%'}", flush=True)
+                if took > LONGEST:
+                    print(f"tests {self.name}: ended, since they take longer than {LONGEST} seconds", flush=True)
+                    self.stop()
 
     def end(self, suite):
-        """Waits for it, and says of each test how it ended."""
+        """Waits for it, and says of each test how it ended. Gives those that failed."""
         status, said = self.wait(), self.said()
         if status == 5:
-            return
+            return []
         if status != 0:
             print(said, end="", flush=True)
         ends = dict(ended(self.report)) if os.path.isfile(self.report) else {}
@@ -65,6 +76,7 @@ class Half:
             print("".join(f"{row}\n" for row in said.split("\n") if row.startswith("SKIPPED")), end="", flush=True)
         else:
             suite.tell("FAILED", f"tests {self.name}", f"pytest ends with {status}")
+        return failed
 
     def stop(self):
         """Ends it with its workers, if they haven't ended: as Ctrl-C does, so that the tests stop what they started."""
@@ -117,12 +129,17 @@ class OnProgram:
             return
         signal.signal(signal.SIGTERM, lambda *_: sys.exit(128 + signal.SIGTERM))
         os.makedirs(REPORTS, exist_ok=True)
-        room, halves = tempfile.mkdtemp(prefix="holzhebo-tests-"), []
+        room, runs = tempfile.mkdtemp(prefix="holzhebo-tests-"), []
         try:
-            halves += [Half(name, room, self.words) for name in reversed(HALVES)]
-            for it in reversed(halves):
-                it.end(self.suite)
+            runs += [Run(name, room, self.words) for name in (TIMES, SIDE)]
+            times, side = runs
+            side.end(self.suite)
+            failed = times.end(self.suite)
+            if 0 < len(failed) <= MOST_AGAIN:
+                print(f"run once more, with nothing beside: {', '.join(failed)}", flush=True)
+                runs.append(Run(AGAIN, room, [*self.words, "--lf"]))
+                runs[-1].end(self.suite)
         finally:
-            for it in halves:
+            for it in runs:
                 it.stop()
             shutil.rmtree(room, ignore_errors=True)

@@ -4,7 +4,7 @@ What is kept is a folder with the crates as they were when they were built, each
 with one crate's sources and with those below it as they are kept, as second names of the same files: the kit never
 writes into a library that is built. So a change of one crate in a room is seen nowhere else, and many rooms can be in
 use at once, where in one tree a command of `rt` would wait for another."""
-import contextlib, fcntl, hashlib, os, re, shutil, tempfile
+import contextlib, fcntl, hashlib, os, re, shutil, tempfile, time
 from functools import lru_cache
 
 from definitions import TOP, crates_in, text_of
@@ -68,10 +68,21 @@ class Kept:
         shutil.rmtree(f"{self.at}/rooms", ignore_errors=True)
         os.mkdir(f"{self.at}/rooms")
 
-    def is_built(self, name):
+    def lines(self, name):
+        """What is written beside a library: its sum, when it was built, and these two of each that it was built over."""
         with contextlib.suppress(FileNotFoundError), open(f"{self.at}/{name}.sum", encoding="ascii") as it:
-            return it.read() == sum_of(name)
-        return False
+            return it.read().splitlines()
+        return []
+
+    def over(self, name):
+        """Which builds of the crates that it uses are kept now."""
+        return [line for dep in listed()[name] for line in self.lines(dep)[:2]]
+
+    def is_built(self, name):
+        """Whether it is built of these sources, and over what is kept now: the kit refuses it over another build, even
+        over one of the same sources."""
+        found = self.lines(name)
+        return found[:1] == [sum_of(name)] and found[2:] == self.over(name)
 
     @contextlib.contextmanager
     def room(self, name, begins_with_own=False):
@@ -94,7 +105,7 @@ class Kept:
         shutil.rmtree(f"{self.at}/crates/{name}", ignore_errors=True)
         os.rename(folder, f"{self.at}/crates/{name}")
         with open(f"{self.at}/{name}.sum", "w", encoding="ascii") as it:
-            it.write(sum_of(name))
+            it.write("\n".join([sum_of(name), str(time.time_ns()), *self.over(name)]))
 
 
 def lay(name, folder):

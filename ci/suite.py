@@ -18,15 +18,19 @@ STATIC = {
     "the words of documents": ["ci/words"],
     "the rules of the project": ["ci/house"],
     "the imports": ["ci/imports"],
+    "the form of the sources": ["ci/formats"],
     "the lists of what has to be believed": ["ci/believed"],
     "the list of what has to be read": ["ci/read"],
+    "the calls that callers are promised": ["ci/calls"],
     "the table of times": ["ci/times"],
     "the edits can be made": ["ci/wrong-bodies", "--read"],
-    "the judge and the ledger": ["ci/trials"],
+    "the judge, the ledger and what is kept": ["ci/trials"],
 }
 # What needs a kit.
 VERDICT, BUILT, SAME, LINES = "rt ci", "./build", "./build beside rt ci", "the command lines of documents"
 BODIES, SAMPLE = "wrong bodies of ", "by rt must-fail, one of "
+# How much of why a part failed is said once more at the end, in letters.
+WIDEST = 1000
 # What a check of `rt ci` may still grow to while it goes on beside the others, in bytes.
 LARGEST = 5_000_000_000
 
@@ -35,7 +39,8 @@ class Suite:
     """The parts that are run, and how each ended."""
 
     def __init__(self, given):
-        self.given, self.ends, self.began, self.printing = given, {}, time.time(), threading.Lock()
+        self.given, self.began, self.printing = given, time.time(), threading.Lock()
+        self.ends, self.why = {}, {}
         self.memory = self.tried = 0
 
     def chosen(self, names):
@@ -44,7 +49,7 @@ class Suite:
     def tell(self, word, name, more=""):
         """Says how a part ended: `ok`, `FAILED` or `not run`. Gives whether it went well."""
         with self.printing:
-            self.ends[name] = word
+            self.ends[name], self.why[name] = word, more
             print(f"{word:<7} {name}{more and f': {more}'}\n", end="", flush=True)
         return word != "FAILED"
 
@@ -62,8 +67,8 @@ class Suite:
 
     def end(self):
         failed, skipped = self.named("FAILED"), self.named("not run")
-        if failed:
-            print("FAILED:", "; ".join(failed))
+        for name in failed:
+            print("FAILED:", ": ".join(filter(None, [name, self.why.get(name, "")[:WIDEST]])))
         took, count = round(time.time() - self.began), processors()
         if self.tried and not self.given.k and self.given.record:
             measured.record({("./test", str(count)): measured.Row(took, 0, self.memory, self.tried)})
@@ -74,6 +79,12 @@ class Suite:
         if not self.ends:
             print(f"no part and no test has {self.given.k} in its name: ./test --list has the names", file=sys.stderr)
         return 1 if failed or not self.ends else 0
+
+
+def unproved(said):
+    """The lines by which `rt ci` says that something isn't proved, each behind the line before it, which may say why."""
+    rows = [line.strip() for line in said]
+    return [f"{why}: {row}" for why, row in zip(rows, rows[1:]) if row.endswith(" NOT PROVED")]
 
 
 class Verdict(threading.Thread):
@@ -97,7 +108,8 @@ class Verdict(threading.Thread):
             self.suite.tell("ok", VERDICT, f"{count[1]} passed, {time.time() - began:.0f} s")
         else:
             print("".join(self.said[-300:]), end="")
-            self.suite.tell("FAILED", VERDICT, f"status {ran.returncode}; {wanted} have to pass: {self.said[-1:]}")
+            why = [f"status {ran.returncode}; {wanted} have to pass: {self.said[-1:]}", *unproved(self.said)]
+            self.suite.tell("FAILED", VERDICT, "; ".join(why))
 
 
 class OnKit:

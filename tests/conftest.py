@@ -7,12 +7,14 @@ compiler, which tests that are marked by_both are run on too. Marks: needs("ngin
 needs; root that it needs to be root; timing that it measures times, so ./test lets it come before others at the
 processors; by_hand that it takes minutes, and is run with --by-hand; first that it takes long, and is begun before the
 others. What can't be run fails, or with --allow-not-run is skipped and said."""
-import os, shutil, sys
+import os, shutil, signal, sys
 from collections.abc import Iterator
 from typing import Any
 import pytest
 
-sys.dont_write_bytecode = True
+# What is compiled of the tests is kept in out/, and nowhere beside them.
+sys.pycache_prefix = os.path.join(os.path.dirname(os.path.dirname(os.path.abspath(__file__))), "out/pycache")
+sys.dont_write_bytecode = False
 
 from tests import plays
 from tests.client.tools import Client, Stock
@@ -32,6 +34,9 @@ MARKS = {
     "first": "it takes long, so it is begun before the others",
 }
 
+# How long a test may take, in seconds: one that waits for ever fails, and says where it waits.
+LONGEST = 600
+
 
 def pytest_addoption(parser: pytest.Parser) -> None:
     usual = {"type": os.path.abspath, "default": os.path.join(TOP, "crates/broker/out/broker")}
@@ -43,6 +48,12 @@ def pytest_addoption(parser: pytest.Parser) -> None:
 def pytest_configure(config: pytest.Config) -> None:
     for name, meaning in MARKS.items():
         config.addinivalue_line("markers", f"{name}: {meaning}")
+
+
+def pytest_itemcollected(item: pytest.Item) -> None:
+    """There is one machine at a time: the files of two may have one number, and the scripts look for locks by it."""
+    if "machine" in getattr(item, "fixturenames", ()):
+        item.add_marker(pytest.mark.xdist_group("machine"))
 
 
 def pytest_collection_modifyitems(config: pytest.Config, items: list[pytest.Item]) -> None:
@@ -70,6 +81,19 @@ def pytest_runtest_setup(item: pytest.Item) -> None:
         raise NotRun(f"{' and '.join(lost)} isn't installed (ci/needs)")
     if item.get_closest_marker("root") and os.geteuid() != 0:
         raise NotRun("it needs to be root")
+
+
+@pytest.hookimpl(hookwrapper=True)  # type: ignore[misc]
+def pytest_runtest_call(item: pytest.Item) -> Iterator[None]:
+    """Ends a test that takes too long; what is run by hand may take as long as it likes."""
+
+    def end(*_: object) -> None:
+        pytest.fail(f"it isn't done after {LONGEST} seconds")
+
+    signal.signal(signal.SIGALRM, end)
+    signal.alarm(0 if item.config.getoption("by_hand") else LONGEST)
+    yield
+    signal.alarm(0)
 
 
 @pytest.hookimpl(hookwrapper=True)  # type: ignore[misc]

@@ -22,12 +22,12 @@ def built(config: pytest.Config, end: str = "") -> str:
     return path
 
 
-def of_story(file: Path) -> dict[str, Play]:
+def of_story(file: Path, turn: int) -> dict[str, Play]:
     read = story.Story(file)
-    return {it.name(): partial(story_plays.play, read, it) for it in story_plays.plays_of(read)}
+    return {it.name(): partial(story_plays.play, read, it) for it in story_plays.plays_of(read, turn, len(BUILDS))}
 
 
-def of_lines(file: Path) -> dict[str, Play]:
+def of_lines(file: Path, _: int) -> dict[str, Play]:
     """The command lines of a file. They share a folder for each program, since each finds what those before it left."""
     folders: dict[str, lines.Folder] = {}
 
@@ -40,11 +40,11 @@ def of_lines(file: Path) -> dict[str, Play]:
     return {f"{it.number}: {it.text[:60]}": partial(play, at) for at, it in found if isinstance(it, lines.CommandLine)}
 
 
-def of_cases(file: Path) -> dict[str, Play]:
+def of_cases(file: Path, _: int) -> dict[str, Play]:
     return {f"{it.line}: {it.question}": partial(cases.play, file, it) for it in cases.cases_of(file)}
 
 
-def of_stops(file: Path) -> dict[str, Play]:
+def of_stops(file: Path, _: int) -> dict[str, Play]:
     return trials.plays_of(stops.Stops(file))
 
 
@@ -73,9 +73,8 @@ class PlayFile(pytest.File):
     """A file of plays."""
 
     def collect(self) -> Iterator[pytest.Item]:
-        plays = KINDS[self.path.suffix](self.path)
-        for build in BUILDS:
-            for name, play in plays.items():
+        for turn, build in enumerate(BUILDS):
+            for name, play in KINDS[self.path.suffix](self.path, turn).items():
                 item = PlayItem.from_parent(self, name=f"{build}: {name}", build=build, play=play)
                 if self.path.suffix == ".lines":
                     item.add_marker(pytest.mark.xdist_group(f"{self.path.name} {build}"))

@@ -1,10 +1,16 @@
 """The one server: a broker that is started, asked, stopped, killed and started again; and how a process is run."""
-import os, random, re, resource, select, signal, socket, struct, subprocess, time
+import contextlib, fcntl, os, random, re, resource, select, signal, socket, subprocess, tempfile, time
 from collections.abc import Callable, Mapping, Sequence
 from typing import Any, NamedTuple
+from tests.kernel import is_listened_on
 from tests.wire import PATIENCE, Address, Caller, NotRun, Wrong
 
 TOP = os.path.dirname(os.path.dirname(os.path.abspath(__file__)))
+# Where files are in memory, if there is such a folder: else each sync waits for the machine's disk. No program is run
+# from there, since that may be forbidden.
+MEMORY = "/dev/shm" if os.access("/dev/shm", os.W_OK) else None
+# The ports that Linux gives to no connection by itself.
+PORTS = range(10_000, 32_768)
 # What a process may take at most of a resource, by the names of the module `resource`.
 Limits = Sequence[tuple[int, int]]
 
@@ -57,21 +63,43 @@ def run(words: Sequence[str], status: int = 0, env: Mapping[str, str] | None = N
     return str(output)
 
 
+# What `slowness` counts takes an ordinary processor so many seconds.
+COUNTS = 0.5
+
+
+def slowness() -> float:
+    """How many times as long as an ordinary one the processor takes now, which others may share: 1 or more."""
+    began, total = time.process_time(), 0
+    for number in range(10_000_000):
+        total += number
+    return max(1.0, (time.process_time() - began) / COUNTS)
+
+
 # Ports and addresses
 
 
-def free_port(host: str = "127.0.0.1") -> int:
-    """A port of this address of loopback that nobody listens on. It is drawn at random among those that the kernel
-    gives to no connection, so that others who look for one at the same time hardly meet."""
-    dice = random.SystemRandom()
-    while True:
-        port = dice.randrange(10_000, 32_768)
-        with socket.socket() as it:
-            try:
-                it.bind((host, port))
-            except OSError:
-                continue
+def next_port() -> int:
+    """The port after the one that was given last on this machine, of those that the kernel gives to no connection. So
+    one that is given, and where nobody listens yet, is given to no other test until all the others were."""
+    file = os.open(f"{tempfile.gettempdir()}/holzhebo-port-{os.getuid()}", os.O_RDWR | os.O_CREAT | os.O_CLOEXEC, 0o600)
+    try:
+        fcntl.flock(file, fcntl.LOCK_EX)
+        last = int(os.pread(file, 5, 0) or random.choice(PORTS))
+        port = PORTS[(last - PORTS.start + 1) % len(PORTS)]
+        os.pwrite(file, b"%d" % port, 0)
         return port
+    finally:
+        os.close(file)
+
+
+def free_port(host: str = "127.0.0.1") -> int:
+    """A port of this address of loopback that nobody listens on, and that no other test is about to."""
+    for _ in PORTS:
+        port = next_port()
+        with socket.socket() as it, contextlib.suppress(OSError):
+            it.bind((host, port))
+            return port
+    raise Wrong(f"no port of {host} is free")
 
 
 def free_address() -> Address:
@@ -82,18 +110,6 @@ def free_address() -> Address:
     return host, free_port(host)
 
 
-def in_table(address: Address) -> str:
-    """An address as /proc/net/tcp writes it."""
-    return "%08X:%04X" % (struct.unpack("=I", socket.inet_aton(address[0]))[0], address[1])
-
-
-def is_listened_on(address: Address) -> bool:
-    """Whether a process listens there; asked of the kernel, since a connection would count."""
-    with open("/proc/net/tcp", encoding="ascii") as it:
-        rows = [line.split(None, 4) for line in it]
-    return any(row[1] in (in_table(address), in_table(("0.0.0.0", address[1]))) and row[3] == "0A" for row in rows[1:])
-
-
 def await_port(port: int, process: "subprocess.Popen[Any] | None" = None, said: Callable[[], str] = str) -> None:
     """Waits until somebody listens there. If this process ends before, the fault has what it said."""
     end = time.monotonic() + PATIENCE
@@ -102,7 +118,7 @@ def await_port(port: int, process: "subprocess.Popen[Any] | None" = None, said: 
             raise Wrong(f"who has to listen ends with {process.returncode}: {said()}")
         if time.monotonic() > end:
             raise Wrong("nobody listens")
-        time.sleep(0.005)
+        time.sleep(0.001)
 
 
 # Processes

@@ -67,8 +67,10 @@ class Nginx(Proxy):
             return set(it.read().split())
 
     def reload(self) -> None:
-        """Lets it read its files again, and waits until only new workers serve."""
+        """Lets it read its files again, and waits until only new workers serve. Its port is listened on before it has a
+        worker, as it starts."""
         assert self.process
+        await_that(lambda: bool(self.workers()), "it has a worker")
         before = self.workers()
         self.process.send_signal(signal.SIGHUP)
         await_that(lambda: not before & self.workers(), "the former workers have ended")

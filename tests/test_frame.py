@@ -1,9 +1,11 @@
-"""What the other tests rest on: how a difference is shown, how answers are parted, and that a server is one broker
-through stops and starts."""
-import signal
+"""What the other tests rest on: how a difference is shown, how answers are parted, what the kernel tells of a socket,
+and that a server is one broker through stops and starts."""
+import signal, socket
+from collections.abc import Callable
 import pytest
+from tests import kernel
 from tests.process import Server, ran
-from tests.wire import Wrong, answer, answers_in, difference, request, same
+from tests.wire import Address, Wrong, answer, answers_in, difference, request, same
 from tests.world import ALREADY, DONE, RED
 
 
@@ -30,6 +32,21 @@ def test_answers_are_parted_by_their_lengths() -> None:
 
 def test_the_bytes_of_a_request() -> None:
     assert request("PUT", "/x", None, "{}") == b"PUT /x HTTP/1.1\r\nhost: b\r\ncontent-length: 2\r\n\r\n{}"
+
+
+@pytest.mark.parametrize("look", [kernel.by_question, kernel.by_table])
+def test_what_the_kernel_tells_of_a_socket(look: Callable[[Address, Address], kernel.Found | None]) -> None:
+    """One that listens, at one address or at each; one whose peer has sent five bytes, read or not; and none."""
+    with socket.create_server(("127.0.0.1", 0)) as it, socket.create_server(("0.0.0.0", 0)) as other:
+        at = it.getsockname()
+        assert look(at, kernel.NOBODY) == (kernel.LISTENS, 0)
+        assert look(("127.0.0.1", other.getsockname()[1]), kernel.NOBODY) == (kernel.LISTENS, 0)
+        with socket.create_connection(at) as peer, it.accept()[0] as taken:
+            peer.sendall(b"hello")
+            assert (found := look(at, peer.getsockname())) and found.unread == 5
+            taken.recv(3)
+            assert (found := look(at, peer.getsockname())) and found.unread == 2
+    assert look(at, kernel.NOBODY) is None
 
 
 def test_a_server_is_one_broker_through_stops_and_starts(server: Server) -> None:

@@ -6,7 +6,8 @@
   wrong-definitions/, and changes files of specs/ alone.
 - Only the crates of KIT have edits in must-fail/, which `rt ci` proves once more for them; all others are in
   wrong-bodies/.
-- Each public function is called by another crate of the product or by `uses`, or by a law. ci/UNCALLED has the others.
+- Each public function is called by another crate of the product, by `uses` or a test of `calls`, or by a law. ci/UNCALLED
+  has the others.
 
 A line of either list is `CRATE::NAME: why`."""
 import os, re
@@ -73,13 +74,13 @@ def called_by(caller, functions):
 
 
 def reached(begun, called, without=None):
-    """What these functions call, and what that calls."""
+    """These functions, what they call (`called` of each), and what that calls."""
     found, left = set(), [it for it in begun if it is not without]
     while left:
         it = left.pop()
         if it not in found:
             found.add(it)
-            left += [other for other in called[it] if other is not without]
+            left += [other for other in called(it) if other is not without]
     return found
 
 
@@ -91,7 +92,7 @@ def without_wrong_body(crate):
     has_edit = turned(crate)
     for it in public:
         if it not in has_edit:
-            own = reached([it], called) - reached(entries, called, without=it)
+            own = reached([it], called.get) - reached(entries, called.get, without=it)
             if not own & has_edit:
                 yield it
 
@@ -122,7 +123,7 @@ def against(list, lacking, what, has):
 
 def uncalled(product, checks):
     """The public functions that nothing of another crate calls, and no law."""
-    callers = [*product, *(it for it in checks if it.name == "uses")]
+    callers = [*product, *(it for it in checks if it.name in ("uses", "calls"))]
     for crate in product:
         among = [it for other in callers for it in other.functions if other is not crate or it.is_law]
         for callee in (it for it in crate.functions if crate.is_public(it) and not it.is_law and it.name != "main"):

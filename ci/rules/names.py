@@ -1,6 +1,6 @@
 """The rules of sizes and names.
 
-- A crate has at most 110 functions. No two of its functions outside `impl` have one name, and no two definitions of
+- A crate has at most 110 functions; MORE has one with more, and why. No two of its functions outside `impl` have one name, and no two definitions of
   its specs/ that aren't operators have one.
 - No two crates define one word, a name with a capital letter; TWICE has those that do, with why none is taken for
   the other."""
@@ -11,6 +11,10 @@ from definitions import TOP, definitions_in, files_of, text_of
 from sources import place
 
 MOST = 110
+MORE = {
+    # How many matchers of one entry are asked is the larger part of what is over; it may become a crate of its own.
+    "pact_rules": 150,
+}
 TWICE = {
     # The same of two things.
     "HasRivals": "two of one key that differ: interactions of a file, replies of a file",
@@ -39,8 +43,9 @@ TWICE = {
 
 def too_large(crates):
     for it in crates:
-        if len(it.functions) > MOST:
-            yield f"crates/{it.name}: {len(it.functions)} functions, more than {MOST}"
+        most = MORE.get(it.name, MOST)
+        if len(it.functions) > most:
+            yield f"crates/{it.name}: {len(it.functions)} functions, more than {most}"
 
 
 def defined(crate):

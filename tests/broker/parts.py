@@ -87,9 +87,9 @@ def pact_files(room: str) -> dict[str, str]:
     return {name: f"{room}/{name}" for name in texts}
 
 
-def former_file(room: str) -> str:
-    """A file of format 1."""
-    statements(f"{room}/former.db", FORMER)
+def former_file(room: str, more: str = "") -> str:
+    """A file of format 1, with what these statements put into it."""
+    statements(f"{room}/former.db", FORMER + more)
     return f"{room}/former.db"
 
 

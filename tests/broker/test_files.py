@@ -138,12 +138,17 @@ UNLIKE = [
     "CREATE VIEW released AS SELECT environment, version_number FROM deployed",
     RELEASED.replace("environment TEXT,", "environment TEXT COLLATE NOCASE,"),
     RELEASED.replace("environment TEXT,", "environment TEXT COLLATE RTRIM,"),
+    f"{RELEASED}; {NOTES}",
+    f"{RELEASED}; CREATE VIEW lines AS SELECT version_number FROM released",
+    f"{RELEASED}; CREATE INDEX lines ON released (version_number)",
+    f"{RELEASED}; CREATE TRIGGER lines AFTER INSERT ON released BEGIN SELECT 1; END",
 ]
 
 
 @pytest.mark.parametrize("text", UNLIKE)
 def test_another_file_of_format_1_is_not_migrated(broker: Broker, room: str, text: str) -> None:
-    """Unless its tables have the columns, by bytes, and the keys: else it is `open 2`, and as it was."""
+    """Unless its tables have the columns, by bytes, and the keys, and nothing else is there: else it is `open 2`, and as
+    it was."""
     file = former_file(room)
     statements(file, f"DROP TABLE released; {text}")
     before = kept(room)
@@ -153,10 +158,10 @@ def test_another_file_of_format_1_is_not_migrated(broker: Broker, room: str, tex
 
 
 def loose(text: str) -> str:
-    """These tables without STRICT and NOT NULL, in another order, and after another table."""
+    """These tables without STRICT and NOT NULL, and in another order."""
     made = [it.replace(" STRICT", "").replace(" NOT NULL", "") for it in text.splitlines() if it.startswith("CREATE")]
     rows = [it for it in text.splitlines() if not it.startswith("CREATE")]
-    return "\n".join(["CREATE TABLE notes (line TEXT);", *made[::-1], *rows])
+    return "\n".join([*made[::-1], *rows])
 
 
 @pytest.mark.parametrize("text", [loose(FORMER), f"{FORMER}DROP TABLE released; {RELEASED}"], ids=["loose", "released"])

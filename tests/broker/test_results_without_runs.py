@@ -6,8 +6,10 @@ from tests.wire import Wrong, request, same
 from tests.world import BLUE, RED, new_file, register, verify
 
 PATH = "/pacts/provider/stock/consumer/shop/version/1/results"
-# How many results of one provider there are before a cost is measured, and over how many it is.
-BEFORE, MEASURED = 3000, 500
+# Over how many results of one provider a cost is measured: some tenths of a second, of which a tick of the clock that
+# tells of it, a hundredth, is little. How many come between that and the same again; and how many a file has that is
+# opened.
+MEASURED, BETWEEN, OPENED = 4000, 6000, 3000
 
 
 def rows(file: str, room: str) -> list[tuple[int, str, int]]:
@@ -50,16 +52,19 @@ def asked(program: str, file: str) -> Ended:
 
 
 def opening(program: str, room: str, have_runs: bool) -> float:
-    """The seconds of a processor that an opening takes, of a file with so many results."""
+    """The seconds of a processor that an opening takes, of a file with so many results: the least of three."""
     with Server(program, new_file(program, room, f"{have_runs}.db")) as server:
         register(server)
         verify(server)
-        report(server, BEFORE, have_runs)
+        report(server, OPENED, have_runs)
         server.stop()
-    begun = resource.getrusage(resource.RUSAGE_CHILDREN)
-    assert asked(program, server.file).status == 0
-    ended = resource.getrusage(resource.RUSAGE_CHILDREN)
-    return ended.ru_utime + ended.ru_stime - begun.ru_utime - begun.ru_stime
+    times = []
+    for _ in range(3):
+        begun = resource.getrusage(resource.RUSAGE_CHILDREN)
+        assert asked(program, server.file).status == 0
+        ended = resource.getrusage(resource.RUSAGE_CHILDREN)
+        times.append(ended.ru_utime + ended.ru_stime - begun.ru_utime - begun.ru_stime)
+    return min(times)
 
 
 def test_a_row_without_a_run_has_a_tab_and_its_number(fleet: Server, room: str) -> None:
@@ -86,13 +91,11 @@ def test_the_rows_of_an_earlier_program_are_written_anew(program: str, fleet: Se
     same("can-i-deploy", asked(program, new), before)
 
 
-@pytest.mark.timing
 def test_a_result_costs_the_same_behind_thousands(fleet: Server) -> None:
     first = report(fleet, MEASURED)
-    report(fleet, BEFORE)
+    report(fleet, BETWEEN)
     assert report(fleet, MEASURED) < 2.5 * first
 
 
-@pytest.mark.timing
 def test_an_opening_costs_the_same_without_runs(program: str, room: str) -> None:
     assert opening(program, room, False) < 2 * opening(program, room, True)

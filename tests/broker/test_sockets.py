@@ -5,6 +5,7 @@ from collections.abc import Iterator
 from typing import Any
 import pytest
 from tests.broker.parts import PACT, TEAM, Broker, has_rows, owned, put_team, reply, serving
+from tests.kernel import in_table
 from tests.players.files import statements
 from tests.process import Server
 from tests.proxy import await_that
@@ -56,6 +57,14 @@ ELSEWHERE = "224.0.0.1:0 [::ffff:127.0.0.1]:0 [::]:0 0.0.0.0:0 255.255.255.255:0
 @pytest.mark.parametrize("address", [*ELSEWHERE.split(), ""])
 def test_an_address_that_is_not_of_loopback(broker: Broker, room: str, address: str) -> None:
     same(address, broker(*serving(broker.new_file(room), address)), (3, "", "listen\n"))
+
+
+def test_only_loopback_is_listened_on(broker: Broker, room: str) -> None:
+    """The kernel has a listener of this port at 127.0.0.1, and at no other address."""
+    with broker.serving(broker.new_file(room)) as it, open("/proc/net/tcp", encoding="ascii") as table:
+        places = [row.split()[1] for row in table if row.split()[3] == "0A"]
+        port = f":{it.port:04X}"
+        same("the listeners", [at for at in places if at.endswith(port)], [in_table(("127.0.0.1", it.port))])
 
 
 def fill(peer: socket.socket, most: int) -> tuple[int, str]:
@@ -151,7 +160,7 @@ def test_a_broker_that_is_paused_in_requests(broker: Broker, room: str) -> None:
 
 def test_a_broker_that_is_paused_in_an_answer(broker: Broker, room: str) -> None:
     """All of it comes. Twelve answers of 900 kB are more than the sockets take, so the broker waits for the client to
-    read on."""
+    read on: in all for less than the two seconds that answers have."""
     file, path = broker.served_shop(room), f"{PLACE}/2"
     text = PACT.replace('"headers":{"a":"1"}', '"headers":{"a":"1"},"body":"%s"' % ("x" * 900_000))
     with broker.serving(file, 2) as it:
@@ -161,7 +170,7 @@ def test_a_broker_that_is_paused_in_an_answer(broker: Broker, room: str) -> None
             peer.sendall(request("GET", path, TEAM) * 12)
             got = b""
             for _ in range(6):
-                time.sleep(0.2)
+                time.sleep(0.05)
                 pause(it.process)
                 end = len(got) + 400_000
                 while len(got) < end and (more := peer.recv(65536)):
@@ -175,16 +184,22 @@ def test_a_broker_that_is_paused_in_an_answer(broker: Broker, room: str) -> None
 # Memory, and many
 
 
-def test_a_pact_file_that_is_larger_than_memory(broker: Broker, room: str) -> None:
+def test_a_file_that_is_too_long_is_refused_without_reading_on(broker: Broker, room: str) -> None:
+    """In 64 MiB: a file of a gigabyte, and one without an end."""
     limits = [(resource.RLIMIT_AS, 1 << 26)]
     if broker("--version", limits=limits).status != 0:
         raise NotRun("the program can't be started in 64 MiB")
     with open(f"{room}/large", "wb") as it:
         it.truncate(1 << 30)
-    with open(f"{room}/large", "rb") as it:
-        same("normalise", broker("normalise", stdin=it, limits=limits), (3, "", "memory\n"))
-    words = ["check", "--pact", f"{room}/large", "--replies", f"{room}/large"]
-    same("check", broker(*words, limits=limits), (3, "", "memory\n"))
+    with open(f"{room}/pact", "w", encoding="utf-8") as text:
+        text.write(PACT)
+    for path in f"{room}/large", "/dev/zero":
+        with open(path, "rb") as it:
+            same(f"normalise {path}", broker("normalise", stdin=it, limits=limits), (3, "", "pact 1\n"))
+        words = ["check", "--pact", path, "--replies", path]
+        same(f"a pact of {path}", broker(*words, limits=limits), (3, "", "pact 1\n"))
+        words = ["check", "--pact", f"{room}/pact", "--replies", path]
+        same(f"replies of {path}", broker(*words, limits=limits), (3, "", "file\n"))
 
 
 def consumer(name: str) -> Iterator[bytes]:

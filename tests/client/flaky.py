@@ -1,8 +1,9 @@
 """A broker that answers by a list of statuses."""
-import http.server, json, threading
+import http.server, json
 from collections.abc import Iterator
 from typing import Any, Dict, List
 import pytest
+from tests.client.tools import Serving
 
 EMPTY = {"answer": "shown", "environment": "live", "gated": True, "deployed": [], "released": []}
 PROXY, MANY = b"<html>a proxy</html>", 429
@@ -42,19 +43,15 @@ class Flaky(http.server.BaseHTTPRequestHandler):
         """Is silent."""
 
 
-class FlakyBroker(http.server.ThreadingHTTPServer):
-    daemon_threads = True
-
+class FlakyBroker(Serving):
     def __init__(self, port: int = 0) -> None:
-        super().__init__(("127.0.0.1", port), Flaky)
+        super().__init__(Flaky, port)
         self.list: List[int] = []
         self.headers: Dict[str, str] = {}
         self.there: List[Dict[str, str]] = []
         self.bodies: List[bytes] = []
         self.count = 0
         self.meanwhile: Any = lambda: None
-        self.url = f"http://127.0.0.1:{self.server_address[1]}"
-        threading.Thread(target=self.serve_forever, args=(0.02,), daemon=True).start()
 
     def set(self, statuses: List[int], **more: Any) -> None:
         self.list, self.count, self.bodies = list(statuses), 0, []
@@ -64,7 +61,5 @@ class FlakyBroker(http.server.ThreadingHTTPServer):
 
 @pytest.fixture
 def flaky() -> Iterator[FlakyBroker]:
-    it = FlakyBroker()
-    yield it
-    it.shutdown()
-    it.server_close()
+    with FlakyBroker() as it:
+        yield it

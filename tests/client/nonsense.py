@@ -1,45 +1,16 @@
 """A broker, and a provider, that answers at random: statuses, shapes, bytes, half of an answer, late or not at all."""
-import contextlib, json, random, socket, threading
+import contextlib, json, random, socket, threading, time
 from collections.abc import Callable
-from typing import Any, List
+from typing import Any, List, Tuple
 
+SLOW = 0.4  # how many seconds a slow answer takes
 STATUSES = [200] * 12 + [100, 204, 301, 400, 401, 403, 404, 404, 409, 409, 413, 422, 429, 500, 502, 503, 504, 599]
-WORDS = [
-    "done",
-    "already",
-    "shown",
-    "denied",
-    "unknown",
-    "taken",
-    "not permitted",
-    "bad form",
-    "full",
-    7,
-    None,
-    [],
-    "\u202e\x1b[31m",
-]
+WORDS = ["done", "already", "shown", "denied", "unknown", "taken", "not permitted", "bad form", "full", 7, None, []]
+WORDS += ["\u202e\x1b[31m"]
 KEYS = """answer content result success failing deployed released environment gated strict faults permitted rows rule
 what fault interactions consumer provider consumerVersion providerVersion kind evidence pacticipant version
 instance""".split()
-SCALARS: List[Any] = [
-    None,
-    True,
-    False,
-    0,
-    1,
-    -1,
-    2**70,
-    1.5,
-    "",
-    "a",
-    "shop",
-    "1",
-    "\x1b[0m",
-    "\ud83d\ude00",
-    [],
-    {},
-]
+SCALARS: List[Any] = [None, True, False, 0, 1, -1, 2**70, 1.5, "", "a", "shop", "1", "\x1b[0m", "\ud83d\ude00", [], {}]
 LACK = {"consumer": "shop", "consumerVersion": "1", "kind": "missing", "provider": "stock", "providerVersion": "1"}
 THERE = {"instance": "", "pacticipant": "shop", "version": "1"}
 ONE = {"description": "a", "providerStates": [], "request": {"path": "/1"}, "response": {"body": {"a": 1}}}
@@ -113,15 +84,18 @@ def field(rng: random.Random) -> str:
 
 
 class Nonsense:
-    """Who answers each request by a function of its bytes, and closes."""
+    """Who answers each request by a function of its bytes, and closes; or sends half of it, and the rest too late. It
+    keeps what it was asked and what it answered since it began."""
 
     def __init__(self) -> None:
         self.socket = socket.create_server(("127.0.0.1", 0))
         self.url = f"http://127.0.0.1:{self.socket.getsockname()[1]}"
         self.answer: Callable[[bytes], bytes] = lambda _: b""
+        self.is_slow: Callable[[], bool] = lambda: False
+        self.told: List[Tuple[bytes, bytes]] = []
 
-    def begin(self, answer: Callable[[bytes], bytes]) -> None:
-        self.answer = answer
+    def begin(self, answer: Callable[[bytes], bytes], is_slow: Callable[[], bool] = lambda: False) -> None:
+        self.answer, self.is_slow, self.told = answer, is_slow, []
 
     def __enter__(self) -> "Nonsense":
         threading.Thread(target=self.loop, daemon=True).start()
@@ -144,7 +118,12 @@ class Nonsense:
             line.settimeout(5)
             asked = request_on(line)
             if asked:
-                line.sendall(self.answer(asked))
+                answer = self.answer(asked)
+                half = len(answer) // 2 if self.is_slow() else 0
+                self.told.append((asked, answer))
+                line.sendall(answer[:half])
+                time.sleep(SLOW if half else 0)
+                line.sendall(answer[half:])
 
 
 def request_on(line: socket.socket) -> bytes:

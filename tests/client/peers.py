@@ -2,9 +2,9 @@
 proxies."""
 import http.server, json, socket, threading
 from collections.abc import Callable
-from typing import Any, List, Tuple
+from typing import Any, List, Optional, Tuple
 from tests.client.books import book_pact, interaction
-from tests.client.tools import Client
+from tests.client.tools import Client, Serving
 from tests.process import Server
 from tests.wire import same
 from tests.world import BLUE
@@ -93,39 +93,32 @@ def closes(line: socket.socket, _: int) -> None:
         line.shutdown(socket.SHUT_RDWR)
 
 
-class Refusing(http.server.ThreadingHTTPServer):
-    """A proxy that answers 403 to results of one consumer, and hands all else on."""
+class Proxy(Serving):
+    """A proxy that hands requests on to a broker, unless it has an answer of its own."""
 
-    daemon_threads = True
+    def __init__(self, broker: Server) -> None:
+        super().__init__(Hands)
+        self.broker = broker
 
-    def __init__(self, broker: Server, part: str, method: str = "POST") -> None:
-        self.broker, self.part, self.method = broker, part, method
-        super().__init__(("127.0.0.1", 0), Hands)
-        self.url = f"http://127.0.0.1:{self.server_address[1]}"
-
-    def __enter__(self) -> "Refusing":
-        threading.Thread(target=self.serve_forever, args=(0.02,), daemon=True).start()
-        return self
-
-    def __exit__(self, *_: Any) -> None:
-        self.shutdown()
-        self.server_close()
+    def answers(self, method: str, path: str, token: str, body: bytes) -> Optional[Tuple[int, str]]:
+        """The status and the text of the answer; None to close without one."""
+        status, _, text = self.broker.ask(method, path, token, body)
+        return status, text
 
 
 class Hands(http.server.BaseHTTPRequestHandler):
+    """A request to a proxy, and its answer."""
+
     def answer(self) -> None:
         proxy: Any = self.server
         body = self.rfile.read(int(self.headers.get("content-length", 0)))
         self.close_connection = True
-        token = self.headers["authorization"].split(" ")[1]
-        if proxy.part in self.path and self.command == proxy.method:
-            status, text = 403, '{"answer":"denied","rule":"A4"}'
-        else:
-            status, _, text = proxy.broker.ask(self.command, self.path, token, body)
-        self.send_response(status)
-        self.send_header("content-length", str(len(text.encode())))
-        self.end_headers()
-        self.wfile.write(text.encode())
+        found = proxy.answers(self.command, self.path, self.headers["authorization"].split(" ")[1], body)
+        if found is not None:
+            self.send_response(found[0])
+            self.send_header("content-length", str(len(found[1].encode())))
+            self.end_headers()
+            self.wfile.write(found[1].encode())
 
     do_GET = do_POST = do_PUT = answer
 
@@ -133,24 +126,30 @@ class Hands(http.server.BaseHTTPRequestHandler):
         """Is silent."""
 
 
-class Judging(Refusing):
+DENIED = 403, '{"answer":"denied","rule":"A4"}'
+
+
+class Refusing(Proxy):
+    """One that has an answer of its own to results of one consumer, or to what else is asked of it by a method."""
+
+    def __init__(self, broker: Server, part: str, method: str = "POST", answer: Tuple[int, str] = DENIED) -> None:
+        super().__init__(broker)
+        self.part, self.method, self.own = part, method, answer
+
+    def answers(self, method: str, path: str, token: str, body: bytes) -> Optional[Tuple[int, str]]:
+        if self.part in path and method == self.method:
+            return self.own
+        return super().answers(method, path, token, body)
+
+
+class Judging(Proxy):
     """A broker that judges otherwise."""
 
     def __init__(self, broker: Server, verdict: str) -> None:
-        super().__init__(broker, "")
+        super().__init__(broker)
         self.verdict = verdict
-        self.RequestHandlerClass = Judges
 
-
-class Judges(Hands):
-    def judged(self) -> None:
-        proxy: Any = self.server
-        self.rfile.read(int(self.headers.get("content-length", 0)))
-        self.close_connection = True
-        text = f'{{"answer":"done",{proxy.verdict}}}'
-        self.send_response(200)
-        self.send_header("content-length", str(len(text)))
-        self.end_headers()
-        self.wfile.write(text.encode())
-
-    do_POST = judged
+    def answers(self, method: str, path: str, token: str, body: bytes) -> Optional[Tuple[int, str]]:
+        if method == "POST":
+            return 200, f'{{"answer":"done",{self.verdict}}}'
+        return super().answers(method, path, token, body)

@@ -94,6 +94,15 @@ COLOURS = """['body', 'h1', 'td', 'text', 'small', '.no']
   .map(it => { const { color, fill, backgroundColor } = getComputedStyle(it);
     return it.matches('text') ? fill : it.matches('body') ? backgroundColor : color; })"""
 WIDER = "document.documentElement.scrollWidth - document.documentElement.clientWidth"
+# How many tables the keyboard, or who hears the page, can't come to.
+UNREACHED = """[...document.querySelectorAll('.wide')].filter(it => it.getAttribute('tabindex') !== '0'
+  || it.getAttribute('role') !== 'region' || !it.getAttribute('aria-label')).length"""
+# Whether a table is wider than the window; it has the keyboard then.
+TOO_WIDE = """(() => {
+  const it = [...document.querySelectorAll('.wide')].find(it => it.scrollWidth > it.clientWidth);
+  it?.focus();
+  return !!it;
+})()"""
 RUNS = """(() => {
   const it = document.createElement('script');
   it.textContent = 'window.ran = 1';
@@ -169,6 +178,10 @@ def looked_at(page: Browser, path: str, titles: list[str], wanted: Picture) -> N
     for width in 1000, 360:
         page.look(width, "light")
         same(f"how much wider than {width} it is", page.js(WIDER), 0)
+    same("tables that the keyboard can't reach", page.js(UNREACHED), 0)
+    if page.js(TOO_WIDE):
+        page.press("ArrowRight")
+        page.wait("document.activeElement.scrollLeft > 0", "the end of a wide table, by the keyboard,")
     page.js("0")
     same("what the browser reports, or asks for", [it for it in page.events if is_seen(it, url)][:2], [])
     same("whether a script in it is run", page.js(RUNS), False)

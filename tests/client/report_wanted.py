@@ -2,19 +2,24 @@
 
 WANTED = {
     "What is where": [
-        "Of the versions that are in gated environments, today's gate would refuse 2.",
+        "Of the versions that are in gated environments, the gate would have refused 2 when the copy was made.",
         "service|live gated|open open|test open|vault gated, strict",
-        "shop|1 released;3 released, deployed refused today|||",
-        "stock|1 refused today|||1",
+        "shop|1 released;3 released, deployed refused then|||",
+        "stock|1 refused then|||1",
         "shop 3 in live",
-        "stock 1 fails the contract of shop 3: failed, for the team blue",
+        "stock 1 fails the contract of shop 3, by its latest result: failed, for the teams red and blue",
         "stock 1 in live",
-        "stock 1 fails the contract of shop 3: failed, for the team blue",
+        "stock 1 fails the contract of shop 3, by its latest result: failed, for the teams red and blue",
     ],
     "Consumers with another contract than their newest": [
         "consumer|environment|version there|provider|newest version with a contract",
         "shop|live|1|stock|4",
         "shop|live|3|stock|4",
+    ],
+    "What providers have to verify": [
+        "provider|team|its newest version|consumer|version|where that is|what lacks",
+        "stock|blue|1|shop|3|live|failed",
+        "stock|blue|1|shop|4|the newest|failed",
     ],
     "Owners and grants": [
         "team|owns|may change what is in",

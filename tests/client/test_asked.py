@@ -1,10 +1,10 @@
 """What `holzhebo verify` asks a provider: the request as the pact has it, headers of its own, states."""
-import http.server, json, os, threading
-from typing import Any, Dict, List, Tuple
+import http.server, json, os
+from typing import Any, Dict, List, Optional, Tuple
 import pytest
 from tests.client.books import STATE, publish_book
 from tests.client.peers import BOOK_TEXT, JSON_TYPE, nothing_is_stored, one, verified, words
-from tests.client.tools import Client, Done, Reply, Stock
+from tests.client.tools import Client, Done, Reply, Serving, Stock
 from tests.process import Server
 from tests.wire import same
 
@@ -101,13 +101,10 @@ def test_header_file(fleet: Server, client: Client, room: str) -> None:
         "10",
         one(request={"path": "/1", "headers": {"authorization": "Bearer example", "X-Shop": "a"}}, states=STATE),
     )
-    server = http.server.ThreadingHTTPServer(("127.0.0.1", 0), Keeps)
-    threading.Thread(target=server.serve_forever, args=(0.02,), daemon=True).start()
-    url = f"http://127.0.0.1:{server.server_address[1]}"
-    more = ["--header-file", "headers", "--states-url", f"{url}/states", "--record", "kept", "--junit", "junit.xml"]
-    done = client.run("blue", *words(url), *more)
-    server.shutdown()
-    server.server_close()
+    with Serving(Keeps) as peer:
+        more = ["--header-file", "headers", "--states-url", f"{peer.url}/states"]
+        more += ["--record", "kept", "--junit", "junit.xml"]
+        done = client.run("blue", *words(peer.url), *more)
     same("it passes", done.status, 0)
     same("what was sent", seen, [(path, [f"Bearer {SECRET}"], ["own"]) for path in ("/states", "/1")])
     kept = [done.output, done.errors, *(open(f"{room}/{it}", encoding="utf-8").read() for it in files_of(room))]
@@ -115,7 +112,7 @@ def test_header_file(fleet: Server, client: Client, room: str) -> None:
     for text in "authorization", "a b: 1", "x: \x01":
         with open(f"{room}/wrong", "w", encoding="utf-8") as it:
             it.write(f"x-a: {SECRET}\n{text}\n")
-        done = client.run("blue", *words(url, "p2"), "--header-file", "wrong")
+        done = client.run("blue", *words(peer.url, "p2"), "--header-file", "wrong")
         same("a file of something else", done, Done(3, "", "holzhebo: wrong: line 2 is no header, as name: value\n"))
 
 
@@ -146,6 +143,29 @@ def test_states_and_their_end(fleet: Server, client: Client) -> None:
     ]
     same("the states", sent, wanted)
     same("the request is between them", [it[0] for it in stock.asked], ["POST", "POST", "GET", "POST", "POST"])
+
+
+@pytest.mark.parametrize("reply", [b'{"id":1.5}', None], ids=["a reply that can't be recorded", "a second state"])
+def test_states_end_in_any_case(reply: Optional[bytes], fleet: Server, client: Client) -> None:
+    """What can't be played has its states taken back too: those that were set, and no other."""
+    publish_book(fleet, "10", one(states=[{"name": "a shelf"}, {"name": "a reader"}]))
+    sent = []
+
+    class States(http.server.BaseHTTPRequestHandler):
+        def do_POST(self) -> None:
+            said = json.loads(self.rfile.read(int(self.headers["content-length"])))
+            sent.append((said["action"], said["state"]))
+            self.send_response(500 if reply is None and said["state"] == "a reader" else 204)
+            self.end_headers()
+
+        def log_message(self, format: str, *words: Any) -> None:
+            """Is silent."""
+
+    with Serving(States) as states, Stock({"GET /1": Reply(headers=JSON_TYPE, body=reply or b"")}) as stock:
+        status, told = verified(client, stock.url, "--states-url", states.url, "--states-teardown")
+    same("it isn't played", (status, told["played"][0]["outcome"]), (3, "not played"))
+    ends = [("teardown", "a shelf")] if reply is None else [("teardown", "a reader"), ("teardown", "a shelf")]
+    same("what was set and taken back", sent, [("setup", "a shelf"), ("setup", "a reader"), *ends])
 
 
 def test_states_without_an_address(fleet: Server, client: Client) -> None:

@@ -2,7 +2,7 @@
 listens. The client is the one file, which a server in the place of the proxy has under /desk/holzhebo."""
 import concurrent.futures, contextlib, functools, json, os, re, shlex, subprocess, sys
 from typing import Any, Callable, Dict, List
-from tests.client.tools import CLIENT, PYTHON, Client, Reply, Stock, secret, sound
+from tests.client.tools import CLIENT, PYTHON, TOKENS, Client, Reply, Stock, secret, sound
 from tests.process import TOP, Server, run
 from tests.wire import OFFICE, Wrong, same
 from tests.world import BLUE, RED, pact
@@ -12,7 +12,8 @@ STUBS = {
     "bin/gh": 'echo "$@" >> started',
     "bin/git": "exit 0",
     "bin/mvn": 'echo "$@" >> verified; [ "${VERIFIER:-0}" = broken ] && exit 1; mkdir -p target/surefire-reports;'
-    " echo '<testsuite/>' > target/surefire-reports/a.xml; ! grep -q \"${FAILS:-nothing at all}\" target/pact/*.json",
+    "echo '<testsuite/>' > target/surefire-reports/TEST-org.example.${VERIFIER:-StockPactTest}.xml;"
+    '[ "${VERIFIER:-0}" = 0 ] || exit 1; ! grep -q "${FAILS:-nothing at all}" target/pact/*.json',
     "bin/curl": 'echo "$@" >> fetched; while [ "$1" != -o ]; do shift; done; cp "$ONE_FILE" "$2.new"; mv "$2.new" "$2"',
     "run-tests": "mkdir -p pacts; cp pact.json pacts/shop-stock.json",
     "start-service": "exit 0",
@@ -79,9 +80,11 @@ class Build:
         """Runs a workflow as GitHub does: each step by bash, with what an earlier one wrote for the next, until one
         fails."""
         workflow = yaml_of(f"{BUILDS}/github/{name}")
-        given = {"secrets.HOLZHEBO_TOKEN": token, "secrets.PROVIDER_BUILDS": "-", **given}
+        # Another build than a release has no token that deploys.
+        name_of = "HOLZHEBO_RELEASE_TOKEN" if name == "release.yml" else "HOLZHEBO_TOKEN"
+        given = {f"secrets.{name_of}": token, "secrets.PROVIDER_BUILDS": "-", **given}
         given["vars.HOLZHEBO_SHA256"] = self.env["HOLZHEBO_SHA256"]
-        kept, steps = f"{self.room}/{name}.env", []
+        kept, steps = f"{self.room}/{name}.env", []  # type: str, List[Dict[str, Any]]
         for job in workflow["jobs"].values():
             usual = job.get("defaults", {}).get("run", {})
             steps += [{**usual, **it} for it in job["steps"] if "run" in it]
@@ -90,8 +93,8 @@ class Build:
             if os.path.exists(kept):
                 with open(kept, encoding="utf-8") as file:
                     env.update(re.findall(r"(?m)^(.*?)=(.*)$", file.read()))
-            own = {key: str(it) for key, it in env.items() if "." not in key}
-            env = {key: re.sub(r"\$\{\{ (\S+) \}\}", lambda it: given[str(it[1])], text) for key, text in own.items()}
+            texts = {key: str(it) for key, it in env.items() if "." not in key}
+            env = {key: re.sub(r"\$\{\{ (\S+) \}\}", lambda it: given[str(it[1])], it) for key, it in texts.items()}
             status = self.lines(shell_of(step), step["run"], env)
             if status:
                 return status
@@ -100,7 +103,10 @@ class Build:
 
     def gitlab(self, job: str, token: str, **given: str) -> int:
         jobs = yaml_of(f"{BUILDS}/gitlab-ci.yml")
-        env = {**jobs["variables"], "HOLZHEBO_TOKEN": token, **given}
+        # Those of the project come before those of a job. A release has both, of which the first deploys nothing.
+        usual = {"HOLZHEBO_TOKEN": TOKENS["nobody"], "HOLZHEBO_RELEASE_TOKEN": token}
+        tokens = usual if job == "release" else {"HOLZHEBO_TOKEN": token}
+        env = {**jobs["variables"], **jobs[job].get("variables", {}), **tokens, **given}
         return self.lines(
             ["bash", "-e", "-o", "pipefail"], "\n".join(jobs["default"]["before_script"] + jobs[job]["script"]), env
         )
@@ -186,10 +192,12 @@ def test_gitlab_and_jenkins(fleet: Server, client: Client, room: str) -> None:
         same("Jenkins, a failure", build.jenkins(BLUE, **given, FAILS="a spoon"), [0, 0, 0, 1, 1])
         rows = json.loads(fleet.ask("GET", "/matrix?pacticipant=stock&version=j2", BLUE).body)["rows"]
         same("the failure is stored", [(it["consumerVersion"], it["success"]) for it in rows], [("c0ffee", False)])
-        given.update(GIT_COMMIT="j3", BUILD_TAG="jenkins-3")
-        same("Jenkins, without a report", build.jenkins(BLUE, **given, VERIFIER="broken"), [0, 0, 0, 1, 1])
-        rows = json.loads(fleet.ask("GET", "/matrix?pacticipant=stock&version=j3", BLUE).body)["rows"]
-        same("nothing is claimed", [it["result"] for it in rows], [])
+        for number, other in enumerate(("broken", "ShelfTest"), 3):
+            given.update(GIT_COMMIT=f"j{number}", BUILD_TAG=f"jenkins-{number}")
+            same("Jenkins, without a report", build.jenkins(BLUE, **given, VERIFIER=other), [0, 0, 0, 1, 1])
+            asked = f"/matrix?pacticipant=stock&version=j{number}"
+            rows = json.loads(fleet.ask("GET", asked, BLUE).body)["rows"]
+            same(f"nothing is claimed ({other})", [it["result"] for it in rows], [])
 
 
 def branch_of(fleet: Server, pacticipant: str, version: str) -> str:

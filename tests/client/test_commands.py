@@ -108,8 +108,8 @@ def tokens_in_files(room: str) -> None:
 
 
 COMMANDS = """publish register explain verify check fetch result can-i-deploy deploy undeploy release end-support status
-matrix who metrics report team environment replace-token doctor record-deployment record-undeployment record-release
-record-support-ended""".split()
+matrix who metrics report plan desk carry team environment replace-token doctor record-deployment record-undeployment
+record-release record-support-ended""".split()
 
 
 def test_help(client: Client) -> None:
@@ -130,6 +130,17 @@ WRONG_LINES: List[List[str]] = [
     ["publish", "1"],
     ["result", "1", "maybe", "x"],
     ["can-i-deploy", "a", "b", "c", "--wait", "-1"],
+    # What a variable that isn't set makes of a line.
+    ["publish", "1", "--branch", "", "pact.json"],
+    ["publish", "", "pact.json"],
+    ["register", "stock", "1", "--branch="],
+    ["verify", "--provider", "stock", "--version", "", "--url", "http://127.0.0.1:1", "--for", "live"],
+    ["verify", "--provider", "stock", "--version", "1", "--url", "http://127.0.0.1:1", "--for", "live", "--run", ""],
+    ["fetch", "--provider", "stock", "--contract", "shop", "", "--into", "contracts"],
+    ["can-i-deploy", "shop", "", "live"],
+    ["can-i-deploy", "--pacticipant", "shop", "--version", "", "--to-environment", "live"],
+    ["deploy", "shop", "", "live"],
+    ["status", ""],
 ]
 
 
@@ -138,3 +149,5 @@ def test_wrong_lines(words: List[str], room: str) -> None:
     """A wrong command line is 2, and nothing is asked."""
     done = Client(room, "http://127.0.0.1:1").run("red", *words)
     same(f"{words}", (done.status, done.output), (2, ""))
+    if any(it == "" or it.endswith("=") for it in words):
+        same("why", re.findall("^error: argument [-/A-Z a-z]+: it is empty$", done.errors.split("\n")[0]) != [], True)

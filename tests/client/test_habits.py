@@ -38,6 +38,23 @@ def test_doctor(fleet: Server, client: Client) -> None:
         [(it["outcome"], it["what"]) for it in rows],
         [("ok", it) for it in ("address", "way", "connection", "clock", "token", "shop")],
     )
+    rows = json.loads(client.done("red", "doctor", "shop", "stock", "--for", "live", "--json"))
+    other = "1; another team's: this token may not ask for it, publish or deploy (A6, A3, A4, A7)"
+    same(
+        "what red's token may do",
+        [(it["outcome"], it["what"], it["found"]) for it in rows[-3:]],
+        [
+            ("ok", "live", "gated"),
+            ("ok", "shop in live", "isn't there, so whose it is can't be asked"),
+            ("ok", "stock in live", other),
+        ],
+    )
+    own = "1; this token may ask for it (A6), and if it isn't the office's or one that reads, publish (A3, A4)"
+    for caller in "blue", "office":
+        rows = json.loads(client.done(caller, "doctor", "stock", "--for", "live", "--json"))
+        same(f"what {caller}'s token may do", rows[-1]["found"], own)
+    done = client.run("red", "doctor", "--for", "liv")
+    same("a misspelt environment", (done.status, done.output.split("\n")[-2].split(None, 2)[:2]), (3, ["wrong", "liv"]))
     done = client.run("red", "doctor", "stok")
     same("a misspelt name", (done.status, done.output.split("\n")[-2].split(None, 2)[:2]), (3, ["wrong", "stok"]))
     done = client.run("nobody", "doctor")

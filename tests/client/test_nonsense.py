@@ -1,10 +1,11 @@
 """8,000 random command lines and answers: no traceback, no fault of the client, and no success that nobody answered."""
 import contextlib, io, json, os, random, re, sys
 from collections.abc import Iterator
-from typing import List
+from typing import List, Tuple
 import pytest
 
-from holzhebo.api import http
+from holzhebo.api import broker as asking
+from holzhebo.api import http, policy
 from holzhebo.cli import main as client
 from tests.client.nonsense import Nonsense, answer_of, head_of
 from tests.wire import OFFICE, Wrong, same
@@ -13,8 +14,8 @@ from tests.world import RED, pact
 ROUNDS, EACH = 40, 200
 NAMES = ["shop", "stock", "1.4.2", "live", "a b", "", "\u202e", "-", "x" * 120, "caf\u00e9", "/", "..", "{}", "a\nb"]
 COMMANDS = """publish register explain verify check fetch result can-i-deploy deploy undeploy release end-support status
-matrix who metrics report team environment replace-token doctor record-deployment record-undeployment record-release
-record-support-ended nothing help""".split()
+matrix who metrics report plan carry team environment replace-token doctor record-deployment record-undeployment
+record-release record-support-ended nothing help""".split()
 # Words that ask the broker, each with the requests that it needs at least.
 ASKING: List[List[str]] = [
     ["publish", "7", "a.json"],
@@ -37,46 +38,18 @@ ASKING: List[List[str]] = [
     ["team", "green", "--owns", "mail", "--grant", "live", "--no-grant", "open"],
     ["environment", "dev", "--strict"],
     ["doctor", "shop"],
+    ["plan", "staging", "live"],
+    ["plan", "staging", "live", "--gone", "shop", "--json"],
     ["record-undeployment", "--pacticipant", "shop", "--environment", "live"],
-    [
-        "verify",
-        "--provider",
-        "stock",
-        "--version",
-        "1",
-        "--url",
-        "PROVIDER",
-        "--contract",
-        "shop",
-        "1",
-        "--timeout",
-        "0.2",
-    ],
+    "verify --provider stock --version 1 --url PROVIDER --contract shop 1 --timeout 0.2".split(),
     ["verify", "--provider", "stock", "--version", "1", "--url", "PROVIDER", "--for", "live", "--timeout", "0.2"],
 ]
 OPTIONS = """--json --broker --token-file --patience --cacert --plain --format --run --branch --provider --version --url
 --for --contract --consumer --into --wait --instance --timeout --jobs --filter --junit --record --program --output --log
---since --strict --not-gated --owns --grant --no-grant --as-it-is --replies --service --refused -o -b -k --help
--h""".split()
-VALUES = [
-    *NAMES,
-    "a.json",
-    "nowhere",
-    "0",
-    "-1",
-    "1e9",
-    "nan",
-    "{version}",
-    "{nothing}",
-    "json",
-    "http://127.0.0.1:1",
-    "http://x:99999",
-    "ftp://x",
-    "http://[::1",
-    "2026-11-27",
-    "2026-99-99",
-    ".",
-]
+--since --strict --not-gated --owns --grant --no-grant --as-it-is --replies --service --refused --file --copies --keep
+--without --gone --contacts -o -b -k --help -h""".split()
+VALUES = [*NAMES, *"a.json nowhere 0 -1 1e9 nan {version} {nothing} json http://127.0.0.1:1 http://x:99999".split()]
+VALUES += "ftp://x http://[::1 2026-11-27 2026-99-99 .".split()
 
 
 def word(rng: random.Random) -> str:
@@ -92,6 +65,34 @@ def line_of(rng: random.Random) -> List[str]:
         at = rng.randrange(len(words) + 1)
         words[at : at + rng.randrange(2)] = [word(rng) for _ in range(rng.randrange(1, 3))]
     return words
+
+
+# Commands that end with 0 only if the broker says of a change that it is done; and of these those of which it may be
+# done already by an earlier attempt, so that there is nothing to end.
+CHANGING = """publish register result deploy release environment record-deployment record-release undeploy end-support
+record-undeployment record-support-ended""".split()
+ENDING = CHANGING[8:]
+
+
+def is_said(words: List[str], output: str, told: List[Tuple[bytes, bytes]]) -> bool:
+    """Whether the broker has said what these words may end with 0 for."""
+    if words[0] not in (*CHANGING, "can-i-deploy", "verify") or {"-h", "--help"} & {*words}:
+        return True
+    for asked, answer in told:
+        head, _, body = answer.partition(b"\r\n\r\n")
+        try:
+            status, said = int(head.split(b" ")[1]), json.loads(body)
+            if words[0] == "can-i-deploy":
+                is_yes = status == 200 and said["permitted"] is True
+            elif status == 404 and words[0] in ENDING:
+                is_yes = said["what"] in ("deployed", "released")
+            else:
+                is_yes = status == 200 and said["answer"] in ("done", "already") and not asked.startswith(b"GET ")
+        except (ValueError, LookupError, TypeError):
+            continue
+        if is_yes:
+            return True
+    return words[0] == "verify" and ("there is no contract" in output or output == "[]\n")
 
 
 class Run:
@@ -125,13 +126,16 @@ def folder(room: str, monkeypatch: pytest.MonkeyPatch) -> Iterator[str]:
     monkeypatch.setenv("HOME", room)
     monkeypatch.delenv("XDG_CONFIG_HOME", raising=False)
     monkeypatch.setenv("HOLZHEBO_TOKEN", RED)
-    monkeypatch.setenv("HOLZHEBO_PATIENCE", "0.3")
+    # Waits are a fifth of the usual ones, so that the same is tried and hardly any of it is waiting.
+    monkeypatch.setenv("HOLZHEBO_PATIENCE", "0.06")
+    monkeypatch.setattr(policy, "FIRST_PAUSE", policy.FIRST_PAUSE / 5)
     monkeypatch.chdir(room)
     fetched = {**json.loads(pact("a book")), "metadata": {"holzhebo": {"consumerVersion": "1"}}}
     for name, text in ("a.json", pact("a book")), ("fetched.json", json.dumps(fetched)):
         with open(name, "w", encoding="utf-8") as it:
             it.write(text)
     monkeypatch.setattr(http, "MOST_BYTES", 100000)
+    monkeypatch.setattr(asking, "ANSWER_SECONDS", 0.2)
     yield room
 
 
@@ -151,15 +155,19 @@ def tried(rng: random.Random, words: List[str], what: str) -> Run:
 
 @pytest.mark.parametrize("round", range(ROUNDS))
 def test_nonsense(round: int, folder: str, monkeypatch: pytest.MonkeyPatch) -> None:
-    """Random command lines, with a broker and a provider that answer at random."""
+    """Random command lines, with a broker and a provider that answer at random, late or not at all; what a line asks for
+    isn't said to be done unless the broker has said so."""
     rng = random.Random(f"nonsense {round}")
+    is_slow = lambda: rng.random() < 0.01
     with Nonsense() as broker, Nonsense() as provider:
         monkeypatch.setenv("HOLZHEBO_BROKER", broker.url)
         for number in range(EACH):
-            broker.begin(lambda asked: answer_of(rng, asked))
-            provider.begin(lambda asked: answer_of(rng, asked))
+            broker.begin(lambda asked: answer_of(rng, asked), is_slow)
+            provider.begin(lambda asked: answer_of(rng, asked), is_slow)
             words = [provider.url if it == "PROVIDER" else it for it in line_of(rng)]
-            tried(rng, words, f"(round {round}, {number})")
+            done = tried(rng, words, f"(round {round}, {number})")
+            if done.status == 0 and not is_said(words, done.output, broker.told):
+                raise Wrong(f"{words} (round {round}, {number}) ends with 0, after {broker.told}: {done.output}")
 
 
 # Answers of status 200 that aren't the broker's: a captive portal's JSON, and shapes that lack something.

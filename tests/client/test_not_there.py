@@ -39,6 +39,19 @@ def test_a_provider_that_only_closes(fleet: Server, client: Client) -> None:
     same("what is stored", rows(fleet), None)
 
 
+def test_a_provider_that_never_answers(fleet: Server, client: Client) -> None:
+    """It takes each connection and says nothing, as what hangs at its start does."""
+    publish_book(fleet, "10", one())
+
+    def hangs(line: socket.socket, _: int) -> None:
+        line.recv(65536)
+        time.sleep(3)
+
+    with Peer(hangs) as peer:
+        status, told = verified(client, peer.url, "--timeout", "0.5")
+    nothing_is_stored(fleet, status, told, "the provider doesn't answer within 0.5 seconds")
+
+
 def test_a_provider_that_is_still_starting(fleet: Server, client: Client) -> None:
     """Connections that are closed before its first answer are tried again."""
     publish_book(fleet, "10", one())

@@ -1,10 +1,10 @@
 """The client as it is shipped: the one file, the wheel, what the package has, and its pages."""
-import glob, json, os, re, resource, shutil, subprocess, sys
+import glob, json, os, re, resource, shutil, subprocess, sys, urllib.request, zipfile
 from typing import Dict, List
 import pytest
 from tests.client.books import KEPT, book_pact
 from tests.client.tools import CLIENT, Client, Reply, Stock, secret, sound
-from tests.process import TOP, Server, run
+from tests.process import TOP, Server, free_port, ran, run, slowness
 from tests.wire import Wrong, same
 from tests.world import RED
 
@@ -29,6 +29,14 @@ def test_the_same_bytes_twice(one_file: str, room: str) -> None:
             same(python, it.read() == other.read(), True)
 
 
+def test_without_a_commit(room: str) -> None:
+    """Sources without their repository: it is said what to give, and nothing is made."""
+    env = {key: it for key, it in os.environ.items() if key != "SOURCE_DATE_EPOCH"}
+    done = ran([DEBIAN, f"{sources(room)}/zip", f"{room}/made"], env=env, cwd=room)
+    same("how it ends", done, (1, "", "there is no commit here: set SOURCE_DATE_EPOCH\n"))
+    same("what is made", os.path.exists(f"{room}/made"), False)
+
+
 def of_children() -> float:
     """The seconds that processes took which have ended."""
     it = resource.getrusage(resource.RUSAGE_CHILDREN)
@@ -37,8 +45,8 @@ def of_children() -> float:
 
 @pytest.mark.timing
 def test_how_fast_it_starts(one_file: str, room: str) -> None:
-    """The best of seven starts of the one file, up to its first request, takes at most a quarter of a second of a
-    processor."""
+    """The best of seven starts of the one file, up to its first request, takes at most a quarter of a second of an
+    ordinary processor."""
     took = []
     for _ in range(7):
         began = of_children()
@@ -50,7 +58,7 @@ def test_how_fast_it_starts(one_file: str, room: str) -> None:
         )
         took.append(of_children() - began)
         same("it asks", (done.returncode, done.stderr), (3, "holzhebo: the broker refuses the connection\n"))
-    if min(took) > 0.25:
+    if min(took) > 0.25 and min(took) > 0.25 * slowness():
         raise Wrong(f"it takes {min(took):.2f} seconds")
 
 
@@ -75,13 +83,43 @@ class Shipped(Client):
         return done.stdout
 
 
-def wheel(room: str) -> List[str]:
+def sources(room: str) -> str:
+    """The client beside the page, as in the repository."""
+    shutil.copytree(f"{TOP}/client", f"{room}/copy/client", ignore=shutil.ignore_patterns("__pycache__", "dist"))
+    shutil.copytree(f"{TOP}/desk", f"{room}/copy/desk")
+    return f"{room}/copy/client"
+
+
+def built(kind: str, folder: str) -> str:
+    """The file that is built of the client in this folder, a wheel or an sdist."""
+    run([DEBIAN, "-m", "build", "--no-isolation", "--skip-dependency-check", f"--{kind}", folder], env=WHEN)
+    (file,) = glob.glob(f"{folder}/dist/*.{'whl' if kind == 'wheel' else 'tar.gz'}")
+    return file
+
+
+def test_a_wheel_from_an_sdist(room: str) -> None:
+    """An sdist has what the wheel needs: where nothing else of the repository is, it makes the same bytes. The modules
+    and the page are in it; without the page nothing is built."""
+    tree = sources(room)
+    wheel = built("wheel", tree)
+    os.mkdir(f"{room}/alone")
+    run(["tar", "-C", f"{room}/alone", "-xzf", built("sdist", tree)])
+    with open(wheel, "rb") as it, open(built("wheel", f"{room}/alone/holzhebo-1.0.0"), "rb") as other:
+        same("the same bytes", it.read() == other.read(), True)
+    modules = glob.glob("holzhebo/**/*.py", root_dir=f"{TOP}/client/src", recursive=True)
+    page = [f"holzhebo/desk/page/{it}" for it in os.listdir(f"{TOP}/desk")]
+    with zipfile.ZipFile(wheel) as archive:
+        names = [it for it in archive.namelist() if ".dist-info/" not in it]
+    same("what is in it", sorted(names), sorted([*modules, *page]))
+    shutil.rmtree(f"{room}/copy/desk")
+    done = ran([DEBIAN, "-m", "build", "--no-isolation", "--skip-dependency-check", "--wheel", tree])
+    same("without the page", (done.status, "there is no page" in done.output + done.errors), (1, True))
+
+
+def by_wheel(room: str) -> List[str]:
     """The client in a room of Python's own, by its wheel."""
-    shutil.copytree(f"{TOP}/client/src", f"{room}/build/src", ignore=shutil.ignore_patterns("__pycache__"))
-    shutil.copy(f"{TOP}/client/pyproject.toml", f"{room}/build")
-    run([DEBIAN, "-m", "build", "--no-isolation", "--skip-dependency-check", "--wheel", f"{room}/build"])
     run([DEBIAN, "-m", "venv", f"{room}/venv"])
-    (file,) = glob.glob(f"{room}/build/dist/*.whl")
+    file = built("wheel", sources(room))
     run([f"{room}/venv/bin/pip", "install", "--no-index", "--no-deps", "--disable-pip-version-check", file])
     return [f"{room}/venv/bin/holzhebo"]
 
@@ -95,13 +133,13 @@ def installed(program: str, room: str) -> List[str]:
     return [DEBIAN, "-B", f"{room}/root/usr/bin/holzhebo"]
 
 
-@pytest.mark.needs("dpkg-deb", "argparse-manpage", "shtab")
+@pytest.mark.needs("dh_python3", "dpkg-deb", "argparse-manpage", "shtab")
 @pytest.mark.parametrize("form", ["one file", "wheel", "package"])
 def test_a_fleet_s_story(form: str, one_file: str, program: str, fleet: Server, room: str) -> None:
     """Publish, verify with states, deploy, a canary, a roll back."""
     env: Dict[str, str] = {}
     if form == "wheel":
-        words = wheel(room)
+        words = by_wheel(room)
     elif form == "package":
         words, env = installed(program, room), {"PYTHONPATH": f"{room}/root/usr/lib/python3/dist-packages"}
     else:
@@ -127,6 +165,29 @@ def test_a_fleet_s_story(form: str, one_file: str, program: str, fleet: Server, 
     client.out("red", "record-deployment", "--pacticipant", "shop", "--version", "10", "--environment", "live")
     listed = client.out("red", "status", "live", "--format", "{pacticipant} {version}{instance}")
     same("what is live", listed, "shop 10\nstock 2\n")
+    planned = client.out("office", "plan", "live", "vault")
+    same("what may go to vault", re.findall(r"(?m)^ +\d  (.*\S)  +\S", planned), ["deploy stock 2 for 1", "deploy shop 10"])
+    same("carry", "--keep N" in client.out("none", "carry", "--help"), True)
+    has_the_page(client, room)
+
+
+def has_the_page(client: Shipped, room: str) -> None:
+    """`holzhebo desk` has each file of the page with it; of the package the files are where that places them."""
+    folder, port = f"{room}/root/usr/share/holzhebo/desk", free_port()
+    own = ["--page", folder] if os.path.isdir(folder) else []
+    if own:
+        os.remove(f"{folder}/desk.json")  # it is a link to /etc, which is another root's here
+        shutil.copy(f"{TOP}/desk/desk.json", folder)
+    words = [*client.words, "desk", "--page-port", str(port), *own]
+    with subprocess.Popen(words, env={**client.env("office"), **client.more}, stdout=subprocess.PIPE) as process:
+        assert process.stdout
+        key = process.stdout.readline().decode().strip().partition("?")[2]
+        for name in os.listdir(f"{TOP}/desk"):
+            address = urllib.request.Request(f"http://127.0.0.1:{port}/desk/{name}", headers={"cookie": f"desk={key}"})
+            with urllib.request.urlopen(address) as got, open(f"{TOP}/desk/{name}", "rb") as it:
+                same(name, name == "desk.json" or got.read() == it.read(), True)
+        process.terminate()
+        same("how it ends", process.wait(30), 0)
 
 
 # Pages

@@ -5,7 +5,6 @@ import pytest
 from tests.client.tools import CLIENT, PYTHON, Client, Done, sound
 from tests.process import TOP, Server, run
 from tests.wire import OFFICE, Wrong, same
-from tests.world import RED
 
 HERE = f"{TOP}/tests/client"
 
@@ -79,6 +78,24 @@ def test_what_an_earlier_run_left(fleet: Server, client: Client, room: str) -> N
     same("nothing else is left", sorted(it for it in os.listdir(room) if it.startswith(".real")), [])
 
 
+def test_other_lines(fleet: Server, client: Client, room: str) -> None:
+    """Lines that are there stay as they are, byte for byte: in another encoding, and of a team whose name has what ends
+    a line elsewhere; and the token of that team is still found."""
+    with open(f"{room}/teams", "wb") as it:
+        it.write(b"# caf\xe9\r\n\n")
+    name = "a\u2028b\u0085c"
+    for team in name, "green":
+        done = client.run("office", "team", team, "--new-token-file", team[:1], "--into", "teams")
+        same("done", done.status, 0)
+    with open(f"{room}/teams", "rb") as it:
+        comment, empty, first, second, end = it.read().split(b"\n")
+    same("the lines that were there", (comment, empty, end), (b"# caf\xe9\r", b"", b""))
+    same("the two teams", (first.endswith(f' "{name}";'.encode()), second.endswith(b' "green";')), (True, True))
+    client.done("none", "replace-token", "a", "--new-token-file", "new", "--into", "teams")
+    with open(f"{room}/teams", "rb") as it:
+        same("the place of the new one", it.read().count(f' "{name}";'.encode()), 1)
+
+
 def test_several_at_once(fleet: Server, client: Client, room: str) -> None:
     """No line is lost if twelve runs write at once."""
     start(f"{room}/teams")
@@ -95,21 +112,18 @@ def test_several_at_once(fleet: Server, client: Client, room: str) -> None:
     same("lines", len(lines_in(f"{room}/teams")), 13)
 
 
-READER = "desk-token-000001"
-
-
 @pytest.mark.parametrize("end", [";", ""])
-def test_readers(end: str, room: str) -> None:
-    """Tokens that only read by the token that is replaced do so by the new one; others stay."""
+def test_replaced(end: str, room: str) -> None:
+    """The new token is put in the place of the old one, and the files beside it stay: tokens that only read by the old
+    one, or are for builds, go on by it (tests/operate/test_proxy_tokens.py has them in the proxies)."""
     client = Client(room, "http://127.0.0.1:1")
     start(f"{room}/tokens", "# tokens that leaked\n")
-    lines = [f'"~^GET \\Q{READER}\\E$" "{OFFICE}"{end}', f'"~^GET \\Qx{READER}\\E$" "{RED}"{end}', "# more"]
-    start(f"{room}/broker-readers", "".join(f"{it}\n" for it in lines))
+    line = f'"~^GET \\Qdesk-token-000001\\E$" "{OFFICE}"{end}'
+    start(f"{room}/broker-readers", f"{line}\n")
     caddy = [] if end else ["--caddy"]
-    said = client.done("none", "replace-token", "office.token", "--new-token-file", "new", "--into", "tokens", *caddy)
-    same("it says so", "broker-readers" in said, True)
+    client.done("none", "replace-token", "office.token", "--new-token-file", "new", "--into", "tokens", *caddy)
     new = lines_in(f"{room}/new")[0].split()[-1]
-    same("the readers", lines_in(f"{room}/broker-readers"), [lines[0].replace(OFFICE, new), *lines[1:]])
+    same("the readers", lines_in(f"{room}/broker-readers"), [line])
     same(
         "the tokens",
         lines_in(f"{room}/tokens")[1:],

@@ -4,7 +4,7 @@ from typing import Any, List, Tuple
 import pytest
 from tests.client.flaky import FlakyBroker, flaky  # the fixture
 from tests.client.tools import CLIENT, PYTHON, Client, Done
-from tests.process import Server
+from tests.process import Server, ran
 from tests.wire import OFFICE, same
 from tests.world import BLUE, RED, pact
 
@@ -152,6 +152,23 @@ def test_a_fraction_in_an_example(fleet: Server, client: Client, room: str) -> N
     write(room, "a.json", priced("19.99"))
     done = client.run("red", "publish", "7", "a.json")
     same("refused", (done.status, "pact 6.1  $.interactions[0].response.body.price" in done.output), (1, True))
+
+
+def test_a_fraction_that_is_sent(client: Client, program: str, room: str) -> None:
+    """In a request, or in a state's parameter: the program refuses it too, and a rule of the response is no way out."""
+    for part, value in (
+        ("request", {"method": "POST", "path": "/1", "body": {"price": "PRICE"}}),
+        ("providerStates", [{"name": "a price", "params": {"price": "PRICE"}}]),
+    ):
+        file = json.loads(pact("a price"))
+        file["interactions"][0][part] = value
+        text = json.dumps(file).replace('"PRICE"', "19.99")
+        same(f"the program on {part}", ran([program, "normalise"], text), (3, "", "pact 6.1\n"))
+        write(room, "a.json", text)
+        lines = client.run("none", "explain", "a.json", "--program", program).output.split("\n")
+        same(part, (lines[0], lines[1].split()[:2]), ("a.json: 1 fault", ["pact", "6.1"]))
+        remedy = "write a text, as 19.99 in quotes, or a smaller unit, as 1999 cents, if the provider takes one of these"
+        same(f"the remedy for {part}", lines[3].strip(), remedy)
 
 
 # The remedy for a date is the pattern of its own format.

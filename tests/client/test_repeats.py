@@ -1,9 +1,10 @@
 """A broker that restarts, or that answers late, twice or not at all: what is sent again, and what isn't."""
-import concurrent.futures, contextlib, glob, http.server, json, subprocess, threading, time
+import concurrent.futures, contextlib, glob, json, subprocess, threading, time
 from collections.abc import Iterator
-from typing import Any, Dict, List, Tuple
+from typing import Any, Dict, List, Optional, Tuple
 import pytest
 from tests.client.flaky import MANY, FlakyBroker, flaky  # the fixture
+from tests.client.peers import Proxy
 from tests.client.tools import Client
 from tests.process import Server, free_port
 from tests.wire import OFFICE, Wrong, same
@@ -136,13 +137,12 @@ def test_a_refused_connection(room: str) -> None:
         took = time.monotonic() - began
         same("nobody listens", (done.status, done.errors.count("asked again"), took > 0.5), (3, 1, True))
     brokers: List[FlakyBroker] = []
-    later = threading.Timer(1.5, lambda: brokers.append(FlakyBroker(port)))
-    later.start()
-    done = client.run("red", *RESULT)
-    later.join()
+    with contextlib.ExitStack() as ends:
+        later = threading.Timer(1.5, lambda: brokers.append(ends.enter_context(FlakyBroker(port))))
+        later.start()
+        done = client.run("red", *RESULT)
+        later.join()
     same("it listens later", (done.status, done.output, brokers[0].count), (0, f"file.json: {CLAIMED}\n", 1))
-    brokers[0].shutdown()
-    brokers[0].server_close()
 
 
 CLAIMED = "pass is claimed, result 1"
@@ -190,46 +190,19 @@ def test_another_deployment_isn_t_undone(fleet: Server, client: Client) -> None:
     same("what is there", client.done("red", "status", "live", "--service", "shop", "--format", "{version}"), "3\n")
 
 
-class Losing(http.server.ThreadingHTTPServer):
+class Losing(Proxy):
     """A proxy that loses the answer to the first deployment, before which another build's arrives."""
 
-    daemon_threads = True
+    is_lost = False
 
-    def __init__(self, broker: Server) -> None:
-        super().__init__(("127.0.0.1", 0), Passing)
-        self.broker, self.lost = broker, 0
-        self.url = f"http://127.0.0.1:{self.server_address[1]}"
-
-    def __enter__(self) -> "Losing":
-        threading.Thread(target=self.serve_forever, args=(0.02,), daemon=True).start()
-        return self
-
-    def __exit__(self, *_: Any) -> None:
-        self.shutdown()
-        self.server_close()
-
-
-class Passing(http.server.BaseHTTPRequestHandler):
-    def answer(self) -> None:
-        proxy: Any = self.server
-        body = self.rfile.read(int(self.headers.get("content-length", 0)))
-        self.close_connection = True
-        token = self.headers["authorization"].split(" ")[1]
-        status, _, text = proxy.broker.ask(self.command, self.path, token, body)
-        if self.command == "POST" and not proxy.lost:
-            proxy.lost = 1
-            other = json.dumps({"pacticipant": "shop", "version": "3"})
-            proxy.broker.do("POST", "/environments/live/deployments", RED, other)
-            return
-        self.send_response(status)
-        self.send_header("content-length", str(len(text.encode())))
-        self.end_headers()
-        self.wfile.write(text.encode())
-
-    do_GET = do_POST = do_PUT = answer
-
-    def log_message(self, format: str, *words: Any) -> None:
-        """Is silent."""
+    def answers(self, method: str, path: str, token: str, body: bytes) -> Optional[Tuple[int, str]]:
+        found = super().answers(method, path, token, body)
+        if method != "POST" or self.is_lost:
+            return found
+        self.is_lost = True
+        other = json.dumps({"pacticipant": "shop", "version": "3"})
+        self.broker.do("POST", "/environments/live/deployments", RED, other)
+        return None
 
 
 def test_one_connection(fleet: Server, room: str, program: str) -> None:

@@ -115,7 +115,7 @@ HOSTILE = [
 ]
 HOSTILE += ["{name} {c0} %s", "  two  spaces ", "\u00e9" * 50, "x" * 100, "@teams"]
 OWN = "html head meta title style body h1 h2 h3 p section div table thead tbody tr th td bdi b small ul li svg defs"
-OWN += " marker path g rect text"
+OWN += " marker path g rect text nav a ol caption"
 FIELDS = {
     "charset",
     "http-equiv",
@@ -132,7 +132,7 @@ FIELDS = {
     "width",
     "height",
 }
-FIELDS |= {"name", "tabindex", "viewbox", "refx", "refy", "markerwidth", "markerheight", "orient", "marker-end"}
+FIELDS |= {"href", "aria-label", "name", "tabindex", "viewbox", "refx", "refy", "markerwidth", "markerheight", "orient", "marker-end"}
 
 
 def named_page(program: str, room: str) -> str:
@@ -202,7 +202,7 @@ def test_a_large_one(program: str, room: str) -> None:
     found = Page(text).sections["What is where"]
     # Of each pair both versions of the consumer and of the provider lack two results, in each of two gated
     # environments.
-    same("refused", found[0], "Of the versions that are in gated environments, today's gate would refuse 3200.")
+    same("refused", "the gate would have refused 3200 when the copy was made." in found[0], True)
     if took > 10:
         raise Wrong(f"40,000 contracts take {took:.1f} seconds of processor time")
 
@@ -210,8 +210,8 @@ def test_a_large_one(program: str, room: str) -> None:
 # In a browser
 
 
-FIRST = ["What is where", "Who consumes whom", "Consumers with another contract than their newest", "Owners and grants"]
-FIRST += ["Names that nothing uses", "Claimed and checked"]
+FIRST = ["What is where", "Who consumes whom", "Consumers with another contract than their newest"]
+FIRST += ["What providers have to verify", "Owners and grants", "Names that nothing uses", "Claimed and checked"]
 TITLES, SINCE_TITLES = [*FIRST, "Rows and bytes"], [*FIRST, "Since the copy, whose file is of ..", "Rows and bytes"]
 SHOWN = {
     "page": (SINCE_TITLES, Picture(2, 1, {("shop", "stock")})),
@@ -230,6 +230,7 @@ OTHERWISE = [
     ("<h1>", "<h1><script>1</script>", "what the browser reports"),
     ("<style>", "<style>body { min-width: 600px }", "how much wider than 360"),
     ("default-src 'none'", "default-src 'unsafe-inline'", "whether a script"),
+    ('class="wide" tabindex="0"', 'class="wide"', "that the keyboard can't reach"),
 ]
 
 
@@ -259,25 +260,3 @@ def test_in_a_browser(pages: dict[str, str], browser: Browser, room: str) -> Non
                 raise Wrong(f"{old} is found as {it}") from it
         else:
             raise Wrong(f"{old} isn't noticed")
-
-
-# Its other words
-
-
-def test_its_numbers(program: str, room: str) -> None:
-    """--json has what the page says; --output puts the page in the place of a file; its day is that of the name."""
-    earlier, now = two_copies(program, room)
-    said = json.loads(run([*TOOL, now, "--json"]))
-    live = said["environments"]["live"]
-    refused_ones = [{"pacticipant": "shop", "version": "3"}, {"pacticipant": "stock", "version": "1"}]
-    same("refused", sorted(live["refused"], key=lambda it: str(it["pacticipant"])), refused_ones)
-    same("needs", live["needs"], {"checked": 0, "claimed": 1, "failed": 1, "missing": 0, "absent": 0})
-    same("rows", (said["rows"]["contracts"], said["rows"]["results"]), (4, 4))
-    run([*TOOL, now, earlier, "--output", f"{room}/report.html"])
-    with open(f"{room}/report.html", encoding="utf-8") as it:
-        same("the page", it.read(), page_of(now, earlier))
-    for name in "broker-2026-11-27T02:00:00Z.db", "broker-2026-11-27T020000Z.db":
-        dated = copied(now, f"{room}/{name}")
-        same(name, "The copy of 2026-11-27 02:00:00 UTC." in page_of(dated), True)
-    os.utime(now, (86400, 86400))
-    same("a file without a day", "The copy, whose file is of 1970-01-02 00:00:00 UTC." in page_of(now), True)

@@ -60,6 +60,38 @@ def test_one_that_can_t_be_read(fleet: Server, client: Client, room: str) -> Non
     same("JUnit", [(it.get("name"), it.get("errors")) for it in suites], [("web 10", "1"), ("shop 10", "0")])
 
 
+def test_one_that_isn_t_judged(program: str, fleet: Server, client: Client, room: str) -> None:
+    """The broker gives up the patterns of one contract: that is said, the others are judged, and it ends with 3. So it
+    does if the program gives up."""
+    two_consumers(fleet)
+    too_much = 500, '{"answer":"pattern"}'
+    with Stock({"GET /1": Reply(headers=JSON_TYPE, body=BOOK_TEXT)}) as stock, Refusing(
+        fleet, "/consumer/shop/", answer=too_much
+    ) as proxy:
+        both = Client(room, proxy.url)
+        more = ["--contract", "web", "10", "--junit", f"{room}/junit.xml"]
+        done = both.run("blue", *words(stock.url), *more)
+        told = json.loads(both.run("blue", *words(stock.url, "p2"), *more, "--json").output)
+        with open(f"{room}/broker", "w", encoding="utf-8") as it:
+            it.write("#!/bin/sh\necho check 2 >&2\nexit 3\n")
+        os.chmod(f"{room}/broker", 0o755)
+        here = client.run("blue", *words(stock.url), *more[:3], "--filter", "book", "--program", f"{room}/broker")
+    same("status", (done.status, done.errors), (3, ""))
+    lines = [it for it in done.output.split("\n") if not it.startswith(" ")]
+    same("its line", lines[0], "shop 10 (named): not judged: too much work for patterns")
+    same("the other", lines[1].startswith("web 10 (named): passed, result "), True)
+    same("the last line", lines[2], "sent: 1 of 2 contracts; not judged: shop 10")
+    outcomes = [("shop 10", "not judged", None), ("web 10", "passed", True)]
+    same("JSON", [(it["contract"], it["outcome"], it["result"] and True) for it in told], outcomes)
+    same("what is stored", [(it["consumer"], it["success"]) for it in rows(fleet)], [("web", True)])
+    suites = xml.etree.ElementTree.parse(f"{room}/junit.xml").getroot()
+    same("JUnit", [(it.get("name"), it.get("errors")) for it in suites], [("shop 10", "1"), ("web 10", "0")])
+    message = [it.get("message") for it in suites.iter("error")]
+    same("its error", message, ["too much work for patterns"])
+    why = f"not judged: {room}/broker: too much work for patterns"
+    same("by the program", (here.status, here.output.count(why)), (3, 2))
+
+
 def test_junit_in_any_case(fleet: Server, client: Client, room: str) -> None:
     """Also if nothing can be verified: a token that isn't known, a provider that isn't there."""
     publish_book(fleet, "10", one())

@@ -1,11 +1,11 @@
 """Where the token goes, and where it is seen: command lines, https, http, a proxy between."""
-import glob, http.server, json, os, ssl, subprocess, threading, time
+import glob, http.server, json, os, ssl, subprocess, time
 from collections.abc import Iterator
 from typing import Any
 import pytest
 from tests.client.books import KEPT, book_pact
 from tests.client.flaky import FlakyBroker, flaky  # the fixture
-from tests.client.tools import CLIENT, PYTHON, Client, Reply, Stock
+from tests.client.tools import CLIENT, PYTHON, Client, Reply, Serving, Stock
 from tests.process import Server, run
 from tests.wire import OFFICE, Wrong, same
 from tests.world import RED
@@ -120,12 +120,10 @@ class Between(http.server.BaseHTTPRequestHandler):
 
 @pytest.fixture
 def between() -> Iterator[Any]:
-    it: Any = http.server.ThreadingHTTPServer(("127.0.0.1", 0), Between)
+    it: Any = Serving(Between)
     it.asked = []
-    threading.Thread(target=it.serve_forever, args=(0.02,), daemon=True).start()
-    yield it
-    it.shutdown()
-    it.server_close()
+    with it:
+        yield it
 
 
 def test_the_proxy_of_the_environment(between: Any, fleet: Server, room: str) -> None:

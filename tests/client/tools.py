@@ -1,14 +1,16 @@
 """What the tests of the client share: the client as a build runs it, and a provider that answers by a table.
 
-The callers are those of world.py. No test prints a token: what the client prints is looked through."""
+The callers are those of world.py. No test prints a token: what the client prints is looked through. CLIENT_PYTHON names
+another Python that runs the client, as one of a version that is to be tried."""
 import http.server, json, os, subprocess, sys, threading, time
-from typing import Any, Dict, List, NamedTuple, Tuple
+from typing import Any, Dict, List, NamedTuple, Tuple, Type, TypeVar
 from tests.process import TOP
 from tests.wire import OFFICE, Wrong, same
 from tests.world import BLUE, RED
 
 CLIENT = f"{TOP}/client/holzhebo"
-PYTHON = [sys.executable, "-S", "-W", "error"]  # without the machine's own packages
+# Without the machine's own packages.
+PYTHON = [os.environ.get("CLIENT_PYTHON", sys.executable), "-S", "-W", "error"]
 SOURCES = f"{TOP}/client/src"
 TOKENS = {"red": RED, "blue": BLUE, "office": OFFICE, "nobody": "nobody-has-this-token", "short": "short", "none": ""}
 TOKENS["line"] = f"authorization: Bearer {RED}"
@@ -117,20 +119,35 @@ class Handler(http.server.BaseHTTPRequestHandler):
         """Is silent."""
 
 
-class Stock(http.server.ThreadingHTTPServer):
-    """A provider that runs."""
+Itself = TypeVar("Itself", bound="Serving")
+
+
+class Serving(http.server.ThreadingHTTPServer):
+    """Who answers requests at a port of this machine, while it is entered."""
 
     daemon_threads = True
 
-    def __init__(self, answers: Dict[str, Reply]) -> None:
-        super().__init__(("127.0.0.1", 0), Handler)
-        self.answers, self.asked = answers, []  # type: Dict[str, Reply], List[Tuple[str, str, Dict[str, str], bytes]]
+    def __init__(self, handler: Type[http.server.BaseHTTPRequestHandler], port: int = 0) -> None:
+        super().__init__(("127.0.0.1", port), handler)
         self.url = f"http://127.0.0.1:{self.server_address[1]}"
 
-    def __enter__(self) -> "Stock":
+    def handle_error(self, request: Any, client_address: Any) -> None:
+        """Is silent about one that is gone, since its test has ended it."""
+        if not isinstance(sys.exc_info()[1], ConnectionError):
+            super().handle_error(request, client_address)
+
+    def __enter__(self: Itself) -> Itself:
         threading.Thread(target=self.serve_forever, args=(0.02,), daemon=True).start()
         return self
 
     def __exit__(self, *_: Any) -> None:
         self.shutdown()
         self.server_close()
+
+
+class Stock(Serving):
+    """A provider that runs."""
+
+    def __init__(self, answers: Dict[str, Reply]) -> None:
+        super().__init__(Handler)
+        self.answers, self.asked = answers, []  # type: Dict[str, Reply], List[Tuple[str, str, Dict[str, str], bytes]]

@@ -13,7 +13,7 @@ from typing import Any
 PATIENCE = 60
 Answer = dict[str, Any]
 # The keys that aren't letters, with their codes.
-KEYS = {"Tab": 9, "Enter": 13, " ": 32, "ArrowDown": 40, "ArrowUp": 38, "Backspace": 8}
+KEYS = {"Tab": 9, "Enter": 13, " ": 32, "ArrowDown": 40, "ArrowRight": 39, "ArrowUp": 38, "Backspace": 8}
 
 
 class Unseen(Exception):
@@ -136,6 +136,10 @@ class Browser:
         """How wide it is, and whether it is dark or light."""
         self.call("Emulation.setDeviceMetricsOverride", width=width, height=900, deviceScaleFactor=1, mobile=False)
         self.call("Emulation.setEmulatedMedia", features=[{"name": "prefers-color-scheme", "value": scheme}])
+
+    def medium(self, name: str) -> None:
+        """Shows the page as on this medium: `print`, or the usual one."""
+        self.call("Emulation.setEmulatedMedia", media=name)
 
     def picture(self, path: str) -> None:
         """A picture of the page, as wide and as high as what it shows."""

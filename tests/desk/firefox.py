@@ -102,13 +102,19 @@ class Firefox(Browser):
         pressed = [(kind, KEYS[each]) for each in keys for kind in ("keyDown", "keyUp")]
         self.keys(*held, *pressed, *(("keyUp", key) for _, key in held))
 
+    def of_itself(self, script: str, *words: object) -> None:
+        """Runs a script in the browser's own window and not in the page."""
+        self.asked("Marionette:SetContext", {"value": "chrome"})
+        self.asked("WebDriver:ExecuteScript", {"script": script, "args": list(words)})
+        self.asked("Marionette:SetContext", {"value": "content"})
+
+    def medium(self, name: str) -> None:
+        self.of_itself(MEDIUM, name)
+
     def look(self, width: int, scheme: str) -> None:
         """How wide the page is, and whether it is dark or light."""
         number = {"dark": 0, "light": 1}[scheme]
-        self.asked("Marionette:SetContext", {"value": "chrome"})
-        words = {"script": PREFERENCE, "args": ["layout.css.prefers-color-scheme.content-override", number]}
-        self.asked("WebDriver:ExecuteScript", words)
-        self.asked("Marionette:SetContext", {"value": "content"})
+        self.of_itself(PREFERENCE, "layout.css.prefers-color-scheme.content-override", number)
         for _ in range(2):
             more = self.asked("WebDriver:GetWindowRect", {})["width"] - self.js("innerWidth")
             self.asked("WebDriver:SetWindowRect", {"width": width + more, "height": 1000})
@@ -123,3 +129,4 @@ class Firefox(Browser):
 
 
 PREFERENCE = "Services.prefs.setIntPref(arguments[0], arguments[1]);"
+MEDIUM = "gBrowser.selectedBrowser.browsingContext.mediumOverride = arguments[0];"

@@ -6,13 +6,13 @@ import { pathToFileURL } from 'node:url';
 const { stepsOf, faultsOf, Plan, Changed } = await import(pathToFileURL(process.argv[2]).href);
 const fault = it => [it.consumer, it.consumerVersion, it.provider, it.providerVersion, it.kind];
 
-async function planned({ from, to, gate, matrix }) {
+async function planned({ from, to, gate, matrix, gone }) {
   const asked = [], answer = (all, ...words) => {
     asked.push(words);
     return all[JSON.stringify(words)];
   };
   const of = all => async (...words) => answer(all, ...words), questions = { gate: of(gate), matrix: of(matrix) };
-  const { steps, kept } = stepsOf(from, to), faults = await faultsOf(steps, from, to, questions);
+  const { steps, kept } = stepsOf(from, to, gone), faults = await faultsOf(steps, from, to, questions, kept, gone);
   const plan = new Plan({ steps, kept, faults }), { order, isSure } = plan.largest();
   const left = plan.all.filter(x => !order.includes(x));
   return {

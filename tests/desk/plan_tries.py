@@ -2,7 +2,7 @@
 Each gives up at what is wrong, by an AssertionError."""
 from __future__ import annotations
 
-import importlib, itertools, json, os, shutil, subprocess, sys
+import functools, importlib, itertools, json, os, shutil, subprocess, sys
 from collections.abc import Callable, Iterable, Sequence
 from typing import Any
 
@@ -165,11 +165,17 @@ def by_going(subject: Subject, seed: int) -> tuple[bool, bool]:
 # The page's code by it
 
 
+def going(fleet: Fleet) -> list[str]:
+    """The service that goes, in every other fleet of which one can."""
+    names = sorted({it.service for it in fleet.there} - {it.service for it in fleet.here})
+    return names[:1] if len(fleet.there) % 2 else []
+
+
 def questions(subject: Subject, fleet: Fleet, model: Model) -> Json:
     """A fleet as the page gets it."""
     source, target = model.listing(fleet.source), model.listing(fleet.target)
-    row: Json = {"from": source, "to": target, "gate": {}, "matrix": {}}
-    for it in {it.new for it in subject.steps.steps_of(source, target)[0]}:
+    row: Json = {"from": source, "to": target, "gate": {}, "matrix": {}, "gone": going(fleet)}
+    for it in {version for each in (source, target) for version in subject.steps.places_of(each).values()}:
         row["matrix"][words(*it)] = {"rows": model.rows((it[0], it[1]))}
         for each in fleet.source, fleet.target:
             row["gate"][words(*it, each)] = {"faults": model.faults((it[0], it[1]), each)}
@@ -198,7 +204,7 @@ class Counted:
 def said(subject: Subject, fleet: Fleet, model: Model) -> Json:
     """All that a plan has, as plan_page.mjs says it."""
     counted = Counted(model)
-    plan = subject.plan_of(counted, fleet)
+    plan = subject.plan_of(counted, fleet, going(fleet))
     order, is_sure = plan.largest()
     return {
         "steps": [[it.how, *it.new, it.instance, it.old and it.old.version] for it in plan.steps],
@@ -227,14 +233,20 @@ def by_node(script: str, room: str, rows: Iterable[Json]) -> list[Json]:
     return [json.loads(row) for row in done.stdout.splitlines()]
 
 
+@functools.cache
+def asked_and_said(subject: Subject, seed: int) -> tuple[Json, Json]:
+    """A fleet as the page gets it, and what its plan has to say of it."""
+    fleet = Fleet(seed)
+    model = fleet.model()
+    return questions(subject, fleet, model), said(subject, fleet, model)
+
+
 def by_the_page(subject: Subject, script: str, room: str, seeds: Iterable[int]) -> int:
     """That this text of desk/plan.js says the same of these fleets; gives how many they were."""
-    fleets = [Fleet(seed) for seed in seeds]
-    models = [it.model() for it in fleets]
-    got = by_node(script, room, [questions(subject, *two) for two in zip(fleets, models)])
-    same("how many are answered", len(got), len(fleets))
-    for seed, (fleet, model, page) in zip(seeds, zip(fleets, models, got)):
-        wanted = said(subject, fleet, model)
+    asked, every = zip(*(asked_and_said(subject, seed) for seed in seeds))
+    got = by_node(script, room, asked)
+    same("how many are answered", len(got), len(asked))
+    for seed, page, wanted in zip(seeds, got, every):
         for part in wanted:
             same(f"{part} of {seed}", page.get(part), wanted[part])
-    return len(fleets)
+    return len(asked)

@@ -7,7 +7,7 @@ from collections.abc import Callable
 
 from tests.desk.browser import Answer, Browser, Unseen
 from tests.desk.scenes_good import board, contract, environment, matrix, none_yet, pasted, promote, put_by, questions
-from tests.desk.scenes_good import refused_only, saved
+from tests.desk.scenes_good import refused_only, saved, wording
 from tests.desk.scenes_look import forgotten, keyboard, looks, old, overtaken
 from tests.desk.scenes_bad import hostile, others, stopped, unknown
 from tests.desk.world import World
@@ -15,7 +15,7 @@ from tests.wire import Wrong
 
 
 ROUTES = (
-    r"/desk/([a-z]+\.js|desk\.css|(desk|who-[a-z]+)\.json)?|/environments/[^/?]+"
+    r"/desk/([a-z]+\.js|desk\.css|(desk|who-[a-zA-Z0-9%]+)\.json)?|/environments/[^/?]+"
     r"|/matrix\?pacticipant=[^&]+&version=[^&]+"
     r"|/pacts/provider/[^/?]+/consumer/[^/?]+/version/[^/?]+"
     r"|/can-i-deploy\?pacticipant=[^&]+&version=[^&]+&environment=[^&]+"
@@ -66,6 +66,7 @@ GOOD: list[Scene] = [board, questions, matrix, environment, promote, contract]
 
 SCENES: list[Scene] = [
     *GOOD,
+    wording,
     pasted,
     refused_only,
     saved,

@@ -3,12 +3,16 @@ from __future__ import annotations
 
 import csv, json, os, re, shutil, time
 
+from holzhebo.api import Lack
+from holzhebo.api.shapes import shaped
+from holzhebo.gate.sentences import FAULTS, sentence_of
 from tests.desk.browser import Browser
 from tests.desk.seen import Served, WHEN, cells, leaves, settled, shows, signs_in, text, texts
 from tests.desk.shown import (
     ASKED,
     BOARD,
     BUILDS,
+    CALLED,
     CHANGED,
     LIVE,
     MATRIX,
@@ -23,9 +27,9 @@ from tests.desk.shown import (
     WHO,
     WITH_WHO,
 )
-from tests.desk.world import READER, World, write
-from tests.process import TOP
-from tests.wire import same
+from tests.desk.world import BLUE, READER, RED, World, write
+from tests.process import TOP, run
+from tests.wire import OFFICE, same
 
 
 def board(page: Browser, world: Served) -> None:
@@ -57,6 +61,17 @@ def questions(page: Browser, world: Served) -> None:
         same(f"{question}: the title", page.js("document.title"), "Can it go? – Release desk")
 
 
+def wording(page: Browser, world: World) -> None:
+    """Each kind of fault is said as the client says it, but for contacts and the link to the contract."""
+    shows(page, "ask/shop/1.4/live")
+    ask = "/can-i-deploy?pacticipant=shop&version=1.4&environment=live"
+    faults = [shaped(Lack, it) for it in json.loads(world.server.ask("GET", ask, OFFICE).body)["faults"]]
+    same("kinds", sorted(it.kind for it in faults), sorted(FAULTS))
+    wanted = sorted(f"{it.kind} {sentence_of(it, 'live')}" for it in faults)
+    shown = [it.removesuffix(" the contract") for it in texts(page, "main li:has(> .tag)")]
+    same("the reasons", sorted(re.sub(r" \((red|blue)\)", "", it) for it in shown), wanted)
+
+
 def matrix(page: Browser, world: World) -> None:
     shows(page, "matrix/shop/1.4")
     same("the matrix of shop 1.4", cells(page), MATRIX)
@@ -85,7 +100,8 @@ def promote(page: Browser, world: World) -> None:
     """What may go from one environment to the next: in order, or who has to act."""
     shows(page, "promote")
     same("the environments to choose from", texts(page, "select[id=to] option"), ["dev", "staging", "live"])
-    for two, (verdict, left, acts, order, only) in PROMOTED.items():
+    to_go(world)
+    for two, (verdict, left, acts, order, only) in {**PROMOTED, "garden/yard/pay": CALLED}.items():
         shows(page, f"promote/{two}")
         same(f"{two}: verdict", texts(page, ".verdict"), [verdict])
         same(f"{two}: said aloud", text(page, "#said"), verdict)
@@ -94,8 +110,33 @@ def promote(page: Browser, world: World) -> None:
         same(f"{two}: the order", texts(page, "ol.steps > li"), order)
         stays = [it for it in texts(page, "main > .act") if it.startswith("Only")]
         same(f"{two}: what stays", stays, [only] if only else [])
+    shows(page, "promote/live/staging")
+    page.js("[...document.querySelectorAll('main a')].find(it => it.innerText === 'it goes').click()")
+    page.wait("document.querySelectorAll('ol.steps > li').length === 2", "the end of pay")
+    page.js("[...document.querySelectorAll('main a')].find(it => it.innerText === 'it stays').click()")
+    page.wait("document.querySelectorAll('ol.steps > li').length === 1", "the plan without it")
+    settled(page)
+    for service, sentence in ("shop", "shop is in live, so it can’t go."), ("mail", "mail isn’t in staging."):
+        shows(page, f"promote/live/staging/{service}")
+        same(f"{service} can't go", texts(page, "[role=alert]")[:1], [sentence])
     shows(page, "board")
     same("its way there", texts(page, "main a[href^='#/promote']"), ["dev to staging", "staging to live"])
+
+
+def to_go(world: World) -> None:
+    """Two environments that aren't on the board: garden has stock and shop, yard these and pay. They may be there."""
+
+    def do(token: str, method: str, path: str, body: str) -> None:
+        same(f"{method} {path}", world.server.ask(method, path, token, body).status, 200)
+
+    for name, gated in ("garden", "false"), ("yard", "true"):
+        do(OFFICE, "PUT", f"/environments/{name}", f'{{"gated":{gated}}}')
+        for team in "red", "blue":
+            do(OFFICE, "PUT", f"/grants/team/{team}/environment/{name}", "")
+        for token, service, version in (BLUE, "stock", "1.1"), (BLUE, "pay", "7"), (RED, "shop", "1.4"):
+            if (name, service) != ("garden", "pay"):
+                body = json.dumps({"pacticipant": service, "version": version})
+                do(token, "POST", f"/environments/{name}/deployments", body)
 
 
 def contract(page: Browser, world: World) -> None:
@@ -173,9 +214,8 @@ def put_by(page: Browser, world: World) -> None:
     """Who put a version there, and when, by the files beside the page; and an environment that isn't there."""
     names = {"environments": ["dev", "nowhere", "live"], "contacts": {}, "who": True, "builds": BUILDS}
     write(f"{world.page}/desk.json", json.dumps(names))
-    write(f"{world.page}/who-live.json", json.dumps(WHO))
-    for environment in "dev", "nowhere":
-        write(f"{world.page}/who-{environment}.json", "[]")
+    write(f"{world.room}/log", "".join(f"{logged(it)}\n" for it in WHO))
+    run(["client/holzhebo", "who", "--page", world.page, "--log", f"{world.room}/log"])
     signs_in(page, world, READER)
     same("the board with who and an unknown environment", cells(page), WITH_WHO)
     same("what is unknown", texts(page, ".trouble"), ["nowhere: named in desk.json, unknown to the broker."])
@@ -191,7 +231,31 @@ def put_by(page: Browser, world: World) -> None:
         "https://ci.example.org/b/shop/1.3",
     )
     same("who, in live", [it[2] for it in cells(page)[1:3]], ["deployed 2026-11-02 by red", "deployed"])
+    shows(page, "matrix/shop/1.3")
+    same("who, in its matrix", texts(page, "main > .act"), ["It is in live 2026-11-02 by red."])
+    odd_name(page, world, names)
     shutil.copy(f"{TOP}/examples/demo-desk.json", f"{world.page}/desk.json")
+
+
+def logged(it: dict[str, str]) -> str:
+    """A change as the proxy's log has it."""
+    body = json.dumps({key: it[key] for key in ("pacticipant", "version", "instance") if it[key]})
+    row = {"time": it["time"], "team": it["team"], "method": "POST", "path": f"/environments/live/{it['change']}"}
+    return json.dumps({**row, "body": body, "status": 200, "seconds": 0.1})
+
+
+def odd_name(page: Browser, world: World, names: dict[str, object]) -> None:
+    """Of an environment whose name is written otherwise in an address."""
+    name, place = "a/b é", "a%2Fb%20%C3%A9"
+    for ask in ("PUT", f"/environments/{place}", '{"gated":false}'), ("PUT", f"/grants/team/red/environment/{place}", ""):
+        same(f"{ask}", world.server.ask(*ask[:2], OFFICE, ask[2]).status, 200)
+    shop = '{"pacticipant":"shop","version":"1.3"}'
+    same("deployed", world.server.ask("POST", f"/environments/{place}/deployments", RED, shop).status, 200)
+    write(f"{world.page}/desk.json", json.dumps({**names, "environments": [name]}))
+    write(f"{world.room}/log", logged(WHO[1]).replace("/live/", f"/{place}/") + "\n")
+    run(["client/holzhebo", "who", "--page", world.page, "--log", f"{world.room}/log"])
+    signs_in(page, world, READER)
+    same("who, in it", cells(page), [["service", "a/b é open"], ["shop", "1.3 2026-11-02 by red"]])
 
 
 def none_yet(page: Browser, world: World) -> None:

@@ -76,6 +76,17 @@ VIEWS = [
 ]
 
 
+def printed(page: Browser, _: World) -> None:
+    """The answer is printed, and not what is only clicked."""
+    shows(page, "ask/shop/1.4/live")
+    page.medium("print")
+    shown = page.js(
+        "['nav', 'form', 'header button', '.verdict'].map(it => getComputedStyle(document.querySelector(it)).display)"
+    )
+    same("printed: links, form, button, verdict", shown, ["none", "none", "none", "block"])
+    page.medium("")
+
+
 def looks(page: Browser, world: World) -> None:
     """Narrow, dark, and printed."""
     signs_in(page, world, READER)
@@ -89,13 +100,7 @@ def looks(page: Browser, world: World) -> None:
         grounds.append(page.js("getComputedStyle(document.body).backgroundColor"))
     same("grounds", grounds, ["rgb(246, 247, 249)", "rgb(18, 21, 26)"])
     page.look(1000, "light")
-    page.call("Emulation.setEmulatedMedia", media="print")
-    shows(page, "ask/shop/1.4/live")
-    shown = page.js(
-        "['nav', 'form', 'header button', '.verdict'].map(it => getComputedStyle(document.querySelector(it)).display)"
-    )
-    same("printed: links, form, button, verdict", shown, ["none", "none", "none", "block"])
-    page.call("Emulation.setEmulatedMedia", media="")
+    printed(page, world)
 
 
 # The texts whose colour is less than 4.5 times as light or dark as what is under them (WCAG 2.1, 1.4.3).

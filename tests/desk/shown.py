@@ -106,7 +106,8 @@ LIVE = [
     ["web", "4", "released", "red", "ask the gate"],
 ]
 # Of a release: the verdict, what isn't in an order, who has to act, the order, and what stays.
-PROMOTED = {
+Promoted = tuple[str, list[str], list[str], list[str], str]
+PROMOTED: dict[str, Promoted] = {
     "dev/staging": (
         "✕ 0 of 3 may go: 0 now, 0 after others; 3 not with them.",
         ["shop 1.4 for 1.3 ↻ not before stock 2.0", "stock 2.0 for 1.0 ↻ not before shop 1.4", "web 7 for 5"],
@@ -134,7 +135,29 @@ PROMOTED = {
         "",
     ),
     "live/live": ("✓ All of it is in live already.", [], [], [], ""),
+    "live/staging": (
+        "✕ 1 of 2 may go: 1 now, 0 after others; 1 not with them.",
+        ["stock 1.1 as canary new there"],
+        [f"{team} {CHANGE} failed shop 1.3 calls stock 1.1 contract" for team in ("blue", "red")],
+        ["web 4 as a release new there ✓ now"],
+        "Only staging has pay 7 (it goes): this stays there, and is counted.",
+    ),
+    "live/staging/pay": (
+        "✕ 2 of 3 may go: 2 now, 0 after others; 1 not with them.",
+        ["stock 1.1 as canary new there"],
+        [f"{team} {CHANGE} failed shop 1.3 calls stock 1.1 contract" for team in ("blue", "red")],
+        ["web 4 as a release new there ✓ now", "pay 7 goes (it stays) ✓ now"],
+        "",
+    ),
 }
+# What is to go of yard, which has what garden has, and pay, which one of these calls.
+CALLED: Promoted = (
+    "✕ 0 of 1 may go: 0 now, 0 after others; 1 not with them.",
+    ["pay 7 goes (it stays)"],
+    ["red another version of it has to do without what is to go. is to go shop 1.4 calls pay contract"],
+    [],
+    "",
+)
 # The contract of shop 1.4 with stock, by examples/demo.sh, and what changed in it since shop 1.3.
 READ = [
     "1. a book with its price",

@@ -1,8 +1,8 @@
-"""Without a typed token: `tools/desk`, which serves the page for a broker that may be elsewhere, and the recipe for a
+"""Without a typed token: `holzhebo desk`, which serves the page for a broker that may be elsewhere, and the recipe for a
 proxy before which a sign-on is."""
 from __future__ import annotations
 
-import contextlib, http.server, json, re, signal, subprocess, threading
+import contextlib, http.server, json, re, signal, socket, subprocess, threading
 from collections.abc import Iterator
 
 import pytest
@@ -16,22 +16,16 @@ from tests.process import TOP, free_port, ran, run
 from tests.proxy import Nginx
 from tests.wire import OFFICE, same
 
-pytestmark = [pytest.mark.needs("chromium", "nginx", "curl", "ss"), pytest.mark.xdist_group("tools/desk")]
+pytestmark = [pytest.mark.needs("chromium", "nginx", "curl", "ss"), pytest.mark.xdist_group("desk")]
 LISTING = "GET /environments/live"
 
 
-@pytest.fixture(scope="module")
-def world(program: str, tmp_path_factory: pytest.TempPathFactory) -> Iterator[World]:
-    with World(program, str(tmp_path_factory.mktemp("world"))) as it:
-        yield it
-
-
 @contextlib.contextmanager
-def served(world: World, room: str) -> Iterator[tuple[int, str, subprocess.Popen[str]]]:
-    """tools/desk for the world's broker, with the office's token in a file: its port, its key, and its process."""
+def served(broker: str, room: str) -> Iterator[tuple[int, str, subprocess.Popen[str]]]:
+    """The command for the broker of this address, with the office's token in a file: its port, its key, its process."""
     write(f"{room}/token", f"authorization: Bearer {OFFICE}\n")
     port = free_port()
-    words = [f"{TOP}/tools/desk", "--broker", world.server.url, "--token-file", f"{room}/token"]
+    words = [f"{TOP}/client/holzhebo", "desk", "--broker", broker, "--token-file", f"{room}/token"]
     words += ["--page-port", str(port), "--names", f"{TOP}/examples/demo-desk.json"]
     process = subprocess.Popen(words, stdout=subprocess.PIPE, text=True)
     try:
@@ -47,7 +41,7 @@ def served(world: World, room: str) -> Iterator[tuple[int, str, subprocess.Popen
 def test_by_its_key(world: World, room: str) -> None:
     """Whoever has the key gets what the broker answers to GETs; nobody else, and nothing else."""
     shown = world.server.ask("GET", "/environments/live")
-    with served(world, room) as (port, key, process):
+    with served(world.server.url, room) as (port, key, process):
         cookie = f"Cookie: a=b; desk={key}"
         status, fields, _ = asks(port, f"GET /desk/?{key}")
         same("the address", (status, fields["location"], fields["set-cookie"]), (302, "/desk/", OWN.format(key)))
@@ -77,9 +71,24 @@ def test_by_its_key(world: World, room: str) -> None:
 OWN = "desk={}; Path=/; HttpOnly; SameSite=Strict"
 
 
+def test_a_host_in_brackets(room: str) -> None:
+    """A broker at an address of IPv6, which http.client takes without the brackets if a port is given, is found."""
+    line = socket.create_server(("::1", 0), family=socket.AF_INET6)
+
+    def answer() -> None:
+        came = line.accept()[0]
+        with came:
+            came.recv(65536)
+            came.sendall(b"HTTP/1.1 200 OK\r\ncontent-length: 5\r\nconnection: close\r\n\r\nshown")
+
+    with line, served(f"http://[::1]:{line.getsockname()[1]}", room) as (port, key, _):
+        threading.Thread(target=answer, daemon=True).start()
+        same("the listing", asks(port, LISTING, f"Cookie: desk={key}")[::2], (200, "shown"))
+
+
 def test_in_a_browser(world: World, room: str) -> None:
     """The address is opened, and the board is there: no token is asked for."""
-    with served(world, room) as (port, key, _), Browser(room) as page:
+    with served(world.server.url, room) as (port, key, _), Browser(room) as page:
         page.go(f"http://127.0.0.1:{port}/desk/?{key}")
         settled(page)
         same("the board", cells(page), BOARD)
@@ -92,15 +101,16 @@ def test_its_words(world: World, room: str) -> None:
     write(f"{room}/token", f"{OFFICE}\n")
     write(f"{room}/names", "[]")
     good = {"--broker": world.server.url, "--token-file": f"{room}/token"}
+    empty = "error: argument --broker/-b/--broker-base-url: it is empty\n\nFor more information, try '--help'.\n"
+    same("no broker", ran([f"{TOP}/client/holzhebo", "desk", "--broker", ""]), (2, "", empty))
     for words, said in (
-        ({"--broker": ""}, "no broker: give --broker or HOLZHEBO_BROKER, as https://broker.example.org"),
         (
             {"--broker": "http://broker.example.org"},
-            "http to broker.example.org would send the token to whoever listens: take https",
+            "over http the token is read on the way to broker.example.org: use https, or give --plain",
         ),
         (
             {"--token-file": f"{room}/short"},
-            f"{room}/short has no token: that is 16 to 128 ASCII letters, digits and -._~+/=",
+            "token: it isn't 16 to 128 ASCII letters, digits and -._~+/=",
         ),
         ({"--names": f"{room}/names"}, f"{room}/names can't be read, or names no environments"),
         (
@@ -109,7 +119,7 @@ def test_its_words(world: World, room: str) -> None:
         ),
     ):
         line = [it for two in {**good, **words}.items() for it in two]
-        same(str(words), ran([f"{TOP}/tools/desk", *line]), (3, "", f"desk: {said}\n"))
+        same(str(words), ran([f"{TOP}/client/holzhebo", "desk", *line]), (3, "", f"holzhebo: {said}\n"))
 
 
 # A proxy before which a sign-on is

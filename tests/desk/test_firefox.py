@@ -20,12 +20,6 @@ SCENES += [scenes_good.put_by, scenes_good.none_yet, scenes_look.keyboard, scene
 
 
 @pytest.fixture(scope="module")
-def world(program: str, tmp_path_factory: pytest.TempPathFactory) -> Iterator[World]:
-    with World(program, str(tmp_path_factory.mktemp("world"))) as it:
-        yield it
-
-
-@pytest.fixture(scope="module")
 def page(world: World, tmp_path_factory: pytest.TempPathFactory) -> Iterator[Firefox]:
     with Firefox(str(tmp_path_factory.mktemp("firefox"))) as it:
         it.look(1000, "light")
@@ -39,9 +33,10 @@ def test_a_scene(scene: Scene, page: Firefox, world: World) -> None:
     requests_are_right(world)
 
 
-def test_dark_and_narrow(page: Firefox, world: World) -> None:
+def test_dark_and_narrow_and_printed(page: Firefox, world: World) -> None:
     """As narrow as Firefox has its window, nothing is wider than that; each text is clear in both schemes."""
     signs_in(page, world, READER)
+    scenes_look.printed(page, world)
     grounds = []
     for scheme in "light", "dark":
         page.look(450, scheme)

@@ -21,12 +21,6 @@ pytestmark = [pytest.mark.needs("chromium", "nginx", "curl"), pytest.mark.xdist_
 
 
 @pytest.fixture(scope="module")
-def world(program: str, tmp_path_factory: pytest.TempPathFactory) -> Iterator[World]:
-    with World(program, str(tmp_path_factory.mktemp("world"))) as it:
-        yield it
-
-
-@pytest.fixture(scope="module")
 def page(world: World, tmp_path_factory: pytest.TempPathFactory) -> Iterator[Browser]:
     with Browser(str(tmp_path_factory.mktemp("browser"))) as it:
         it.look(1000, "light")
@@ -64,7 +58,7 @@ def test_no_token_is_kept(world: World, room: str) -> None:
         same(f"tokens in {log}", re.findall("token-0+1", world.nginx.log(log)), [])
 
 
-# A wrong page: its edits, and what has to be found
+# A wrong page: its edits, and what has to be found, by the scene that is named first.
 WRONG: dict[str, tuple[list[tuple[str, str]], str]] = {
     "a verdict swapped": (
         [("return answer.permitted\n", "return !answer.permitted\n")],
@@ -96,15 +90,15 @@ WRONG: dict[str, tuple[list[tuple[str, str]], str]] = {
                 "fetch(path, { ...how, method: 'HEAD' });\n    const reply = await fetch(path, {",
             )
         ],
-        "the page sends HEAD /",
+        "board: the page sends HEAD /",
     ),
     "the token in a request's address": (
         [("'/matrix?' + query({ pacticipant, version })", "'/matrix?' + query({ pacticipant, version, token })")],
-        "the page sends GET /matrix",
+        "matrix: the page sends GET /matrix",
     ),
     "the token in the page's address": (
         [("    field.value = '';", "    field.value = '';\n    location.hash = '#/board/' + text;")],
-        "a token is in the address",
+        "board: a token is in the address",
     ),
     "an environment left out": (
         [("(await listings(environments)).map(", "(await listings(environments.slice(1))).map(")],
@@ -138,10 +132,13 @@ WRONG: dict[str, tuple[list[tuple[str, str]], str]] = {
     ),
     "the verdict not said": (
         [("page('said').replaceChildren(...said ? said.cloneNode(true).childNodes : []);", "")],
-        "what is said aloud",
+        "questions: shop/1.4/live: what is said aloud",
     ),
     "one title for all views": ([("document.title = ", "view.title = ")], "questions: shop/1.4/live: the title"),
 }
+
+
+SEEN_BY = {it.__name__: it for it in [*GOOD, hostile, unknown]}
 
 
 @pytest.mark.parametrize("name", WRONG)
@@ -152,7 +149,7 @@ def test_a_wrong_page_is_seen(name: str, world: World, page: Browser) -> None:
         page.events.clear()
         world.forget_requests()
         with pytest.raises(Wrong, match=re.escape(finding)):
-            tried(page, world, [*GOOD, hostile, unknown])
+            tried(page, world, [board, SEEN_BY[finding.partition(":")[0]]])
     finally:
         place(world.page)
         page.look(1000, "light")

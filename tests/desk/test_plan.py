@@ -2,15 +2,16 @@
 former. Random fleets of up to six steps; the numbers are seeds, so that what fails can be tried again."""
 from __future__ import annotations
 
-import collections, itertools, json, os, shutil
+import collections, itertools, json, os, shutil, socket
 from collections.abc import Callable
 from typing import Any
 
 import pytest
 
 from tests.desk.plan_fleets import Fleet, put
-from tests.desk.plan_tries import TOP, Subject, by_going, by_node, by_the_model, by_the_page, same
+from tests.desk.plan_tries import TOP, Subject, by_going, by_node, by_the_model, by_the_page, going, same
 from tests.process import Server
+from tests.wire import all_of, answers_in, request
 
 SOURCES = f"{TOP}/client/src"
 TEAM = "all-of-us-token-01"
@@ -53,6 +54,8 @@ def test_a_service_goes(subject: Subject) -> None:
 def test_the_page_plans_the_same(subject: Subject, room: str) -> None:
     """To the order of each list: steps, order, what is after what, faults, circles, and how much is asked."""
     same("fleets", by_the_page(subject, text_of(f"{TOP}/desk/plan.js"), room, range(1, 1501)), 1500)
+    goes = sum(bool(going(Fleet(seed))) for seed in range(1, 1501))
+    same("whether a service goes in enough of them", goes > 150, True)
 
 
 # Wrong plans: a file, the edit, and it has to be seen
@@ -128,7 +131,7 @@ def test_a_wrong_plan_is_seen(name: str, room: str) -> None:
 
 def is_seen(trial: Callable[[int], Any]) -> bool:
     """Whether one of these fleets shows it."""
-    for seed in range(1, 3001):
+    for seed in range(1, 1001):
         try:
             trial(seed)
         except (AssertionError, IndexError, KeyError, ValueError):
@@ -144,12 +147,13 @@ SCRIPT = {
     ),
     "no claims of the matrix": ("to.strict && !from.strict ? all(it => matrix", "false ? all(it => matrix"),
     "an open environment is asked": ("  if (!to.gated) return found;\n", ""),
-    "new with new isn't looked at": ("this.clash = table(it => it);", "this.clash = table(() => undefined);"),
-    "old ones aren't looked at": ("this.first = table(it => it.old);", "this.first = table(() => undefined);"),
-    "what stays isn't looked at": (
-        "this.fixed = steps.map(it => [...new Set(kept.",
-        "this.fixed = steps.map(it => [...new Set([].",
-    ),
+    "new with new isn't looked at": ("ends(one, other) : between(one, other));", "ends(one, other) : []);"),
+    "old ones aren't looked at": (": between(one, other.old));", ": []);"),
+    "what stays isn't looked at": ("[...between(it, other), ...without(other, it)]", "without(other, it)"),
+    "what goes is missed by nobody": ("[...between(it, other), ...without(other, it)]", "between(it, other)"),
+    "who calls what goes isn't seen": ("? without(other.old, one) :", "? [] :"),
+    "what comes calls what goes": ("[...without(one, other), ...without(other, one)]", "[]"),
+    "what goes stays": ("steps.set(it.place, { ...it, old: it, how: ENDS[it.how], ends: true });", ";"),
     "greedy for the largest": (
         "for (const out of [clashes.get(worst), [worst]])",
         "for (const out of [clashes.get(worst)])",
@@ -162,13 +166,14 @@ SCRIPT = {
 
 
 @pytest.mark.needs("node")
+@pytest.mark.xdist_group("wrong plans of the page")
 @pytest.mark.parametrize("name", SCRIPT)
 def test_a_wrong_plan_of_the_page_is_seen(name: str, subject: Subject, room: str) -> None:
     old, new = SCRIPT[name]
     script = text_of(f"{TOP}/desk/plan.js")
     same(f"how often plan.js has {old}", script.count(old), 1)
     with pytest.raises(AssertionError):
-        by_the_page(subject, script.replace(old, new), room, range(1, 1501))
+        by_the_page(subject, script.replace(old, new), room, range(1, 51))
 
 
 # By the program
@@ -201,8 +206,13 @@ def test_played_on_the_program(subject: Subject, server: Server) -> None:
         left = [x for x in plan.all if x not in order]
         orders = list(itertools.permutations(plan.all)) if left and len(plan.all) <= 3 else []
         copies = [f"{fleet.target}-{at}" for at in range(len(orders))]
-        for token, *ask in fleet.requests(server.office, f"{TEAM}-{seed}", copies):
-            same(f"{ask} of {seed}", sent(server, token, *ask), 200)
+        made = fleet.requests(server.office, f"{TEAM}-{seed}", copies)
+        asks = [(method, path, token, json.dumps(body)) for token, method, path, body in made]
+        with server.open() as peer:
+            peer.sendall(b"".join(request(*it) for it in asks))
+            peer.shutdown(socket.SHUT_WR)
+            statuses = [it.status for it in answers_in(all_of(peer))]
+        same(f"what is refused of {seed}", [it for it in zip(asks, statuses, strict=True) if it[1] != 200], [])
         same(f"the situation of {seed}", subject.plan_of(Asks(server), fleet).situation, plan.situation)
 
         def done(environment: str, x: int) -> int:

@@ -1,4 +1,4 @@
-"""`tools/plan` over the demo: what it prints, by hand from the story that examples/demo.sh says; its JSON; words."""
+"""`holzhebo plan` over the demo: what it prints, by hand from the story that examples/demo.sh says; its JSON; words."""
 from __future__ import annotations
 
 import json
@@ -10,7 +10,7 @@ from tests.desk.world import RED, World, write
 from tests.process import TOP, Ended, ran
 from tests.wire import OFFICE, same
 
-pytestmark = [pytest.mark.needs("nginx", "curl"), pytest.mark.xdist_group("tools/plan")]
+pytestmark = [pytest.mark.needs("nginx", "curl"), pytest.mark.xdist_group("plan")]
 
 
 @pytest.fixture(scope="module")
@@ -22,14 +22,15 @@ def world(program: str, tmp_path_factory: pytest.TempPathFactory) -> Iterator[Wo
 
 
 def planned(world: World, *words: str, token: str = "office") -> Ended:
-    return ran([f"{TOP}/tools/plan", "--broker", world.server.url, "--token-file", f"{world.room}/{token}", *words])
+    by = ["--broker", world.server.url, "--token-file", f"{world.room}/{token}"]
+    return ran([f"{TOP}/client/holzhebo", "plan", *by, *words])
 
 
 LAST = "\nThis is as the broker answers now. Each step is judged again as it is recorded, and a team needs its grant.\n"
-CHANGE = "one of both has to change, and then a result that passes"
-SHOP = f"stock 1.0 fails the contract of shop 1.4: {CHANGE}"
-STOCK = "stock 2.0 has no result for the contract of shop 1.3: verify it, and send the result"
-WEB = "shop 1.4 has no result for the contract of web 7: verify it, and send the result"
+CHANGE = "one of them has to change; then a result that passes is needed"
+SHOP = f"stock 1.0 fails the contract of shop 1.4, by its latest result: {CHANGE}"
+STOCK = "stock 2.0 has no result for the contract of shop 1.3: verify the contract, and send the result"
+WEB = "shop 1.4 has no result for the contract of web 7: verify the contract, and send the result"
 
 SAID = {
     "staging live": (
@@ -137,10 +138,10 @@ def test_a_service_goes(world: World) -> None:
     same(
         "it is there",
         planned(world, "--gone", "shop", "live", "staging")[::2],
-        (3, "plan: shop is in live, so it can't go\n"),
+        (3, "holzhebo: shop is in live, so it can't go\n"),
     )
     same(
-        "it isn't there", planned(world, "--gone", "mail", "live", "staging")[::2], (3, "plan: mail isn't in staging\n")
+        "it isn't there", planned(world, "--gone", "mail", "live", "staging")[::2], (3, "holzhebo: mail isn't in staging\n")
     )
 
 
@@ -154,14 +155,14 @@ def test_what_it_cannot_say(world: World) -> None:
         ),
         (
             planned(world, *two, token="short"),
-            f"{world.room}/short has no token: that is 16 to 128 ASCII letters, digits and -._~+/=",
+            "token: it isn't 16 to 128 ASCII letters, digits and -._~+/=",
         ),
-        (planned(world, "dev", "nowhere"), "the broker answers 404 unknown environment"),
+        (planned(world, "dev", "nowhere"), "the broker doesn't know the environment dev or nowhere"),
         (
             planned(world, "--broker", "http://example.org", *two),
-            "http to example.org would send the token to whoever listens: take https",
+            "over http the token is read on the way to example.org: use https, or give --plain",
         ),
         (planned(world, "--contacts", "nowhere", *two), "nowhere can't be read, or has no contacts"),
     ):
-        same(said, got, (3, "", f"plan: {said}\n"))
+        same(said, got, (3, "", f"holzhebo: {said}\n"))
     same("a word too few", planned(world, "dev").status, 2)

@@ -2,7 +2,6 @@
 from __future__ import annotations
 
 import http.client, json, os, re, signal, subprocess, tempfile
-from collections.abc import Iterator
 from typing import Any
 
 import pytest
@@ -17,12 +16,6 @@ from tests.proxy import Caddy, Proxy
 from tests.wire import OFFICE, Wrong, same
 
 pytestmark = [pytest.mark.needs("nginx", "curl"), pytest.mark.xdist_group("the recipes of the page")]
-
-
-@pytest.fixture(scope="module")
-def world(program: str, tmp_path_factory: pytest.TempPathFactory) -> Iterator[World]:
-    with World(program, str(tmp_path_factory.mktemp("world"))) as it:
-        yield it
 
 
 def asked(port: int, token: str, ask: str, body: str = "") -> tuple[int, str, Any]:

@@ -219,7 +219,7 @@ def test_lines(world: Sixty, room: str) -> None:
         [
             "sh",
             "-c",
-            f"{TOP}/tools/plan --broker {world.server.url} --token-file {room}/office.token staging live; test $? = 1",
+            f"{TOP}/client/holzhebo plan --broker {world.server.url} --token-file {room}/office.token staging live; test $? = 1",
         ]
     )
     assert time.monotonic() - began < LINE

@@ -11,14 +11,11 @@ from tests.desk import served
 from tests.desk.browser import Browser, Unseen
 from tests.desk.running import ODD, Running, asks, by, instead, made
 from tests.desk.scenes_good import board, questions
-from tests.desk.world import READER, RED, text_of, write
+from tests.desk.world import BLUE, READER, RED, text_of, write
 from tests.process import TOP, Server, free_port
 from tests.wire import OFFICE, Wrong, same
 
 pytestmark = [pytest.mark.needs("chromium", "curl"), pytest.mark.usefixtures("usual")]
-
-
-BLUE = "blue-team-token-0001"
 
 
 # While it serves the demo
@@ -228,7 +225,11 @@ def test_the_demo(trial: Callable[[Running], None], one: Running) -> None:
     trial(one)
 
 
-@pytest.mark.parametrize("trial", [served.odd, served.a_silent_broker], ids=["odd", "a_silent_broker"])
+# The last one waits for a minute.
+STRANGE = [pytest.param(served.odd, id="odd"), pytest.param(served.a_silent_broker, id="silent", marks=pytest.mark.first)]
+
+
+@pytest.mark.parametrize("trial", STRANGE)
 def test_a_strange_broker(trial: Callable[[Running], None], room: str) -> None:
     write(f"{room}/any", "any file")
     with Running(room, f"{room}/any", program=made(f"{room}/strange", ODD)) as it:

@@ -111,7 +111,7 @@ def test_command_lines(room: str) -> None:
 def copied(room: str, build: str) -> str:
     """The parts of the repository that it needs, in a folder with a blank, with another ./build."""
     top = f"{tempfile.mkdtemp(dir=room)}/a copy"
-    for part in "tools", "desk", "examples":
+    for part in "tools", "desk", "examples", "client":
         shutil.copytree(f"{TOP}/{part}", f"{top}/{part}", ignore=shutil.ignore_patterns("__pycache__"))
     shutil.copy2(f"{TOP}/run", f"{top}/run")
     made(f"{top}/build", build)

@@ -9,7 +9,7 @@ from tests.proxy import Caddy, Nginx, Proxy
 from tests.wire import OFFICE, Wrong, same
 from tests.world import new_file
 
-RED, READER = "red-team-token-0001", "desk-token-000001"
+RED, BLUE, READER = "red-team-token-0001", "blue-team-token-0001", "desk-token-000001"
 DENIED = '{"answer":"denied","rule":"A1"}'
 # The page's files, and what its proxies say of them.
 PAGE = sorted(it for it in os.listdir(f"{TOP}/desk") if it != "desk.json")

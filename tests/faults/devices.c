@@ -3,7 +3,7 @@
    the program by LD_PRELOAD, with PEERS, a folder. In it are, of each connection from 1 on, what the peer sends,
    N.sent, and how it does, N.plan; there N.taken is made, what the peer took, and N.report: when its connection was
    closed, and how many bytes the last read asked for. With STREAMS the peer 1 is standard input and standard output. A
-   look at what a peer has sent (MSG_PEEK) takes no time, and isn't cut short.
+   read that doesn't block takes no time, and isn't cut short.
 
    A plan is numbers, of times in milliseconds: when the peer comes; how many bytes a read gives at most; after how many
    bytes a read fails, and by which errno; how many bytes it takes, how many at once, how long apart, and by which errno
@@ -111,14 +111,15 @@ static int pass(long within) {
   return failed(EAGAIN);
 }
 
-static ssize_t receive(struct peer *it, void *text, size_t most) {
-  if (is_cut_short(it))
+static ssize_t receive(struct peer *it, int fd, void *text, size_t most) {
+  int blocks = !(syscall(SYS_fcntl, fd, F_GETFL) & O_NONBLOCK);
+  if (blocks && is_cut_short(it))
     return failed(EINTR);
   it->asked = most;
   if (it->read >= it->plan[FAILS])
     return failed(it->plan[READ_ERROR]);
-  if (it->piece >= it->plan[COUNT] || it->at[it->piece] > now + it->waits_to_read)
-    return pass(it->waits_to_read);
+  if (it->piece >= it->plan[COUNT] || it->at[it->piece] > now + (blocks ? it->waits_to_read : 0))
+    return blocks ? pass(it->waits_to_read) : failed(EAGAIN);
   long length = it->length[it->piece];
   if (now < it->at[it->piece])
     now = it->at[it->piece];
@@ -133,23 +134,6 @@ static ssize_t receive(struct peer *it, void *text, size_t most) {
   it->read += length;
   it->length[it->piece] -= length;
   it->piece += length > 0 && it->length[it->piece] == 0;
-  return length;
-}
-
-/* What has come so far, which stays. */
-static ssize_t look(struct peer *it, void *text, size_t most) {
-  long length = 0;
-  int piece = it->piece;
-  if (it->read >= it->plan[FAILS])
-    return failed(it->plan[READ_ERROR]);
-  while (piece < it->plan[COUNT] && it->at[piece] <= now && it->length[piece] > 0)
-    length += it->length[piece++];
-  if (length == 0 && (piece >= it->plan[COUNT] || it->at[piece] > now))
-    return failed(EAGAIN);
-  if (length > (long)most)
-    length = most;
-  if (syscall(SYS_pread64, it->sent, text, length, it->read) != length)
-    abort();
   return length;
 }
 
@@ -248,13 +232,10 @@ int clock_gettime(clockid_t clock, struct timespec *time) {
 }
 
 ssize_t read(int fd, void *text, size_t most) {
-  return peer_at(fd) ? receive(peer_at(fd), text, most) : syscall(SYS_read, fd, text, most);
+  return peer_at(fd) ? receive(peer_at(fd), fd, text, most) : syscall(SYS_read, fd, text, most);
 }
 ssize_t recv(int fd, void *text, size_t most, int flags) {
-  struct peer *it = peer_at(fd);
-  if (!it)
-    return syscall(SYS_recvfrom, fd, text, most, flags, 0, 0);
-  return flags & MSG_PEEK ? look(it, text, most) : receive(it, text, most);
+  return peer_at(fd) ? receive(peer_at(fd), fd, text, most) : syscall(SYS_recvfrom, fd, text, most, flags, 0, 0);
 }
 ssize_t write(int fd, const void *text, size_t length) {
   return peer_at(fd) ? take(peer_at(fd), text, length) : syscall(SYS_write, fd, text, length);

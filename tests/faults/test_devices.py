@@ -113,14 +113,17 @@ WAITS: dict[str, tuple[Peer, int, bytes, int]] = {
     "one request after another is answered for a second, if another waits": (ENDLESS, 0, TOLD * 5, 1200),
     "one request after another is answered for a second more once another comes": (ENDLESS, 1000, TOLD * 8, 2100),
     "one request after another is answered for as long as nobody waits": (ENDLESS, MOST, TOLD * 14, 13_900),
-    "an answer that isn't taken has ten seconds": (UNTAKEN._replace(room=0), MOST, b"", 10_000),
-    "an answer that is taken in part has ten seconds": (UNTAKEN._replace(room=50), MOST, TOLD[:50], 10_000),
-    "an answer that is taken now and then has ten seconds for all": (
-        UNTAKEN._replace(at_once=10, apart=4000), MOST, TOLD[:20], 10_000),
+    "an answer that isn't taken has two seconds": (UNTAKEN._replace(room=0), MOST, b"", 2000),
+    "an answer that is taken in part has two seconds": (UNTAKEN._replace(room=50), MOST, TOLD[:50], 2000),
+    "an answer that is taken now and then has two seconds for all": (
+        UNTAKEN._replace(at_once=10, apart=800), MOST, TOLD[:20], 2000),
+    "an answer has what its message left of two seconds, if another waits": (
+        Peer([(0, HALF), (1500, REST)], signals=1, room=0), 1, b"", 2020),
+    "an answer has a look at least": (Peer([(0, HALF), (2010, REST)], signals=1, room=0), 1, b"", 2030),
     "an hour's stop in an answer takes no time": (
         Peer([(0, ASKED), (1, b"")], signals=1, stopped=AN_HOUR), MOST, TOLD, AN_HOUR),
     "an hour's stop in a request takes no time": (
-        Peer([(0, HALF), (1, b"host: b\r\n\r\n"), (2, b"")], signals=1, stopped=AN_HOUR), MOST, TOLD, AN_HOUR),
+        Peer([(0, HALF), (30, REST), (31, b"")], signals=1, stopped=AN_HOUR), MOST, TOLD, AN_HOUR + 20),
 }
 
 
@@ -166,3 +169,11 @@ SHARES = {1: 5, 2: 3, 3: 3, 4: 2}
 def test_the_second_is_shared_among_those_that_wait(program: str, count: int) -> None:
     found = served(program, ENDLESS, *[Peer([(0, b"")])] * count)
     same("what is taken", found.taken[0], TOLD * SHARES[count])
+
+
+def test_who_is_let_in_late_leaves_others_soon(program: str) -> None:
+    """Half a head takes its two seconds from three that wait: two whose answers aren't taken, and one behind them. As the
+    first of these has waited for two seconds then, a look is left to each."""
+    untaken = Peer([(0, ASKED), (0, b"")], comes=1, room=0)
+    found = served(program, Peer([(0, HALF)]), untaken, untaken, Peer([(0, ASKED), (0, b"")], comes=2))
+    same("when each is closed", found.closed, [2020, 2040, 2060, 2060])

@@ -1,32 +1,42 @@
 """Peers that keep a serving broker busy for as long as they like, each kind of them beside a client that asks once a
-second with a connection of its own: each of its answers comes within three seconds. A connection of a flood that the
+second with a connection of its own, each other time by a body of 900,000 bytes: each of its answers comes within three
+seconds. A connection of a flood that the
 broker ends is opened again at once."""
 import selectors, socket, threading, time
 from typing import NamedTuple
 import pytest
-from tests.process import Server
+from tests.broker.parts import former_file
+from tests.process import Server, ran
 from tests.wire import request, same
+from tests.world import RED
 
 pytestmark = [pytest.mark.timing, pytest.mark.by_both]
 # Seconds: for an answer, for a flood, from one question to the next, and from one byte of a trickle to the next.
 MOST, LASTS, EACH, APART = 3.0, 6.5, 1.0, 0.4
 QUESTION = request("GET", "/environments/none")
+# The same with a body, as that of a large pact file.
+LONG_QUESTION = request("GET", "/environments/none", body=" " * 900_000)
 ANSWER = b"HTTP/1.1 404 "
 # Without a token, as anybody on the machine can ask.
 ASKED = b"GET /environments/none HTTP/1.1\r\nhost: b\r\n\r\n"
 PUT = request("PUT", "/teams/red", body=" " * 900)
 HEAD, BODY = PUT[: PUT.index(b"\r\n\r\n") + 4], b" "
+# Without a token too: a body of a megabyte that lacks all but the first bytes, and one that lacks the last byte.
+LARGE = b"PUT /teams/red HTTP/1.1\r\nhost: b\r\ncontent-length: %d\r\n\r\n"
+BEGUN = (LARGE % 1_000_000).ljust(16_500, b" ")
+LACKING = (LARGE % 20_000) + b" " * 19_999
 
 
 class Kind(NamedTuple):
     """A kind of peer: how many there are, what each sends at first, and what again and again (`always`, made of whole
-    requests), for each answer (`after`), and now and then (`trickles`)."""
+    requests), for each answer (`after`), and now and then (`trickles`); and whether it reads its answers."""
 
     many: int
     first: bytes = b""
     always: bytes = b""
     after: bytes = b""
     trickles: bytes = b""
+    reads: bool = True
 
 
 KINDS = {
@@ -37,6 +47,16 @@ KINDS = {
     "twenty begun heads": Kind(20, first=HEAD[:20]),
     "twenty heads that trickle": Kind(20, first=HEAD[:20], trickles=b"x"),
     "six bodies that trickle": Kind(6, first=HEAD, trickles=BODY),
+    "five large bodies that stop": Kind(5, first=BEGUN),
+    "sixty large bodies that stop": Kind(60, first=BEGUN),
+    "twenty large bodies that trickle": Kind(20, first=BEGUN, trickles=BODY),
+    "twenty large bodies that lack a byte": Kind(20, first=LACKING),
+    "thirty that ask and begin to ask again": Kind(30, first=ASKED + HEAD[:20]),
+    "thirty that ask and send a part of a large body": Kind(30, first=ASKED + BEGUN),
+    "a pipeline whose answers aren't read": Kind(1, always=ASKED * 500, reads=False),
+    "twenty pipelines whose answers aren't read": Kind(20, always=ASKED * 500, reads=False),
+    "a hundred that are silent": Kind(100),
+    "three hundred large bodies that stop": Kind(300, first=BEGUN),
 }
 
 
@@ -54,13 +74,19 @@ class Flood(threading.Thread):
         self.sent: dict[socket.socket, int] = {}
 
     def open(self) -> None:
-        it = socket.create_connection(("127.0.0.1", self.port), 30)
+        it = socket.socket()
+        if not self.kind.reads:
+            it.setsockopt(socket.SOL_SOCKET, socket.SO_RCVBUF, 4096)
+        it.settimeout(30)
+        it.connect(("127.0.0.1", self.port))
         it.setsockopt(socket.IPPROTO_TCP, socket.TCP_NODELAY, 1)
         it.setblocking(False)
         if self.kind.first:
             it.send(self.kind.first)
-        wanted = selectors.EVENT_READ | (selectors.EVENT_WRITE if self.kind.always else 0)
-        self.peers.register(it, wanted)
+        wanted = (selectors.EVENT_READ if self.kind.reads else 0) | (selectors.EVENT_WRITE if self.kind.always else 0)
+        # One that neither reads nor sends any more isn't looked at again.
+        if wanted:
+            self.peers.register(it, wanted)
         self.sent[it] = 0
         self.opened += 1
 
@@ -116,33 +142,87 @@ class Flood(threading.Thread):
         for it in self.sent:
             it.close()
 
-    def is_one(self) -> bool:
-        """Whether these peers did what their kind does: their connections are all there, and who asks was answered."""
-        asks = bool(self.kind.always or self.kind.after)
-        return self.is_alive() and self.opened >= self.kind.many and (not asks or self.came > 10_000)
+    def is_one(self, least: int) -> bool:
+        """Whether these peers did what their kind does: their connections are all there, and who asks was answered, by
+        more than so many bytes."""
+        asks = bool(self.kind.always or self.kind.after) and self.kind.reads
+        return self.is_alive() and self.opened >= self.kind.many and (not asks or self.came > least)
 
 
-def ask(port: int) -> float:
+def ask(port: int, question: bytes) -> float:
     """Asks on a connection of its own, and tells how long the answer took."""
     began = time.monotonic()
     with socket.create_connection(("127.0.0.1", port), 2 * MOST) as it:
-        it.sendall(QUESTION)
+        it.sendall(question)
         text = it.recv(65536)
     same("the answer", text[: len(ANSWER)], ANSWER)
     return time.monotonic() - began
 
 
-@pytest.mark.parametrize("name", KINDS)
-def test_each_answer_comes_in_time(server: Server, name: str) -> None:
-    flood, times = Flood(server.port, KINDS[name]), list[float]()
-    flood.start()
+def held_up(server: Server, *kinds: Kind, lasts: float = LASTS) -> float:
+    """How long the slowest answer takes beside these peers."""
+    floods, times = [Flood(server.port, it) for it in kinds], list[float]()
+    for flood in floods:
+        flood.start()
     try:
-        end = time.monotonic() + LASTS
+        end = time.monotonic() + lasts
         time.sleep(0.3)
         while time.monotonic() < end:
-            times.append(ask(server.port))
+            times.append(ask(server.port, LONG_QUESTION if len(times) % 2 else QUESTION))
             time.sleep(max(0.0, EACH - times[-1]))
-        assert flood.is_one(), "there was no flood"
+        # Beside others a flood may have had few of its answers.
+        least = 10_000 if len(floods) == 1 else 0
+        assert all(it.is_one(least) for it in floods), "there was no flood"
     finally:
-        flood.end()
-    assert max(times) <= MOST
+        for flood in floods:
+            flood.end()
+    return max(times)
+
+
+@pytest.mark.parametrize("name", KINDS)
+def test_each_answer_comes_in_time(server: Server, name: str) -> None:
+    assert held_up(server, KINDS[name]) <= MOST
+
+
+# A hundred thousand releases, whose listing has 4.8 MB.
+RELEASES = """
+WITH RECURSIVE n (i) AS (SELECT 10 UNION ALL SELECT i + 1 FROM n WHERE i < 100009)
+INSERT INTO versions SELECT i, 'stock', 'build-' || i FROM n;
+INSERT INTO released SELECT 'live', number FROM versions WHERE number >= 10;
+"""
+LISTED = request("GET", "/environments/live", RED)
+
+
+def test_a_long_listing_that_nobody_reads(program: str, room: str) -> None:
+    file = former_file(room, RELEASES)
+    same("migrate", ran([program, "migrate", "--file", file]), (0, "", ""))
+    with Server(program, file) as server:
+        assert held_up(server, Kind(1, first=LISTED, reads=False)) <= MOST
+
+
+# All but the last byte of a request that is as large as one may be.
+LARGEST = (LARGE % 1_048_576) + b" " * 1_048_575
+# In megabytes, beside the program's own: 64 heads and bodies, as docs/OPERATING.md says, and a tenth more.
+ROOM = 75
+
+
+def megabytes(server: Server, what: str) -> float:
+    """What the process has of memory: VmRSS, or the most that it had, VmHWM."""
+    with open(f"/proc/{server.process.pid}/status", encoding="ascii") as it:
+        return next(int(line.split()[1]) * 1024 / 1e6 for line in it if line.startswith(what))
+
+
+def test_what_those_send_that_wait_takes_no_more_than_is_said(server: Server) -> None:
+    ask(server.port, LONG_QUESTION)
+    own = megabytes(server, "VmRSS")
+    peers = [socket.create_connection(("127.0.0.1", server.port), 10) for _ in range(70)]
+    for it in peers:
+        try:
+            it.sendall(LARGEST)
+        except OSError:
+            pass
+    assert ask(server.port, LONG_QUESTION) <= MOST
+    same("a few were sent", megabytes(server, "VmHWM") > own + 20, True)
+    assert megabytes(server, "VmHWM") <= own + ROOM
+    for it in peers:
+        it.close()

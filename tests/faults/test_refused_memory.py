@@ -2,18 +2,15 @@
 contract that goes live, and replies that are checked (refuse.c). In each run the command that the refusal met is
 answered 503 {"answer":"memory"} and all others as if it hadn't been sent; or the program ends with status 3 after whole
 answers; or a commit was refused, and the broker is stopped: at most once in the making, and at most once at a command,
-and never at one that changes nothing.
-
-test_each_end_is_brought_out refuses only until each end was seen, in seconds; test_each_request_is_refused refuses all,
-in minutes, and is run by hand: --by-hand, on as many processors as -n says."""
-import collections, functools, itertools, os
+and never at one that changes nothing."""
+import collections, functools, os, subprocess
 from collections.abc import Iterator
 from concurrent.futures import ThreadPoolExecutor
 import pytest
 from tests.players.shims import library
 from tests.players.story import Story, file_of
 from tests.process import Ended, ran
-from tests.wire import OFFICE, Wrong, answer, same
+from tests.wire import OFFICE, PATIENCE, Wrong, answer, same
 
 pytestmark = pytest.mark.needs("cc")
 STREAMS = "first-run", "goes-live", "checked-replies"
@@ -23,7 +20,9 @@ NO_MEMORY, NOT_MADE, CUT_OFF = (3, "memory\n"), (3, "open 5\n"), (3, "serve 3\n"
 # How a run may end, by what the program says, if there is no answer yet.
 AT_ONCE = {NO_MEMORY: "memory", (3, "open 4\n"): "open 4", NOT_MADE: "open 5"}
 NOTHING_CHANGED = "503 at a command that changes nothing"
-ENDS = [*AT_ONCE.values(), "serve 3 after whole answers", NOTHING_CHANGED]
+# Each end that the first run has.
+ENDS = {*AT_ONCE.values(), "serve 3 after whole answers", NOTHING_CHANGED, "503"}
+Outcome = tuple[str, "int | str | None"]
 
 
 def parted(out: bytes) -> list[bytes]:
@@ -46,16 +45,14 @@ class Stream:
     def __init__(self, program: str, name: str) -> None:
         stream = Story(file_of(name)).streams[0]
         self.program, self.requests, self.answers = program, stream.messages, [it.text for it in stream.answers]
+        self.words = [program, "replay", "--office-token", OFFICE]
         self.without = functools.cache(self.run_without)
+        self.outcome = functools.cache(self.judged)
 
     def run(self, requests: list[bytes], **settings: str) -> tuple[Ended, list[bytes]]:
         """How a replay of these ends, and its answers."""
-        words = [self.program, "replay", "--office-token", OFFICE]
-        done = ran(words, b"".join(requests), env={**os.environ, **settings})
+        done = ran(self.words, b"".join(requests), env={**os.environ, **settings})
         return done, parted(done.output.encode())
-
-    def refused(self, **settings: str) -> tuple[Ended, list[bytes]]:
-        return self.run(self.requests, LD_PRELOAD=library("refuse"), **settings)
 
     def run_without(self, places: frozenset[int]) -> list[bytes]:
         """The answers of a run with memory, to which these requests aren't sent."""
@@ -63,25 +60,33 @@ class Stream:
 
     def count(self, room: str) -> int:
         """How many requests for memory the program makes, if none is refused."""
-        done, answers = self.refused(COUNTED=f"{room}/counted")
+        done, answers = self.run(self.requests, LD_PRELOAD=library("refuse"), COUNTED=f"{room}/counted")
         same("the run without a refusal", (done.status, answers), (0, self.answers))
         with open(f"{room}/counted", encoding="ascii") as it:
             return int(it.read())
 
-    def outcome(self, number: int) -> tuple[str, "int | str | None"]:
-        """What comes of the run in which the request for memory of this number is refused, and at which command the
-        store failed, if it did."""
-        done, answers = self.refused(REFUSED=str(number))
+    def refused(self, room: str, first: int, last: int) -> list[tuple[int, Ended]]:
+        """How the runs end in which the request for memory of each of these numbers is refused."""
+        settings = {"LD_PRELOAD": library("refuse"), "REFUSED": f"{first}-{last}", "INPUT": f"{room}/input"}
+        done = subprocess.run(self.words, env={**os.environ, **settings}, capture_output=True, timeout=10 * PATIENCE)
+        same("what refuses memory", (done.returncode, done.stderr), (0, b""))
+        found = [*ends_in(done.stdout)]
+        same("the runs", [number for number, _ in found], [*range(first, last + 1)])
+        return found
+
+    def judged(self, done: Ended) -> Outcome:
+        """What comes of a run that ends so, and at which command the store failed, if it did."""
+        answers = parted(done.output.encode())
         ended = done.status, done.errors
         if ended in AT_ONCE and not answers:
             return AT_ONCE[ended], "making" if ended == NOT_MADE else None
         if ended == CUT_OFF and self.are_begun(answers):
             return "serve 3 after whole answers", None
         if ended == (0, "") and len(answers) == len(self.requests):
-            return self.full_outcome(number, answers)
-        raise Wrong(f"as request {number} for memory is refused, it ends otherwise: {done}")
+            return self.full_outcome(answers)
+        raise Wrong(f"it ends otherwise: {done}")
 
-    def full_outcome(self, number: int, answers: list[bytes]) -> tuple[str, int | None]:
+    def full_outcome(self, answers: list[bytes]) -> tuple[str, int | None]:
         """The same if each request has an answer."""
         if STORE in answers:
             failed = answers.index(STORE)
@@ -94,7 +99,7 @@ class Stream:
             if MEMORY not in answers:
                 return "as without the refusal", None
             return "503" if self.changes(answers.index(MEMORY)) else NOTHING_CHANGED, None
-        raise Wrong(f"as request {number} for memory is refused, it is answered otherwise: {answers}")
+        raise Wrong(f"it is answered otherwise: {answers}")
 
     def are_begun(self, answers: list[bytes]) -> bool:
         """Whether these first answers are those of a run without the requests that are answered 503."""
@@ -107,39 +112,40 @@ class Stream:
         return b'\r\n\r\n{"answer":"done"' in self.answers[place]
 
 
-def coarse_to_fine(count: int) -> Iterator[int]:
-    """The numbers from 1 to count: the first ones, the last ones, those of the last command's ROLLBACK among them, then
-    those that are far apart, and so on."""
-    yield from range(1, min(count, 16) + 1)
-    yield from range(count, max(count - 512, 0), -1)
-    steps = [4096, 512, 64, 8, 1]
-    for step, above in zip(steps, [0, *steps]):
-        yield from (number for number in range(step, count + 1, step) if not above or number % above)
+def ends_in(told: bytes) -> Iterator[tuple[int, Ended]]:
+    """The runs that are told of, each with its number."""
+    while told:
+        line, _, told = told.partition(b"\n")
+        number, status, *lengths = map(int, line.split())
+        output, errors, told = told[: lengths[0]], told[lengths[0] : sum(lengths)], told[sum(lengths) :]
+        yield number, Ended(os.waitstatus_to_exitcode(status), output.decode(), errors.decode())
 
 
-def outcomes(stream: Stream, numbers: Iterator[int]) -> Iterator[tuple[str, "int | str | None"]]:
-    """What comes of each, some at a time."""
+def each_refused(stream: Stream, room: str, count: int) -> Iterator[tuple[int, Ended]]:
+    """How the run ends in which each of so many requests is refused, on all processors."""
+    with open(f"{room}/input", "wb") as it:
+        it.write(b"".join(stream.requests))
+    size = 256
     with ThreadPoolExecutor(len(os.sched_getaffinity(0))) as workers:
-        while batch := [*itertools.islice(numbers, 16)]:
-            yield from workers.map(stream.outcome, batch)
+        firsts = range(1, count + 1, size)
+        for found in workers.map(lambda it: stream.refused(room, it, min(it + size - 1, count)), firsts):
+            yield from found
 
 
-def test_each_end_is_brought_out(program: str, room: str) -> None:
-    stream, seen = Stream(program, "first-run"), set[str]()
-    for outcome, _ in outcomes(stream, coarse_to_fine(stream.count(room))):
-        seen.add(outcome)
-        if seen >= {*ENDS}:
-            return
-    same("which ends were seen", seen, {*ENDS})
-
-
-@pytest.mark.by_hand
 @pytest.mark.parametrize("name", STREAMS)
 def test_each_request_is_refused(program: str, room: str, name: str) -> None:
     stream = Stream(program, name)
     count = stream.count(room)
     same("how often a second run asks for memory", stream.count(room), count)
-    found = [*outcomes(stream, iter(range(1, count + 1)))]
+    found = list[Outcome]()
+    for number, done in each_refused(stream, room, count):
+        try:
+            found.append(stream.outcome(done))
+        except Wrong as fault:
+            raise Wrong(f"as request {number} of {count} for memory is refused, {fault}") from None
+    same("the runs", len(found), count)
     failures = collections.Counter(place for _, place in found if place is not None)
     assert all(times == 1 for times in failures.values()), f"the store failed more than once: {failures}"
     assert any(outcome == "open 5" for outcome, _ in found), "no refused COMMIT of the making is reported"
+    if name == STREAMS[0]:
+        same("which ends were seen", {outcome for outcome, _ in found} - {"as without the refusal"}, ENDS)

@@ -113,9 +113,9 @@ HOLDS: dict[str, tuple[Peer, float, int | None]] = {
     "half a head": (half_a_head, 4, None),
     "half a body": (half_a_body, 4, None),
     "a byte now and then": (trickle, 4, None),
-    "answers that aren't read": (unread, 14, 4096),
-    "answers of which a part is read": (partly, 14, 4096),
-    "answers of which 2,000 bytes are read now and then": (sip, 24, 4096),
+    "answers that aren't read": (unread, 4, 4096),
+    "answers of which a part is read": (partly, 4, 4096),
+    "answers of which 2,000 bytes are read now and then": (sip, 8, 4096),
 }
 
 

@@ -3,6 +3,7 @@ over TLS, with nothing in them replaced but addresses, certificate and paths."""
 import http.client, re, socket, ssl
 from collections.abc import Sequence
 from tests import proxy
+from tests.operate.pages import section
 from tests.process import TOP, run
 from tests.wire import OFFICE, PATIENCE, Answer, Caller, Wrong, same
 from tests.world import BLUE, RED
@@ -167,11 +168,9 @@ class Front(Caller):
             answer = self.exchange(self.message(written(spelling, token), "GET /environments/live"))
             among(f"the token {token} as {spelling!r}", answer, [400, 401])
 
-    def document(self, page: str, section: str, pattern: str) -> list[str]:
+    def document(self, page: str, name: str, pattern: str) -> list[str]:
         """The lines of a section that are for this proxy, by the ends of lines in its files."""
-        with open(f"{TOP}/docs/{page}", encoding="utf-8") as it:
-            found = re.search(rf"(?ms)^## {section}\n(.*?)^## ", it.read() + "\n## ")
-        lines = re.findall(rf'(?m)^ +("{pattern}.*")(;?)$', found[1] if found else "")
+        lines = re.findall(rf'(?m)^ +("{pattern}.*")(;?)$', section(page, name))
         return [line + end for line, end in lines if end == self.end]
 
 
@@ -186,8 +185,8 @@ class Nginx(Front):
         changes["/etc/ssl/private/broker.key"] = f"{self.room}/key.pem"
         changes["/etc/nginx/broker-teams"] = f"{self.room}/teams"
         changes["/var/log/nginx/broker.log"] = f"{self.room}/log"
-        changes["/etc/nginx/broker-reader[s]"] = f"{self.room}/reader[s]"
-        changes["/etc/nginx/broker-des[k]"] = f"{self.room}/des[k]"
+        for name in "reader[s]", "build[s]", "des[k]":
+            changes[f"/etc/nginx/broker-{name}"] = f"{self.room}/broker-{name}"
         self.proxy.start(self.changed("nginx.conf", {**changes, "/etc/nginx/broker-tokens": f"{self.room}/tokens"}))
 
     def reload(self) -> None:
@@ -205,8 +204,8 @@ class Caddy(Front):
         changes["/etc/caddy/broker-tokens"] = f"{self.room}/tokens"
         changes["/etc/caddy/broker-teams"] = f"{self.room}/teams"
         changes["/var/log/caddy/broker.log"] = f"{self.room}/log"
-        changes["/etc/caddy/broker-reader?"] = f"{self.room}/reader?"
-        changes["/etc/caddy/broker-des?"] = f"{self.room}/des?"
+        for name in "reader?", "build?", "des?":
+            changes[f"/etc/caddy/broker-{name}"] = f"{self.room}/broker-{name}"
         admin = f"unix/{self.room}/admin.sock\n\tauto_https disable_redirects"
         self.proxy.start(self.changed("Caddyfile", {**changes, "unix//var/lib/caddy/admin.sock": admin}))
 

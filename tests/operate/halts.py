@@ -1,5 +1,5 @@
 """Commands of a script that stop or fail at a chosen call: each is found before the machine's own, counts its calls
-with the others, and at one of them waits for ever, or fails."""
+with the others, and at one of them waits for ever, or fails. And a signal just as a script begins to clean up."""
 import os, signal, subprocess, time
 from collections.abc import Iterator, Sequence
 from tests.operate.service import Service
@@ -14,6 +14,20 @@ if [ "$(wc -l < {room}/calls)" = "$HALT_AT" ]; then
 fi
 exec /usr/bin/{tool} "$@"
 """
+# What bash reads before a script.
+AS_IT_ENDS = """case $0 in */%s)
+  set -o functrace
+  trap '[ "${FUNCNAME[0]-}" != clean_up ] || { trap - DEBUG; kill -TERM $$; }' DEBUG ;;
+esac
+"""
+
+
+def signalled_as_it_ends(room: str, script: str) -> dict[str, str]:
+    """The setting by which this script gets SIGTERM before the first command of its clean_up."""
+    path = f"{room}/signalled-as-it-ends"
+    with open(path, "w", encoding="ascii") as it:
+        it.write(AS_IT_ENDS % script)
+    return {"BASH_ENV": path}
 
 
 def halting(service: Service, tools: Sequence[str]) -> None:

@@ -3,9 +3,13 @@ was done. Whom it meets is thrown by dice."""
 import random, time
 from collections.abc import Callable
 from tests.operate.machines_cluster import Cluster
-from tests.operate.machines_hosts import Machine, awaited
+from tests.operate.machines_hosts import PATIENCE, Machine, awaited
 from tests.operate.machines_watch import Watch
 from tests.wire import Wrong
+
+# For how many seconds a broker may answer questions whose machine was paused and goes on, or whose volume's process has
+# ended, until hold.py ends it: that looks ten times a second, and asks the volume twice.
+MOMENT = 1
 
 
 class Scene:
@@ -26,12 +30,23 @@ class Scene:
     def await_other(self, machine: Machine) -> None:
         """Waits until another machine serves."""
         others = [it for it in self.cluster.machines if it is not machine]
-        awaited("another machine that serves", lambda: any(serves(it) for it in others), 60)
+        awaited("another machine that serves", lambda: any(serves(it) for it in others), PATIENCE)
 
     def back(self, machine: Machine) -> None:
         """A machine that was lost is switched on."""
         machine.start()
         self.watch.begin(machine)
+
+    def kill(self, words: str, seconds: float = 0) -> None:
+        """Kills a process, as pkill is told, of the machine that serves; of the next one if it has just ended there. For
+        so many seconds the broker there may answer questions still."""
+
+        def killed(machine: Machine) -> None:
+            self.moment()
+            self.watch.excuse(machine, seconds)
+            machine.run(f"pkill -KILL {words}")
+
+        self.cluster.steadily(killed)
 
 
 def lost(scene: Scene) -> None:
@@ -56,24 +71,26 @@ def parted(scene: Scene) -> None:
 
 def broker_killed(scene: Scene) -> None:
     """The broker that serves is killed."""
-    machine = scene.cluster.server()
-    scene.moment()
-    machine.run("pkill -KILL -x broker")
+    scene.kill("-x broker")
 
 
 def mount_killed(scene: Scene) -> None:
     """The process that has the volume on the machine that serves is killed."""
-    machine = scene.cluster.server()
-    scene.moment()
-    machine.run("pkill -KILL -f broker-volume.log")
+    scene.kill("-f broker-volume.log", MOMENT)
+
+
+def way_killed(scene: Scene) -> None:
+    """What brings clients to the machine that serves is killed: the proxy or keepalived."""
+    scene.kill(scene.dice.choice(["-x nginx", "-x keepalived"]))
 
 
 def replica_killed(scene: Scene) -> None:
-    """The replica of any machine is killed, and started again by the recipe."""
+    """The replica of any machine is killed, or GlusterFS's own service there, and started again by the recipe."""
     machine = scene.dice.choice(scene.cluster.machines)
     scene.moment()
-    machine.run("pkill -KILL -x glusterfsd")
-    awaited(f"the replica of {machine.name}", lambda: machine.run("pgrep -x glusterfsd", None) != "", 40)
+    former = machine.run("pgrep -x glusterfsd")
+    machine.run(f"pkill -KILL -x {scene.dice.choice(['glusterfsd', 'glusterd'])}")
+    awaited(f"the replica of {machine.name}", lambda: machine.says("pgrep -x glusterfsd") not in ("", former), PATIENCE)
 
 
 def replica_lost(scene: Scene) -> None:
@@ -84,7 +101,7 @@ def replica_lost(scene: Scene) -> None:
     time.sleep(4)
     began = time.monotonic()
     scene.cluster.await_service()
-    awaited("a change with two machines", lambda: acknowledged(scene, began) > 0, 30)
+    awaited("a change with two machines", lambda: acknowledged(scene, began) > 0, PATIENCE)
     scene.back(machine)
 
 
@@ -93,8 +110,9 @@ def both(scene: Scene) -> None:
     machine = scene.cluster.server()
     other = scene.others(machine)[0]
     scene.moment()
+    other.cut()
+    machine.says("pkill -KILL -x broker")
     other.lose()
-    machine.run("pkill -KILL -x broker")
     scene.cluster.await_service()
     scene.back(other)
 
@@ -132,11 +150,12 @@ def paused(scene: Scene) -> None:
         time.sleep(scene.dice.uniform(0.5, 2))
     finally:
         machine.join()
+        scene.watch.excuse(machine, MOMENT)
         machine.freeze("0")
 
 
 def serves(machine: Machine) -> bool:
-    return machine.run("/usr/local/share/broker/cluster/serves && echo yes", None) == "yes\n"
+    return machine.says("/usr/local/share/broker/cluster/serves && echo yes") == "yes\n"
 
 
 FAULTS: dict[str, Callable[[Scene], None]] = {
@@ -144,6 +163,7 @@ FAULTS: dict[str, Callable[[Scene], None]] = {
     "the serving machine cut off": parted,
     "its broker killed": broker_killed,
     "its volume's process killed": mount_killed,
+    "its proxy or keepalived killed": way_killed,
     "a replica's process killed": replica_killed,
     "a replica lost and healed": replica_lost,
     "both at once": both,

@@ -10,9 +10,10 @@ of the repository, while nothing else is run."""
 import sys
 
 sys.dont_write_bytecode = True
-import json, os, statistics, subprocess, tempfile, time
+import json, os, statistics, subprocess, time
+from tests.operate.machines_apart import apart, enter, said
 from tests.operate.machines_cluster import Cluster
-from tests.operate.machines_hosts import Machine, apart, awaited, network, own_group, told
+from tests.operate.machines_hosts import Machine, awaited
 from tests.operate.machines_watch import PEER
 from tests.wire import OFFICE
 
@@ -33,7 +34,7 @@ def started(machine: Machine, file: str) -> tuple["subprocess.Popen[bytes]", flo
     began = time.monotonic()
     process = subprocess.Popen(machine.inside("exec " + SERVE.format(file=file)))
     words = "curl -s -o /dev/null -w '%{http_code}' http://127.0.0.1:9393/"
-    awaited("an answer", lambda: machine.run(words, None) == "404", 600, 0.02)
+    awaited("an answer", lambda: machine.says(words) == "404", 600, 0.02)
     return process, time.monotonic() - began
 
 
@@ -84,13 +85,10 @@ def figures(cluster: Cluster, file: str | None) -> None:
 
 def main() -> int:
     if "--places" not in sys.argv:
-        with tempfile.TemporaryDirectory() as room, tempfile.TemporaryDirectory() as disk, own_group() as groups:
-            words = [sys.executable, "-m", "tests.operate.machines_figures", *sys.argv[1:]]
-            return apart([*words, "--places", room, disk, groups])
-    room, disk, groups = sys.argv[-3:]
-    network()
-    told(["mount", "-t", "tmpfs", "none", room])
-    cluster = Cluster(os.path.abspath(sys.argv[1]), room, disk, groups, {}, "full")
+        return apart([sys.executable, "-m", "tests.operate.machines_figures", *sys.argv[1:], "--places"])
+    room, disk, group = sys.argv[-4:-1]
+    enter([room, disk], room, disk, group)
+    cluster = Cluster(os.path.abspath(sys.argv[1]), room, disk, group)
     try:
         figures(cluster, os.path.abspath(sys.argv[2]) if sys.argv[2] != "--places" else None)
     finally:
@@ -100,4 +98,4 @@ def main() -> int:
 
 
 if __name__ == "__main__":
-    sys.exit(main())
+    sys.exit(said(main))

@@ -9,48 +9,58 @@ came.
     machines_peer.py ask - URL TOKEN_FILE 0               for each line PACTICIPANT VERSION of standard input: asks for
                                                           its matrix
 
-An https URL is asked without looking at its certificate: what is tried here is what is answered, and not by whom."""
+Each request of the first two is on a connection of its own. An https URL is asked without looking at its certificate:
+what is tried here is what is answered, and not by whom."""
 import http.client, json, os, ssl, sys, time, urllib.parse
 
 SECONDS = 5
 
 
-def asked(url: urllib.parse.SplitResult, method: str, path: str, token: str) -> int:
-    """The status of the answer, on a connection of its own; 0 if there was none."""
-    it: http.client.HTTPConnection
-    if url.scheme == "https":
-        context = ssl.create_default_context()
-        context.check_hostname, context.verify_mode = False, ssl.CERT_NONE
-        it = http.client.HTTPSConnection(url.netloc, timeout=SECONDS, context=context)
-    else:
-        it = http.client.HTTPConnection(url.netloc, timeout=SECONDS)
-    try:
-        headers = {"authorization": f"Bearer {token}"} if token else {}
-        it.request(method, path, None if method == "GET" else b"", headers)
-        answer = it.getresponse()
-        answer.read()
-        return answer.status
-    except (OSError, http.client.HTTPException):
-        return 0
-    finally:
-        it.close()
+class Line:
+    """How the URL is asked: on one connection for as long as it holds if it is kept, else each time on a new one."""
 
+    def __init__(self, url: str, token: str, is_kept: bool) -> None:
+        parts, self.is_kept = urllib.parse.urlsplit(url), is_kept
+        self.headers = {"authorization": f"Bearer {token}"} if token else {}
+        self.it: http.client.HTTPConnection
+        if parts.scheme == "https":
+            context = ssl.create_default_context()
+            context.check_hostname, context.verify_mode = False, ssl.CERT_NONE
+            self.it = http.client.HTTPSConnection(parts.netloc, timeout=SECONDS, context=context)
+        else:
+            self.it = http.client.HTTPConnection(parts.netloc, timeout=SECONDS)
 
-def say(url: urllib.parse.SplitResult, what: str, version: str, method: str, path: str, token: str) -> None:
-    sent = time.monotonic()
-    status = asked(url, method, path, token)
-    line = {"what": what, "version": version, "sent": sent, "received": time.monotonic(), "status": status}
-    print(json.dumps(line), flush=True)
+    def asked(self, method: str, path: str) -> int:
+        """The status of the answer; 0 if there was none."""
+        is_kept = False
+        try:
+            self.it.request(method, path, None if method == "GET" else b"", self.headers)
+            answer = self.it.getresponse()
+            answer.read()
+            is_kept = self.is_kept
+            return answer.status
+        except (OSError, http.client.HTTPException):
+            return 0
+        finally:
+            if not is_kept:
+                self.it.close()
+
+    def say(self, what: str, version: str, method: str, path: str) -> None:
+        sent = time.monotonic()
+        status = self.asked(method, path)
+        line = {"what": what, "version": version, "sent": sent, "received": time.monotonic(), "status": status}
+        print(json.dumps(line), flush=True)
 
 
 def main() -> None:
-    mode, name, url, file, seconds = sys.argv[1], sys.argv[2], urllib.parse.urlsplit(sys.argv[3]), *sys.argv[4:6]
+    mode, name, url, file, seconds = sys.argv[1:6]
     with open(file, encoding="ascii") as it:
         token = it.read().strip()
+    line = Line(url, "" if mode == "probe" else token, mode == "ask")
     if mode == "ask":
-        for line in sys.stdin:
-            what, version = line.split()
-            say(url, what, version, "GET", f"/matrix?pacticipant={what}&version={version}", token)
+        for row in sys.stdin:
+            what, version = row.split()
+            line.say(what, version, "GET", f"/matrix?pacticipant={what}&version={version}")
         return
     number = 0
     while True:
@@ -58,9 +68,9 @@ def main() -> None:
         next_at = time.monotonic() + float(seconds)
         if mode == "write":
             what, version = "stock" if number % 5 == 0 else "shop", f"{name}-{number}"
-            say(url, what, version, "PUT", f"/pacticipants/{what}/versions/{version}", token)
+            line.say(what, version, "PUT", f"/pacticipants/{what}/versions/{version}")
         else:
-            say(url, "probe", "", "GET", "/", "")
+            line.say("probe", "", "GET", "/")
         time.sleep(max(0.0, next_at - time.monotonic()))
 
 

@@ -1,9 +1,9 @@
 """What is known from outside while machines are lost: each change that was sent and how it was answered, and when each
 machine's own broker answered. All clocks are one, as the machines are on one kernel."""
-import contextlib, json, os, subprocess, sys, threading
+import contextlib, json, os, subprocess, sys, threading, time
 from typing import NamedTuple
 from tests.operate.machines_cluster import COMMON, Cluster
-from tests.operate.machines_hosts import Machine
+from tests.operate.machines_hosts import PATIENCE, Machine
 from tests.process import TOP
 from tests.wire import Wrong
 
@@ -45,14 +45,18 @@ def servings(machine: str, probes: list[Sent]) -> list[Serving]:
     return found
 
 
-def overlaps(servings_of_all: list[Serving]) -> list[str]:
-    """Each two machines that served at one time, with the seconds for which they surely did."""
+def overlaps(servings_of_all: list[Serving], excused: list[Serving]) -> list[str]:
+    """Each two machines that served at one time, with the seconds for which they surely did; but for a time in which
+    one of them is excused."""
     found = []
     for at, one in enumerate(servings_of_all):
         for other in servings_of_all[at + 1 :]:
-            common = min(one.last, other.last) - max(one.first, other.first)
-            if one.machine != other.machine and common > 0:
-                found.append(f"{one.machine} and {other.machine} served at one time, for {common:.2f} s")
+            first, last = max(one.first, other.first), min(one.last, other.last)
+            is_excused = any(
+                it.machine in (one.machine, other.machine) and it.first <= first and last <= it.last for it in excused
+            )
+            if one.machine != other.machine and first < last and not is_excused:
+                found.append(f"{one.machine} and {other.machine} served at one time, for {last - first:.2f} s")
     return found
 
 
@@ -89,6 +93,8 @@ class Watch:
         """`team` is the file with the token that may name versions of shop, `office` that of the office."""
         self.cluster, self.team, self.office = cluster, team, office
         self.writers: list[Stream] = []
+        self.own: dict[str, Stream] = {}
+        self.excused: list[Serving] = []
         self.probes: dict[str, list[Stream]] = {it.name: [] for it in cluster.machines}
         self.boots = 0
         self.writers.append(Stream(self.words("write", "common", f"https://{COMMON}", 0.04)))
@@ -103,7 +109,8 @@ class Watch:
         self.boots += 1
         inside = ["nsenter", "-t", str(machine.pid), "-a", "--"]
         name = f"{machine.name}-{self.boots}"
-        self.writers.append(Stream([*inside, *self.words("write", name, OWN, 0.2)]))
+        self.own[machine.name] = Stream([*inside, *self.words("write", name, OWN, 0.2)])
+        self.writers.append(self.own[machine.name])
         self.probes[machine.name].append(Stream([*inside, *self.words("probe", "-", OWN, 0.05)]))
 
     def stop(self) -> None:
@@ -115,24 +122,46 @@ class Watch:
     def changes(self) -> list[Sent]:
         return [it for stream in self.writers for it in list(stream.sent)]
 
-    def overlaps(self) -> list[str]:
+    def excuse(self, machine: Machine, seconds: float) -> None:
+        """From now on for so long this machine may answer a question beside another one."""
+        now = time.monotonic()
+        self.excused.append(Serving(machine.name, now, now + seconds))
+
+    def overlaps(self, since: float = 0) -> list[str]:
         every = [(name, stream) for name, some in self.probes.items() for stream in some]
-        return overlaps([it for name, stream in every for it in servings(name, list(stream.sent))])
+        probes = [(name, [it for it in list(stream.sent) if it.sent >= since]) for name, stream in every]
+        return overlaps([it for name, some in probes for it in servings(name, some)], self.excused)
+
+    def acknowledging(self, since: float) -> list[str]:
+        """The machines whose own broker has acknowledged a change that was sent there since then."""
+        found = {name: [it.status for it in list(stream.sent) if it.sent >= since] for name, stream in self.own.items()}
+        return [f"{name} {some.count(200)}" for name, some in found.items() if 200 in some]
 
     def longest_gap(self, since: float) -> float:
         """The longest time between two changes that were acknowledged at the common address since then."""
         done = sorted(it.received for it in list(self.writers[0].sent) if it.status == 200 and it.received >= since)
         return max((later - earlier for earlier, later in zip([since, *done], done)), default=0.0)
 
-    def is_there(self, asked: list[Sent]) -> list[int]:
-        """The status of the matrix of each version, asked on the machine that serves: 200 if it was named, or 404."""
+    def answers(self, asked: list[Sent]) -> list[int]:
+        """The status of the matrix of each version, asked on the machine that serves; fewer if it is lost meanwhile."""
         text = "".join(f"{it.what} {it.version}\n" for it in asked)
         words = ["nsenter", "-t", str(self.cluster.server().pid), "-a", "--", *self.words("ask", "-", OWN, 0)]
-        done = subprocess.run(words, input=text, capture_output=True, text=True, timeout=120, check=False)
-        found = [Sent(**json.loads(line)).status for line in done.stdout.splitlines()]
-        if len(found) != len(asked):
-            raise Wrong(f"of {len(asked)} versions {len(found)} were answered: {done.stderr}")
-        return found
+        done = subprocess.run(words, input=text, capture_output=True, text=True, timeout=PATIENCE, check=False)
+        return [Sent(**json.loads(line)).status for line in done.stdout.splitlines()]
+
+    def is_there(self, asked: list[Sent]) -> list[int]:
+        """The status of the matrix of each version: 200 if it was named, or 404. Who gets none of the two asks again:
+        the machine that serves may be another one meanwhile."""
+        found: dict[Sent, int] = {}
+        left, others, ends = asked, list[int](), time.monotonic() + PATIENCE
+        while left:
+            if time.monotonic() > ends:
+                raise Wrong(f"{len(left)} of {len(asked)} versions aren't told: {sorted(set(others))}")
+            answers = self.answers(left)
+            found.update((it, status) for it, status in zip(left, answers) if status in (200, 404))
+            left, others = [it for it in asked if it not in found], [it for it in answers if it not in (200, 404)]
+            time.sleep(0.5 if left else 0)
+        return [found[it] for it in asked]
 
     def faults(self, changes: list[Sent]) -> list[str]:
         """Each change that is otherwise than it was answered: acknowledged and not there, or refused and there."""

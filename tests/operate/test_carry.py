@@ -11,6 +11,7 @@ from tests.wire import same
 from tests.world import new_file
 
 from holzhebo import carry
+from holzhebo.report.copy import Copy
 
 HISTORIES, EACH = 300, 25
 
@@ -37,6 +38,8 @@ def one_history(program: str, room: str, seed: int) -> dict[str, int]:
     after, new_schema = read_tables(new)
     same("what declares the tables", new_schema, schema)
     same(f"the tables, keep {keep}, branches {only}", after, it.tables)
+    # A second reader, that of `holzhebo report`, refuses a file that breaks the broker's rules.
+    Copy(new, room).base.close()
     pair = Pair(it, Broker(program, old_file), Broker(program, new))
     asked = list(questions(sorted(it.kept), branches_of(before)))
     pair.test(asked)

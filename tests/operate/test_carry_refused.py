@@ -12,7 +12,7 @@ from tests.world import new_file
 
 from holzhebo import carry, carry_pages, carry_rows
 
-CARRY = [sys.executable, f"{TOP}/tools/carry"]
+CARRY = [sys.executable, f"{TOP}/client/holzhebo", "carry"]
 
 
 @pytest.fixture(scope="module")

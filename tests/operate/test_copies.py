@@ -200,10 +200,13 @@ def test_killed_in_the_pause(service: Service, what: str) -> None:
 
 
 def child(pid: int, name: str) -> int:
-    """The process that it has started, whose command line has this name."""
+    """The process that it has started, itself or by `timeout`, and that runs this script."""
     with open(f"/proc/{pid}/task/{pid}/children", encoding="ascii") as it:
         for number in it.read().split():
-            if name in read(f"/proc/{number}/cmdline"):
+            words = read(f"/proc/{number}/cmdline").split("\0")
+            if words[0] == "timeout":
+                return child(int(number), name)
+            if any(word.endswith(name) for word in words[:2]):
                 return int(number)
     raise AssertionError(f"{pid} has no {name}")
 
@@ -244,6 +247,7 @@ exec {program} "$@"
 """
 
 
+@pytest.mark.timing
 def test_silent_connection(service: Service) -> None:
     """Somebody who takes the one connection of the copy, and is silent, costs some seconds and no copy."""
     script = edited(service, "backup.sh", "seq 500", "seq 50")

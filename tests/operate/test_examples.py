@@ -1,9 +1,10 @@
-"""The scripts of examples/ that copy a broker's file, give it sums or migrate it, and the service: each is run to its
-end, with what it prints and its status."""
+"""The scripts of examples/ that copy a broker's file or migrate it, and the service: each is run to its end, with what it
+prints and its status."""
 import http.client, os, re, shlex, shutil, signal, subprocess, tempfile, threading, time
 from concurrent.futures import ThreadPoolExecutor
 from collections.abc import Mapping
 import pytest
+from tests.operate.halts import signalled_as_it_ends
 from tests.process import TOP, Server, run
 from tests.players.texts import DATA
 from tests.proxy import await_that
@@ -208,6 +209,18 @@ def test_backup_that_is_ended(program: str, file: str, room: str, ending: signal
         goes_on(server, copy, ending.name)
 
 
+def test_backup_signalled_as_it_ends(program: str, file: str, room: str) -> None:
+    """Its copying fails, and a signal comes as it begins to clean up: it does so all the same, as test-copy.sh does."""
+    copy, other = f"{room}/copy.db", f"{room}/copy-none.db"
+    with Server(program, file) as server:
+        env = {**instead(room, "cp", "#!/bin/sh\nexit 1\n"), **signalled_as_it_ends(room, "backup.sh")}
+        run(["examples/backup.sh", program, file, copy, str(server.process.pid)], 1, env)
+        goes_on(server, copy, "a signal as it ends")
+    shutil.copyfile(file, other)
+    run(["examples/test-copy.sh", program, other], 1, signalled_as_it_ends(room, "test-copy.sh"))
+    same("what is left", [it for it in os.listdir(room) if it.startswith("copy-none.db.test")], [])
+
+
 def test_backup_of_another_process(program: str, file: str, room: str) -> None:
     words, copy = ["examples/backup.sh", program, file, f"{room}/copy.db"], f"{room}/copy.db"
     with Server(program, file) as server:
@@ -216,27 +229,7 @@ def test_backup_of_another_process(program: str, file: str, room: str) -> None:
         goes_on(server, copy, "another process")
 
 
-# Sums, formats, the service
-
-
-def reserved(file: str) -> int:
-    """How many bytes at the end of each page are free for a sum: eight in a file with sums."""
-    with open(file, "rb") as it:
-        return it.read(21)[20]
-
-
-def test_add_sums(program: str, file: str, room: str) -> None:
-    """A file without sums, as an earlier program made it, and its copy with sums answer the same."""
-    old, new = f"{room}/old.db", f"{room}/new.db"
-    run(["sqlite3", "-bail", old], text=run(["sqlite3", "-bail", file, ".dump"]))
-    same("reserved bytes", [reserved(file), reserved(old)], [8, 0])
-    with Server(program, old) as server:
-        before = asked(server)
-    same("what is said", run(["examples/add-sums.py", old, new]), f"{new} holds the rows of {old}, with sums\n")
-    run(["examples/add-sums.py", old, new], 1)
-    same("reserved bytes of both", [reserved(old), reserved(new)], [0, 8])
-    with Server(program, new) as server:
-        same("answers with sums", asked(server), before)
+# Formats, the service
 
 
 def test_migrate(program: str, room: str) -> None:
@@ -245,7 +238,7 @@ def test_migrate(program: str, room: str) -> None:
     ask = [program, "can-i-deploy", "--file", file, "--token", RED, "--pacticipant", "shop", "--version", "1"]
     ask += ["--to-environment", "live"]
     run(ask, 3)
-    said = f"{copy} holds format 1 with 1 contracts\n{file} is migrated\n"
+    said = f"{copy} holds format 1 with 1 contract\n{file} is migrated\n"
     same("migrate", run(["examples/migrate.sh", program, file, copy]), said)
     same("the gate", run(ask), '{"answer":"shown","environment":"live","faults":[],"gated":true,"permitted":true}\n')
     run(["examples/migrate.sh", program, file, f"{room}/again.db"], 3)

@@ -5,6 +5,7 @@ system only what the unit allows."""
 import os, re
 from collections.abc import Callable
 import pytest
+from tests.operate.pages import section
 from tests.process import TOP, Server, run
 from tests.wire import Wrong, same
 from tests.world import RED, new_file, register, verify
@@ -41,18 +42,16 @@ Machine = Callable[[str, list[str], float], tuple[int, str, str]]
 
 def lines(program: str) -> str:
     """The lines of the section Install, with the program that is tried in the place of the one in the repository."""
-    with open(f"{TOP}/docs/OPERATING.md", encoding="utf-8") as it:
-        section = re.search(r"(?ms)^## Install\n(.*?)^## ", it.read())
-    blocks = re.findall(r"(?ms)^```\n(.*?)^```$", section[1] if section else "")
+    blocks = re.findall(r"(?ms)^```\n(.*?)^```$", section("OPERATING.md", "Install"))
     same("blocks of the section", len(blocks), 2)
     return "\n".join(blocks).replace("crates/broker/out/broker", program)
 
 
-def tried(machine: Machine, program: str, text: str) -> str:
-    """What the lines of Install, and then this text, print on a machine of their own."""
+def tried(machine: Machine, program: str, text: str, *folders: str, seconds: float = 180) -> str:
+    """What the lines of Install, and then this text, print on a machine of their own, which has these folders too."""
     clean = "userdel broker 2> /dev/null || true\nrm -rf /var/lib/broker /usr/local/*/broker\n"
     whole = f"export HOME=/root\ncd {TOP}\n{clean}{lines(program)}{text}"
-    status, output, errors = machine(whole, [TOP, os.path.dirname(program)], 180)
+    status, output, errors = machine(whole, [TOP, os.path.dirname(program), *folders], seconds)
     if status:
         raise Wrong(f"the lines end with {status}: {output}{errors}")
     return output
@@ -105,11 +104,10 @@ def test_started(machine: Machine, program: str) -> None:
         same(name, found.get(name), wanted)
 
 
-def block(section: str, begin: str) -> str:
+def block(name: str, begin: str) -> str:
     """The block of lines in a section of docs/OPERATING.md that begins so."""
-    with open(f"{TOP}/docs/OPERATING.md", encoding="utf-8") as it:
-        found = re.search(rf"(?ms)^## {section}\n(.*?)^## ", it.read())
-    blocks = re.findall(r"(?ms)^```\n(.*?)^```$|(?<=\n\n)((?:    [^ \n][^\n]*\n)+)", found[1] if found else "")
+    text = section("OPERATING.md", name)
+    blocks = re.findall(r"(?ms)^```\n(.*?)^```$|(?<=\n\n)((?:    [^ \n][^\n]*\n)+)", text)
     texts = [str(one or two) for one, two in blocks]
     text, = [it for it in texts if it.strip().startswith(begin)]
     return text
@@ -138,8 +136,8 @@ say | cmp - /root/before && client/holzhebo environment later
 @pytest.mark.needs("curl", "ip", "openssl", "sqlite3", "unshare")
 def test_years(machine: Machine, program: str) -> None:
     """The lines of a quiet hour, and those that go back."""
-    ways = block("Years", "systemctl stop broker"), block("Years", "examples/restore.sh")
-    output = tried(machine, program, CARRIED % ways)
+    one, other = block("Years", "systemctl stop broker"), block("Years", "examples/restore.sh")
+    output = tried(machine, program, CARRIED % (one.replace("\nholzhebo ", "\nclient/holzhebo "), other))
     parts = re.split(r"(?m)^== (.*)\n", output)
     found = dict(zip(parts[1::2], parts[2::2]))
     # The last twenty, and the one that is deployed.

@@ -2,47 +2,52 @@
 of each fault, while builds go on; and recipes that lack something, by which changes are lost. Needs Linux and root.
 
     python3 -m tests.operate.machines_play PROGRAM --rounds 100     the long form, by hand (machines_play.py)
-    python3 -m tests.operate.machines_play PROGRAM --wrong RECIPE   a recipe that is wrong (machines_wrong.py)"""
-import os, subprocess, sys
+    python3 -m tests.operate.machines_play PROGRAM --fresh          on machines with Debian's base and nothing else"""
+import signal, subprocess, sys
 import pytest
+from tests.conftest import LONGEST
+from tests.operate.machines_apart import NOT_RUN
 from tests.operate.machines_faults import FAULTS
+from tests.operate.machines_wrong import RECIPES
 from tests.process import TOP
 from tests.wire import NotRun, Wrong, same
 
-# Not in the gate yet: on a machine with other work a play may take longer than its limits.
 pytestmark = [
     pytest.mark.by_hand,
     pytest.mark.root,
     pytest.mark.timing,
+    pytest.mark.first,
     pytest.mark.needs("curl", "findmnt", "gluster", "ip", "keepalived", "nginx", "openssl"),
     pytest.mark.needs("pgrep", "sqlite3", "systemctl"),
 ]
+# A play that hangs says where, before the test is ended: so many seconds after its begin.
+SECONDS = LONGEST - 90
 
 
-def played(program: str, *words: str) -> tuple[int, list[str]]:
-    """The status of the play, and the lines that it prints."""
-    if not os.path.exists("/dev/fuse"):
-        raise NotRun("there is no /dev/fuse here, by which a volume is mounted")
-    call = [sys.executable, "-m", "tests.operate.machines_play", program, *words]
-    done = subprocess.run(call, cwd=TOP, capture_output=True, text=True, timeout=600, check=False)
-    if done.stderr:
-        raise Wrong(done.stdout + done.stderr)
-    return done.returncode, done.stdout.splitlines()
+def played(program: str, names: list[str], *words: str) -> None:
+    """A play that has to end well, with a line for each of these."""
+    call = ["setpriv", "--pdeathsig", "TERM", sys.executable, "-m", "tests.operate.machines_play", program, *words]
+    with subprocess.Popen(call, cwd=TOP, stdout=subprocess.PIPE, stderr=subprocess.STDOUT, text=True) as it:
+        try:
+            said, _ = it.communicate()
+        except BaseException:
+            it.send_signal(signal.SIGTERM)  # so it removes what it made
+            print(it.communicate()[0])
+            raise
+    lines = said.splitlines()
+    if it.returncode == NOT_RUN:
+        raise NotRun(lines[-1].removeprefix("not run: "))
+    if it.returncode or not all(line.startswith("ok ") for line in lines):
+        raise Wrong(f"the play ends with {it.returncode}:\n{said}")
+    same("what wasn't tried", set(names) - {line[3:].split(":")[0].strip() for line in lines}, set())
 
 
-def test_faults(program: str) -> None:
-    """Nothing that was acknowledged is lost by any fault."""
-    status, lines = played(program)
-    same("the faults of the play", [it for it in lines if not it.startswith("ok ")], [])
-    same("its status", status, 0)
-    same("what was tried", sorted(it.split(":")[0][3:].strip() for it in lines[1:-1]), sorted(FAULTS))
+def test_machines(program: str) -> None:
+    """Nothing that was acknowledged is lost by any fault; and it is lost by a recipe that is wrong, which is seen."""
+    played(program, [*FAULTS, "the recipe without quorum"], "--wrong", "quorum", "--seconds", str(SECONDS))
 
 
-@pytest.mark.parametrize("recipe", ["quorum", "locks"])
-def test_wrong_recipe(program: str, recipe: str) -> None:
-    """Without this, two machines serve at one time, and the play says so."""
-    status, lines = played(program, "--wrong", recipe)
-    same("its status", status, 1)
-    lost = [it for it in lines if it.startswith("LOST ")]
-    if not any("served at one time" in it for it in lost):
-        raise Wrong(f"no two machines served at one time: {lines}")
+@pytest.mark.parametrize("name", RECIPES)
+def test_recipes(program: str, name: str) -> None:
+    """What a recipe lacks is seen by what comes of it, or can't be seen, as docs/CLUSTER.md says."""
+    played(program, [f"the recipe without {name}"], "--only", "^$", "--wrong", name)

@@ -1,13 +1,14 @@
-"""The package of packaging/deb: made, read by lintian, installed, served, upgraded, removed and purged, as root. dpkg
-and systemd work on a machine of their own: the service is started by systemd as its unit says, started again after it
-is killed and after an upgrade, backed up by the timers and restored, and it is gone once the package is removed."""
-import hashlib, os, re
+"""The package of packaging/deb: installed, served, upgraded, removed and purged, as root. dpkg and systemd work on a
+machine of their own: the service is started by systemd as its unit says, started again after it is killed and after an
+upgrade, backed up by the timers and restored, and it is gone once the package is removed."""
+import re
 from collections.abc import Callable
 import pytest
-from tests.process import ran, run
+from tests.operate.packed import packages, version_of  # the fixture
 from tests.wire import Wrong, same
 
-pytestmark = [pytest.mark.first, pytest.mark.needs("dpkg-deb", "lintian")]
+__all__ = ["packages"]
+pytestmark = [pytest.mark.first, pytest.mark.needs("dh_python3", "dpkg-deb")]
 Machine = Callable[[str, list[str], float], tuple[int, str, str]]
 # What is done there, in the folder of the packages. Each line that begins with `== ` is followed by what is compared.
 LINES = r"""
@@ -19,6 +20,7 @@ groupdel broker 2> /dev/null || true
 rm -f /usr/sbin/policy-rc.d
 token=office-token-0001
 tools=/usr/share/holzhebo
+modules=/usr/lib/python3/dist-packages/holzhebo
 
 state() { systemctl is-enabled broker || true; systemctl is-active broker || true; }
 number() { systemctl show -P MainPID broker; }
@@ -47,6 +49,11 @@ holzhebo --help | head -c 40 > /dev/null
 dpkg -L holzhebo | grep -E '/(man1|completions|vendor-completions)/' | sort
 grep -rl /usr/local/ $tools /lib/systemd/system/broker.service || true
 cmp $tools/desk/desk.json $tools/desk.json
+echo "== compiled"
+find $modules -name '*.py' | sort > written
+find $modules -name '*.pyc' | sed -E 's,__pycache__/,,; s,[.]cpython-3[0-9]+[.]pyc$,.py,' | sort -u | diff written -
+grep -c /cli/main.py written
+find $tools -name __pycache__
 
 printf %s $token > token
 runuser -u broker -- sh -c 'umask 077; broker init --file /var/lib/broker/broker.db --office-token "$(cat)"' < token
@@ -71,7 +78,7 @@ listing | cmp - before
 install -m 644 $tools/examples/broker-*.service $tools/examples/broker-*.timer /etc/systemd/system/
 install -d -m 700 /backup /backup/nightly
 systemctl daemon-reload
-timers="broker-backup.timer broker-nightly.timer broker-restart.timer"
+timers="broker-backup.timer broker-nightly.timer broker-restart.timer broker-who.timer"
 echo "== at the same moment"
 # Both copies, and the restart of the night, by systemd at once: each waits for the others.
 for _ in 1 2 3; do
@@ -90,8 +97,18 @@ systemctl disable --now $timers 2> /dev/null
 for unit in broker-backup broker-nightly broker-nightly; do
   systemctl start $unit.service || journalctl --no-pager -u $unit
 done
+rm -rf /var/log/nginx
+mkdir /var/log/nginx
+cat > /var/log/nginx/broker.log << 'END'
+{"time":"2026-11-27T02:00:00+00:00","team":"red","method":"POST","path":"/environments/live/deployments",\
+"body":"{\"pacticipant\":\"shop\",\"version\":\"1\"}","status":200,"seconds":0.004}
+END
+sed -i -z 's/\\\n//' /var/log/nginx/broker.log
+echo '{"environments":["live"]}' > /etc/holzhebo/desk.json
+systemctl start broker-who || journalctl --no-pager -u broker-who
+cat $tools/desk/who-live.json
 find /backup -type f -printf '%P %m\n' | sed 's/-[0-9TZ:-]*/-TIME/' | sort
-grep -o '<h2>[A-Za-z ]*[a-z]' /backup/report.html | tail -n 2
+grep -o '<h2[^>]*>[A-Za-z ]*[a-z]' /backup/report.html | sed 's/.*>//' | tail -n 2
 holzhebo environment lost --broker http://127.0.0.1:9292 --token-file token
 $tools/examples/restore.sh /usr/bin/broker /backup/broker-*.db /var/lib/broker/broker.db broker > said 2>&1 ||
   { cat said; exit 1; }
@@ -115,7 +132,7 @@ journalctl --no-pager | grep -c 'Started broker.service'
 journalctl --no-pager | grep -c 'token-0' || true
 systemctl is-active broker || true
 pgrep -u broker || true
-ls /usr/bin/broker /usr/bin/holzhebo /lib/systemd/system/broker.service 2>&1 | grep -c 'No such file'
+ls /usr/bin/broker /usr/bin/holzhebo /lib/systemd/system/broker.service $modules 2>&1 | grep -c 'No such file'
 ls /var/lib/broker /etc/holzhebo /etc/logrotate.d/holzhebo
 
 dpkg --no-triggers -P holzhebo < /dev/null > said 2>&1 || { cat said; exit 1; }
@@ -147,6 +164,7 @@ broker @VERSION@
 /usr/share/zsh/vendor-completions/_broker
 /usr/share/zsh/vendor-completions/_holzhebo
 """,
+    "compiled": "1\n",
     "served": """enabled
 active
 Umask: 0077
@@ -166,12 +184,14 @@ inactive
     "backed up and restored": """active
 active
 active
+active
+[{"change":"deployments","instance":"","pacticipant":"shop","team":"red","time":"2026-11-27T02:00:00+00:00","version":"1"}]
 broker-TIME.db 600
 nightly/broker-TIME.db 600
 nightly/broker-TIME.db 600
 report.html 600
-<h2>Since the copy of
-<h2>Rows and bytes
+Since the copy of
+Rows and bytes
 new  environment lost
 new  environment lost
 """,
@@ -182,7 +202,7 @@ active
     "removed": """7
 0
 inactive
-3
+4
 /etc/logrotate.d/holzhebo
 
 /etc/holzhebo:
@@ -199,53 +219,6 @@ broker.db-wal
 """,
     "purged without a file": "1\n",
 }
-
-
-@pytest.fixture
-def packages(program: str, room: str) -> str:
-    """The folder with the package, new.deb, which is the same file if it is made again, and has the program byte for
-    byte; and an earlier one with the same files, old.deb."""
-    digests = []
-    for folder in "one", "two":
-        os.mkdir(f"{room}/{folder}")
-        run(["packaging/deb", program, f"{room}/{folder}"], env={"SOURCE_DATE_EPOCH": "1700000000"})
-        name, = os.listdir(f"{room}/{folder}")
-        with open(f"{room}/{folder}/{name}", "rb") as it:
-            digests.append(hashlib.sha256(it.read()).hexdigest())
-    same("the package that is made again", digests[1], digests[0])
-    same("its name", name, f"holzhebo_{version_of(program)}_amd64.deb")
-    os.rename(f"{room}/one/{name}", f"{room}/new.deb")
-    run(["dpkg-deb", "-R", f"{room}/new.deb", f"{room}/tree"])
-    with open(f"{room}/tree/usr/bin/broker", "rb") as packed, open(program, "rb") as own:
-        same("whether the program is in it byte for byte", packed.read() == own.read(), True)
-    age(room)
-    return room
-
-
-def version_of(program: str) -> str:
-    return run([program, "--version"]).split()[1]
-
-
-def age(room: str) -> None:
-    """A package of an earlier version, with the same files."""
-    with open(f"{room}/tree/DEBIAN/control", encoding="utf-8") as it:
-        text = it.read()
-    with open(f"{room}/tree/DEBIAN/control", "w", encoding="utf-8") as it:
-        it.write(re.sub(r"(?m)^Version: .*", "Version: 0.0.1", text))
-    run(["dpkg-deb", "--root-owner-group", "--build", f"{room}/tree", f"{room}/old.deb"])
-
-
-def test_lintian(packages: str) -> None:
-    said = ran(["lintian", "--allow-root", f"{packages}/new.deb"])
-    faults = [it for it in said.output.split("\n") if it.startswith(("E:", "W:"))]
-    same("what lintian says", (said.status, faults), (0, []))
-
-
-def test_carry_is_in_it(packages: str) -> None:
-    """The command that makes a smaller file runs from where the package has it."""
-    modules = {**os.environ, "PYTHONPATH": f"{packages}/tree/usr/lib/python3/dist-packages"}
-    said = ran(["python3", "-B", f"{packages}/tree/usr/share/holzhebo/tools/carry", "--help"], env=modules)
-    same("its help", (said.status, "--keep N" in said.output), (0, True))
 
 
 @pytest.mark.root

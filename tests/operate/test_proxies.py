@@ -2,11 +2,13 @@
 by the broker itself, names keep their escapes, a body of the limit passes and a larger one doesn't, slow clients hold
 up nobody, and a broker that isn't there is 502 until it is there again. What one address can do to the others is
 little, and what is in the log. No line of a log has a token (conftest.py)."""
-import contextlib, http.client, socket, sqlite3, threading, time
+import contextlib, http.client, re, socket, sqlite3, threading, time
 import pytest
+from tests import proxy
+from tests.desk.world import by_nginx
 from tests.operate.carry_state import seal
 from tests.operate.front import DENIED, Front, Nginx, among, answered, asked, shown, who
-from tests.process import Server
+from tests.process import TOP, Server, free_port
 from tests.proxy import await_that
 from tests.wire import Wrong, same
 from tests.world import DONE, RED, pact
@@ -67,6 +69,44 @@ def test_long_change(front: Front) -> None:
     same("a long deployment", answer.status, 200 if isinstance(front, Nginx) else 413)
     await_that(lambda: len(front.log("log").splitlines()) > 0, "the log has it")
     same("who", who(front, "live"), ["red deployments shop 1"] if isinstance(front, Nginx) else [])
+
+
+def test_change_in_chunks(front: Front, fleet: Server) -> None:
+    """A change of which the log wouldn't have the body, as it is cut into bytes, is refused, and isn't made."""
+    before = shown(fleet.ask("GET", LIVE, RED))
+    deployment = b'{"pacticipant":"shop","version":"1"}' + b" " * 200_000
+    head = front.message(f"authorization: Bearer {RED}".encode(), f"POST {LIVE}/deployments?x")
+    head = head.replace(b"content-length: 0", b"transfer-encoding: chunked")
+    message = head + b"".join(b"1\r\n%c\r\n" % it for it in deployment) + b"0\r\n\r\n"
+    among("a change in chunks", front.exchange(message), [411] if isinstance(front, Nginx) else front.in_chunks)
+    same("what is there", shown(fleet.ask("GET", LIVE, RED)), before)
+    same("who", who(front, "live"), [])
+
+
+def page_of(front: Front) -> str:
+    """What docs/OPERATING.md has as the proxy's file broker-desk."""
+    if isinstance(front, Nginx):
+        return front.changed("broker-desk", {"/usr/local/share/broker/desk/": f"{TOP}/desk/"})
+    lines = re.search(r"(?ms)^    redir .*?^    }\n", front.changed("desk.Caddyfile", {"{$FOLDER:desk}": f"{TOP}/desk"}))
+    assert lines
+    return lines[0]
+
+
+def test_page(front: Front) -> None:
+    """With one file more it serves the page beside the broker, and has nothing to say against that file."""
+    front.written("broker-desk", page_of(front))
+    front.reload()
+    same("the page", front.ask("GET", "/desk/", None).status, 200)
+    same("its place", front.ask("GET", "/desk", None).status // 100, 3)
+    same("the broker", front.ask("GET", LIVE, RED).status, 200)
+    same("nginx's warnings", [it for it in front.log("errors").splitlines() if "[warn]" in it or "duplicate" in it], [])
+
+
+def test_page_by_itself(nginx: proxy.Nginx) -> None:
+    """nginx has nothing to say against the recipe of the page."""
+    by_nginx(nginx, free_port(), f"{TOP}/desk")
+    nginx.reload()
+    same("nginx's warnings", [it for it in nginx.log("errors").splitlines() if "[warn]" in it], [])
 
 
 @pytest.mark.timing
@@ -172,11 +212,13 @@ def test_slow_bodies(front: Front) -> None:
 
 
 def test_log_is_small(front: Front) -> None:
-    """What callers without a token send as bodies isn't in the log."""
+    """What callers without a token send as bodies isn't in the log, nor a path that no broker takes."""
     for _ in range(5):
+        with contextlib.suppress(OSError, http.client.HTTPException):
+            among("a long path", front.exchange(front.message(b"accept: */*", f"GET /{'x' * 200_000}")), [400, 414, 431])
         among("a long body", shown(front.ask("POST", "/environments/x", None, "\x01" * 9_000)), [401, 405])
         among("a longer one", shown(front.ask("POST", "/environments/x/deployments", None, "\x01" * 9_000)), [401])
-    await_that(lambda: len(front.log("log").splitlines()) >= 10, "the log has each")
+    await_that(lambda: len(re.findall('"POST"', front.log("log"))) >= 10, "the log has each")
     size = len(front.log("log"))
     assert size < 20_000, size
 

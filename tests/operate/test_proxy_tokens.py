@@ -3,12 +3,12 @@ it in, the new one is answered, and so is each token that is like the leaked one
 and for the office's. Who changed what is said by the log and `holzhebo who`."""
 import json, os, re, time
 import pytest
-from tests.operate.front import ALIKE, CLIENT, DENIED, FOLDED, LATEST, LEAKED, NEW, READER, UNREAD
-from tests.operate.front import Front, Shown, asked, shown, who
+from tests.operate.front import ALIKE, CLIENT, DENIED, FOLDED, LATEST, LEAKED, NAME, NEW, READER, UNREAD
+from tests.operate.front import Front, Shown, among, asked, shown, who
 from tests.process import TOP, Server, run
 from tests.proxy import await_that
 from tests.wire import OFFICE, same
-from tests.world import BLUE, RED
+from tests.world import BLUE, RED, pact
 
 pytestmark = pytest.mark.needs("openssl")
 LIVE = "/environments/live"
@@ -73,7 +73,7 @@ def with_reader(front: Front) -> None:
     with open(f"{TOP}/docs/DESK.md", encoding="utf-8") as it:
         lines = re.findall(r'(?m)^ +("~\^GET .*")(;?)$', it.read())
     line, = (line + end for line, end in lines if end == front.end)
-    front.written("readers", line.replace("desk-token-000001", READER).replace("office-token-0001", OFFICE) + "\n")
+    front.written("broker-readers", line.replace("desk-token-000001", READER).replace("office-token-0001", OFFICE) + "\n")
     front.reload()
 
 
@@ -116,6 +116,96 @@ def test_office_leaks(front: Front, fleet: Server) -> None:
     same("a change by it", shown(front.ask("PUT", "/teams/more", READER, '{"token":"another-token-001"}')), DENIED)
 
 
+def test_where_tokens_are(front: Front) -> None:
+    """In the files that docs/OPERATING.md names, and in no other of the proxy's own: Caddy keeps a third one."""
+    with_reader(front)
+    front.answers("once it is read", READER, shown(front.ask("GET", LIVE, OFFICE)))
+    names = run(["grep", "-rlF", "-D", "skip", "-e", RED, "-e", OFFICE, "-e", READER, front.room]).split()
+    third = {f"{front.room}/.config/caddy/autosave.json"} if not front.end else set()
+    same("files", set(names), {f"{front.room}/{it}" for it in ("teams", "broker-readers")} | third)
+    same("who may read it", {os.stat(it).st_mode & 0o077 for it in third}, {0} if third else set())
+
+
+# A token for builds
+
+OF_RED, OF_BLUE = "builds.of+red/=001", "builds-of-blue-0001"
+PACTS = "/pacts/provider/stock/consumer/shop/version"
+# What a build does: who asks, and what.
+BUILDING = [
+    (OF_RED, "PUT /pacticipants/shop/versions/b1", '{"branch":"main"}'),
+    (OF_RED, f"PUT {PACTS}/b2", pact("a spoon")),
+    (OF_BLUE, f"POST {PACTS}/b2/results", '{"providerApplicationVersion":"b3","success":true}'),
+    (OF_BLUE, f"POST {PACTS}/b2/replies", '{"providerApplicationVersion":"b4","replies":[]}'),
+]
+READING = [LIVE, "/matrix?pacticipant=shop&version=1", f"{PACTS}/1"]
+READING += ["/can-i-deploy?pacticipant=shop&version=1&environment=live"]
+CHANGES_OF = [f"POST /environments/open/{it}" for it in ("deployments", "undeployments", "releases", "support-ended")]
+OTHER_CHANGES = ["PUT /teams/green", "PUT /environments/green", "DELETE /grants/team/red/environment/live"]
+# Paths that somebody between might take for one of those above, or for one that a build may ask.
+ODD_PATHS = [
+    "//environments/open/deployments",
+    "/./environments/open/deployments",
+    "/pacts/../environments/open/deployments",
+    "/pacts/%2e%2e/environments/open/deployments",
+    "/pacts/..%2fenvironments/open/deployments",
+    "/pacts/?/../environments/open/deployments",
+    "/pacts//environments/open/deployments",
+    "/%65nvironments/open/deployments",
+    "/ENVIRONMENTS/open/deployments",
+    f"http://{NAME}/environments/open/deployments",
+    f"http://{NAME}/pacts/../environments/open/deployments",
+    "http:///pacts/environments/open/deployments",
+]
+
+
+def with_builds(front: Front) -> None:
+    """The tokens for builds, by the line of docs/BUILDS.md."""
+    line, = front.document("BUILDS.md", "A token for builds", "~")
+    places = (OF_RED, RED), (OF_BLUE, BLUE)
+    made = [line.replace("builds-token-0001", it).replace("shop-team-token-1", team) for it, team in places]
+    front.written("broker-builds", "".join(f"{it}\n" for it in made))
+    front.reload()
+
+
+def test_builds(front: Front, fleet: Server) -> None:
+    """By a token for builds a branch's build reads, publishes and verifies as its team, and changes no environment."""
+    ask = READING[-1]
+    same("before", shown(front.ask("GET", ask, OF_RED)), DENIED)
+    with_builds(front)
+    for path in READING:
+        same(path, shown(front.ask("GET", path, OF_RED)), shown(fleet.ask("GET", path, RED)))
+    for token, ask, body in BUILDING:
+        same(f"{ask} by {token}", asked(front, ask, token, body).status, 200)
+    before = shown(fleet.ask("GET", "/environments/open", OFFICE))
+    shop = '{"pacticipant":"shop","version":"b2"}'
+    for ask in [*CHANGES_OF, *OTHER_CHANGES]:
+        same(f"{ask} by it", shown(asked(front, ask, OF_RED, shop)), DENIED)
+    for path in ODD_PATHS:
+        among(f"POST {path} by it", shown(front.ask("POST", path, OF_RED, shop)), [400, 401, 404, 405])
+        among(f"PUT {path} by it", shown(front.ask("PUT", path, OF_RED, shop)), [400, 401, 404, 405])
+    same("what is there", shown(fleet.ask("GET", "/environments/open", OFFICE)), before)
+    for token in OF_RED + "0", "x" + OF_RED, OF_RED.upper(), OF_RED.replace(".", "x"), f"BUILD {OF_RED}":
+        same(f"a GET by {token}", shown(front.ask("GET", LIVE, token)), DENIED)
+    front.refuses(OF_RED, UNREAD)
+    same("the release's", asked(front, CHANGES_OF[0], RED, shop).status, 200)
+    same("who published", who(front, "--since", "2026-01-01")[0][:9], "red PUT /")
+
+
+def test_builds_and_leaks(front: Front, fleet: Server) -> None:
+    """One for builds that leaks is replaced by one that does no more; and it goes on if the team's is replaced."""
+    with_builds(front)
+    newest = replaced(front, OF_RED)
+    same("the leaked one", shown(front.ask("GET", LIVE, OF_RED)), DENIED)
+    same("the new one", front.ask("PUT", f"{PACTS}/b2", newest, pact("a spoon")).status, 200)
+    deploy = CHANGES_OF[0], newest, '{"pacticipant":"shop","version":"b2"}'
+    same("a change by it", shown(asked(front, *deploy)), DENIED)
+    of_team = replaced(front, RED)
+    same("the team's old one", shown(front.ask("GET", LIVE, RED)), DENIED)
+    same("the one for builds", front.ask("PUT", f"{PACTS}/b5", newest, pact("a fork")).status, 200)
+    same("a change by it then", shown(asked(front, *deploy)), DENIED)
+    same("the team's new one", asked(front, CHANGES_OF[0], of_team, deploy[2]).status, 200)
+
+
 # Who changed what
 
 # What each caller sends for the log, with the status of the answer.
@@ -130,8 +220,11 @@ CHANGES = [
     (OFFICE, "PUT /pacticipants/cart", '{"team":"team-0"}', 200),
     (NEW, "PUT /pacticipants/cart/versions/1", "", 200),
     (RED, "POST /environments/a%2Fb/undeployments", '{"pacticipant":"shop","version":"2"}', 200),
+    (RED, "POST /environments/a%2Fb/deployments?x=/y", '{"pacticipant":"shop","version":"3"}', 200),
+    (RED, "POST http://AT/environments/a%2Fb/deployments", '{"pacticipant":"shop","version":"1"}', 200),
 ]
 IN_ENVIRONMENT = ["red deployments shop 1 \\u{202e}", "red deployments shop 2", "red undeployments shop 2"]
+IN_ENVIRONMENT += ["red deployments shop 3", "red deployments shop 1"]
 SINCE = [
     "office PUT /teams/last",
     'office PUT /environments/a%2Fb {"gated":false}',
@@ -141,17 +234,20 @@ SINCE = [
     "office PUT /pacticipants/cart",
     "leaky PUT /pacticipants/cart/versions/1",
     'red POST /environments/a%2Fb/undeployments {"pacticipant":"shop","version":"2"}',
+    'red POST /environments/a%2Fb/deployments?x=/y {"pacticipant":"shop","version":"3"}',
+    'red POST /environments/a%2Fb/deployments {"pacticipant":"shop","version":"1"}',
 ]
 
 
 def test_who(front: Front) -> None:
-    """Who changed what, by the log: the new token is that of the leaked one's team."""
+    """Who changed what, by the log: the new token is that of the leaked one's team. No spelling of a target hides it."""
     alike(front)
     front.leak(lines_for(front))
     front.reload()
     time.sleep(1)
     since = time.strftime("%Y-%m-%dT%H:%M:%S")
     for token, ask, body, status in CHANGES:
+        ask = ask.replace("AT", f"{NAME}:{front.proxy.port}")
         same(ask, asked(front, ask, token, body).status, status)
     await_that(lambda: len(who(front, "--since", since)) >= len(SINCE), "the log has each request")
     same("holzhebo who --since", who(front, "--since", since), SINCE)
@@ -161,3 +257,16 @@ def test_who(front: Front) -> None:
     same("holzhebo metrics", counted["buckets"]['le="+Inf"'], len(requests))
     refused = sum('"status":403' in it for it in requests)
     same("those that were denied", counted["requests"]['method="POST",status="403"'], refused)
+
+
+def test_capital_letters(front: Front, fleet: Server) -> None:
+    """A host in capital letters hides no change: it is in the log, or it isn't made."""
+    body = b'{"pacticipant":"shop","version":"1"}'
+    message = front.message(f"authorization: Bearer {RED}".encode(), "POST /environments/live/deployments", body)
+    before = shown(fleet.ask("GET", LIVE, RED))
+    status, _ = front.exchange(message.replace(NAME.encode(), b"Broker.EXAMPLE.org"))
+    is_made = shown(fleet.ask("GET", LIVE, RED)) != before
+    same("whether it is made", (status, is_made), (200, True) if front.end else (421, False))
+    if is_made:
+        await_that(lambda: front.log("log").count("\n") > 0, "the log has it")
+        same("who", who(front, "live"), ["red deployments shop 1"])

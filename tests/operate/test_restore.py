@@ -3,9 +3,9 @@ one after another, with a clock that doesn't move; killed at each call, or with 
 service's own user, which puts links into the folder."""
 import os, re, shutil, subprocess, sys, time
 import pytest
-from tests.operate.halts import halted, halting
+from tests.operate.halts import halted, halting, signalled_as_it_ends
 from tests.operate.service import NOBODY, Service, content, only
-from tests.process import ran, run
+from tests.process import await_port, ran, run
 from tests.wire import same
 from tests.world import RED
 
@@ -182,6 +182,18 @@ def test_in_the_middle(service: Service) -> None:
         time.sleep(0.05)
     same("the answers", service.answers(), last)
     same("what is kept", service.kept(), [])
+    only(service.folder, ["broker.db", "broker.db-wal"])
+
+
+def test_signalled_as_it_ends(service: Service) -> None:
+    """A step fails while the service is stopped, and a signal comes as it begins to clean up: it does so all the same."""
+    copy = service.backup("0.db")
+    service.do("POST", "/environments/live/deployments", RED, '{"pacticipant":"shop","version":"1"}')
+    last = service.answers()
+    service.tool("mkdir", '#!/bin/sh\n[ "$1" != old ] || exit 1\nexec /usr/bin/mkdir "$@"\n')
+    run(service.restore_words(copy), 1, {**service.env, **signalled_as_it_ends(service.room, "restore.sh")})
+    await_port(service.port)
+    same("the answers", service.answers(), last)
     only(service.folder, ["broker.db", "broker.db-wal"])
 
 

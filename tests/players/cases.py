@@ -65,6 +65,8 @@ class Sheet:
         if mark == "_":
             return " " * (int(text) - len(self.fields[self.last].encode()))
         count, _, copy = text.partition(" ")
+        if "#" not in copy:
+            return copy * int(count)
         return "".join(copy.replace("#", str(number)) for number in range(1, int(count) + 1))
 
     def end(self, line: int, mark: str, text: str) -> None:

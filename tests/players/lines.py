@@ -15,14 +15,19 @@ that an earlier one made. Its lines are:
     % DATABASE STATEMENTS   they are run over the database, which is made if it isn't there
     %< DATABASE FILE        the same, with the statements that the file holds
 
+Requests that are served or replayed, and their answers, have to be as docs/openapi.json says; nothing else is said of
+these answers here.
+
 Standard input that fails is a socket whose peer resets it after the bytes are read. Standard output that takes so many
 bytes is a file that is so many bytes short of the longest that a file may be, and /dev/full if it takes none."""
 import os, resource, shutil, socket, struct, tempfile, termios
 from pathlib import Path
 from typing import NamedTuple
+from tests.players.exchanges import exchanges_in, parted
 from tests.players.files import statements
+from tests.players.interface import try_exchange
 from tests.players.streams import look_until, number_of, receive, send_by_socket
-from tests.process import Server, Started, free_address, kept_bytes
+from tests.process import MEMORY, Server, Started, free_address, kept_bytes
 from tests.wire import Wrong, difference
 
 # How long a file may be where standard output takes only so many bytes; the broker's own are far shorter.
@@ -111,12 +116,22 @@ def output_of(line: CommandLine) -> tuple[int, int]:
     return output, MOST - line.room
 
 
+def as_described(sent: bytes, answered: bytes) -> int:
+    """Fails unless the requests and their answers are as docs/openapi.json says; how many are answered, at least one."""
+    found = exchanges_in(sent, answered)
+    for it in found:
+        try_exchange(it)
+    if not found:
+        raise Wrong("no request is answered")
+    return len(found)
+
+
 class Folder:
     """Where the command lines of a file are run, and how far they are."""
 
     def __init__(self, program: str, file: Path) -> None:
         self.program, self.file, self.steps, self.done = program, file, steps_of(file), 0
-        self.kept = tempfile.TemporaryDirectory(prefix="lines-")
+        self.kept = tempfile.TemporaryDirectory(prefix="lines-", dir=MEMORY)
         self.room = shutil.copytree(file.parent, self.kept.name, dirs_exist_ok=True)
 
     def read(self, name: str) -> bytes:
@@ -160,6 +175,8 @@ class Folder:
                 raise Wrong(f"on {name}:\n{difference(wanted, got[stream])}")
         if str(status) != line.status:
             raise Wrong(f"status: wanted {line.status}, got {status}")
+        if line.words[:1] == ["replay"] and line.input and status == 0:
+            as_described(self.read(line.input), got["output"])
 
     def ended(self, line: CommandLine, process: Started) -> int:
         """The status that the command line ends with."""
@@ -180,15 +197,16 @@ class Folder:
             return process.finish()
 
     def serve_requests(self, database: str, text: bytes) -> None:
-        """Serves the requests over the broker in the database. Their answers aren't compared."""
+        """Serves the requests over the broker in the database, which answers each of them."""
         server = Server(self.program, database, 1, free_address(), cwd=self.room)
         server.begin()
         try:
             with server.connect() as connection:
                 send_by_socket(connection, [text], server)
                 connection.shutdown(socket.SHUT_WR)
-                if not receive(connection):
-                    raise Wrong("nothing is answered")
+                count = as_described(text, receive(connection))
+                if count != len([*parted(text)]):
+                    raise Wrong(f"{count} requests are answered")
             if status := server.finish():
                 raise Wrong(f"serve ends with {status}: {server.log()}")
         finally:

@@ -1,7 +1,7 @@
 """How a story is played: over a new file by `init` and `serve`, with a connection for each stream, and opened again by
 another `serve` after statements; and, if all of its streams but the last are whole and it has no statements, as one
 stream to `replay`. Each is played whole; to `replay` byte by byte too, if it is short; and cut in two, at as many
-places as LIMITS allow. What comes first, by `& NAME`, is cut nowhere."""
+places as LIMITS allow, each on one of the builds in turn. What comes first, by `& NAME`, is cut nowhere."""
 import os, shutil, socket, tempfile
 from collections.abc import Iterator, Sequence
 from typing import NamedTuple
@@ -34,15 +34,15 @@ class Plays(NamedTuple):
         return f"{self.way} {cut if isinstance(cut, str) else f'cut after {cut} bytes'}"
 
 
-def plays_of(story: Story) -> Iterator[Plays]:
-    """What is played: whole, byte by byte, and the places where it is cut, some at a time."""
+def plays_of(story: Story, turn: int, builds: int) -> Iterator[Plays]:
+    """What is played on one of so many builds: whole, byte by byte, and the places of its turn, some at a time."""
     for way in ["serve", "replay"] if story.is_one_stream() else ["serve"]:
         length, (answers, size) = story.longest(), LIMITS[way]
         step = max(length * story.count() // answers, length * length // size) + 1
         yield Plays(way, ["whole"])
         if way == "replay" and length <= SHORT:
             yield Plays(way, ["bytes"])
-        cuts = range(step, length, step)
+        cuts = range(step, length, step)[turn::builds]
         yield from (Plays(way, cuts[begin : begin + BATCH]) for begin in range(0, len(cuts), BATCH))
 
 

@@ -2,11 +2,13 @@
 it is read, which the kernel tells."""
 import array, fcntl, os, select, socket, termios, time
 from collections.abc import Callable, Sequence
-from tests.process import Started, in_table
+from tests.kernel import is_read
+from tests.process import Started
 from tests.wire import PATIENCE, Wrong
 
-# What is waited before a look is repeated: it says nothing of the order of things, which the look decides.
-PAUSE = 0.0003
+# What is waited before a look is repeated, at first and at most, since what is soon there is asked for often: it says
+# nothing of the order of things, which the look decides.
+FIRST, LAST = 0.00002, 0.001
 
 
 def shown(text: bytes, most: int = 500) -> str:
@@ -27,10 +29,12 @@ def look_until(holds: Callable[[], bool], process: Started, what: str) -> None:
     end = time.monotonic() + PATIENCE
     ended = select.poll()
     ended.register(process.watch, select.POLLIN)
+    pause = FIRST
     while not holds() and not ended.poll(0):
         if time.monotonic() > end:
             raise Wrong(f"{what}: not within {PATIENCE} seconds")
-        time.sleep(PAUSE)
+        time.sleep(pause)
+        pause = min(2 * pause, LAST)
 
 
 # Pipes
@@ -56,25 +60,14 @@ def send_by_pipe(file: int, pieces: Sequence[bytes], process: Started) -> None:
 # Sockets
 
 
-def has_unread(row: bytes) -> bool:
-    """Whether the socket of this row of /proc/net/tcp has bytes that its process hasn't read."""
-    with open("/proc/net/tcp", "rb") as it:
-        table = it.read()
-    place = table.find(row)
-    if place < 0:
-        return False
-    queues = table[place + len(row) :].split(None, 2)[1]
-    return int(queues.split(b":")[1], 16) > 0
-
-
 def send_by_socket(connection: socket.socket, pieces: Sequence[bytes], process: Started) -> None:
     """Sends the pieces, each once the peer has read the one before it. One that closes the connection reads no more."""
-    row = f": {in_table(connection.getpeername())} {in_table(connection.getsockname())}".encode()
+    own, peer = connection.getsockname(), connection.getpeername()
     closed = select.poll()
     closed.register(connection, select.POLLERR | select.POLLHUP)
 
     def is_taken() -> bool:
-        return bool(closed.poll(0)) or number_of(connection, termios.TIOCOUTQ) == 0 and not has_unread(row)
+        return bool(closed.poll(0)) or number_of(connection, termios.TIOCOUTQ) == 0 and is_read(peer, own)
 
     try:
         for number, piece in enumerate(pieces):

@@ -125,6 +125,10 @@ def are_told_at_the_end(stops: Stops, kept: bytes) -> None:
 # The sessions
 
 
+# Whether the log and the database are left as they were last synced: all ways.
+SYNCED = [*itertools.product((False, True), repeat=2)]
+
+
 class Run(NamedTuple):
     """What came of sessions: what each put out, what the questions are answered after them, and whether no call was
     refused."""
@@ -150,7 +154,9 @@ class Sessions:
     """Sessions in a row, and the runs that they may have been, the last of them whole."""
 
     def __init__(self, program: str, stops: Stops) -> None:
-        self.program, self.stops, self.base = program, stops, made(program, stops)
+        self.stops, self.base = stops, made(program, stops)
+        # What begins alike is done once: most runs of sessions differ only at their ends.
+        self.act = functools.lru_cache(maxsize=32)(functools.partial(acted, program, stops.office))
         every = stops.runs()
         self.streams, self.runs = every[-1], [self.run(streams) for streams in every]
         for steps, out in zip(stops.sessions(), self.runs[-1].outs):
@@ -163,23 +169,26 @@ class Sessions:
         as they were last synced or as they were written."""
         files, outs, is_whole = self.base, list[bytes](), True
         for stream in streams:
-            done = acted(self.program, self.stops.office, files, stream, stop)
+            done = self.act(files, stream, stop)
             files = Files(*(synced if it else last for it, synced, last in zip(are_synced, done.synced, done.written)))
             outs.append(done.out)
             is_whole &= done.is_whole
-        return Run(outs, acted(self.program, self.stops.office, files, self.stops.questions).out, is_whole)
+        return Run(outs, self.act(files, self.stops.questions).out, is_whole)
 
-    def stop(self, side: str, are_synced: tuple[bool, ...]) -> int:
-        """Stops each of the sessions at every call of a file, until no call is refused: how many stops there were."""
-        cuts = 0
+    def stop(self, side: str) -> int:
+        """Stops each of the sessions at every call of a file, with each way of what is left, until no call is refused:
+        how many stops there were."""
+        cuts = dict.fromkeys(SYNCED, 0)
         for passes in range(MOST_CALLS):
-            stopped = self.run(self.streams, Stop(side, passes), are_synced)
-            if not any(may_be(stopped, run) for run in self.runs):
-                said = difference(self.runs[-1].kept, stopped.kept)
-                raise Wrong(f"sessions, stopped after {passes} calls of the {side}: something is taken:\n{said}")
-            cuts += stopped.outs != self.runs[-1].outs
-            if stopped.is_whole:
-                return ended_at(passes, cuts, stopped.outs == self.runs[-1].outs)
+            stopped = {it: self.run(self.streams, Stop(side, passes), it) for it in SYNCED}
+            for are_synced, run in stopped.items():
+                if not any(may_be(run, it) for it in self.runs):
+                    said = f"{passes} calls of the {side}, {are_synced}: something is taken"
+                    raise Wrong(f"sessions, stopped after {said}:\n{difference(self.runs[-1].kept, run.kept)}")
+                cuts[are_synced] += run.outs != self.runs[-1].outs
+            if all(it.is_whole for it in stopped.values()):
+                are_well = all(it.outs == self.runs[-1].outs for it in stopped.values())
+                return ended_at(passes, min(cuts.values()), are_well)
         raise Wrong(f"sessions: the calls of the {side} don't end")
 
 
@@ -200,8 +209,8 @@ def stop_step(stops: Stops, place: int, side: str, program: str) -> int:
     return trials_of(program, stops)[place].stop(side)
 
 
-def stop_sessions(stops: Stops, side: str, are_synced: tuple[bool, ...], program: str) -> int:
-    return sessions_of(program, stops).stop(side, are_synced)
+def stop_sessions(stops: Stops, side: str, program: str) -> int:
+    return sessions_of(program, stops).stop(side)
 
 
 def plays_of(stops: Stops) -> dict[str, Callable[[str], object]]:
@@ -210,8 +219,6 @@ def plays_of(stops: Stops) -> dict[str, Callable[[str], object]]:
     for side in SIDES:
         for place in range(0 if stops.in_sessions else len(stops.steps)):
             found[f"step {place + 1}, {side}"] = functools.partial(stop_step, stops, place, side)
-        for are_synced in itertools.product((False, True), repeat=2 if stops.in_sessions else 0):
-            left = ", ".join(f"{it} {'synced' if kept else 'written'}" for it, kept in zip(SIDES, are_synced))
-            if stops.in_sessions:
-                found[f"sessions, {side}; {left}"] = functools.partial(stop_sessions, stops, side, are_synced)
+        if stops.in_sessions:
+            found[f"sessions, {side}"] = functools.partial(stop_sessions, stops, side)
     return found

@@ -1,4 +1,3 @@
-CREATE TABLE notes (line TEXT, at REAL);
 CREATE TABLE released (environment TEXT REFERENCES environments (name), version_number INTEGER REFERENCES versions (number), PRIMARY KEY (environment, version_number));
 CREATE TABLE deployed (environment TEXT REFERENCES environments (name), pacticipant TEXT REFERENCES pacticipants (name), instance TEXT, version_number INTEGER REFERENCES versions (number), PRIMARY KEY (environment, pacticipant, instance));
 CREATE TABLE latest (content INTEGER REFERENCES contents (number), provider_version INTEGER REFERENCES versions (number), result INTEGER REFERENCES results (number), PRIMARY KEY (content, provider_version));
