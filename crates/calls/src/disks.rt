@@ -71,7 +71,7 @@ impl Kept {
     }
 
     /// What is left.
-    pub(crate) fn left(&self, alloc: Global, is_lost: bool) -> Result<Vec<u8>, Fail> {
+    fn left(&self, alloc: Global, is_lost: bool) -> Result<Vec<u8>, Fail> {
         copy(alloc, if is_lost { &self.synced } else { &self.written })
     }
 }
@@ -99,10 +99,15 @@ pub(crate) struct Left {
 }
 
 impl Left {
-    /// What was written.
-    pub(crate) fn written(&self, alloc: Global) -> Result<Held, Fail> {
-        let log = self.log.left(alloc, false)?;
-        let db = self.db.left(alloc, false)?;
+    /// What the files hold then, if all that wasn't synced is lost of these.
+    pub(crate) fn held(
+        &self,
+        alloc: Global,
+        loses_log: bool,
+        loses_db: bool,
+    ) -> Result<Held, Fail> {
+        let log = self.log.left(alloc, loses_log)?;
+        let db = self.db.left(alloc, loses_db)?;
         Ok(Held { log, db })
     }
 }

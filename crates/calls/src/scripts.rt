@@ -1,6 +1,6 @@
 //! The texts of a story, and how far it is.
 use crate::stories::{Answer, Question, Story};
-use crate::streams::{MANY, Outcome, Request, Run, in_pieces, run_of, served};
+use crate::streams::{Outcome, Run, run_of, served_at_once};
 use broker_service::Broker;
 use sqlite::Alter;
 use std::alloc::Global;
@@ -56,8 +56,7 @@ fn asked(alloc: Global, questions: &[Question]) -> Result<String, Fail> {
 
 /// What is answered to a stream.
 fn answered<S: Alter>(alloc: Global, broker: &mut Broker<S>, stream: &[u8]) -> Vec<u8> {
-    let mut reader = in_pieces(stream, 9999, 9999);
-    let Outcome { written, .. } = served(alloc, broker, &mut reader, 9999, MANY);
+    let Outcome { written, .. } = served_at_once(alloc, broker, stream);
     written
 }
 
@@ -195,7 +194,7 @@ pub(crate) const BEGIN: Course = Course {
 
 impl Course {
     /// Goes by what is answered to the questions, and says whether that is right.
-    pub(crate) fn settle(&mut self, script: &Script, told: &[u8]) -> bool {
+    fn settle(&mut self, script: &Script, told: &[u8]) -> bool {
         let next = self.done.saturating_add(1);
         let is_here = script.is_shown(told, self.done);
         let is_next = self.maybe_next && script.is_shown(told, next);
@@ -208,7 +207,7 @@ impl Course {
 
     /// Goes on by what is answered to the requests that aren't done, and says whether it is right: the first ones are
     /// answered, and one is cut.
-    pub(crate) fn advance(&mut self, script: &Script, told: &[u8]) -> bool {
+    fn advance(&mut self, script: &Script, told: &[u8]) -> bool {
         let mut rest = told;
         for place in self.done..script.len() {
             match script.after_answer(place, self.maybe_next, rest) {

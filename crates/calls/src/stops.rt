@@ -42,9 +42,7 @@ impl Stop {
 
     /// What it leaves.
     fn leaves(&self, alloc: Global, left: &Left) -> Result<Held, Fail> {
-        let log = left.log.left(alloc, self.loses_log)?;
-        let db = left.db.left(alloc, self.loses_db)?;
-        Ok(Held { log, db })
+        left.held(alloc, self.loses_log, self.loses_db)
     }
 }
 
@@ -180,7 +178,7 @@ fn left_by(alloc: Global, act: Act<'_>) -> Result<Held, Fail> {
     if told != Ok(true) {
         return Err(Fail::from("what comes first"));
     }
-    left.written(alloc)
+    left.held(alloc, false, false)
 }
 
 /// What a broker leaves that has done these steps.

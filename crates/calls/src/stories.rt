@@ -1,5 +1,5 @@
 //! What is done over files that stop: requests and questions, and the answer to each.
-use crate::streams::{OFFICE, RED, Request};
+use crate::streams::{OFFICE, RED, Request, SHOP_1, TEAM};
 
 /// The status and the body of an answer.
 pub(crate) type Answer = (&'static str, &'static str);
@@ -59,8 +59,6 @@ pub(crate) const MIGRATION: Story = Story {
 
 const BLUE: &str = "blue-team-token-1";
 
-const TEAM_RED: &str = "{\"token\":\"red-team-token-01\"}";
-
 const TEAM_BLUE: &str = "{\"token\":\"blue-team-token-1\"}";
 
 const GATED: &str = "{\"gated\":true}";
@@ -70,8 +68,6 @@ const OPEN: &str = "{\"gated\":false}";
 const OF_RED: &str = "{\"team\":\"red\"}";
 
 const OF_BLUE: &str = "{\"team\":\"blue\"}";
-
-const SHOP_1: &str = "{\"pacticipant\":\"shop\",\"version\":\"1\"}";
 
 const SHOP_3: &str = "{\"pacticipant\":\"shop\",\"version\":\"3\"}";
 
@@ -251,11 +247,69 @@ const ALREADY_RESULT_1: Answer = ("200 OK", "{\"answer\":\"already\",\"result\":
 
 const RUN_TAKEN: Answer = ("409 Conflict", "{\"answer\":\"taken\",\"what\":\"run\"}");
 
+const POST_RESULT: &str = "POST /pacts/provider/stock/consumer/shop/version/1/results";
+
+const POST_REPLIES: &str = "POST /pacts/provider/stock/consumer/shop/version/1/replies";
+
+const TEAM_OF_RED: Step = ((OFFICE, "PUT /teams/red", TEAM), DONE, ALREADY);
+
+const TEAM_OF_BLUE: Step = ((OFFICE, "PUT /teams/blue", TEAM_BLUE), DONE, ALREADY);
+
+const LIVE: Step = ((OFFICE, "PUT /environments/live", GATED), DONE, ALREADY);
+
+const SHOP: Step = ((OFFICE, "PUT /pacticipants/shop", OF_RED), DONE, ALREADY);
+
+const STOCK: Step = ((OFFICE, "PUT /pacticipants/stock", OF_BLUE), DONE, ALREADY);
+
+const GRANT_OF_RED: Step = (
+    (OFFICE, "PUT /grants/team/red/environment/live", ""),
+    DONE,
+    ALREADY,
+);
+
+const GRANT_OF_BLUE: Step = (
+    (OFFICE, "PUT /grants/team/blue/environment/live", ""),
+    DONE,
+    ALREADY,
+);
+
+const PACT_OF_SHOP_1: Step = (
+    (
+        RED,
+        "PUT /pacts/provider/stock/consumer/shop/version/1",
+        PACT,
+    ),
+    DONE_CONTENT_1,
+    ALREADY_CONTENT_1,
+);
+
+const STOCK_VERSION: Step = (
+    (BLUE, "PUT /pacticipants/stock/versions/1", ""),
+    DONE,
+    ALREADY,
+);
+
+const STOCK_IN_LIVE: Step = (
+    (BLUE, "POST /environments/live/deployments", STOCK_1),
+    DONE,
+    ALREADY,
+);
+
+const IN_LIVE: Request = (OFFICE, "GET /environments/live", "");
+
+const SHOP_1_INTO_LIVE: Request = (
+    OFFICE,
+    "GET /can-i-deploy?pacticipant=shop&version=1&environment=live",
+    "",
+);
+
+const MATRIX_OF_SHOP_1: Request = (OFFICE, "GET /matrix?pacticipant=shop&version=1", "");
+
 /// A first deployment, and the listing.
 const FIRST_RUN: &[Step] = &[
-    ((OFFICE, "PUT /teams/red", TEAM_RED), DONE, ALREADY),
+    TEAM_OF_RED,
     ((OFFICE, "PUT /environments/dev", OPEN), DONE, ALREADY),
-    ((OFFICE, "PUT /pacticipants/shop", OF_RED), DONE, ALREADY),
+    SHOP,
     (
         (OFFICE, "PUT /grants/team/red/environment/dev", ""),
         DONE,
@@ -292,84 +346,36 @@ const FIRST_RUN_QUESTIONS: &[Question] = &[
         &[(0, NO_PACTICIPANT), (3, NO_VERSION), (5, FREE)],
     ),
     (
-        (OFFICE, "GET /matrix?pacticipant=shop&version=1", ""),
+        MATRIX_OF_SHOP_1,
         &[(0, NO_PACTICIPANT), (3, NO_VERSION), (5, NO_ROWS)],
     ),
 ];
 
 /// A contract, its first results, and the deployments that the gate refuses and permits.
 const GATE: &[Step] = &[
-    ((OFFICE, "PUT /teams/red", TEAM_RED), DONE, ALREADY),
-    ((OFFICE, "PUT /teams/blue", TEAM_BLUE), DONE, ALREADY),
-    ((OFFICE, "PUT /environments/live", GATED), DONE, ALREADY),
-    ((OFFICE, "PUT /pacticipants/shop", OF_RED), DONE, ALREADY),
-    ((OFFICE, "PUT /pacticipants/stock", OF_BLUE), DONE, ALREADY),
-    (
-        (OFFICE, "PUT /grants/team/red/environment/live", ""),
-        DONE,
-        ALREADY,
-    ),
-    (
-        (OFFICE, "PUT /grants/team/blue/environment/live", ""),
-        DONE,
-        ALREADY,
-    ),
-    (
-        (
-            RED,
-            "PUT /pacts/provider/stock/consumer/shop/version/1",
-            PACT,
-        ),
-        DONE_CONTENT_1,
-        ALREADY_CONTENT_1,
-    ),
+    TEAM_OF_RED,
+    TEAM_OF_BLUE,
+    LIVE,
+    SHOP,
+    STOCK,
+    GRANT_OF_RED,
+    GRANT_OF_BLUE,
+    PACT_OF_SHOP_1,
     (
         (RED, "POST /environments/live/deployments", SHOP_1),
         REFUSED_ABSENT,
         REFUSED_ABSENT,
     ),
-    (
-        (BLUE, "PUT /pacticipants/stock/versions/1", ""),
-        DONE,
-        ALREADY,
-    ),
-    (
-        (BLUE, "POST /environments/live/deployments", STOCK_1),
-        DONE,
-        ALREADY,
-    ),
+    STOCK_VERSION,
+    STOCK_IN_LIVE,
     (
         (RED, "POST /environments/live/deployments", SHOP_1),
         REFUSED_MISSING,
         REFUSED_MISSING,
     ),
-    (
-        (
-            BLUE,
-            "POST /pacts/provider/stock/consumer/shop/version/1/results",
-            PASS,
-        ),
-        DONE_RESULT_1,
-        DONE_RESULT_1,
-    ),
-    (
-        (
-            BLUE,
-            "POST /pacts/provider/stock/consumer/shop/version/1/results",
-            FAILURE,
-        ),
-        DONE_RESULT_2,
-        DONE_RESULT_2,
-    ),
-    (
-        (
-            BLUE,
-            "POST /pacts/provider/stock/consumer/shop/version/1/results",
-            PASS,
-        ),
-        DONE_RESULT_3,
-        DONE_RESULT_3,
-    ),
+    ((BLUE, POST_RESULT, PASS), DONE_RESULT_1, DONE_RESULT_1),
+    ((BLUE, POST_RESULT, FAILURE), DONE_RESULT_2, DONE_RESULT_2),
+    ((BLUE, POST_RESULT, PASS), DONE_RESULT_3, DONE_RESULT_3),
     (
         (RED, "POST /environments/live/deployments", SHOP_1),
         DONE,
@@ -393,7 +399,7 @@ const GATE: &[Step] = &[
 
 const GATE_QUESTIONS: &[Question] = &[
     (
-        (OFFICE, "GET /environments/live", ""),
+        IN_LIVE,
         &[
             (0, NO_ENVIRONMENT),
             (3, NOTHING_IN_LIVE),
@@ -403,11 +409,7 @@ const GATE_QUESTIONS: &[Question] = &[
         ],
     ),
     (
-        (
-            OFFICE,
-            "GET /can-i-deploy?pacticipant=shop&version=1&environment=live",
-            "",
-        ),
+        SHOP_1_INTO_LIVE,
         &[
             (0, NO_PACTICIPANT),
             (4, NO_VERSION),
@@ -427,7 +429,7 @@ const GATE_QUESTIONS: &[Question] = &[
         &[(0, NO_PACTICIPANT), (4, NO_VERSION), (17, PERMITTED)],
     ),
     (
-        (OFFICE, "GET /matrix?pacticipant=shop&version=1", ""),
+        MATRIX_OF_SHOP_1,
         &[
             (0, NO_PACTICIPANT),
             (4, NO_VERSION),
@@ -441,88 +443,33 @@ const GATE_QUESTIONS: &[Question] = &[
 
 /// A contract whose provider stands in live, and has no result yet.
 const CONTRACT: &[Step] = &[
-    ((OFFICE, "PUT /teams/red", TEAM_RED), DONE, ALREADY),
-    ((OFFICE, "PUT /teams/blue", TEAM_BLUE), DONE, ALREADY),
-    ((OFFICE, "PUT /environments/live", GATED), DONE, ALREADY),
-    ((OFFICE, "PUT /pacticipants/shop", OF_RED), DONE, ALREADY),
-    ((OFFICE, "PUT /pacticipants/stock", OF_BLUE), DONE, ALREADY),
-    (
-        (OFFICE, "PUT /grants/team/red/environment/live", ""),
-        DONE,
-        ALREADY,
-    ),
-    (
-        (OFFICE, "PUT /grants/team/blue/environment/live", ""),
-        DONE,
-        ALREADY,
-    ),
-    (
-        (
-            RED,
-            "PUT /pacts/provider/stock/consumer/shop/version/1",
-            PACT,
-        ),
-        DONE_CONTENT_1,
-        ALREADY_CONTENT_1,
-    ),
-    (
-        (BLUE, "PUT /pacticipants/stock/versions/1", ""),
-        DONE,
-        ALREADY,
-    ),
-    (
-        (BLUE, "POST /environments/live/deployments", STOCK_1),
-        DONE,
-        ALREADY,
-    ),
+    TEAM_OF_RED,
+    TEAM_OF_BLUE,
+    LIVE,
+    SHOP,
+    STOCK,
+    GRANT_OF_RED,
+    GRANT_OF_BLUE,
+    PACT_OF_SHOP_1,
+    STOCK_VERSION,
+    STOCK_IN_LIVE,
 ];
 
 /// Replies that pass, that fail, and that leave an interaction out.
 const SENT_REPLIES: &[Step] = &[
-    (
-        (
-            BLUE,
-            "POST /pacts/provider/stock/consumer/shop/version/1/replies",
-            GOOD_REPLY,
-        ),
-        REPLIES_1,
-        REPLIES_1,
-    ),
-    (
-        (
-            BLUE,
-            "POST /pacts/provider/stock/consumer/shop/version/1/replies",
-            BAD_REPLY,
-        ),
-        REPLIES_2,
-        REPLIES_2,
-    ),
-    (
-        (
-            BLUE,
-            "POST /pacts/provider/stock/consumer/shop/version/1/replies",
-            NO_REPLY,
-        ),
-        REPLIES_3,
-        REPLIES_3,
-    ),
+    ((BLUE, POST_REPLIES, GOOD_REPLY), REPLIES_1, REPLIES_1),
+    ((BLUE, POST_REPLIES, BAD_REPLY), REPLIES_2, REPLIES_2),
+    ((BLUE, POST_REPLIES, NO_REPLY), REPLIES_3, REPLIES_3),
 ];
 
 const REPLIES_QUESTIONS: &[Question] = &[
+    (IN_LIVE, &[(0, STOCK_1_IN_LIVE)]),
     (
-        (OFFICE, "GET /environments/live", ""),
-        &[(0, STOCK_1_IN_LIVE)],
-    ),
-    (
-        (
-            OFFICE,
-            "GET /can-i-deploy?pacticipant=shop&version=1&environment=live",
-            "",
-        ),
+        SHOP_1_INTO_LIVE,
         &[(0, MISSING), (1, PERMITTED), (2, FAILED)],
     ),
     (
-        (OFFICE, "GET /matrix?pacticipant=shop&version=1", ""),
+        MATRIX_OF_SHOP_1,
         &[
             (0, ROW_WITHOUT_RESULT),
             (1, ROW_OF_REPLIES_1),
@@ -535,40 +482,18 @@ const REPLIES_QUESTIONS: &[Question] = &[
 /// The result of a run: sent again it stands once, and another one of the run is refused.
 const RUN_OF_TESTS: &[Step] = &[
     (
-        (
-            BLUE,
-            "POST /pacts/provider/stock/consumer/shop/version/1/results",
-            PASS_OF_RUN,
-        ),
+        (BLUE, POST_RESULT, PASS_OF_RUN),
         DONE_RESULT_1,
         ALREADY_RESULT_1,
     ),
-    (
-        (
-            BLUE,
-            "POST /pacts/provider/stock/consumer/shop/version/1/results",
-            FAILURE_OF_RUN,
-        ),
-        RUN_TAKEN,
-        RUN_TAKEN,
-    ),
+    ((BLUE, POST_RESULT, FAILURE_OF_RUN), RUN_TAKEN, RUN_TAKEN),
 ];
 
 const RUN_QUESTIONS: &[Question] = &[
+    (IN_LIVE, &[(0, STOCK_1_IN_LIVE)]),
+    (SHOP_1_INTO_LIVE, &[(0, MISSING), (1, PERMITTED)]),
     (
-        (OFFICE, "GET /environments/live", ""),
-        &[(0, STOCK_1_IN_LIVE)],
-    ),
-    (
-        (
-            OFFICE,
-            "GET /can-i-deploy?pacticipant=shop&version=1&environment=live",
-            "",
-        ),
-        &[(0, MISSING), (1, PERMITTED)],
-    ),
-    (
-        (OFFICE, "GET /matrix?pacticipant=shop&version=1", ""),
+        MATRIX_OF_SHOP_1,
         &[(0, ROW_WITHOUT_RESULT), (1, ROW_OF_RESULT_1)],
     ),
 ];
@@ -603,20 +528,7 @@ const FORMER: &[&str] = &[
 ];
 
 const MIGRATION_QUESTIONS: &[Question] = &[
-    (
-        (OFFICE, "GET /environments/live", ""),
-        &[(1, SHOP_1_IN_LIVE)],
-    ),
-    (
-        (
-            OFFICE,
-            "GET /can-i-deploy?pacticipant=shop&version=1&environment=live",
-            "",
-        ),
-        &[(1, PERMITTED)],
-    ),
-    (
-        (OFFICE, "GET /matrix?pacticipant=shop&version=1", ""),
-        &[(1, ROW_OF_RESULT_3)],
-    ),
+    (IN_LIVE, &[(1, SHOP_1_IN_LIVE)]),
+    (SHOP_1_INTO_LIVE, &[(1, PERMITTED)]),
+    (MATRIX_OF_SHOP_1, &[(1, ROW_OF_RESULT_3)]),
 ];

@@ -14,7 +14,7 @@ pub(crate) const RED: &str = "red-team-token-01";
 
 /// A reader that gives the bytes in pieces, and fails after so many calls.
 #[derive(Drop)]
-pub(crate) struct Pieces<'a> {
+struct Pieces<'a> {
     rest: &'a [u8],
     /// How many bytes the first call gives at most, and how many each later one.
     first: usize,
@@ -58,10 +58,10 @@ impl Write for Taken {
 }
 
 /// As many calls as anybody makes.
-pub(crate) const MANY: usize = 1_000_000;
+const MANY: usize = 1_000_000;
 
 /// All of these bytes, in pieces.
-pub(crate) fn in_pieces(bytes: &[u8], first: usize, size: usize) -> Pieces<'_> {
+fn in_pieces(bytes: &[u8], first: usize, size: usize) -> Pieces<'_> {
     Pieces {
         rest: bytes,
         first,
@@ -78,7 +78,7 @@ pub(crate) struct Outcome {
 }
 
 /// Serves a stream.
-pub(crate) fn served<S: Alter>(
+fn served<S: Alter>(
     alloc: Global,
     broker: &mut Broker<S>,
     reader: &mut Pieces<'_>,
@@ -96,6 +96,16 @@ pub(crate) fn served<S: Alter>(
         served,
         written: bytes,
     }
+}
+
+/// Serves a stream that comes in one piece and is taken in one.
+pub(crate) fn served_at_once<S: Alter>(
+    alloc: Global,
+    broker: &mut Broker<S>,
+    stream: &[u8],
+) -> Outcome {
+    let mut reader = in_pieces(stream, 9999, 9999);
+    served(alloc, broker, &mut reader, 9999, MANY)
 }
 
 /// A new broker over tables in memory.
@@ -117,16 +127,15 @@ const FIRST: [Request; 7] = [
     (OFFICE, "PUT /pacticipants/shop", "{\"team\":\"red\"}"),
     (OFFICE, "PUT /grants/team/red/environment/dev", ""),
     (RED, "PUT /pacticipants/shop/versions/1", ""),
-    (
-        RED,
-        "POST /environments/dev/deployments",
-        "{\"pacticipant\":\"shop\",\"version\":\"1\"}",
-    ),
+    (RED, "POST /environments/dev/deployments", SHOP_1),
     (RED, "GET /environments/dev", ""),
 ];
 
 /// The body that names a team.
 pub(crate) const TEAM: &str = "{\"token\":\"red-team-token-01\"}";
+
+/// The body that names a version.
+pub(crate) const SHOP_1: &str = "{\"pacticipant\":\"shop\",\"version\":\"1\"}";
 
 /// The request that asks what is in the environment.
 const LISTING: &str =
@@ -179,8 +188,7 @@ pub(crate) fn run_of(alloc: Global, requests: &[Request]) -> Result<Run, Fail> {
 pub(crate) fn world(alloc: Global, requests: &[Request]) -> Result<Broker<MemStore>, Fail> {
     let run = run_of(alloc, requests)?;
     let mut broker = new_broker(alloc)?;
-    let mut reader = in_pieces(run.text.as_bytes(), 9999, 9999);
-    drop(served(alloc, &mut broker, &mut reader, 9999, MANY));
+    drop(served_at_once(alloc, &mut broker, run.text.as_bytes()));
     Ok(broker)
 }
 
@@ -252,8 +260,7 @@ fn cut_requests(rt: HostRuntime) -> Result<(), Fail> {
     let request = run.text.as_bytes();
     let mut broker = new_broker(alloc)?;
     for end in 0..=request.len() {
-        let mut reader = in_pieces(&request[..end], 9999, 9999);
-        let outcome = served(alloc, &mut broker, &mut reader, 9999, MANY);
+        let outcome = served_at_once(alloc, &mut broker, &request[..end]);
         let (answered, ended, written) = if end == 0 {
             (0, Ended::AtEnd, "")
         } else if end < request.len() {
@@ -274,8 +281,7 @@ fn has_made<S: Alter>(
     run: &Run,
     made: usize,
 ) -> Result<bool, Fail> {
-    let mut reader = in_pieces(run.text.as_bytes(), 9999, 9999);
-    let outcome = served(alloc, broker, &mut reader, 9999, MANY);
+    let outcome = served_at_once(alloc, broker, run.text.as_bytes());
     Ok(is_outcome(&outcome, 7, Ended::AtEnd, answers(alloc, made)?.as_str()))
 }
 

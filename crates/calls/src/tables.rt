@@ -1,5 +1,5 @@
 //! The calls on a broker's tables that no command makes, in a transaction that the test has opened.
-use crate::streams::{OFFICE, RED, Request, TEAM, world};
+use crate::streams::{OFFICE, RED, Request, SHOP_1, TEAM, world};
 use broker_core::command::Version;
 use broker_core::need::{Latest, Need};
 use broker_names::name::Name;
@@ -49,8 +49,6 @@ const WORLD: [Request; 14] = [
 ];
 
 const MAIN: &str = "{\"branch\":\"main\"}";
-
-const SHOP_1: &str = "{\"pacticipant\":\"shop\",\"version\":\"1\"}";
 
 /// A digester by which all texts look alike.
 struct Zeros;
