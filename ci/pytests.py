@@ -21,12 +21,12 @@ MOST_AGAIN = 30
 
 
 class Run:
-    """Those tests that have a mark or haven't, by a pytest of their own; `of` names the program, if there are two."""
+    """Those tests that have a mark or haven't, by a pytest of their own."""
 
-    def __init__(self, name, room, words, of=""):
+    def __init__(self, name, room, words):
         marks, count = RUNS[name]
-        self.name, self.of, self.began = name + of, of, time.time()
-        self.report, self.log = f"{REPORTS}/{self.name.replace(' ', '-')}.xml", f"{room}/{name}.log"
+        self.name, self.began = name, time.time()
+        self.report, self.log = f"{REPORTS}/{name.replace(' ', '-')}.xml", f"{room}/{name}.log"
         with contextlib.suppress(FileNotFoundError):
             os.remove(self.report)
         by = ["-n", count, "--dist", "loadgroup", "-m", marks, "--basetemp", f"{room}/{name.replace(' ', '-')}"]
@@ -67,8 +67,7 @@ class Run:
             return []
         if status != 0:
             print(said, end="", flush=True)
-        found = ended(self.report) if os.path.isfile(self.report) else []
-        ends = {test + self.of: word for test, word in found}
+        ends = dict(ended(self.report)) if os.path.isfile(self.report) else {}
         failed = [it for it, word in ends.items() if word == "FAILED"]
         suite.ends.update(ends)
         counts = f"{sum(it == 'ok' for it in ends.values())} passed, {len(failed)} failed"
@@ -100,11 +99,11 @@ def ended(report):
 
 
 class OnProgram:
-    """The tests of a built program; `of` names it, if there are two."""
+    """The tests of a built program."""
 
-    def __init__(self, suite, program, more, of=""):
+    def __init__(self, suite, program, more):
         given = suite.given
-        self.suite, self.program, self.of = suite, program, of
+        self.suite, self.program = suite, program
         # The name of a part, as `rt ci`, is no expression of pytest's: it chooses no test.
         self.is_chosen = not given.k or " " not in given.k or bool(re.search(r"\b(?:and|or|not)\b", given.k))
         self.words = ["--program", program, *more]
@@ -132,13 +131,13 @@ class OnProgram:
         os.makedirs(REPORTS, exist_ok=True)
         room, runs = tempfile.mkdtemp(prefix="holzhebo-tests-"), []
         try:
-            runs += [Run(name, room, self.words, self.of) for name in (TIMES, SIDE)]
+            runs += [Run(name, room, self.words) for name in (TIMES, SIDE)]
             times, side = runs
             side.end(self.suite)
             failed = times.end(self.suite)
             if 0 < len(failed) <= MOST_AGAIN:
                 print(f"run once more, with nothing beside: {', '.join(failed)}", flush=True)
-                runs.append(Run(AGAIN, room, [*self.words, "--lf"], self.of))
+                runs.append(Run(AGAIN, room, [*self.words, "--lf"]))
                 runs[-1].end(self.suite)
         finally:
             for it in runs:

@@ -29,8 +29,6 @@ STATIC = {
 # What needs a kit.
 VERDICT, BUILT, SAME, LINES = "rt ci", "./build", "./build beside rt ci", "the command lines of documents"
 BODIES, SAMPLE = "wrong bodies of ", "by rt must-fail, one of "
-# How the tests of the program that ./build keeps are named, if it isn't the one of `rt ci`.
-OTHER = " on the program built beside"
 # How much of why a part failed is said once more at the end, in letters.
 WIDEST = 1000
 # What a check of `rt ci` may still grow to while it goes on beside the others, in bytes.
@@ -44,7 +42,6 @@ class Suite:
         self.given, self.began, self.printing = given, time.time(), threading.Lock()
         self.ends, self.why = {}, {}
         self.memory = self.tried = 0
-        self.other = None
 
     def chosen(self, names):
         return [it for it in names if not self.given.k or self.given.k in it]
@@ -67,13 +64,6 @@ class Suite:
             print(ran.stdout + ran.stderr, end="", flush=True)
             return self.tell("FAILED", name, f"{' '.join(words)} ends with {ran.returncode}")
         return self.tell("ok", name, f"{time.time() - began:.1f} s")
-
-    def try_other(self, more):
-        """The program of ./build, which isn't that of `rt ci` to the byte, passes all tests too, or SAME fails."""
-        OnProgram(self, self.other, more, OTHER).run()
-        ends = [word for name, word in self.ends.items() if name.endswith(OTHER)]
-        if ends and "FAILED" not in ends:
-            self.tell("ok", SAME, f"both pass the tests; {self.why[SAME]}")
 
     def end(self):
         failed, skipped = self.named("FAILED"), self.named("not run")
@@ -189,23 +179,21 @@ class OnKit:
             self.suite.tell("FAILED", it, "NOT TRIED: what it needs isn't proved, or it stopped in the middle")
 
     def compare(self):
-        """Whether the program that ./build keeps is what `rt ci` built, to the byte. If it isn't, it is tried too: the
-        kit compiles what is proved, and doesn't promise to do so twice alike."""
+        """Whether the program that ./build keeps is what `rt ci` built, to the byte; else also which files differ."""
         pairs = [(f"{self.store.at}/{PROGRAM}{it}", f"{OUT}/{PROGRAM}{it}") for it in COMPILERS]
         lost = [it for pair in pairs for it in pair if not os.path.isfile(it)]
         differ = [] if lost else [it for it, other in pairs if not filecmp.cmp(it, other, shallow=False)]
         why = [*(f"there is no {it}" for it in lost), *(f"{it} differs" for it in differ)]
         self.suite.tell("FAILED" if why else "ok", SAME, "; ".join([*why, *(self.unlike() if differ else [])]))
-        self.suite.other = pairs[0][0] if differ else None
 
     def unlike(self):
         """Which files of libraries the two made otherwise, beside those of which each crate has one."""
         crates, found = below(PROGRAM), collections.defaultdict(list)
         for name in crates:
             own, other = f"{self.store.at}/crates/{name}/out", f"{TOP}/crates/{name}/out"
-            both = [it for it in files_in(own) if os.path.isfile(f"{other}/{os.path.relpath(it, own)}")]
-            for file in (os.path.relpath(it, own) for it in both):
-                if not filecmp.cmp(f"{own}/{file}", f"{other}/{file}", shallow=False):
+            for file in (os.path.relpath(it, own) for it in files_in(own)):
+                pair = f"{own}/{file}", f"{other}/{file}"
+                if os.path.isfile(pair[1]) and not filecmp.cmp(*pair, shallow=False):
                     found[file.replace(name, "*")].append(name)
         return [f"{file} of {' '.join(names)}" for file, names in found.items() if len(names) < len(crates)]
 
@@ -243,8 +231,6 @@ def main():
         print(f"{version()}; {processors()} processors, {free() / 1e9:.0f} GB of memory free", flush=True)
         OnKit(suite, names).run()
     on_program.run()
-    if suite.other:
-        suite.try_other(more)
     return suite.end()
 
 
