@@ -13,7 +13,7 @@ pub Adds-token : {E : Type 0} (r : Result (Unit {0}) E) (old new : Written) (t :
 Adds-token (Ok x) old new t w = record { before = w.room.0; more = w.ok }
 Adds-token (Err e) old new t w = tt
 
--- tokens behind others
+-- two appends, one after the other
 pub Adds-trans : (front back : List Token) (a b c : Written) → Adds front a b → Adds back b c → Adds (front ++ back) a c
 Adds-trans front back a b c p q = record {
   before = q.before ∙ p.before;

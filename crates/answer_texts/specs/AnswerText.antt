@@ -53,14 +53,14 @@ status_of answer.Memory = 503
 status_of answer.Store = 500
 status_of answer.Stopped = 503
 
--- nothing is told beside the word
+-- the answer has nothing but its word
 abbrev pub is_plain : Detail → Bool
 is_plain detail.Plain = true
 is_plain (detail.Content n) = false
 is_plain (detail.Result n) = false
 is_plain (detail.Replies failing n success) = false
 
--- the text is one of a fixed list: it tells nothing of the database, nor anything that the caller sent
+-- the text is one of a fixed list: it has nothing of the database, and nothing that the caller sent
 abbrev pub is_constant : Answer → Bool
 is_constant (answer.Done d) = is_plain d
 is_constant (answer.Already d) = is_plain d

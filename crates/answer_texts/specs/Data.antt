@@ -1,4 +1,4 @@
--- answers as JSON values (this project's own choice): the members of an object stand in the order of their keys' bytes
+-- answers as JSON values (this project's own choice): the members of an object are in the order of their keys' bytes
 use Rattle.std.specs.Prelude.{◌≡◌, String, string_bytes, ℕ, List, [], ◌∷◌, map, Bool, true, false, Option, codes}
 use Rattle.std.specs.Borrow.{Bor}
 use Rattle.std.specs.Option.{option_map_or}
@@ -33,7 +33,7 @@ whole n = number (unsigned n)
 abbrev pub object_of : {X : Type 0} → (X → Data) → List (Bor Text × X) → Data
 object_of each ms = fields (map (λ m. (m.0.now, each m.1)) ms)
 
--- null where there is none
+-- null for none
 abbrev pub or_null : {X : Type 0} → (X → Data) → Option X → Data
 or_null each o = option_map_or each o null
 
@@ -54,7 +54,7 @@ deployed_item x =
 abbrev pub version_item : Version → Data
 version_item v = fields ((codes "pacticipant", string v.pacticipant) ∷ (codes "version", string v.name) ∷ [])
 
--- who says so: the broker, which checked recorded replies, or the sender alone
+-- who vouches for a result: the broker, which checked recorded replies, or only the sender
 abbrev pub evidence : Bool → Text
 evidence true = codes "checked"
 evidence false = codes "claimed"
@@ -91,7 +91,7 @@ matrix_data rows = says (codes "shown") ((codes "rows", items matrix_row rows) �
 abbrev pub IsJsonText : Data → String Global → Type 0
 IsJsonText value text = string_bytes text ≡ compact_text value
 
--- what Done and Already show beside the word
+-- what Done and Already show besides the word
 abbrev pub detail_fields : Detail → List (Text × Data)
 detail_fields detail.Plain = []
 detail_fields (detail.Content n) = (codes "content", whole n) ∷ []
@@ -102,7 +102,7 @@ detail_fields (detail.Replies failing n success) =
 abbrev pub detail_data : Text → Detail → Data
 detail_data word d = says word (detail_fields d)
 
--- the last member, in a strict environment alone
+-- the last member; only a strict environment has it
 abbrev pub strict_field : Bool → List (Text × Data)
 strict_field true = (codes "strict", boolean true) ∷ []
 strict_field false = []

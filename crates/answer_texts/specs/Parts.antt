@@ -1,4 +1,4 @@
--- what stands under the keys of an answer's body, and of its items, as JSON values
+-- the values under the keys of an answer's body, and of its items, as JSON
 use Rattle.serde_json.specs.Data.{Data, null, boolean, string}
 use Rattle.answer_texts.specs.declared.items.Scalar.{Scalar}
 use Rattle.answer_texts.specs.declared.items.Scalar.TheVariants as scalar

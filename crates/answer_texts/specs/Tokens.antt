@@ -10,7 +10,7 @@ use Rattle.serde_json.specs.Written.{outline}
 abbrev pub tokens_of : Data → List Token
 tokens_of d = json_tokens (outline d)
 
--- a writer got these tokens behind those that it had
+-- a writer appended these tokens to those that it had
 pub record Adds (tokens : List Token) (old new : Written) : Type 0 where
   pub before : new.before ≡ old.before
   pub more : new.tokens ≡ old.tokens ++ tokens

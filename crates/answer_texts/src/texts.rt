@@ -55,7 +55,7 @@ fn replies_text<'a>(
     object_text(alloc, &members)
 }
 
-/// What was changed, or already stood so: a constant text if nothing but the word is told.
+/// The text of `Done` or `Already`: the constant `alone` if the answer has nothing but its word.
 pub(crate) fn detail_text(
     alloc: Global,
     word: &str,

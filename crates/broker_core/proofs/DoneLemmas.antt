@@ -26,7 +26,7 @@ nothing_more None (m ∷ ms) left is = absurd (cc)
 nothing_more (Some r) (m ∷ []) left is = let same : r ≡ m = cc in inr (r, refl, ap (λ x. x ∷ []) (sym same))
 nothing_more (Some r) (m ∷ (n ∷ ns)) left is = absurd (cc)
 
--- just the answered ones are done, or the cut one too
+-- exactly the answered ones are done, or the cut one too
 done_or_cut : (x : Session) (first : List Request) → IsDoneOf x first → (first ≡ x.answered) ⊎ ((r : Request) × (x.cut ≡ Some r) × (first ≡ x.answered ++ r ∷ []))
 done_or_cut x first is = by (nothing_more x.cut more left (append_cancel_left x.answered _ _ all))
   where

@@ -82,7 +82,7 @@ pub data Change (parts : Primitives) (s : State) : Command → State → Type 0 
   end_of_support : (e : Text) (v : Version) → s.released (e, v) ≡ true
       → Change parts s (EndSupport e v) (record s { released = put_at (same_pair same_text same_version) s.released (e, v) false })
 
--- a step of this command: an answer of the machine's own alone, or Done and the change
+-- what a step of this command comes to: only an answer of the machine, or Done and the change
 pub data Effect (parts : Primitives) (s : State) (c : Command) : Transition → Type 0 where
   told : (answer : Answer) → is_step answer ≡ true → Effect parts s c (unchanged_with s answer)
   changed : (t : State) (detail : Detail) → Change parts s c t → Effect parts s c (record { answer = Done detail; state = t })
@@ -184,7 +184,7 @@ refusal_told c (Some what) b answer is = ap is_step (sym (some_is (Unknown what)
 refusal_told c None true answer is = absurd (cc)
 refusal_told c None false answer is = ap is_step (sym (some_is (Denied (asks c).rule) answer is))
 
--- what is so of each answer that changes nothing, and of what the command does once it is let through, is so of a step
+-- what is so of each answer that changes nothing, and of what a permitted command does, is so of a step
 pub by_step : (parts : Primitives) (s : State) (c : Command) (P : Transition → Type 0) → ((answer : Answer) → is_step answer ≡ true → P (unchanged_with s answer))
     → ((out : Transition) → TakesEffect parts s c out → P out) → (token : Option Text) (out : Transition) → Step parts s token c out → P out
 by_step parts s c P told_it acted token out step = elim (way_of parts s token c out step) as (λ o _. P o) [

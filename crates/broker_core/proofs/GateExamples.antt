@@ -48,7 +48,7 @@ a_later_failure_is_a_fault = (_, (Some (Team red), (red_is_no_office, refl), (No
 the_latest_result_counts : Answers passed_again red_token (Deploy live (version shop one) None) (Done Plain)
 the_latest_result_counts = (_, (Some (Team red), (red_is_no_office, refl), (None, refl, (true, [], judges passed_again (row_keys passed_again stock_rows) (version shop one) live, refl))), refl)
 
--- shop 1 stands, and shop 3 has published the same content
+-- shop 1 is deployed, and shop 3 has published the same content
 abbrev pub republished : State
 republished = (put_pact (deploy passed_again live (version shop one) []).state (version shop three) stock first_file).state
 
@@ -78,7 +78,7 @@ one_passed = claims two_instances one true
 one_good_version_of_a_provider_is_not_enough : Answers one_passed red_token (Deploy live (version shop one) None) (NotPermitted (lacks one (Some two) Missing ∷ []))
 one_good_version_of_a_provider_is_not_enough = (_, (Some (Team red), (red_is_no_office, refl), (None, refl, (false, lacks one (Some two) Missing ∷ [], judges one_passed (row_keys one_passed instance_rows) (version shop one) live, refl))), refl)
 
--- shop 1 is released and shop 2 deployed beside stock 1, which passes for both; stock 2 passes for shop 2 alone
+-- shop 1 is released and shop 2 deployed beside stock 1, which passes for both; stock 2 passes only for shop 2
 abbrev pub both_published : State
 both_published = (put_pact published (version shop two) stock second_file).state
 
@@ -101,7 +101,7 @@ standing_rows = record {
 a_consumer_that_stands_blocks_its_provider's_next_version : Answers next_version blue_token (Deploy live (version stock two) None) (NotPermitted (lacks one (Some two) Missing ∷ []))
 a_consumer_that_stands_blocks_its_provider's_next_version = (_, (Some (Team blue), (blue_is_no_office, refl), (None, refl, (false, lacks one (Some two) Missing ∷ [], judges next_version (row_keys next_version standing_rows) (version stock two) live, refl))), refl)
 
--- where an environment isn't gated the faults are told and nothing is refused
+-- if an environment isn't gated, the faults are shown and nothing is refused
 abbrev pub dev : Text
 dev = codes "dev"
 

@@ -1,4 +1,4 @@
--- a deployment, and a release, is recorded exactly where it may be
+-- a deployment, and a release, is recorded if and only if it may be
 use Rattle.std.specs.{Prelude.{Option, Some, None, IsTrue, IsSomeAnd, Contains, is_some, filter_map, option_and_then}, List.{list_any, cons_option}}
 use Rattle.std.proofs.Common.{◌≡◌, ◌≢◌, ◌⊎◌, List, [], ◌∷◌, refl, sym, ◌∙◌, ap, subst, inl, inr, Bool, true, false, ◌&&◌, ◌||◌, if◌then◌else◌}
 use Rattle.std.proofs.lemmas.Map.Views.{Contains-from_any}
@@ -23,7 +23,7 @@ text_found : (text : Text) (o : Option Text) → is_text text o ≡ true → o �
 text_found text None is = absurd (cc)
 text_found text (Some old) is = ap Some (text_is old text is)
 
--- after a deployment that is let through the row stands
+-- after a deployment that the gate permits the row is there
 deployed_stands : (s : State) (e : Text) (v : Version) (instance : Text)
     → ((deploy s e v instance).state.deployed (e, v.pacticipant, instance) ≡ Some v.name) × (((deploy s e v instance).answer ≡ Done Plain) ⊎ ((deploy s e v instance).answer ≡ Already Plain))
 deployed_stands s e v instance = by_old (is_text v.name (s.deployed (e, v.pacticipant, instance))) refl
@@ -35,7 +35,7 @@ deployed_stands s e v instance = by_old (is_text v.name (s.deployed (e, v.pactic
     by_old true is = (text_found v.name _ is, inr refl)
     by_old false is = (put_at-same same_place s.deployed (e, v.pacticipant, instance) (Some v.name) (place-refl (e, v.pacticipant, instance)), inl refl)
 
--- after a release that is let through the row stands
+-- after a release that the gate permits the row is there
 released_stands : (s : State) (e : Text) (v : Version)
     → ((release s e v).state.released (e, v) ≡ true) × (((release s e v).answer ≡ Done Plain) ⊎ ((release s e v).answer ≡ Already Plain))
 released_stands s e v = by_old (s.released (e, v)) refl
@@ -47,7 +47,7 @@ released_stands s e v = by_old (s.released (e, v)) refl
     by_old true is = (is, inr refl)
     by_old false is = (put_at-same (same_pair same_text same_version) s.released (e, v) true (mark-refl (e, v)), inl refl)
 
--- the answers that say that the row stands
+-- the answers that say that the row is there
 abbrev says_recorded : Answer → Bool
 says_recorded (Done detail) = true
 says_recorded (Already detail) = true
@@ -76,7 +76,7 @@ module _ (parts : Primitives) (s : State) (token : Option Text) (e : Text) (v : 
     refused = λ _. (subst (IsRefusal parts s token e v) (sym (ap (λ o. o.answer) told.1)) told.2, ap (λ o. o.state) told.1);
   }
 
-  -- who is let through is granted
+  -- a caller that the owner's rule permits is granted
   granted_of : (caller : Caller) → IsCallerOfToken parts s token (Some caller) → owns s e v caller ≡ true → IsGranted parts s token e v
   unfolding owns
   granted_of Office called h = absurd (cc)
@@ -92,7 +92,7 @@ module _ (parts : Primitives) (s : State) (token : Option Text) (e : Text) (v : 
           let same = or_first (same_text team owner) (ap (λ o. list_any (same_text team) (cons_option o [])) (sym is) ∙ both.0) in
           record { team = team; caller = called; owner = is ∙ ap Some (sym (text_is team owner same)); grant = both.1 }
 
-  -- and who is granted is let through
+  -- and a granted caller is permitted by it
   lets_granted : (caller : Caller) → IsCallerOfToken parts s token (Some caller) → IsGranted parts s token e v → owns s e v caller ≡ true
   unfolding owns
   lets_granted caller called g =

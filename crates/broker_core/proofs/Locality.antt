@@ -144,7 +144,7 @@ gate_locality parts token e v instance s t a agree x =
           (b, step b (acting caller (caller_there agree (Some caller) calls) refl b none acts), ap (λ z. z.answer) it.3 ∙ answer-gated s t v e (instance_of instance) agree it.0 it.1)
     ]
 
--- and where a token has one caller, it is the one answer, since a step of the other state has one outcome
+-- and if a token has one caller, that is the only answer, since a step of the other state has one outcome
 pub gate_answers_once : (parts : Primitives) → GateAnswersOnce parts
 gate_answers_once parts token e v instance s t a b one agree x y =
     let there = gate_locality parts token e v instance s t a agree x in

@@ -1,4 +1,4 @@
--- a step has one outcome, a refused pattern aside
+-- a step has one outcome, unless a pattern is refused
 use Rattle.std.specs.{Cmp.Lexicographic.{nat_list_cmp_total, options_total}, Prelude.{Option, Some, None, MatchOption, is_some, IsTrue, Bool}}
 use Rattle.std.{specs.Cmp.{IsTotalOrder, on_total, then_total}, proofs.Common.{◌≡◌, ◌⊎◌, List, true, false, refl, sym, ◌∙◌, ap, subst, inl, inr, if◌then◌else◌}}
 use Rattle.broker_core.specs.declared.command.Command.TheVariants.{PutTeam, PutPact, GetPact, GetBranchPact, PostResult, PostReplies, Deploy, Release, GetEnvironment, CanIDeploy, GetMatrix, Malformed}
@@ -43,7 +43,7 @@ module _ {s : State} {v : Version} {e : Text} {p q : Bool} {fs gs : List PairFau
   same_faults : fs ≡ gs
   same_faults = Lists-unique fault_cmp_total fs gs j.faults_are k.faults_are
 
--- where no two teams have tokens with one digest, a digest has one caller, and so has a token
+-- if no two teams have tokens with one digest, a digest has one caller, and so has a token
 one_holder : (s : State) (digest : Text) → TeamsDiffer s → (a b : Option Caller) → IsCallerOfDigest s digest a → IsCallerOfDigest s digest b → a ≡ b
 one_holder s digest one None None x y = refl
 one_holder s digest one None (Some Office) x y = absurd (x Office y)

@@ -11,7 +11,7 @@ use Rattle.broker_core.specs.declared.answer.Missing.TheVariants as missing
 abbrev pub without_grant : State
 without_grant = (put_version (delete_grant fixture red live).state (version shop one) None).state
 
--- red has a grant for dev alone
+-- red has a grant only for dev
 abbrev pub with_other_grant : State
 with_other_grant = (put_grant (put_environment without_grant (codes "dev") (record { gated = false; strict = false })).state red (codes "dev")).state
 

@@ -10,7 +10,7 @@ use Rattle.broker_core.proofs.Effects.Change.{team, pacticipant, environment, gr
 use Rattle.broker_core.proofs.{Lists.{any_true}, Judgement.{text_refl, version_refl}}
 use Rattle.broker_core.proofs.{Effects.{Change, Effect, effect_of, versions_with, branches_with, with_result}, Effects.Effect.{told, changed}}
 
--- what was put at a key stands there
+-- what was put at a key is there
 pub put_at-same : {K X : Type 0} (same : K → K → Bool) (table : K → X) (key : K) (value : X) → same key key ≡ true → put_at same table key value key ≡ value
 put_at-same same table key value e = ap (λ b. if b then value else table key) e
 

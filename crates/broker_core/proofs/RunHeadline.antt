@@ -1,4 +1,4 @@
--- each deployment and each release of a run is recorded exactly where it may be
+-- each deployment and each release of a run is recorded if and only if it may be
 use Rattle.std.proofs.Common.{◌++◌, List, [], ◌∷◌, refl, ap}
 use Rattle.broker_core.specs.{declared.command.Command.TheVariants.{Deploy, Release}, declared.answer.Answer.{Answer}, State.{State}, Change.{Transition}}
 use Rattle.broker_core.specs.{Machine.{Primitives, Request, Step, Run}, Laws.{TeamsDiffer}}

@@ -29,7 +29,7 @@ place_of texts (suc i) x h =
 numbered_at : (texts : List Text) (n i : ℕ) (x : Text) → n ≡ i + 1 → slice_get texts i ≡ Some x → text_in texts n ≡ Some x
 numbered_at texts n i x e h = ap (text_in texts) e ∙ text_after texts i ∙ h
 
--- the first place of a text that stands there
+-- the list has the text at its first place of that text
 first_place : (texts : List Text) (text : Text) → list_any (same_text text) texts ≡ true → slice_get texts (position_or_len (same_text text) texts) ≡ Some text
 first_place [] text e = absurd cc
 first_place (t ∷ texts) text e = by_test (same_text text t) refl e (first_place texts text)
@@ -162,7 +162,7 @@ module _ (parts : Primitives) (again : ReadsAgain parts) (s : State) (sound : Ha
       result_sound _ path.consumer (sound.contracts (consumer_version path) path.provider content row)
   change_sound _ _ _ = record { apart = sound.apart; normal = sound.normal; contracts = sound.contracts; results = sound.results }
 
--- sound contents stay sound, whatever is asked
+-- sound contents stay sound after each step
 pub contents_stay : (parts : Primitives) → ReadsAgain parts → ContentsStay parts
 contents_stay parts again s token c out sound step = after_step parts s c (HasSoundContents parts) sound (λ t change. change_sound parts again s sound c t change) token out step
 

@@ -1,4 +1,4 @@
--- worked examples of a strict environment, beside one that is gated alone
+-- worked examples of a strict environment, beside one that is only gated
 use Rattle.std.{specs.Prelude.{codes, Some, None, ◌∷◌, []}, proofs.Common.{true, false, refl}}
 use Rattle.broker_core.specs.{declared.policy.Caller.TheVariants.{Team}, declared.command.Command.TheVariants.{Deploy, CanIDeploy, PostReplies}}
 use Rattle.broker_core.specs.{declared.command.Marks.{Marks}, declared.need.Kind.TheVariants.{Failed, Claimed}}
@@ -17,7 +17,7 @@ strict = record { gated = true; strict = true }
 abbrev pub with_prod : State
 with_prod = (put_grant (put_grant (put_environment fixture prod strict).state red prod).state blue prod).state
 
--- shop 1 has published, stock 1 is claimed to pass and stands in both
+-- shop 1 has published; stock 1 is claimed to pass, and then deployed in both
 abbrev pub claimed : State
 claimed = claims (put_pact with_prod (version shop one) stock first_file).state one true
 

@@ -14,7 +14,7 @@ pub data Way (parts : Primitives) (s : State) (token : Option Text) (c : Command
   acting : (caller : Caller) → IsCallerOfToken parts s token (Some caller) → FindsFault parts c None
       → (out : Transition) → refusal s caller c ≡ None → TakesEffect parts s c out → Way parts s token c out
 
--- what follows where there is a refusal, and where there is none
+-- what follows if there is a refusal, and if there is none
 abbrev pub After : Primitives → State → Command → Transition → Option Answer → Type 0
 After parts s c out r = MatchOption r (TakesEffect parts s c out) (λ answer. out ≡ unchanged_with s answer)
 

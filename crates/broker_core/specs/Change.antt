@@ -1,4 +1,4 @@
--- what a command that is let through answers and changes (this project's own choice; deployments, releases and
+-- what a permitted command answers and changes (this project's own choice; deployments, releases and
 -- branches as the Pact Broker keeps them)
 use Rattle.std.specs.Prelude.{◌+◌, ◌-◌, ◌==◌, ℕ, [], ◌∷◌, ◌++◌, length, Bool, true, false, ◌&&◌, ◌||◌, Option, Some, None, option_and_then, slice_get, if◌then◌else◌}
 use Rattle.std.specs.Option.{option_map_or}
@@ -32,7 +32,7 @@ already s = unchanged_with s (Already Plain)
 abbrev pub done : State → Transition
 done next = record { answer = Done Plain; state = next }
 
--- what stands is the same, or its name is taken
+-- what is there is the same, or its name is taken
 abbrev pub repeated : State → Bool → Transition
 repeated s true = already s
 repeated s false = unchanged_with s (Taken clash.Name)
@@ -66,7 +66,7 @@ delete_grant s team e =
     then done (record s { grants = put_at (same_pair same_text same_text) s.grants (team, e) false })
     else unchanged_with s (Unknown missing.Grant)
 
--- the version is there, with the next number where it wasn't
+-- the version is there, with the next number if it is new
 abbrev pub named : State → Version → State
 named s v = if is_known s v then s else record s { versions = s.versions ++ v ∷ [] }
 
@@ -79,7 +79,7 @@ abbrev pub on_branch : State → Version → Option Text → Bool
 on_branch s v (Some branch) = s.branches (v, branch)
 on_branch s v None = true
 
--- the version stands on the branch, where one is given
+-- the version is on the branch, if one is given
 abbrev pub joined : State → Version → Option Text → State
 joined s v (Some branch) =
     record s { branches = put_at (same_pair same_version same_text) s.branches (v, branch) true }
@@ -104,7 +104,7 @@ is_stored s text = list_any (same_text text) s.contents
 abbrev pub content_number : State → Text → ℕ
 content_number s text = position_or_len (same_text text) s.contents + 1
 
--- the text is one of the contents, with the next number where it wasn't
+-- the text is one of the contents, with the next number if it is new
 abbrev pub stored : State → Text → State
 stored s text = if is_stored s text then s else record s { contents = s.contents ++ text ∷ [] }
 
@@ -113,12 +113,12 @@ abbrev pub is_text : Text → Option Text → Bool
 is_text text (Some old) = same_text old text
 is_text text None = false
 
--- where there is a contract already, its content is this text or another
+-- there is a contract already: its content is this text or another
 abbrev pub republished : State → Text → ℕ → Answer
 republished s text content =
     if is_text text (text_of s content) then Already (Content content) else Taken clash.OtherContent
 
--- the text becomes the content of the contract of v with the provider, where there is none
+-- the text becomes the content of the contract of v with the provider, if there is none yet
 abbrev pub put_pact : State → Version → Text → Text → Transition
 put_pact s v provider text =
     option_map_or (λ content. unchanged_with s (republished s text content)) (s.contracts (v, provider))
@@ -161,7 +161,7 @@ abbrev pub instance_of : Option Text → Text
 instance_of (Some instance) = instance
 instance_of None = []
 
--- a deployment that the gate lets through: it takes the place of what stands in that instance
+-- a deployment that the gate permits: it replaces what is deployed in that instance
 abbrev pub deploy : State → Text → Version → Text → Transition
 deploy s e v instance =
     if is_text v.name (s.deployed (e, v.pacticipant, instance)) then already s
@@ -174,7 +174,7 @@ undeploy s e v instance =
     then done (record s { deployed = put_at same_place s.deployed (e, v.pacticipant, instance) None })
     else unchanged_with s (Unknown missing.Deployed)
 
--- a release that the gate lets through
+-- a release that the gate permits
 abbrev pub release : State → Text → Version → Transition
 release s e v =
     if s.released (e, v) then already s

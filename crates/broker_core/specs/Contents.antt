@@ -12,7 +12,7 @@ abbrev pub IsContentOf : Primitives → State → ℕ → Text → Text → Type
 IsContentOf parts s content consumer provider =
     (text : Text) × (text_of s content ≡ Some text) × parts.Reads text (IsPact consumer provider text)
 
--- no text stands twice; each reads as the pact whose normal text it is; its names are the consumer and the provider
+-- no text is there twice; each reads as the pact whose normal text it is; its names are the consumer and the provider
 -- of each contract with it, and its provider is that of each result for it
 pub record HasSoundContents (parts : Primitives) (s : State) : Type 0 where
   pub apart : (m n : ℕ) (text : Text) → text_of s m ≡ Some text → text_of s n ≡ Some text → m ≡ n

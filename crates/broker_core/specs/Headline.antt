@@ -1,6 +1,6 @@
 -- The sentence for which this broker exists (this project's own; contracts, partners and latest verifications are
 -- those of the Pact Broker's can-i-deploy): a deployment into a gated environment is recorded exactly when every
--- contract between the version and the partners standing there has a successful latest verification, no required
+-- contract between the version and its partners there has a successful latest verification, no required
 -- provider is absent and the caller's team is granted; otherwise the answer names every failing or missing pair, or
 -- the denying rule, and nothing changes. A release is judged in the same way
 use Rattle.std.specs.Prelude.{◌≡◌, ◌≢◌, ◌⊎◌, ◌↔◌, ℕ, Option, Some, None, IsSome, IsNone, IsSomeAnd, IsTrue, Contains}
@@ -25,8 +25,8 @@ use Rattle.broker_core.specs.Laws.{TeamsDiffer}
 
 -- ---- what the gate permits, in these words
 
--- a contract of a consumer's version with a provider's: one of the two is v, and the other is a partner that stands
--- in e; where v is the provider's, the consumer is another pacticipant
+-- a contract of a consumer's version with a provider's: one of the two is v, and the other is a partner that is
+-- in e; if v is the provider's, the consumer is another pacticipant
 pub record IsBetween (s : State) (v : Version) (e : Text) (consumer provider : Version) (content : ℕ) : Type 0 where
   pub contract : s.contracts (consumer, provider.pacticipant) ≡ Some content
   pub partner : ((consumer ≡ v) × Stands s e provider)
@@ -37,17 +37,17 @@ abbrev pub IsVerified : State → Text → Version → ℕ → Type 0
 IsVerified s e provider content = IsSomeAnd (latest s content provider)
     (λ latest. IsTrue latest.pass × (IsTrue (is_strict s e) → IsTrue latest.checked))
 
--- every contract between v and the partners that stand in e is verified
+-- every contract between v and the partners that are in e is verified
 abbrev pub AreVerified : State → Version → Text → Type 0
 AreVerified s v e = (consumer provider : Version) (content : ℕ)
     → IsBetween s v e consumer provider content → IsVerified s e provider content
 
--- no provider with which v has a contract is without a version that stands in e
+-- no provider with which v has a contract is without a version in e
 abbrev pub NoneIsAbsent : State → Version → Text → Type 0
 NoneIsAbsent s v e = (provider : Text) (content : ℕ) → s.contracts (v, provider) ≡ Some content
     → ¬ ((name : Text) → ¬ (Stands s e (version provider name)))
 
--- what is permitted in a gated environment; in another all is
+-- what is permitted in a gated environment; in any other everything is
 abbrev pub PermitsVerified : Type 0
 PermitsVerified = (s : State) (v : Version) (e : Text)
     → IsPermitted s v e ↔ (IsTrue (is_gated s e) → AreVerified s v e × NoneIsAbsent s v e)
@@ -100,7 +100,7 @@ module _ (parts : Primitives) (s : State) (token : Option Text) (e : Text) (v : 
       NamesExist s e v × IsGranted × (¬ (IsPermitted s v e)) × Lists fault_cmp (IsFault s v e) faults
   IsRefusal _ = ⊥
 
-  -- it is recorded exactly where it may be; otherwise it is refused, and nothing changes
+  -- it is recorded if and only if it may be; otherwise it is refused, and nothing changes
   pub record IsRecordedExactly (IsRecorded : State → Type 0) (out : Transition) : Type 0 where
     pub recorded : (((out.answer ≡ Done Plain) ⊎ (out.answer ≡ Already Plain)) × IsRecorded out.state)
         ↔ MayBeRecorded

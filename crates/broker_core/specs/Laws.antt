@@ -36,13 +36,13 @@ OnlyDoneChanges parts =
 abbrev pub OpeningIsSound : Primitives → Type 0
 OpeningIsSound parts = (office : Text) → HasSoundContents parts (opening office)
 
--- sound contents stay sound, whatever is asked
+-- sound contents stay sound after each step
 abbrev pub ContentsStay : Primitives → Type 0
 ContentsStay parts =
     (s : State) (token : Option Text) (command : Command) (out : Transition)
     → HasSoundContents parts s → Step parts s token command out → HasSoundContents parts out.state
 
--- the version v, or one that stands in e
+-- the version v, or one that is in e
 abbrev pub Concerns : State → Version → Text → Version → Type 0
 Concerns s v e w = (w ≡ v) ⊎ Stands s e w
 
@@ -61,14 +61,14 @@ pub record Agree (parts : Primitives) (token : Option Text) (s t : State) (v : V
   pub results : (w : Version) (p : Text) (content : ℕ) → Concerns s v e w → s.contracts (w, p) ≡ Some content
       → (u : Version) → latest s content u ≡ latest t content u
 
--- what a deployment may be answered in a state, it may be answered in each that agrees on these
+-- an answer that a deployment may get in a state, it may get in each state that agrees on these
 abbrev pub GateLocality : Primitives → Type 0
 GateLocality parts =
     (token : Option Text) (e : Text) (v : Version) (instance : Option Text) (s t : State) (a : Transition)
     → Agree parts token s t v e → Step parts s token (Deploy e v instance) a
     → (b : Transition) × Step parts t token (Deploy e v instance) b × (a.answer ≡ b.answer)
 
--- and where a token has one caller, that is the one answer
+-- and if a token has one caller, that is the only answer
 abbrev pub GateAnswersOnce : Primitives → Type 0
 GateAnswersOnce parts =
     (token : Option Text) (e : Text) (v : Version) (instance : Option Text) (s t : State) (a b : Transition)
@@ -94,7 +94,7 @@ pub record Session : Type 0 where
   pub answered : List Request
   pub cut : Option Request
 
--- the cut request took its step, or nothing
+-- the cut request took its step, or did nothing
 abbrev pub CutLeaves : Primitives → State → Option Request → State → Type 0
 CutLeaves parts s None last = last ≡ s
 CutLeaves parts s (Some r) last =
@@ -174,7 +174,7 @@ abbrev pub all_answered : List Session → List Request
 all_answered [] = []
 all_answered (x ∷ xs) = x.answered ++ all_answered xs
 
--- where cut requests come again, the state is that of a run over all requests, each once
+-- if cut requests come again, the state is that of a run over all requests, each once
 abbrev pub RunsOnce : Primitives → Type 0
 RunsOnce parts =
     (s last : State) (xs : List Session) → ComeAgain xs → Sessions parts s xs last
@@ -195,12 +195,12 @@ StepExists parts =
     (s : State) (token : Option Text) (command : Command) → IsListed s → HasSoundContents parts s
     → CanBeRead parts s command → (out : Transition) × Step parts s token command out
 
--- the reading is that a pattern was refused: this alone may be told of a file that has another reading too
+-- the reading is that a pattern was refused: only this refusal may be a second reading of a file
 abbrev pub ReadsRefusal : (FormFault → Bool) → Reading → Type 0
 ReadsRefusal is_refusal (IsPact consumer provider text) = ⊥
 ReadsRefusal is_refusal (IsRefused fault) = IsTrue (is_refusal fault)
 
--- the command's file is read in one way, a pattern's refusal aside, and its replies in one way; nothing is asked
+-- the command's file is read in one way, unless a pattern is refused, and its replies in one way; nothing is asked
 -- of a command without a file
 abbrev pub IsReadOnce : Primitives → (FormFault → Bool) → Command → Type 0
 IsReadOnce parts is_refusal (PutPact path file) = (a b : Reading) → parts.Reads file a → parts.Reads file b
@@ -221,7 +221,7 @@ HasOneStep parts is_refusal command =
     → Step parts s token command a → Step parts s token command b
     → (a ≡ b) ⊎ (AnswersRefusal is_refusal a.answer ⊎ AnswersRefusal is_refusal b.answer)
 
--- a command has one step where it is read in one way
+-- a command that is read in one way has one step
 abbrev pub StepOnce : Primitives → Type 0
 StepOnce parts =
     (is_refusal : FormFault → Bool) (command : Command) → IsReadOnce parts is_refusal command

@@ -4,7 +4,7 @@ use Rattle.broker_core.specs.declared.command.Version.{Version}
 use Rattle.broker_core.specs.Text.{Text}
 use Rattle.broker_core.specs.State.{State}
 
--- each key at which the table has something stands in the list
+-- the list has each key at which the table has something
 abbrev pub Covers : {A B : Type 0} → (A → Option B) → List A → Type 0
 Covers {A} {B} table keys = (k : A) (x : B) → table k ≡ Some x → Contains keys k
 

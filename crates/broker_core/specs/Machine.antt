@@ -36,7 +36,7 @@ pub data Reading : Type 0 where
 
 -- what other crates define: the digest, the reading of pact files and of replies, and their comparison. Reading
 -- and comparing are relations,
--- since whether a pattern is read isn't wholly known beforehand
+-- since the definitions don't decide whether each pattern is read
 pub record Primitives : Type 1 where
   pub digest_of : Text → Text
   -- the reading of the bytes of a pact file
@@ -52,8 +52,8 @@ abbrev pub HasDigest : State → Text → Caller → Type 0
 HasDigest s digest Office = s.office ≡ digest
 HasDigest s digest (Team team) = s.teams team ≡ Some digest
 
--- the caller whose token has this digest: the office where it is the office's, else the team that has it, none
--- where no one's has.
+-- the caller whose token has this digest: the office if it is the office's, else the team that has it, none
+-- if no one's has.
 -- That the office comes first is this project's own choice, for states in which a team's token is the office's too
 abbrev pub IsCallerOfDigest : State → Text → Option Caller → Type 0
 IsCallerOfDigest s digest (Some Office) = HasDigest s digest Office
@@ -102,7 +102,7 @@ deployed_cmp x y =
 abbrev pub version_cmp : Version → Version → Ordering
 version_cmp x y = ordering_then (text_cmp x.pacticipant y.pacticipant) (text_cmp x.name y.name)
 
--- there is a result for this content and version of the provider, and r tells the latest one and its number
+-- there is a result for this content and version of the provider; r has what the latest one says, and its number
 abbrev pub IsLatest : State → ℕ → Version → Verified → Type 0
 IsLatest s content w r = IsSomeAnd (latest_result s content w) (λ e. (r.result ≡ e.0) × (r.latest ≡ said_by e.1))
 
@@ -110,14 +110,14 @@ abbrev pub verified_version : Option Verified → Option Text
 verified_version None = None
 verified_version (Some r) = Some r.provider_version
 
--- rows of the matrix stand in the order of faults: by consumer, its version, provider, its version (none first)
+-- rows of the matrix are sorted as faults are: by consumer, its version, provider, its version (none first)
 abbrev pub matrix_cmp : MatrixRow → MatrixRow → Ordering
 matrix_cmp x y = ordering_then (text_cmp x.consumer y.consumer)
     (ordering_then (text_cmp x.consumer_version y.consumer_version)
     (ordering_then (text_cmp x.provider y.provider)
     (option_cmp text_cmp (verified_version x.verified) (verified_version y.verified))))
 
--- a contract with the latest result of a version of its provider, where one of the two is v; or a contract that v
+-- a contract with the latest result of a version of its provider, if one of the two is v; or a contract that v
 -- consumes and no version of the provider has a result for
 pub record IsMatrixRow (s : State) (v : Version) (row : MatrixRow) : Type 0 where
   pub content : ℕ
@@ -128,13 +128,13 @@ pub record IsMatrixRow (s : State) (v : Version) (row : MatrixRow) : Type 0 wher
       (λ r. ((version row.consumer row.consumer_version ≡ v) ⊎ (version row.provider r.provider_version ≡ v))
       × IsLatest s content (version row.provider r.provider_version) r)
 
--- replies pass where no interaction fails; they are refused where one belongs to no interaction
+-- replies pass if no interaction fails; they are refused if one belongs to no interaction
 abbrev pub report_replies : State → ℕ → Version → Option Text → Option (List ℕ) → Transition
 report_replies s content v run None = unchanged_with s (BadForm fault.UnknownReply)
 report_replies s content v run (Some failing) =
     report s (checked_result content v (is_empty failing) run) (λ n. Replies failing n (is_empty failing))
 
--- what a command does that is let through
+-- what a permitted command does
 abbrev pub TakesEffect : Primitives → State → Command → Transition → Type 0
 TakesEffect parts s (PutTeam team token) out =
     (holder : Option Caller) × IsCallerOfDigest s (parts.digest_of token) holder

@@ -78,7 +78,7 @@ pub record Asked : Type 0 where
 abbrev pub asked : List Wanted → Rule → List Text → Option Text → Asked
 asked wanted rule sides target = record { wanted = wanted; rule = rule; sides = sides; target = target }
 
--- a malformed command gets no further than its form
+-- a malformed command asks for nothing: it is refused for its form
 abbrev pub asks : Command → Asked
 asks (PutTeam team token) = asked [] A2 [] None
 asks (PutPacticipant p team) = asked (team_there team ∷ []) A2 [] None
@@ -118,13 +118,13 @@ has_grant s (Team team) (Some e) = s.grants (team, e)
 has_grant s (Team team) None = false
 has_grant s Office target = false
 
--- whether the policy lets the caller
+-- whether the policy allows the command to the caller
 abbrev pub is_allowed : State → Caller → Command → Bool
 is_allowed s caller command =
     allows (asks command).rule caller (filter_map s.pacticipants (asks command).sides)
     (has_grant s caller (asks command).target)
 
--- what isn't there is told before what isn't allowed
+-- if something isn't there, that is the answer, also if the command isn't allowed
 abbrev pub refused : Command → Option Missing → Bool → Option Answer
 refused command (Some what) allowed = Some (Unknown what)
 refused command None true = None

@@ -1,4 +1,4 @@
--- what of sessions is done (this project's own)
+-- which requests of sessions are done (this project's own)
 use Rattle.std.specs.Prelude.{◌≡◌, ◌++◌, List, [], ◌∷◌, Option, Some, None}
 use Rattle.broker_core.specs.declared.answer.Answer.{Answer}
 use Rattle.broker_core.specs.State.{State}
@@ -13,7 +13,7 @@ with_cut requests (Some cut) = requests ++ cut ∷ []
 abbrev pub requests_of : Session → List Request
 requests_of x = with_cut x.answered x.cut
 
--- of a session just these requests are done: they are the first of its requests, and every answered one is among them
+-- of a session only these requests are done: they are the first of its requests, and every answered one is among them
 pub record IsDoneOf (x : Session) (done : List Request) : Type 0 where
   pub are_first : (left : List Request) × (requests_of x ≡ done ++ left)
   pub has_answered : (more : List Request) × (done ≡ x.answered ++ more)
@@ -29,7 +29,7 @@ abbrev pub RunsDone : Primitives → State → List Session → State → Type 0
 RunsDone parts s xs last =
     (done : List Request) × (answers : List Answer) × AreDoneOf xs done × Run parts s done answers last
 
--- the states after a list of sessions are just those of runs over what is done of them
+-- the states after a list of sessions are exactly those of runs over what is done of them
 abbrev pub SessionsRun : Primitives → Type 0
 SessionsRun parts =
     (s last : State) (xs : List Session)

@@ -87,7 +87,7 @@ GivesDigests parts = (token : Text) → IsDigest (parts.digest_of token)
 abbrev pub NamesBegin : Type 0
 NamesBegin = (office : Text) → IsDigest office → HasSoundNames (opening office)
 
--- sound names stay sound, whatever is asked
+-- sound names stay sound after each step
 abbrev pub NamesStay : Primitives → Type 0
 NamesStay parts =
     (s : State) (token : Option Text) (command : Command) (out : Transition) → AreNames command

@@ -1,4 +1,4 @@
--- the words that stand in answers for rules, for what is missing or stands otherwise, for kinds of faults and for
+-- the words of answers for rules, for what is missing, for what is taken, for kinds of faults and for
 -- faults of form (this project's own choice)
 use Rattle.std.specs.Prelude.{◌++◌, codes, Option, Some, None}
 use Rattle.broker_core.specs.declared.policy.Rule.{Rule}

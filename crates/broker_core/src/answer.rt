@@ -1,4 +1,4 @@
-//! Answers, one variant an answer.
+//! Answers: one variant per answer.
 ghost use Rattle.std.specs.Prelude.{◌≡◌};
 
 use crate::command::{FormFault, Marks, Version};
@@ -81,7 +81,7 @@ pub type Versions = Items<Version>;
 /// The rows of a matrix, in the order of faults.
 pub type MatrixRows = Items<MatrixRow>;
 
-/// What `done` and `already` say beside the word.
+/// What `done` and `already` say besides the word.
 #[derive(Debug, Drop)]
 pub enum Detail {
     Plain,

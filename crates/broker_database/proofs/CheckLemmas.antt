@@ -7,7 +7,7 @@ use Rattle.broker_tables.specs.Schema.{is_number, is_truth}
 use Rattle.broker_database.specs.Catalog.{IsEqualOp, IsTruthOp}
 use Rattle.sqlite_schema.specs.declared.code.Op.TheVariants as op
 
--- a node that is there is read, and Null where none is
+-- a node that is there is read, and Null if there is none
 found : (ops : List Op) (at : ℕ) (o : Op) → slice_get ops at ≡ Some o → slice_index_or ops at (op.Literal Null) ≡ o
 found [] at o is = absurd cc
 found (x ∷ ops) zero o is = cc

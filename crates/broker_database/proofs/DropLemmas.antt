@@ -1,4 +1,4 @@
--- A text that takes a table away commits nothing inside a transaction, whatever the schema is.
+-- A text that drops a table commits nothing inside a transaction, for any schema.
 use Rattle.std.specs.Prelude.{if◌then◌else◌}
 use Rattle.std.proofs.Common.{inl, inr, ◌≡◌, ◌∙◌, ◌+◌, Option, Some, None, ℕ, Bool, true, false, cond, is_some, List, Ok, Err, IsTrue, refl, subst}
 use Rattle.std.proofs.lemmas.Bool.{cases_Bool}
@@ -82,7 +82,7 @@ understood_ends schema sql w = elim (cases_Bool (reads_listing schema sql)) [
   | inr plain ↦ rw plain (text_ends schema sql _ refl w)
 ]
 
--- So it commits only where no transaction is open.
+-- So it commits only if no transaction is open.
 pub drop_commits_outside : (sql : List ℕ) (params : Row) (old : State) (db : Trees) → IsDropText (first sql) → CommitsBy sql params old db → old.in_transaction ≡ false
 unfolding CommitsBy
 drop_commits_outside sql params old db w h =

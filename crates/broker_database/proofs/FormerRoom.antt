@@ -7,7 +7,7 @@ use Rattle.broker_tables.specs.{Former.{HoldsUnmarked, added_tables}, Holds.{for
 use Rattle.registry_tables.specs.Format.{KeepsFormerRows}
 use Rattle.broker_database.specs.Migration.{TakesNoFormerRoom}
 
--- where a table has the rows that it had, it has the numbers
+-- if a table has the rows that it had, it has the numbers
 moved : (n : ℕ) {a b c : List Row} → c ≡ b → b ≡ a → LeaveNumbers n a → LeaveNumbers n c
 moved n two one = subst (LeaveNumbers n) (sym (two ∙ one))
 

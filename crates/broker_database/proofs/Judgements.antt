@@ -1,4 +1,4 @@
--- What is told of a database by the format that is found in it.
+-- What is answered about a database, by the format that is found in it.
 use Rattle.std.specs.Prelude.{if◌then◌else◌}
 use Rattle.std.proofs.Common.{◌≡◌, ◌≢◌, inl, inr, ℕ, ℤ, Bool, pos, List, [], ◌∷◌, map, length, refl, sym, ap, subst, ◌∙◌, Some, None, Option, Ok, Err, true, false, ◌==◌}
 use Rattle.std.proofs.{lemmas.Bool.{eqb-true, eqb-false}, lemmas.List.{length-map}}

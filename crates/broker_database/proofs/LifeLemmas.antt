@@ -116,7 +116,7 @@ module _ {X : Type 0} (shown : Held X → State) (settled : (c : Held X) (t : Tr
     serves_none old (Ok b) calls are opened never it = absurd (never refl)
     serves_none old (Err r) calls are opened never it = refused old r calls are (adds_nothing _ _ opened.tables.survives (given_clean shown (Err r) calls last it clean)) it
 
-    -- where there are tables no broker is made
+    -- if there are tables, no broker is made
     makes_none : (old : Kept) (office : Text) (given : Result (BrokerView X) (Refused X)) (calls : List (Request × Exit)) → AreTreesOf old trees → Created shown first office given
         → ¬ ((shown first).now.schema ≡ no_schema) → GivenRuns shown given calls last → (new : Kept) × LeavesAsWas old calls new × AreTreesOf new end
     makes_none old office (Ok b) calls are made some it = absurd (let no = made.tables.not_empty.1 some in cc)

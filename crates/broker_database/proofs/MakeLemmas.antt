@@ -30,7 +30,7 @@ looked old mid done new X worked result begun begins works concludes =
 
 -- ---- a broker's tables are made
 
--- whatever was made is kept
+-- the making is kept if and only if it succeeded
 pub made_kept : (r : Result (Unit {0}) StoreFault) → IsTrue (is_ok r) ↔ IsOkAnd r (λ _. Unit {0})
 made_kept (Ok u) = (λ _. tt, λ _. refl)
 made_kept (Err why) = (λ no. absurd (cc), λ no. absurd no)
@@ -80,7 +80,7 @@ module _ {X A : Type 0} (shown : Held X → State) (Ready Before : Database → 
           | inr never ↦ absurd never
         ]
 
-    -- and COMMIT, or for want of memory
+    -- COMMIT is refused only if the store failed, or if memory ran out
     by_commit : (why : StoreFault) → result ≡ Err (Commit why) → HasFailed (shown old) (shown new) Store ⊎ ((why ≡ Memory) × IsUncommitted shown s old new)
     by_commit why is =
         let refusal : EndsFor shown t.keeps t.worked done new (Commit why) = subst (λ (r : Result A Failure). IfErr r (EndsFor shown t.keeps t.worked done new)) is (refused clean) in
@@ -101,19 +101,19 @@ module _ {X A : Type 0} (shown : Held X → State) (Ready Before : Database → 
     commit = by_commit calm refused ready makes;
   }
 
--- as it is told, it is Store only for these
+-- the fault that is reported is Store only for these causes
 pub only_if_failed : {X A : Type 0} (shown : Held X → State) (Before : Database → Type 0) (s : Broker) (old new : Held X) (result : Result A Failure) → OnlyIfRefused shown Before s old new result → OnlyIfStoreFailed shown Before s old new (told result ≡ Err Store)
 only_if_failed shown Before s old new (Ok a) why clean fresh holds is = absurd (cc)
 only_if_failed shown Before s old new (Err (Call Memory)) why clean fresh holds is = absurd (cc)
 only_if_failed shown Before s old new (Err (Call Store)) why clean fresh holds is = inl (why.call clean fresh holds refl)
 only_if_failed shown Before s old new (Err (Commit fault)) why clean fresh holds is = elim (why.commit clean fresh holds fault refl) [ inl failed ↦ inl failed | inr refused ↦ inr refused.1 ]
 
--- as a failure is handed on
+-- the failure as the fault of making a broker
 pub refuses_as : (office : Text) (new : State) (why : StoreFault) → MakesOrFails office new (Err why) → Refuses IsBlank (λ db. Stores db (opening office)) new (open_fault why)
 refuses_as office new Memory it = it
 refuses_as office new Store it = it
 
--- ---- a database of format 1 is brought up
+-- ---- a database of format 1 is upgraded
 
 abbrev pub IsBroughtUp : State → State → Option ℕ → Type 0
 IsBroughtUp mid done found = FindsFormerAlone mid.now found × (found ≡ Some former_format → BringsUp mid.now done.now × (done.now.schema ≡ broker_schema))
@@ -159,7 +159,7 @@ brought_up shown old mid done new worked result keeps begun begins works kept co
     stored : (s : Broker) (found : Option ℕ) → StoresFormer (shown mid).now s → IsBroughtUp (shown mid) (shown done) found → found ≡ Some former_format → Stores (shown done).now s
     stored s found was up is = record { tables = ((up.1 is).0 s was.tables).0; contents = was.contents }
 
--- where BEGIN was refused
+-- if BEGIN was refused
 pub not_brought_up : {X : Type 0} (shown : Held X → State) (old new : Held X) (why : StoreFault) → (HasCleanDisk (shown new) → IsLeft (shown old) (shown new)) → (HasCleanDisk (shown new) → FailsToBegin (shown old) (shown new) why) → Survives (shown old) (shown new) (λ _. ⊥)
     → BringsUpOrNot shown old new (Err why)
 not_brought_up shown old new why refused cause begins = record {

@@ -21,7 +21,7 @@ live = codes "live"
 abbrev gated : Marks
 gated = record { gated = true; strict = false }
 
--- shop 1 has a contract with stock, and stock 1 stands in live
+-- shop 1 has a contract with stock, and stock 1 is deployed in live
 abbrev rows : Rows
 rows = record { contracts = ((shop, codes "stock"), 1) ∷ []; deployed = ((live, codes "stock", []), codes "1") ∷ []; released = [] }
 
@@ -37,7 +37,7 @@ result_row pass = Int (pos 1) ∷ Null ∷ Int (pos 1) ∷ Words (codes "stock")
 pub a_row_of_format_1_is_a_claim : AreResults (shop ∷ stock ∷ []) (claimed_result 1 stock true None ∷ []) (result_row true ∷ []) []
 a_row_of_format_1_is_a_claim = refl
 
--- after the migration the same row is still one, and one that stands among the checked ones isn't
+-- after the migration the same row is still a claim, and a row that is listed among the checked ones isn't
 pub a_checked_result_has_a_row_more : AreResults (shop ∷ stock ∷ []) (checked_result 1 stock false None ∷ []) (result_row false ∷ []) ((Int (pos 1) ∷ Null ∷ []) ∷ [])
 a_checked_result_has_a_row_more = refl
 

@@ -58,7 +58,7 @@ former_found db s None held (inl foreign) = marked_some former_format s.office d
 former_found db s None held (inr (tells, lacks)) = absurd (lacks (former_tables_there db s held))
 former_found db s (Some n) held it = marked_some former_format s.office db (Some n) (former_marked db s held) it.0
 
--- and nothing keeps its format from being told
+-- and its format can be found
 pub former_told : (db : Database) (s : Broker) → HoldsFormer db s → ¬ (HasNoFormat db ⊎ SharesTree db)
 former_told db s held (inl (table, at, is, (row, rows, none))) =
     let one : db.trees in_meta.tree ≡ row ∷ [] = subst (λ (t : Table). db.trees t.tree ≡ row ∷ []) (meta_is former_format s.office db (former_marked db s held) table at) rows in
@@ -124,7 +124,7 @@ same_fault need = ap (option_map (λ kind. record {
   kind = kind;
 })) (same_kind need.provider_version need.latest)
 
--- ---- where no environment is strict
+-- ---- if no environment is strict
 
 module _ (s : Broker) (are : IsUnmarked s) where
   lenient : (e : Text) → is_strict s e ≡ false
@@ -204,7 +204,7 @@ pub always : (r : Result (Unit {0}) OpenFault) (P : Type 0) → P → OnOk r P
 always (Ok u) P it = it
 always (Err fault) P it = tt
 
--- where the judgement refuses, no database of format 1 was found
+-- if the judgement refuses, no database of format 1 was found
 refused_other : (old new : State) (found : Option ℕ) → IsUnchangedUnless (λ f. f ≡ Some former_format) old new (Ok found) → IfErr (judgement former_format found) (IsUnchangedUnlessStore old new)
 refused_other old new None it = it (λ is. cc)
 refused_other old new (Some n) it = go (n == former_format) refl

@@ -1,4 +1,4 @@
--- Why a database isn't opened or migrated: the store failed, or the table meta is such that no format is told.
+-- Why a database isn't opened or migrated: the store failed, or the table meta is such that no format is found.
 use Rattle.std.specs.Prelude.{if◌then◌else◌}
 use Rattle.std.proofs.Common.{◌≡◌, ◌⊎◌, inl, inr, ℕ, Option, Some, None, Result, Ok, Err, IfErr, Bool, true, false, ◌==◌, arith, refl, subst, ◌∙◌}
 use Rattle.std.proofs.lemmas.Result.{IfErr-weaker}
@@ -34,7 +34,7 @@ module _ {A : Type 0} (old mid done new : State) (X Keeps : A → Type 0) (resul
         | inr why ↦ elim why [ inl untold ↦ inl (inr untold) | inr other ↦ inr other ]
       ]
 
--- ---- as it is told
+-- ---- the fault that is reported
 
 -- a judgement isn't a failure
 pub judgement_is_none : (wanted : ℕ) (found : Option ℕ) → ¬ (judgement wanted found ≡ Err told.Store)
@@ -45,7 +45,7 @@ judgement_is_none wanted (Some n) is = go (n == wanted) is
     go true is = cc
     go false is = cc
 
--- Store is told only of Store
+-- Store is reported only for Store
 pub told_store : (fault : StoreFault) → ◌≡◌ {A = Result (Unit {0}) OpenFault} (Err (open_fault fault)) (Err told.Store) → fault ≡ Store
 told_store Memory is = absurd (cc)
 told_store Store is = refl

@@ -1,4 +1,4 @@
--- The list of objects tells the schema.
+-- The list of objects determines the schema.
 use Rattle.std.{specs.List.{AllZip}, proofs.Common.{inl, inr, ◌≡◌, ◌∙◌, ℕ, ◌+◌, pos, List, [], ◌∷◌, filter, false, refl, sym, ap, arith}}
 use Rattle.sqlite.specs.{declared.types.Value.{Value}, declared.types.Value.TheVariants.{Null, Int, Real, Text, Blob}, Order.{Row, column}, Table.{Table}}
 use Rattle.sqlite.specs.{Schema.{Schema}, Tree.{rowid, IsAscending}}

@@ -27,7 +27,7 @@ no_step_calls s ((r, WasCut) ∷ calls) none = absurd none
 
 -- ---- one call
 
--- what a crash may leave of a command, whatever it was answered
+-- what a crash may leave of a command, for any answer to it
 cut_leaves : (s : Broker) (r : Request) (c : State) (given : Answer) (left : Trees) → Applies s r.token r.command c given → c.may_leave left
     → (t : Broker) × CallLeaves broker_primitives s r WasCut t × IsOnDisk (λ db. Stores db t) left
 cut_leaves s r c given left (inl steps) may = (steps.next, inr (given, steps.step), steps.keeps.left left may)

@@ -7,7 +7,7 @@ use Rattle.table_access.specs.{Calls.{HasFailed, GoesOn, FailsAs, fault_of}, Uni
 use Rattle.table_access.{specs.declared.StoreFault.TheVariants.{Memory, Store}, proofs.{CallLemmas.{ended_since}, RefusedEnds.{failed_idle}}}
 use Rattle.broker_database.{specs.Transaction.{conclusion}, proofs.Transaction.{IsTransaction, WholeTransaction, parts, transaction_begun}}
 
--- a failure of the store that isn't want of memory is one of the disk, or the connection was shut
+-- if the store failed, but not for lack of memory, the disk failed or the connection was shut
 pub disk_at_fault : (old new : State) → HasFailed old new Store → HasCause old new ⊥ Io ⊎ HasCause old new ⊥ Broken
 disk_at_fault old new failed = by failed.cause failed.fault_is failed.has
   where

@@ -18,7 +18,7 @@ left_over old new it over now =
     let was = over ((left_commit old new it).was_open now) in
     ended_left old new it was.0 was.1 now
 
--- behind its end no transaction is open
+-- after its end no transaction is open
 pub finished_over : (done new : State) (keeps : Bool) (ended : Result (Unit {0}) StoreFault) → Finishes done new keeps ended → HasCleanDisk new → IsOver new
 finished_over done new true (Ok u) it clean now = let commit = it.committed clean refl in (commit.0.mode, commit.0.now_is ∙ sym commit.0.committed_is)
 finished_over done new false ended it clean now = (it.over clean (inl refl)).1 now
@@ -66,9 +66,9 @@ keeps_on P old new it keeps = record {
   left = λ trees may. keeps.left trees (it.left trees may);
 }
 
--- ---- what calls in turn leave of the connection, whatever they commit
+-- ---- what calls leave of the connection, one after another, for all that they commit
 
--- a connection that is left alone survives
+-- a connection on which nothing is called survives
 pub outlives_itself : {P : Trees → Type 0} (c : State) → Survives c c P
 outlives_itself {P} c = record { clean = omega arith; shield = λ h. h; counts = omega arith; limit = refl; closes = λ _ h. inl h; crash = λ _ db h. inl h }
 
@@ -87,7 +87,7 @@ outlives_as a b f s = record {
   crash = λ clean trees may. elim (s.crash clean trees may) [ inl was ↦ inl was | inr is ↦ inr (f trees is) ];
 }
 
--- where nothing is committed, no more is left by a crash, and there is one commit at most
+-- if nothing is committed, no more is left by a crash, and there is one commit at most
 pub adds_nothing : (a b : State) → Survives a b (λ _. ⊥) → HasCleanDisk b → AddsNoCrashState a b
 adds_nothing a b s clean trees may = elim (s.crash clean trees may) [ inl was ↦ was | inr never ↦ absurd never ]
 
@@ -111,7 +111,7 @@ module _ {A : Type 0} (old mid done new : State) (r : Result A StoreFault) (X Ke
       let inside = (t.begun mid_clean).1.mode in
       absurd (cc)) t.begins t.works.survives
 
-  -- so there is one commit at most, and none where nothing is kept
+  -- so there is one commit at most, and none if nothing is kept
   pub commits_once : CommitsAtMostOnce old new
   commits_once = (done.now.trees, survives_then old done new _ _ _ (λ _ db never. absurd never) (λ _ db is. is.1) within t.ends.survives)
 
@@ -140,14 +140,14 @@ module _ {A : Type 0} (old mid done new : State) (r : Result A StoreFault) (X Ke
       let over = t.ends.over clean (inl unkept) in
       rolled_back old mid done r X (begun_on clean) t.begins t.works (done_clean clean) new over.1 over.0 clean (outlives_as done new (λ trees is. absurd (let kept = is.0 in cc)) t.ends.survives)
 
-  -- the commit is refused, behind work that went well
+  -- the commit is refused, after work that went well
   unsure : HasCleanDisk new → (P Q : Database → Type 0) → HoldsDurably P old → IsTrue keeps → is_ok ended ≡ false → (HasCleanDisk done → IsTrue mid.in_transaction → GoesOn mid done) → Q done.now → HoldsEither P Q new
   unsure clean P Q holds is_kept undone on has =
       let begun = begun_on clean in
       refused P old mid done r X holds begun t.begins t.works (done_clean clean) new Q ((on (done_clean clean) begun.1.mode).1 begun.1.is_open) (t.ends.live is_kept) t.ends.settled (t.ends.over clean (inr undone)).0 clean
       (outlives_as done new (λ trees is. is.1) t.ends.survives) has
 
-  -- whatever was refused, the last commit is the old one
+  -- if the end was refused, by any fault, the last commit is the old one
   last_commit : HasCleanDisk new → is_ok ended ≡ false → KeepsLastCommit old new
   last_commit clean undone = commit_left old mid done r X (begun_on clean) t.begins t.works (done_clean clean) new (t.ends.over clean (inr undone)).0
 
@@ -156,7 +156,7 @@ module _ {A : Type 0} (old mid done new : State) (X Keeps : A → Type 0) where
   never_memory : (r : Result A StoreFault) → IsTransaction old mid done new r X Keeps true (Err fault.Memory) → ⊥
   never_memory r t = let clash = t.ends.unsure refl in cc
 
-  -- where nothing is to be kept, a failure leaves what was there
+  -- if nothing is to be kept, a failure leaves what was there
   module _ (r : Result A StoreFault) (ended : Result (Unit {0}) StoreFault) (t : IsTransaction old mid done new r X Keeps false ended) (clean : HasCleanDisk new) where
     undone_ends : (P Q : Database → Type 0) (Answers : A → Type 0) → HoldsDurably P old → (f : StoreFault) → EndsOrFails P Q Answers new (Err f)
     undone_ends P Q Answers holds fault.Memory = keeps_on P old new (as_before old mid done new r _ _ false ended t clean refl) holds
@@ -196,13 +196,13 @@ module _ {A : Type 0} (old mid done new : State) (X Keeps : A → Type 0) where
   unchanged (Err f) true ended t clean = absurd (t.kept.0 refl)
   unchanged r false (Err f) t clean = undone_unchanged r (Err f) t clean (worst r f)
 
-  -- an answer is what the work came to, on what was there before
+  -- an answer is that of the work, on what was there before
   told : (r : Result A StoreFault) (keeps : Bool) (ended : Result (Unit {0}) StoreFault) → IsTransaction old mid done new r X Keeps keeps ended → HasCleanDisk new → IfOk (conclusion r ended) (λ a. IsTrue old.is_open × (mid.now ≡ old.now) × X a)
   told (Ok a) keeps (Ok u) t clean = let is = opened old mid done new (Ok a) _ _ keeps (Ok u) t clean in (is.0, is.1, t.works.ok (done_clean old mid done new (Ok a) _ _ keeps (Ok u) t clean))
   told (Err f) keeps (Ok u) t clean = tt
   told r keeps (Err f) t clean = tt
 
-  -- where nothing that the work may come to on what was there is kept, nothing is committed
+  -- if nothing that the work may return on what was there is kept, nothing is committed
   spares : (r : Result A StoreFault) (keeps : Bool) (ended : Result (Unit {0}) StoreFault) → IsTransaction old mid done new r X Keeps keeps ended → ((a : A) → mid.now ≡ old.now → X a → ¬ (Keeps a)) → HasCleanDisk new → AddsNoCrashState old new
   spares r false ended t never clean = adds_nothing old new (commits_nothing old mid done new r _ _ false ended t refl) clean
   spares (Err f) true ended t never clean = absurd (t.kept.0 refl)

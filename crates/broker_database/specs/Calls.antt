@@ -39,7 +39,7 @@ module _ {X : Type 0} (shown : Held X → State) where
     pub applies : HasCleanDisk (shown new.connection) → old.is_stopped ≡ false
         → (s : Broker) → HoldsState s (shown old.connection)
         → Applies s token command (shown new.connection) answer
-    -- a deployment is recorded exactly where it may be
+    -- a deployment is recorded if and only if it may be
     pub deployments : HasCleanDisk (shown new.connection) → old.is_stopped ≡ false
         → IsTrue (is_step answer) → (s : Broker) → HoldsState s (shown old.connection)
         → (e : Text) (v : Version) (instance : Option Text) → command ≡ Deploy e v instance
@@ -50,7 +50,7 @@ module _ {X : Type 0} (shown : Held X → State) where
         → IsTrue (is_step answer) → (s : Broker) → HoldsState s (shown old.connection)
         → (e : Text) (v : Version) → command ≡ Release e v
         → RecordsExactly s token e v (λ t. IsTrue (t.released (e, v))) (shown new.connection) answer
-    -- whatever the database is: Done and Store aside, it is as it was
+    -- of any database: unless the answer is Done or Store, it is as it was
     pub unchanged : HasCleanDisk (shown new.connection) → old.is_stopped ≡ false
         → answer ≢ answers.Store → ¬ (IsDone answer) → IsAsBefore (shown old.connection) (shown new.connection)
     -- Store: the last commit is the old one, while its connection is open
@@ -58,7 +58,7 @@ module _ {X : Type 0} (shown : Held X → State) where
         → KeepsLastCommit (shown old.connection) (shown new.connection)
     -- Store, from a state that can be read back: the store failed, unless the command was to be done; so no refusal, no
     -- request without a token and none that only reads stops a broker whose disk works. And one that was to be done, if
-    -- the tables have numbers for its rows, only if the store failed or COMMIT was refused for want of memory.
+    -- the tables have numbers for its rows, only if the store failed or COMMIT was refused since memory ran out.
     pub calm : HasCleanDisk (shown new.connection) → old.is_stopped ≡ false → answer ≡ answers.Store
         → (s : Broker) → HoldsReadable s (shown old.connection)
         → HasFailed (shown old.connection) (shown new.connection) faults.Store
@@ -68,9 +68,9 @@ module _ {X : Type 0} (shown : Held X → State) where
     -- the numbers of rows that the tables have left: a command takes some at most
     pub room : HasCleanDisk (shown new.connection) → old.is_stopped ≡ false
         → (s : Broker) → HoldsState s (shown old.connection) → KeepsRoom (shown old.connection) (shown new.connection)
-    -- whatever the answer is, no transaction is left open
+    -- for any answer, no transaction is left open
     pub over : LeavesNoTransaction (shown old.connection) (shown new.connection)
-    -- Store alone stops the broker
+    -- only Store stops the broker
     pub stops : old.is_stopped ≡ false → (IsTrue new.is_stopped ↔ (answer ≡ answers.Store))
     -- a stopped broker answers Stopped and is left as it is, and no other one answers so
     pub stopped : IsTrue old.is_stopped → (answer ≡ answers.Stopped) × (new ≡ old)
@@ -80,14 +80,14 @@ module _ {X : Type 0} (shown : Held X → State) where
 
   -- What the making of a broker leaves of a connection, and what it hands back. Its office's token has this digest.
   pub record Created (old : Held X) (office : Text) (given : Result (BrokerView X) (Refused X)) : Type 0 where
-    -- a new broker's tables are made, or it is told why not; of any database and any disk
+    -- a new broker's tables are made, or the fault says why not; for any database and any disk
     pub tables : TablesMade shown old (left_by given) office (verdict given)
     -- a new broker isn't stopped
     pub runs : IfOk given (λ b. b.is_stopped ≡ false)
 
   -- What the opening of a broker leaves of a connection, and what it hands back.
   pub record Opened (old : Held X) (given : Result (BrokerView X) (Refused X)) : Type 0 where
-    -- a broker's tables are found, or it is told what is there instead; of any database and any disk
+    -- a broker's tables are found, or the fault says what is there instead; for any database and any disk
     pub tables : TablesFound shown old (left_by given) (verdict given)
     -- the database is as it was, so that the broker holds the state that was held
     pub holds : IfOk given (λ b. HasCleanDisk (shown b.connection) → (s : Broker) → HoldsState s (shown old)
@@ -110,25 +110,25 @@ module _ {X : Type 0} (shown : Held X → State) where
     -- or a failure: it is of format 1 with that state, and after Store a crash may leave today's
     pub refuses : HasCleanDisk (shown new) → (s : Broker) → HoldsFormerState s (shown old)
         → IfErr given (Refuses (λ db. StoresFormer db s) (λ db. Stores db s) (shown new))
-    -- a failure aside: the database had the tables of format 1, or it is told what it is instead
+    -- unless it failed: the database had the tables of format 1, or the fault says what it is instead
     pub judges : HasCleanDisk (shown new) → MigratesOrRefuses (shown old).now given
     -- Store: on a connection as it is opened, the store failed, or meta has no number as its format; or the database had
     -- the tables of format 1, and a change or the commit was refused
     pub calm : HasCleanDisk (shown new) → IsFresh (shown old) → given ≡ Err fault.Store
         → TellsNothing (shown old) (shown new) ⊎ IsFormer (shown old).now
-    -- and where it held a state in that format that can be read back: the store failed, or COMMIT was refused for want of
-    -- memory; no statement that makes a table or an index, or sets the format, is refused
+    -- and if it held a state in that format that can be read back: the store failed, or COMMIT was refused since memory
+    -- ran out; no statement that makes a table or an index, or sets the format, is refused
     pub calm_former : OnlyIfNotMigrated shown old new (given ≡ Err fault.Store)
     -- of a database without tables: NotABroker, or a failure
     pub blank : HasCleanDisk (shown new) → HoldsDurably IsBlank (shown old) → Judged former_format None given
     -- of one that is marked with another format: which that is, or a failure
     pub marked : HasCleanDisk (shown new) → (n : ℕ) (office : List ℕ) → n ≢ former_format
         → HoldsDurably (IsMarked n office) (shown old) → Judged former_format (Some n) given
-    -- whatever the database is: where it isn't migrated it is as it was, or after Store the last commit is the old one
+    -- of any database: if it isn't migrated it is as it was, or after Store the last commit is the old one
     pub unchanged : HasCleanDisk (shown new) → IfErr given (IsUnchangedUnlessStore (shown old) (shown new))
-    -- whatever the answer is, no transaction is left open
+    -- for any answer, no transaction is left open
     pub over : LeavesNoTransaction (shown old) (shown new)
     -- on a disk that fails, and when the program is stopped in the call: a crash leaves one more database at most
     pub survives : CommitsAtMostOnce (shown old) (shown new)
-    -- and none on a database that isn't of format 1, whatever the answer is: what a crash leaves, it left before
+    -- and none on a database that isn't of format 1, for any answer: what a crash leaves, it left before
     pub spares : HasCleanDisk (shown new) → ¬ (IsFormer (shown old).now) → AddsNoCrashState (shown old) (shown new)

@@ -147,6 +147,6 @@ made_index form = record {
   is_unique = form.is_unique;
 }
 
--- the schema of these tables and indexes alone
+-- the schema that has only these tables and indexes
 abbrev pub schema_by : List TableForm → List IndexForm → Schema
 schema_by tables indexes = record { tables = map made_table tables; indexes = map made_index indexes; views = [] }

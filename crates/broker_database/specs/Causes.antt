@@ -29,8 +29,8 @@ pub record HoldsReadable (s : Broker) (c : State) : Type 0 where
   pub unlimited : c.step_limit ≡ None
 
 -- A command from this state was done in a transaction that was begun on the old connection, in which nothing was
--- committed, and COMMIT was refused for want of memory: the last commit was of that state, and its next state was seen.
--- Shown is what a connection shows.
+-- committed, and COMMIT was refused since memory ran out: the last commit was of that state, and its next state was
+-- seen. Shown is what a connection shows.
 pub record CommitLacksMemory {X : Type 0} (shown : Held X → State) (s : Broker) (token : Option Text) (command : Command)
     (old new : Held X) : Type 0 where
   pub worked : Held X

@@ -33,7 +33,7 @@ abbrev pub LeavesNoTransaction : State → State → Type 0
 LeavesNoTransaction old new = HasCleanDisk new → IsOver old → IsOver new
 
 -- The database is as it was: what was last committed still is, a crash leaves nothing that it didn't leave before,
--- and no transaction is open where none was.
+-- and no transaction is open if none was.
 pub record IsAsBefore (old new : State) : Type 0 where
   pub commit : KeepsLastCommit old new
   pub left : AddsNoCrashState old new
@@ -69,7 +69,7 @@ module _ (s : Broker) (token : Option Text) (command : Command) where
       ⊎ (((answer ≡ Memory) × HoldsState s new)
       ⊎ ((answer ≡ Store) × HoldsEither (λ db. Stores db s) HoldsNext new)))
 
--- For private clauses: whatever the database is, only an answer by which something is kept and a failure of the database
+-- For private clauses: of any database, only an answer by which something is kept and a failure of the database
 -- leave it otherwise than it was, and after that failure the last commit is the old one while the connection is open.
 abbrev pub IsUnchangedUnless : {A : Type 0} → (A → Type 0) → State → State → Result A StoreFault → Type 0
 IsUnchangedUnless Keeps old new (Ok a) = ¬ (Keeps a) → IsAsBefore old new

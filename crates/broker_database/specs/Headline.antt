@@ -9,7 +9,7 @@ use Rattle.broker_core.specs.declared.command.Version.{Version}
 use Rattle.command_facts.specs.Primitives.{broker_primitives}
 use Rattle.broker_database.specs.Stored.{HoldsState}
 
--- the connection keeps a state in which v is recorded in e exactly where it may be; otherwise the answer refuses, and
+-- the connection keeps a state in which v is recorded in e if and only if it may be; otherwise the answer refuses, and
 -- the state is as it was
 abbrev pub RecordsExactly : Broker → Option Text → Text → Version → (Broker → Type 0)
     → State → Answer → Type 0

@@ -62,7 +62,7 @@ calls_of (Making office calls) = calls
 calls_of _ = []
 
 -- These commands were run from this state, one after another. One that was answered by a step took it, one that was
--- answered by no step didn't; and one that was cut, behind which none is a step, took its step or didn't.
+-- answered by no step didn't; and one that was cut, after which none is a step, took its step or didn't.
 abbrev pub RunsFrom : Broker → List (Request × Exit) → Kept → Type 0
 RunsFrom s calls new = (t : Broker) × IsSession calls × LeavesAll broker_primitives s calls t × (new ≡ OfToday t)
 
@@ -70,7 +70,7 @@ RunsFrom s calls new = (t : Broker) × IsSession calls × LeavesAll broker_primi
 abbrev pub LeavesAsWas : Kept → List (Request × Exit) → Kept → Type 0
 LeavesAsWas old calls new = (calls ≡ []) × (new ≡ old)
 
--- what is kept after a period: a broker's commands are run, where there is one; on files without tables a broker is
+-- what is kept after a period: a broker's commands are run, if there is one; on files without tables a broker is
 -- made, or not; one of format 1 is migrated, or not; and nothing else runs or changes anything
 abbrev pub PeriodLeads : Kept → Period → Kept → Type 0
 PeriodLeads (OfToday s) (Serving calls) new = RunsFrom s calls new
@@ -102,7 +102,7 @@ pub record HasRun (old : Kept) (life : List Period) (last : Broker) : Type 0 whe
   pub sessions : Sessions broker_primitives first (sessions_in life) last
   -- so it is that of a run over what is done of them: of each a prefix, which has every command answered by a step
   pub done : RunsDone broker_primitives first (sessions_in life) last
-  -- where each cut command comes first in the next session and is answered by a step there, it is that of a run over
+  -- if each cut command comes first in the next session and is answered by a step there, it is that of a run over
   -- all commands, each once
   pub again : ComeAgain (sessions_in life)
       → (answers : List Answer) × Run broker_primitives first (all_answered (sessions_in life)) answers last
@@ -136,7 +136,7 @@ module _ {X : Type 0} (shown : Held X → State) where
   PeriodRuns Migrating old new = (given : Result (Unit {0}) OpenFault) × Migrated shown old new given
   PeriodRuns NotOpened old new = ⊥
 
-  -- Over any store: whatever a crash leaves of that connection keeps what the period leads to.
+  -- Over any store: all that a crash may leave of that connection keeps what the period leads to.
   abbrev pub PeriodsLead : Type 0
   PeriodsLead =
       (old : Kept) (period : Period) (first last : Held X) (trees end : Trees)
@@ -146,13 +146,13 @@ module _ {X : Type 0} (shown : Held X → State) where
 
 -- ---- the files
 
--- The two files hold trees that keep it. Where there are no tables, there may be nothing yet: the database file is
+-- The two files hold trees that keep it. If there are no tables, there may be nothing yet: the database file is
 -- empty, or has what an opening that was stopped wrote of a first page.
 abbrev pub IsKeptIn : Kept → Image → Type 0
 IsKeptIn kept image =
     ∥ (((trees : Trees) × HoldsDatabase image trees × AreTreesOf kept trees) ⊎ ((kept ≡ Blank) × IsNothing image)) ∥₁
 
--- the database that was there is; where there was nothing there is nothing, or a database without tables
+-- the database that was there is still there; if there was nothing, there is nothing, or a database without tables
 pub record HoldsAsBefore (old new : Image) : Type 0 where
   pub same : (trees : Trees) → HoldsDatabase old trees → ∥ HoldsDatabase new trees ∥₁
   pub none : IsNothing old → ∥ (IsNothing new ⊎ ((trees : Trees) × HoldsDatabase new trees × IsEmpty trees)) ∥₁

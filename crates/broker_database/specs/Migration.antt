@@ -85,7 +85,7 @@ pub record WasJudged (s : Broker) (v : Version) (e : Text) (permitted : Bool) (f
   pub verdict : IsTrue permitted ↔ WasPermitted s v e
   pub faults_are : Lists fault_cmp (WasFault s v e) faults
 
--- an environment's marks, where it has the one mark of format 1
+-- an environment's marks, if it has the one mark of format 1
 abbrev pub former_marks : Bool → Marks
 former_marks gated = record { gated = gated; strict = false }
 
@@ -128,17 +128,17 @@ abbrev pub BringsUp : Database → Database → Type 0
 BringsUp old new = (s : Broker) → HoldsFormer old s → Holds new s × TakesNoFormerRoom old new
 
 -- The tables of format 1 are there, each with its columns and keys, wherever it is and however it is declared beside
--- these; and nothing else is: no further table, no index but those of keys, no view and no trigger.
+-- these; and nothing else is: no other table, no index but those of keys, no view and no trigger.
 abbrev pub HasFormerAlone : Schema → Type 0
 HasFormerAlone schema = HasFormerTables schema × (length schema.tables ≡ length former_tables)
     × (length schema.indexes ≡ length (schema_of former_tables).indexes) × (schema.views ≡ [])
 
--- of format 1, and with its tables alone: what is migrated
+-- of format 1, with its tables and nothing else: what is migrated
 abbrev pub IsFormer : Database → Type 0
 IsFormer db = IsOfFormat former_format db × HasFormerAlone db.schema
 
--- For private clauses: what is found in a database that is to be migrated: a format, and if that is 1, its tables alone
--- too; or none of both.
+-- For private clauses: what is found in a database that is to be migrated: a format, and if that is 1, its tables and
+-- nothing else; or neither.
 abbrev pub FindsFormerAlone : Database → Option ℕ → Type 0
 FindsFormerAlone db found = MatchOption found
     (IsForeign db ⊎ (IsOfFormat former_format db × (¬ (HasFormerAlone db.schema))))
@@ -150,7 +150,7 @@ abbrev pub CanBeStoredAgain : Broker → Type 0
 CanBeStoredAgain s = IsReadable s × AreShort (s.office ∷ [])
 
 -- On a connection as it is opened that holds such a state in format 1, this is answered only if the store failed, or if
--- today's database was made, whole, and COMMIT was refused for want of memory.
+-- today's database was made, whole, and COMMIT was refused since memory ran out.
 abbrev pub OnlyIfNotMigrated : {X : Type 0} → (Held X → State) → Held X → Held X → Type 0 → Type 0
 OnlyIfNotMigrated shown old new Answered =
     (s : Broker) → CanBeStoredAgain s → OnlyIfStoreFailed shown (λ db. StoresFormer db s) s old new Answered
@@ -159,12 +159,13 @@ OnlyIfNotMigrated shown old new Answered =
 abbrev pub CanBeMigrated : Database → Type 0
 CanBeMigrated db = (s : Broker) × HoldsFormer db s × CanBeStoredAgain s
 
--- For private clauses: no format is told, or the tables of format 1 are there, and nothing else.
+-- For private clauses: no format is found, or the tables of format 1 are there, and nothing else.
 abbrev pub FailsToBringUp : State → State → StoreFault → Type 0
 FailsToBringUp old new fault = FailsToFind old new fault ⊎ IsFormer old.now
 
--- What is told of a database that is to be migrated, a failure aside: it has the tables of format 1 alone; or its format
--- is another; or it is no broker's, or of format 1 by its meta, without its tables or with more.
+-- What is answered about a database that is to be migrated, unless the call fails: it is of format 1, with its tables
+-- and nothing else; its format is another; or it is no broker's, or of format 1 by its meta, without its tables or with
+-- more.
 abbrev pub MigratesOrRefuses : Database → Result (Unit {0}) OpenFault → Type 0
 MigratesOrRefuses db (Ok u) = IsFormer db
 MigratesOrRefuses db (Err NotABroker) = IsForeign db ⊎ (IsOfFormat former_format db × (¬ (HasFormerAlone db.schema)))

@@ -26,7 +26,7 @@ use Rattle.broker_database.specs.declared.opening.OpenFault.TheVariants.{NotEmpt
 
 -- ---- for private clauses: the steps of making a broker, and its transaction
 
--- a failure of the database, as it is told
+-- a failure of the database, as it is reported
 abbrev pub open_fault : StoreFault → OpenFault
 open_fault fault.Memory = Memory
 open_fault fault.Store = Store
@@ -35,7 +35,7 @@ open_fault fault.Store = Store
 abbrev pub first_tables : List Table
 first_tables = registry_part ++ contents ∷ contract_part
 
--- the rest of them is made, whatever the office
+-- the rest of them is made, for any office
 abbrev pub MakesRest : Database → Database → Type 0
 MakesRest old new = (office : Text) → HasTables first_tables format office old → HasTables all_tables format office new
 
@@ -54,8 +54,8 @@ Refuses P Q new Memory = HoldsDurably P new
 Refuses P Q new Store = HoldsEither P Q new
 Refuses P Q new _ = ⊥
 
--- whatever the database is: where it is refused, it is as it was, or after a failure of the database the last
--- commit is the old one
+-- of any database: if it is refused, it is as it was, or after a failure of the database the last commit is the old
+-- one
 abbrev pub IsUnchangedUnlessStore : State → State → OpenFault → Type 0
 IsUnchangedUnlessStore old new Store = KeepsLastCommit old new
 IsUnchangedUnlessStore old new _ = IsAsBefore old new
@@ -71,24 +71,24 @@ RefusesNew office old new fault =
     HasCleanDisk new → HoldsDurably IsBlank old → old.now.schema ≡ no_schema
     → Refuses IsBlank (λ db. Stores db (opening office)) new fault
 
--- ---- what is told of a database
+-- ---- what is answered about a database
 
 -- Of today's format, with what a broker declares and nothing else: its tables, their CHECKs, keys and REFERENCES, and its
 -- indexes, as SQLite reads the statements that make them. So it is in each database that holds a state.
 abbrev pub IsOfToday : Database → Type 0
 IsOfToday db = IsOfFormat format db × (db.schema ≡ broker_schema)
 
--- of a broker's format by its meta alone
+-- of today's format by its meta, but it declares something else than a broker does
 abbrev pub DeclaresOther : Database → Type 0
 DeclaresOther db = IsOfFormat format db × (db.schema ≢ broker_schema)
 
--- For private clauses: what is found in a database that is to be opened: a format, and if that is today's, what a broker
--- declares too; or none of both.
+-- For private clauses: what is found in a database that is to be opened: a format, and if that is today's, what a
+-- broker declares too; or neither.
 abbrev pub FindsToday : Database → Option ℕ → Type 0
 FindsToday db found = MatchOption found (IsForeign db ⊎ DeclaresOther db)
     (λ n. IsOfFormat n db × (n ≡ format → db.schema ≡ broker_schema))
 
--- a failure aside
+-- what is answered about a database that is to be opened, unless the call fails
 abbrev pub OpensOrRefuses : Database → Result (Unit {0}) OpenFault → Type 0
 OpensOrRefuses db (Ok u) = IsOfToday db
 OpensOrRefuses db (Err NotABroker) = IsForeign db ⊎ DeclaresOther db
@@ -103,7 +103,7 @@ IsMarkedToday office db = IsMarked format office db × (db.schema ≡ broker_sch
 
 -- of this format it is to be
 module _ (wanted : ℕ) where
-  -- what is told of a database by the format that is found in it
+  -- what is answered about a database by the format that is found in it
   abbrev pub judgement : Option ℕ → Result (Unit {0}) OpenFault
   judgement None = Err NotABroker
   judgement (Some n) = if n == wanted then Ok tt else Err (Format n)
@@ -112,24 +112,24 @@ module _ (wanted : ℕ) where
   abbrev pub Judged : Option ℕ → Result (Unit {0}) OpenFault → Type 0
   Judged found r = (r ≡ judgement found) ⊎ ((r ≡ Err Memory) ⊎ (r ≡ Err Store))
 
--- ---- why nothing is told of it
+-- ---- why nothing is answered about it
 
 -- as a connection is opened: no transaction is open, and no query has a limit of steps
 abbrev pub IsFresh : State → Type 0
 IsFresh c = (c.in_transaction ≡ false) × (c.step_limit ≡ None)
 
--- the store failed, or the table meta is such that no format is told
+-- the store failed, or the table meta is such that no format is found
 abbrev pub TellsNothing : State → State → Type 0
 TellsNothing old new = HasFailed old new fault.Store ⊎ (HasNoFormat old.now ⊎ SharesTree old.now)
 
--- so it is where this is answered of a connection as it is opened
+-- so it is if this is answered for a connection as it is opened
 abbrev pub OnlyIfUntold : State → State → Type 0 → Type 0
 OnlyIfUntold old new Answered = HasCleanDisk new → IsFresh old → Answered → TellsNothing old new
 
 -- ---- why today's tables aren't made
 
 -- They were made, all of them, and hold this state, in a transaction that was begun on this connection, in which nothing
--- was committed, and COMMIT was refused for want of memory. Shown is what a connection shows.
+-- was committed, and COMMIT was refused since memory ran out. Shown is what a connection shows.
 pub record IsUncommitted {X : Type 0} (shown : Held X → State) (s : Broker) (old new : Held X) : Type 0 where
   pub worked : Held X
   pub inside : IsTrue (shown worked).in_transaction
@@ -138,7 +138,7 @@ pub record IsUncommitted {X : Type 0} (shown : Held X → State) (s : Broker) (o
   pub refused : RefusesCommit shown worked new fault.Memory
 
 -- On a connection as it is opened that holds such a database, of which one that holds this state is to be made, this is
--- answered only if the store failed, or if COMMIT was refused for want of memory.
+-- answered only if the store failed, or if COMMIT was refused since memory ran out.
 abbrev pub OnlyIfStoreFailed : {X : Type 0} → (Held X → State) → (Database → Type 0) → Broker → Held X → Held X → Type 0
     → Type 0
 OnlyIfStoreFailed shown Before s old new Answered =
@@ -146,7 +146,7 @@ OnlyIfStoreFailed shown Before s old new Answered =
     → HasFailed (shown old) (shown new) fault.Store ⊎ IsUncommitted shown s old new
 
 -- For private clauses: why such a transaction fails by Store. If it was a call, the store failed; if it was COMMIT, that
--- did, or it was refused for want of memory.
+-- did, or it was refused since memory ran out.
 pub record OnlyIfRefused {X A : Type 0} (shown : Held X → State) (Before : Database → Type 0) (s : Broker) (old new : Held X)
     (result : Result A Failure) : Type 0 where
   pub call : HasCleanDisk (shown new) → IsFresh (shown old) → HoldsDurably Before (shown old)
@@ -164,24 +164,24 @@ module _ {X : Type 0} (shown : Held X → State) (old new : Held X) where
     pub made : OnOk given (MakesNew office (shown old) (shown new))
     -- or a failure: there are no tables, and after Store a crash may leave the new broker's
     pub refuses : IfErr given (RefusesNew office (shown old) (shown new))
-    -- Store: on a connection as it is opened and a database without tables, the store failed, or COMMIT was refused for
-    -- want of memory; no statement that makes a table or an index is refused
+    -- Store: on a connection as it is opened and a database without tables, the store failed, or COMMIT was refused
+    -- since memory ran out; no statement that makes a table or an index is refused
     pub calm : OnlyIfStoreFailed shown IsBlank (opening office) old new (given ≡ Err Store)
     -- NotEmpty: there is a table, an index or a view
     pub not_empty : (given ≡ Err NotEmpty) ↔ (¬ ((shown old).now.schema ≡ no_schema))
     -- and the connection is as it was
     pub same : given ≡ Err NotEmpty → new ≡ old
-    -- whatever the database is: where no tables are made, it is as it was, or after Store the last commit is the old one
+    -- of any database: if no tables are made, it is as it was, or after Store the last commit is the old one
     pub unchanged : HasCleanDisk (shown new) → IfErr given (IsUnchangedUnlessStore (shown old) (shown new))
-    -- whatever is answered, no transaction is left open
+    -- for any answer, no transaction is left open
     pub over : LeavesNoTransaction (shown old) (shown new)
     -- on a disk that fails, and when the program is stopped in the call: a crash leaves one more database at most
     pub survives : CommitsAtMostOnce (shown old) (shown new)
 
   -- The look for a broker's tables.
   pub record TablesFound (given : Result (Unit {0}) OpenFault) : Type 0 where
-    -- a failure aside: the database is of today's format and declares exactly what a broker does, no view and no trigger
-    -- beside it; or it is told what it is instead
+    -- unless it failed: the database is of today's format and declares exactly what a broker does, no view and no
+    -- trigger beside it; or the fault says what it is instead
     pub judges : HasCleanDisk (shown new) → OpensOrRefuses (shown old).now given
     -- Store: on a connection as it is opened, the store failed, or meta has no number as its format
     pub calm : OnlyIfUntold (shown old) (shown new) (given ≡ Err Store)
@@ -195,9 +195,9 @@ module _ {X : Type 0} (shown : Held X → State) (old new : Held X) where
         → HoldsDurably (IsMarkedToday office) (shown old) → Judged format (Some format) given
     -- the database is as it was
     pub kept : HasCleanDisk (shown new) → OnOk given (IsAsBefore (shown old) (shown new))
-    -- where none are found, it is as it was too, or after Store the last commit is the old one
+    -- if none are found, it is as it was too, or after Store the last commit is the old one
     pub unchanged : HasCleanDisk (shown new) → IfErr given (IsUnchangedUnlessStore (shown old) (shown new))
-    -- whatever is answered, no transaction is left open
+    -- for any answer, no transaction is left open
     pub over : LeavesNoTransaction (shown old) (shown new)
     -- on a disk that fails, and when the program is stopped in the call: what a crash leaves, it left before
     pub survives : Survives (shown old) (shown new) (λ _. ⊥)

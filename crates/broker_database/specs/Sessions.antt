@@ -36,7 +36,7 @@ module _ {X : Type 0} (shown : Held X → State) where
       × (((exit ≡ exit_of given) × RunsCalls next calls end)
       ⊎ ((exit ≡ WasCut) × (b.is_stopped ≡ false) × (calls ≡ []) × (end ≡ next)))
 
-  -- the commands of a session, and the connection that is left of its broker; where there is no broker, there is none
+  -- the commands of a session, and the connection that is left of its broker; if there is no broker, there are none
   abbrev pub GivenRuns : Result (BrokerView X) (Refused X) → List (Request × Exit) → Held X → Type 0
   GivenRuns (Ok b) calls last = (end : BrokerView X) × RunsCalls b calls end × (end.connection ≡ last)
   GivenRuns (Err refused) calls last = (calls ≡ []) × (refused.connection ≡ last)

@@ -12,12 +12,12 @@ use Rattle.table_access.specs.Unit.{IsOver, TellsRollback, RefusesCommit}
 use Rattle.broker_database.specs.declared.ending.Failure.{Failure}
 use Rattle.broker_database.specs.declared.ending.Failure.TheVariants.{Call, Commit}
 
--- It is committed where something is to be kept, and else rolled back; or the database refused that.
+-- It is committed if something is to be kept, and else rolled back; or the database refused that.
 pub record Finishes (old new : State) (keeps : Bool) (ended : Result (Unit {0}) StoreFault) : Type 0 where
   pub committed : HasCleanDisk new → IsTrue keeps → OnOk ended (Commits old new)
   -- else nothing is committed, and no transaction is open any more
   pub over : HasCleanDisk new → (keeps ≡ false) ⊎ (is_ok ended ≡ false) → KeepsLastCommit old new × IsOver new
-  -- where nothing is to be kept: why the database refused ROLLBACK, which leaves what a done one leaves
+  -- if nothing is to be kept: why the database refused ROLLBACK, which leaves what a done one leaves
   pub told : HasCleanDisk new → keeps ≡ false → TellsRollback old new ended
   -- a refused commit is a failure of the database
   pub unsure : IsTrue keeps → IfErr ended (λ fault. fault ≡ faults.Store)
@@ -28,19 +28,19 @@ pub record Finishes (old new : State) (keeps : Bool) (ended : Result (Unit {0}) 
   -- a crash leaves what it left before, or what was to be committed
   pub survives : Survives old new (λ trees. IsTrue keeps × (trees ≡ old.now.trees))
 
--- the fault that is told where the end was refused by one: that of the end, but for a work that had failed by Store
+-- the fault that is reported if the end was refused: that of the end, but Store if the work had failed by Store
 abbrev pub worst : {A : Type 0} → Result A StoreFault → StoreFault → StoreFault
 worst (Err faults.Store) refusal = faults.Store
 worst _ refusal = refusal
 
--- what the work came to, or the fault of the end
+-- the result of the work, or the fault of the end
 abbrev pub conclusion : {A : Type 0} → Result A StoreFault → Result (Unit {0}) StoreFault → Result A StoreFault
 conclusion worked (Ok done) = worked
 conclusion worked (Err refusal) = Err (worst worked refusal)
 
--- ---- its failure, as it is told
+-- ---- its failure, as it is reported
 
--- the fault as which it is told: a refused COMMIT is Store, whatever it was refused by
+-- the fault that is reported: a refused COMMIT is Store, for any fault that it was refused by
 abbrev pub fault_of : Failure → StoreFault
 fault_of (Call fault) = fault
 fault_of (Commit fault) = faults.Store
@@ -49,7 +49,7 @@ abbrev pub told : {A : Type 0} → Result A Failure → Result A StoreFault
 told (Ok a) = Ok a
 told (Err failure) = Err (fault_of failure)
 
--- what a work came to, its fault as that of a call
+-- the result of a work, its fault as that of a call
 abbrev pub called : {A : Type 0} → Result A StoreFault → Result A Failure
 called (Ok a) = Ok a
 called (Err fault) = Err (Call fault)
@@ -62,8 +62,8 @@ EndsFor shown keeps worked old new (Commit fault) = IsTrue keeps × RefusesCommi
 
 -- ---- the transaction of a work
 
--- How a transaction ends in which a work came to worked: it is committed where something is to be kept, else rolled back,
--- and the answer is what the work came to, or the fault of a refused end.
+-- How a transaction ends whose work had the result worked: it is committed if something is to be kept, else rolled
+-- back, and the answer is the result of the work, or the fault of a refused end.
 pub record Concludes {A : Type 0} (old new : State) (keeps : Bool) (worked result : Result A StoreFault) : Type 0 where
   pub ended : Result (Unit {0}) StoreFault
   pub ends : Finishes old new keeps ended

@@ -1,5 +1,5 @@
 //! Whether what a database declares is exactly a broker's: its tables and its indexes, as SQLite reads the statements
-//! that make them, each in its place, and nothing else: no further table or index, no view, no trigger.
+//! that make them, each in its place, and nothing else: no other table or index, no view, no trigger.
 ghost use Rattle.std.specs.Prelude.{◌≡◌, ◌↔◌, [], ◌∷◌, IsTrue, Some, None, IsSomeAnd, slice_get, map};
 ghost use Rattle.std.specs.List.{AllZip};
 ghost use Rattle.sqlite_schema.specs.Code.{term_in};
@@ -557,7 +557,7 @@ fn is_check(nodes: &[Op], root: usize, check: &Check) -> bool
     }
 }
 
-/// Whether there is this CHECK alone, or none.
+/// Whether the only CHECK is the wanted one; or, if none is wanted, whether there is none.
 fn are_checks(terms: &Terms, wanted: &Option<Check>) -> bool
     ensures { IsTrue result ↔ (terms.now ≡ checks_of wanted.now) }
 {

@@ -18,7 +18,7 @@ pub enum Failure {
 }
 
 impl Failure {
-    /// The fault as which it is told. A refused COMMIT is `Store`, whatever it was refused by.
+    /// The fault that is reported. A refused COMMIT is `Store`, for any fault that it was refused by.
     pub fn fault(&self) -> StoreFault
         ensures { result ≡ spec.fault_of self.now }
     {
@@ -39,7 +39,7 @@ fn worst<A>(worked: &Result<A, StoreFault>, refusal: StoreFault) -> StoreFault
     }
 }
 
-/// What a work came to, its fault as that of a call.
+/// The result of a work, its fault as that of a call.
 fn called<A>(worked: Result<A, StoreFault>) -> Result<A, Failure>
     ensures { result ≡ spec.called worked }
 {
@@ -49,7 +49,7 @@ fn called<A>(worked: Result<A, StoreFault>) -> Result<A, Failure>
     }
 }
 
-/// Ends the transaction of a work that came to this, and keeps nothing of it. The answer is what the work came to, or
+/// Ends the transaction of a work with this result, and keeps nothing of it. The answer is the result of the work, or
 /// the fault of a refused rollback, which leaves what a done one leaves.
 pub fn undo<S: Alter, A: Drop>(
     conn: &mut Connection<S>,
@@ -63,9 +63,9 @@ pub fn undo<S: Alter, A: Drop>(
     }
 }
 
-/// Ends the transaction of a work that came to this: commits it if something is to be kept, and else rolls it back. The
-/// answer is what the work came to, or the fault of a refused end. A refused commit keeps nothing, and a crash may leave
-/// what was to be kept; a refused rollback leaves what a done one leaves.
+/// Ends the transaction of a work with this result: commits it if something is to be kept, and else rolls it back. The
+/// answer is the result of the work, or the fault of a refused end. A refused commit keeps nothing, and a crash may
+/// leave what was to be kept; a refused rollback leaves what a done one leaves.
 pub fn conclude<S: Alter, A: Drop>(
     conn: &mut Connection<S>,
     worked: Result<A, StoreFault>,

@@ -84,7 +84,7 @@ pub trait OverDisks {
 /// this format or in format 1. Any number of programs use them, each over a disk of its own, which returns what was
 /// written and to which nobody else writes: one is killed, or its machine, and the next one finds what that left. A program
 /// opens them, makes a broker, migrates one, or serves, and then closes them, gives them up, or is stopped; or it can't
-/// open them, or is stopped as it does. Whatever a crash leaves then keeps what these lead to: no tables if no broker was
+/// open them, or is stopped as it does. What a crash leaves then keeps what these lead to: no tables if no broker was
 /// made; the state of format 1 until it was migrated; and the state to which the machine leads by the commands of all
 /// sessions since. A command that was answered by a step took it, with that answer; one that was answered by no step took
 /// none; and one that was cut, or answered `Store`, took its step or none (what that makes of the state,

@@ -66,7 +66,7 @@ fn format_to_bring_up<S: Alter>(conn: &mut Connection<S>) -> Result<Option<u32>,
     }
 }
 
-/// Makes the tables of format 1 anew, if they aren't declared as a broker of that format declared them.
+/// Makes the tables of format 1 again, if they aren't declared as a broker of that format declared them.
 fn make_exact<S: Alter>(conn: &mut Connection<S>) -> Result<(), StoreFault>
     ensures makes { CallsStore S.Store conn.old conn.new result
         (λ _ old new. old.now.schema ≡ schema_of former_tables → new.now ≡ old.now) }
@@ -102,8 +102,8 @@ fn make_today<S: Alter>(conn: &mut Connection<S>) -> Result<(), StoreFault>
     confirm(conn)
 }
 
-/// Looks for the format, and if it is 1 and its tables alone are there, makes the database one of today's. The answer is the
-/// format that was found.
+/// Looks for the format, and if it is 1 and only its tables are there, makes the database one of today's. The answer is
+/// the format that was found.
 fn bring_up<S: Alter>(conn: &mut Connection<S>) -> Result<Option<u32>, StoreFault>
     ensures brings { CallsStore S.Store conn.old conn.new result
         (λ found old new. FindsFormerAlone old.now found × (found ≡ Some former_format
@@ -157,7 +157,7 @@ fn run<S: Alter>(conn: &mut Connection<S>) -> Result<Option<u32>, Failure>
 /// from 0 to 2^32 - 1; the last commit is the old one, and after a refused commit a crash may leave today's database,
 /// whole. On a connection as it is opened, and a database that a broker of format 1 left, that is only if the store
 /// failed, or if memory ran out for the commit: no table and no index is refused. On a database that isn't of format 1
-/// nothing is committed, whatever fails.
+/// nothing is committed, for any failure.
 pub fn migrate<S: Alter>(conn: &mut Connection<S>) -> Result<(), OpenFault>
     ensures { Migrated (state S.Store) conn.old conn.new result }
 {

@@ -1,5 +1,5 @@
-//! Making the tables of format 1 anew, if another program declared them: by columns and keys they are those of format 1,
-//! but not STRICT, without a NOT NULL, a CHECK or a REFERENCES, or in another order.
+//! Making the tables of format 1 again, if another program declared them: by columns and keys they are those of format
+//! 1, but not STRICT, without a NOT NULL, a CHECK or a REFERENCES, or in another order.
 ghost use Rattle.std.specs.Prelude.{◌≡◌, ◌<◌, length};
 ghost use Rattle.std.specs.List.{AllByRecursion};
 ghost use Rattle.sqlite.specs.Order.{column};
@@ -210,7 +210,7 @@ fn put_rows<S: Alter>(conn: &mut Connection<S>, sql: &str, rows: &[Row]) -> Resu
     Ok(())
 }
 
-/// Makes the tables of format 1 anew, with the rows of these: each by the text that reads its rows, and the one that
+/// Makes the tables of format 1 again, with the rows of these: each by the text that reads its rows, and the one that
 /// puts one of them in again, the last table first. A row that breaks a rule of its table is refused as `Store`.
 fn renew_each<S: Alter>(conn: &mut Connection<S>, tables: &[(&str, &str)]) -> Result<(), StoreFault>
     requires { AllByRecursion (λ table. IsWriteText (first table.1.now)) tables.now }
@@ -226,7 +226,7 @@ fn renew_each<S: Alter>(conn: &mut Connection<S>, tables: &[(&str, &str)]) -> Re
     }
 }
 
-/// Makes the tables of format 1 anew, as a broker made them, with all their rows, which are in memory meanwhile. A row
+/// Makes the tables of format 1 again, as a broker made them, with all their rows, which are in memory meanwhile. A row
 /// that breaks a rule of its table is refused as `Store`.
 pub(crate) fn renew<S: Alter>(conn: &mut Connection<S>) -> Result<(), StoreFault>
     ensures { CallsStore S.Store conn.old conn.new result (λ _ _ _. Unit {0}) }

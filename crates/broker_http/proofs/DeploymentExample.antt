@@ -185,7 +185,7 @@ turn_shop_there = (Some (Team red), (red_is_no_office, refl), (None, refl, (true
 
 -- ---- the stream
 
--- Each head ends where it does, whatever comes after the body.
+-- Each head ends at the same place, for any bytes after the body.
 abbrev Ends : Asked → Type 0
 Ends q = (rest : List ℕ) → head_text (take head_limit (head_of q ++ (q.body ++ rest))) ≡ Some (head_of q)
 
@@ -222,7 +222,7 @@ ends_pass_stock_1 rest = refl
 abbrev ending : Journal
 ending = after both_there steps
 
--- the requests behind the first so many are answered so
+-- the requests after the first n have these answers
 abbrev Remain : ℕ → Broker → Type 0
 Remain n s = Responses ByMachine (after s (take n steps)) (bytes_of (drop n requests)) (map response (drop n sent)) ending []
 

@@ -119,7 +119,7 @@ module _ {X : Type 0} (shown : Held X → State) where
         omega (arith, later.2),
       )
 
-  -- a disk that is clean behind a stream was clean before
+  -- a disk that is clean after a stream was clean before
   all_clean : (old : BrokerView X) (stream : List ℕ) (responses : List Response) (new : BrokerView X) (rest : List ℕ)
       → Responses (exchange.Exchange (Applied shown)) old stream responses new rest
       → HasCleanDisk (shown new.connection) → HasCleanDisk (shown old.connection)
@@ -149,7 +149,7 @@ module _ {X : Type 0} (shown : Held X → State) (from : Mode) (first : Held X) 
   Answers mode steps token command answer new =
       (next : Journal) × JournalStep (record { mode = mode; steps = steps }) token command answer next × Reaches new next.mode next.steps
 
-  -- what is left alone came no further
+  -- a broker that didn't change has reached the same mode
   left_alone : (mode : Mode) (steps : List (Asked × Answer)) (old new : BrokerView X) → new ≡ old → Reaches old mode steps → Reaches new mode steps
   left_alone mode steps old new same at = subst (λ (b : BrokerView X). Reaches b mode steps) (sym same) at
 

@@ -1,4 +1,4 @@
--- A stream has one reading, whatever answers its messages: so it doesn't matter how the stream is cut.
+-- A stream has one reading, for all answers to its messages: so it doesn't matter how the stream is cut.
 use Rattle.std.proofs.Common.{◌≡◌, ◌⊎◌, inl, inr, ℕ, suc, true, false, List, [], ◌∷◌, ◌++◌, length, Option, refl, sym, ap, ap₂, ◌∙◌, subst, arith, length-append}
 use Rattle.broker_core.specs.{declared.answer.Answer.{Answer}, declared.command.Command.{Command}}
 use Rattle.http_messages.{specs.{Message.{Message}, Messages.{BeginsWithMessage}}, proofs.MessagesLemmas.{BeginsWithMessage-unique, none_in_nothing}}
@@ -16,11 +16,11 @@ same_message m n p q =
     made)
     p q
 
--- no response closes where there is none
+-- no response closes if there is none
 not_closed : (front : List Response) (last : Response) → [] ≡ front ++ last ∷ [] → ⊥
 not_closed front last e = omega (arith, ap length e, length-append front (last ∷ []))
 
--- where the responses are over, none is left to give
+-- if a stream ends without a response, it begins with no message
 pub none_left : (ended : Ended) (stream : List ℕ) (m : Message) (after : List ℕ) → StreamEnds ended [] stream → BeginsWithMessage stream m after → ⊥
 none_left AtEnd stream m after ends begins = none_in_nothing m after (subst (λ l. BeginsWithMessage l m after) ends.1 begins)
 none_left Rest stream m after ends begins = ends.2 m after begins
@@ -57,7 +57,7 @@ goes_on AtEnd response responses rest p = inl (p.0.0, (p.0.1, p.1))
 goes_on Rest response responses rest p = inl (p.0.0, (p.0.1, p.1, p.2))
 goes_on Closed response responses rest p = closed_on response responses p.0 rest p.1 p.2 p.3 p.4
 
--- what a response closes by, whatever answers commands
+-- whether a response closes the stream follows from its request, for all answers to commands
 pub closes_by_request : {S : Type 0} (Applies : S → Option (List ℕ) → Command → Answer → S → Type 0) (s t : S) (asked : Request) (response : Response)
     → Responds Applies s asked response t → response.closes ≡ closes_at asked
 closes_by_request Applies s t (Refused refusal is_bodiless) response p = ap (λ (r : Response). r.closes) p.0

@@ -36,8 +36,8 @@ prod = codes "prod"
 abbrev pub one : Text
 one = codes "1"
 
--- Red owns shop and has a grant for prod, which is strict. Shop 1 has a contract with stock. Stock 1 stands in prod;
--- that it passes for this contract, its sender claims, and the broker checked nothing.
+-- Red owns shop and has a grant for prod, which is strict. Shop 1 has a contract with stock. Stock 1 is deployed in
+-- prod; its sender claims that it passes for this contract, and the broker checked nothing.
 abbrev pub claims_only : Text → Broker
 claims_only office = record {
   office = office;
@@ -145,7 +145,7 @@ module _ (office : Text) (other : ¬ (office ≡ broker_primitives.digest_of red
   abbrev IsRefusedBy : Response → Journal → Type 0
   IsRefusedBy response last = ((response ≡ refusal) × (last ≡ ending office)) ⊎ (last.steps ≡ [])
 
-  -- what is asked is one, so it is answered so
+  -- the message asks for this command, so it is refused, or there is no step
   responded : (asked : Asked) (response : Response) (last : Journal) → asked ≡ Asks (Some red_token) (Deploy prod (version shop one) None) false
       → Responds JournalStep (blank (Running (claims_only office))) asked response last → IsRefusedBy response last
   responded asked response last is responds = go (subst (λ a. Responds JournalStep (blank (Running (claims_only office))) a response last) is responds)

@@ -74,7 +74,7 @@ came : (a b : Option (List ℕ)) (old new : List ℕ) (fault : ReadFault) → Le
 came a b old new (reads.Reader failed) p = (p.0, p.1)
 came a b old new reads.Memory p = (p.0 ++ p.1, p.2)
 
--- memory that runs out behind a head, for its body
+-- memory that runs out after a head, for its body
 lacks : (a b : Option (List ℕ)) (old new stream : List ℕ) (fault : ReadFault) (left : LeavesAtFault a b old new fault) → (fault ≡ reads.Memory → AnnouncesBody new)
     → IsOutOfMemory (fault_of_read fault) stream (old ++ (came a b old new fault left).0)
 unfolding came
@@ -98,7 +98,7 @@ StreamEnds-rest Rest responses rest e opened some none = (opened, some, none)
 StreamEnds-rest Closed responses rest e opened some none = absurd cc
 
 module _ {S : Type 0} (Exchange : S → Message → Response → S → Type 0) where
-  -- a fault at one message, behind those that are answered
+  -- a fault at one message, after those that are answered
   pub Responses-broken : (s : S) (stream : List ℕ) (responses : List Response) (t : S) (bytes : List ℕ) (m : Message) (after : List ℕ) (u : S)
       (first old new : Option (List ℕ)) (fault : StreamFault)
       → Responses Exchange s stream responses t bytes → AllOpen responses → Appends first old (texts responses) → BeginsWithMessage bytes m after
@@ -129,7 +129,7 @@ module _ {S : Type 0} (Exchange : S → Message → Response → S → Type 0) w
         tt,
       )
 
-  -- the reader fails behind the messages that are answered
+  -- the reader fails after the messages that are answered
   pub Responses-unread : (s : S) (stream : List ℕ) (responses : List Response) (t : S) (bytes new : List ℕ)
       (a b c first old : Option (List ℕ)) (fault : ReadFault)
       → Consumes a b stream → Responses Exchange s stream responses t bytes → AllOpen responses → Appends first old (texts responses)

@@ -1,4 +1,4 @@
--- Each deployment and each release of a stream is recorded exactly where it may be.
+-- Each deployment and each release of a stream is recorded if and only if it may be.
 use Rattle.std.proofs.Common.{List, [], ◌∷◌, ◌++◌, inl, inr, length, refl, sym, ap, ◌∙◌, subst, arith, length-append}
 use Rattle.broker_core.specs.{Change.{Transition}, Laws.{TeamsDiffer}, Machine.{Request, Step}, State.{State as Broker}, declared.answer.Answer.{Answer}}
 use Rattle.broker_core.{specs.declared.command.Command.TheVariants.{Deploy, Release}, proofs.Callers.{teams_differ_step}}

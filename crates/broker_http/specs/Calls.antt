@@ -68,20 +68,20 @@ module _ {X : Type 0} (shown : Held X → State) (s t : BrokerView X) (before af
     -- on a clean disk, from a database that holds a state of the machine, by the machine
     pub machine : HasCleanDisk (shown t.connection) → (mode : Mode) → IsInMode shown mode s
         → IsAnsweredByMachine mode result
-    -- what the store promises of the connection: it is shut by a fault of the disk alone, its step limit stays, and
-    -- what a crash may leave it could leave before, or it is one of these, at most one a message
+    -- what the store promises of the connection: only a fault of the disk shuts it, its step limit stays, and what a
+    -- crash may leave it could leave before, or it is one of these commits, at most one per message
     pub survives : (commits : List Trees) × Survives (shown s.connection) (shown t.connection) (Contains commits)
         × IfOk result (λ served. length commits ≤ served.answered)
-    -- so too where a device or memory failed: at most one for each message that was answered until then
+    -- so too if a device or memory failed: at most one for each message that was answered until then
     pub survives_fault : IfErr result (λ _. (answered : ℕ) × HasAnswered answered × ((commits : List Trees)
         × Survives (shown s.connection) (shown t.connection) (Contains commits) × (length commits ≤ answered)))
 
-  -- the stream was served to this end, or up to this fault, which was told as one of three
+  -- the stream was served to this end, or up to this fault, which was reported as one of three
   abbrev pub IsToldAs : Result Served StreamFault → Result Served ServeFault → Type 0
   IsToldAs (Ok served) result = result ≡ Ok served
   IsToldAs (Err fault) result = result ≡ Err (told_as fault)
 
-  -- What serving promises whose faults are three: it served the stream, and the reader or the writer has failed where a
+  -- What serving promises whose faults are three: it served the stream, and the reader or the writer has failed if a
   -- fault says so; or there was no memory for the routes, and nothing was read, done or written.
   abbrev pub IsServedOrIdle : (ReaderHasFailed WriterHasFailed : Type 0) → Result Served ServeFault → Type 0
   IsServedOrIdle ReaderHasFailed WriterHasFailed result =

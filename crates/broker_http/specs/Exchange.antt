@@ -8,7 +8,7 @@ use Rattle.http_requests.specs.declared.requests.Request.{Request}
 use Rattle.http_requests.specs.declared.requests.Request.TheVariants.{Refused, NoRoute, NoMethod, Asks}
 use Rattle.http_responses.specs.Responses.{Response, refusal_response, no_route_response, no_method_response, answer_response}
 
--- Applies says how a command with a token is answered, and what is left behind.
+-- Applies says how a command with a token is answered, and what state it leaves.
 module _ {S : Type 0} (Applies : S → Option (List ℕ) → Command → Answer → S → Type 0) where
   -- the response to what is asked; a refusal by HTTP changes nothing
   abbrev pub Responds : S → Request → Response → S → Type 0

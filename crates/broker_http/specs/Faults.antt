@@ -18,7 +18,7 @@ TellsDevice Count ReaderHasFailed WriterHasFailed = Unit {0}
 TellsDevice (Write fault) ReaderHasFailed WriterHasFailed = WriterHasFailed
 TellsDevice Memory ReaderHasFailed WriterHasFailed = Unit {0}
 
--- which of three it is told as
+-- as which of three it is reported
 abbrev pub told_as : StreamFault → ServeFault
 told_as (Read failed) = told.Read
 told_as (Turn over) = told.Read

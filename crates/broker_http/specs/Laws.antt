@@ -52,12 +52,12 @@ pub record IsOneReading (stream : List ℕ) (responses others : List Response) (
 
 -- shown is what a connection shows of its store
 module _ {X : Type 0} (shown : Held X → State) where
-  -- whatever a broker answers, a response closes its stream or doesn't by what its message asks
+  -- whether a response closes its stream follows from what its message asks, for all answers of a broker
   abbrev pub ClosesByRequest : Type 0
   ClosesByRequest = (s t : BrokerView X) (asked : Request) (response : Response)
       → Responds (Applied shown) s asked response t → response.closes ≡ closes_at asked
 
--- two brokers, over these stores, or one at two times: whatever they answer, their readings of one stream are one
+-- two brokers, over these stores, or one at two times: for all their answers, they read one stream in one way
 module _ {X Y : Type 0} (shown : Held X → State) (other : Held Y → State) where
   abbrev pub OneReading : Type 0
   OneReading =

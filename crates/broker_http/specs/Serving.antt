@@ -51,9 +51,9 @@ ModeStep (IsStopped s of failed) token command answer next =
 
 -- shown is what a connection holds of its store
 module _ {X : Type 0} (shown : Held X → State) where
-  -- The broker's database holds the machine's state, and a crash leaves it. In a stopped broker's database
-  -- stands the state before the command that failed;
-  -- where a fault of the disk has shut the connection, a crash may leave the state behind that command too.
+  -- The broker's database holds the machine's state, and a crash leaves it. A stopped broker's database holds the
+  -- state before the command that failed;
+  -- if a fault of the disk has shut the connection, a crash may leave the state after that command too.
   abbrev pub IsInMode : Mode → BrokerView X → Type 0
   IsInMode (Running s) b = (b.is_stopped ≡ false) × HoldsState s (shown b.connection)
   IsInMode (IsStopped s token command) b =
@@ -70,7 +70,7 @@ RunsReadable (IsStopped s token command) = ⊥
 
 -- Why a broker is stopped that ran at first, in a state that can be read back, over a connection on which no query has a
 -- limit of steps, and answered so many messages by steps: the disk failed; or the command was to be done and, if at first
--- each table had numbers for the rows of these steps and of the command, COMMIT was refused for want of memory.
+-- each table had numbers for the rows of these steps and of the command, COMMIT was refused since memory ran out.
 module _ {X : Type 0} (shown : Held X → State) (first : Mode) (old new : Held X) (steps : ℕ) where
   abbrev pub StopsOnlyBy : Mode → Type 0
   StopsOnlyBy (Running s) = Unit {0}
@@ -81,8 +81,8 @@ module _ {X : Type 0} (shown : Held X → State) (first : Mode) (old new : Held 
       × (HasRoomFor (enough * (steps + 1)) (shown old).now
       → (before : Held X) × CommitLacksMemory shown s token command before new))
 
--- Why memory ran out, by what was read, and what of that is behind the messages that are answered: nothing was read; or
--- there is a head that announces a body, or a message that asks an operation.
+-- Why memory ran out, by what was read, and what of that comes after the messages that are answered: nothing was read;
+-- or there is a head that announces a body, or a message that asks an operation.
 abbrev pub IsOutOfMemory : StreamFault → (stream rest : List ℕ) → Type 0
 IsOutOfMemory (faults.Read failed) stream rest = Unit {0}
 IsOutOfMemory (faults.Turn over) stream rest = Unit {0}
@@ -114,7 +114,7 @@ module _ {S : Type 0} (Exchange : S → Message → Response → S → Type 0) (
       × Appends old new out
       × IsOutOfMemory fault stream rest
 
-  -- what serving a stream comes to
+  -- what serving a stream does, by its result
   pub record ServesStream (result : Result Served StreamFault) : Type 0 where
     pub ok : IfOk result Serves
     -- it ends by itself only at the reader's end

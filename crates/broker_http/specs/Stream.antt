@@ -25,7 +25,7 @@ LastCloses responses =
     (front : List Response) × (last : Response)
     × (responses ≡ front ++ last ∷ []) × AllOpen front × (last.closes ≡ true)
 
--- The stream's messages and their responses are over: behind a closing response, or where no message is whole.
+-- No message is left to answer: the stream is at its end, its rest holds no whole message, or the last response closes.
 abbrev pub StreamEnds : Ended → List Response → List ℕ → Type 0
 StreamEnds AtEnd responses rest = AllOpen responses × (rest ≡ [])
 StreamEnds Rest responses rest = AllOpen responses × (0 < length rest) × HasNoMessage rest
@@ -45,8 +45,8 @@ StreamCut (faults.Write fault) responses out =
     × (n < length last.text) × (out ≡ texts front ++ take n last.text)
 
 module _ {S : Type 0} (Exchange : S → Message → Response → S → Type 0) where
-  -- These responses, to the messages at the front of the stream in turn, lead from one state to another; rest
-  -- is behind those messages.
+  -- These responses, to the messages at the front of the stream one after another, lead from one state to another;
+  -- rest is what comes after those messages.
   abbrev pub Responses : S → List ℕ → List Response → S → List ℕ → Type 0
   Responses s stream [] t rest = (t ≡ s) × (rest ≡ stream)
   Responses s stream (response ∷ responses) t rest =

@@ -14,8 +14,8 @@ pub fn headline_of_stream()
     ensures releases { StreamsReleaseExactly }
 {}
 
-/// A stream has one reading, however it is cut into reads and whatever a broker answers: the same messages, a response
-/// to each, the same rest and the same end. For whether a response closes its stream depends on its message alone.
+/// A stream has one reading, however it is cut into reads and for all answers of a broker: the same messages, a
+/// response to each, the same rest and the same end. For whether a response closes its stream follows from its message.
 pub fn one_reading<B: Service, C: Service>()
     ensures closes { ClosesByRequest B.shown }
     ensures reading { OneReading B.shown C.shown }

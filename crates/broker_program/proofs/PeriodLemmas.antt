@@ -59,7 +59,7 @@ module _ {D : Type 0} (g : Ghosts D) (stays : (file : D) → g.may_leave file (g
       ∥∥₁_map (adds_works old work works it.0 it.1 (left.Store again.store) image before it.3 again.clean again.given opens.1.seen) (λ (one : Keeps old (periods_of (work ∷ works)) image).
       let r : Begins old (periods_of (work ∷ works)) conn = (image, one, opens.2, record { holds = opens.3.holds; reads = opens.3.reads }) in r)
 
-  -- ---- where it isn't opened again, or not closed
+  -- ---- if it isn't opened again, or not closed
 
   -- as if an opening had failed
   adds_failure : (old : Kept) (life : List Period) (found image : Image) → (image ≡ found) ⊎ HoldsAsBefore found image → ∥ Keeps old life found ∥₁ → ∥ Keeps old (life ++ (NotOpened ∷ [])) image ∥₁

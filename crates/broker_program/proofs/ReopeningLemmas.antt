@@ -55,7 +55,7 @@ pub reopens_on : {D : Type 0} {g : Ghosts D} (stopped : BrokerView (FileStore D 
     → OpensFilesAgain store (Some conn) → ReopensOn stopped conn
 reopens_on stopped store conn stops gives again early = let it = again early in opens_after stopped store it.0 conn stops gives it.1 it.2 it.3 it.4
 
--- the connection that was opened again, where no broker is found
+-- the connection that was opened again, if no broker is found
 pub none_again : {D : Type 0} {g : Ghosts D} (stopped : BrokerView (FileStore D g)) (store : FileStore D g) (conn : Held (FileStore D g)) (fault : OpenFault) (rest : FileStore D g) → IsTrue stopped.is_stopped
     → GivesUpAs stopped.connection store → OpensFilesAgain store (Some conn) → GivesUpUnopened conn fault rest → FindsNoneAgain stopped (run_fault.Open fault) (left.Store rest)
 none_again stopped store conn fault rest stops gives again none =

@@ -9,7 +9,7 @@ pub on_err : {T E P : Type 0} (r : Result T E) → P → OnErr r P
 on_err (Ok x) p = tt
 on_err (Err y) p = p
 
--- of a result that is told in other words, the error
+-- the error of a result that is reported in other words
 pub told_err : {T B E F : Type 0} (h : T → B) (f : E → F) (r : Result T E) (s : Result B F) (Q : F → Type 0) → MatchResult r (λ x. s ≡ Ok (h x)) (λ e. s ≡ Err (f e)) → IfErr r (λ e. Q (f e)) → IfErr s Q
 told_err {T} {B} {E} {F} h f (Ok x) s Q is q = subst (λ (t : Result B F). IfErr t Q) (sym is) tt
 told_err {T} {B} {E} {F} h f (Err e) s Q is q = subst (λ (t : Result B F). IfErr t Q) (sym is) q

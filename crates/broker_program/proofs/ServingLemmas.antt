@@ -40,7 +40,7 @@ module _ {D : Type 0} {g : Ghosts D} where
   then_peer [] visit s mid t same it = (t, subst (λ (b : BrokerView (FileStore D g)). ServesPeer visit b t) same it, refl)
   then_peer (first ∷ visits) visit s mid t more it = (more.0, more.1, then_peer visits visit more.0 mid t more.2 it)
 
-  -- one that was let in, served, and let go from behind the door as it was then
+  -- one that was let in, served, and let go from the queue that has the door as it was then
   pub next_visited : (old mid behind new : Queue) (before after : Peer) (s t : BrokerView (FileStore D g)) → IsLetIn old mid before → behind ≡ mid → IsLetGo behind new after → s.is_stopped ≡ false
       → (result : Result Served StreamFault) → IsServed file_state s t before.sends after.sends before.took after.took result → ServesNext s t old new
   next_visited old mid behind new before after s t let_in same let_go runs result served =

@@ -6,7 +6,7 @@ use Rattle.program_io.specs.Entrance.{AreVisited, IsLetIn, NoneIsIn, IsLost, IsN
 pub none_visited : (queue : Queue) → AreVisited queue queue []
 none_visited queue = record { came = sym (append-nil queue.came); went = sym (append-nil queue.went); count = omega arith }
 
--- two lists behind one another, of what is known of each visit
+-- two lists one after the other, of what is known of each visit
 joined : {T : Type 0} (f : Visit → T) (a b c : List T) (first more : List Visit) → b ≡ a ++ map f first → c ≡ b ++ map f more → c ≡ a ++ map f (first ++ more)
 joined f a b c first more p q =
     q ∙ ap (λ l. l ++ map f more) p ∙ append_assoc a (map f first) (map f more) ∙ ap (λ l. a ++ l) (sym (map-append f first more))

@@ -1,4 +1,4 @@
--- What two wrong bodies leave: clauses that end in an existential exclude it, whatever witness is given.
+-- What two wrong bodies leave: clauses that end in an existential exclude it, for each witness.
 use Rattle.std.{specs.Prelude.{Option}, proofs.Common.{◌≡◌, ◌≢◌, inl, inr, ℕ, List, [], ◌∷◌, ◌++◌, length, true, sym, ap, ◌∙◌, arith, length-append}}
 use Rattle.sqlite_disk.specs.declared.Disk.{Ghosts}
 use Rattle.sqlite.specs.{Recovery.{Image}, declared.FileStore.{FileStore}}
@@ -20,7 +20,7 @@ module _ {D : Type 0} {g : Ghosts D} (s t : BrokerView (FileStore D g)) (old new
       let went : mid.went ≡ old.went = ap (λ (q : Queue). q.went) comes.2 in
       longer mid.went visit.after (sym (ap (λ (q : Queue). q.went) let_go) ∙ ap (λ (q : Queue). q.went) let_in ∙ sym went)
 
--- `status_halved_in_process`: words that are no command line don't end with 1, whatever the streams were
+-- `status_halved_in_process`: words that are no command line don't end with 1, for any streams
 module _ {D I O E : Type 0} {g : Ghosts D} (held : Image) (remaining : I → Option (List ℕ)) (contents : O → Option (List ℕ)) (shows : E → Option (List ℕ)) where
   pub no_mistake_ends_with_1 : (words : List Text) (end : Ended D g) → is_line words ≢ true → RanOver held remaining contents shows words end → end.status ≢ 1
   no_mistake_ends_with_1 words end mistaken (before, after, old, new, untold, told, ran) is = elim (ran.told_of mistaken) [

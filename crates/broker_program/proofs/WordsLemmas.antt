@@ -1,4 +1,4 @@
--- what is told of words that are no command line
+-- What is reported of words that are no command line.
 use Rattle.std.proofs.Common.{◌≡◌, ◌≢◌, ◌⊎◌, ◌↔◌, ℕ, Bool, true, false, IsTrue, List, Option, Result, inl, inr, refl, subst, arith}
 use Rattle.sqlite_disk.specs.declared.Disk.{Ghosts}
 use Rattle.sqlite.specs.Recovery.{Image}
@@ -30,13 +30,13 @@ module _ {O E : Type 0} (contents : O → Option (List ℕ)) (shows : E → Opti
   status_is (inr (inl (asked, inr lost))) = inr (inr lost.0)
   status_is (inr (inr memory)) = inr (inr memory.0)
 
--- an error that isn't to be told on standard error is a request
+-- an error that isn't to be reported on standard error is a request
 asks_of : (kind : ErrorKind) → ¬ ((kind ≢ DisplayHelp) × (kind ≢ DisplayVersion)) → (kind ≡ DisplayHelp) ⊎ (kind ≡ DisplayVersion)
 asks_of DisplayHelp h = inl refl
 asks_of DisplayVersion h = inr refl
 asks_of _ h = absurd (h ((λ e. cc), (λ e. cc)))
 
--- what is told of an error, by whether it is a mistake
+-- what is reported of an error, by whether it is a mistake
 module _ {O E : Type 0} (contents : O → Option (List ℕ)) (shows : E → Option (List ℕ)) (kind : ErrorKind) (old new : O) (untold told : E) (line : Result (Unit {0}) WriteFault) (status : ℕ)
     (memory : kind ≢ OutOfMemory) where
   abbrev Has : ErrorKind → Type 0
@@ -49,7 +49,7 @@ module _ {O E : Type 0} (contents : O → Option (List ℕ)) (shows : E → Opti
       let asked : AsksForText Has = elim (asks_of kind (λ both. let bad : false ≡ true = is.1 both in cc)) [ inl help ↦ inl (memory, help) | inr version ↦ inr (memory, version) ] in
       inr (inl (asked, shown refl))
 
--- what is told of the words is what a run of them promises
+-- what is reported of the words is what a run of them promises
 module _ {D I O E : Type 0} {g : Ghosts D} (held : Image) (remaining : I → Option (List ℕ)) (contents : O → Option (List ℕ)) (shows : E → Option (List ℕ)) (words : List Text) (e : Error)
     (taken : is_line words ≡ true → kind_of e ≡ OutOfMemory) (kind : HasKind (mistakes words) e) (before : I) (old new : O) (untold told : E) (end : Ended D g)
     (memory : kind_of e ≡ OutOfMemory → LacksMemory contents shows old new untold told end.line end.status)

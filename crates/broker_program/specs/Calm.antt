@@ -22,7 +22,7 @@ use Rattle.broker_program.specs.Life.{periods_of}
 use Rattle.broker_program.specs.Serving.{ServesOver, StartsAfter, Work}
 
 -- Of these commands of a broker, from this state on, the one that was answered `store` was to be done, in the state to
--- which those before it had led. A broker is stopped by no other answer, and behind it each answer is `stopped`.
+-- which those before it had led. A broker is stopped by no other answer, and after it each answer is `stopped`.
 pub record StopsAtChange (first : Broker) (calls : List (Request × Exit)) : Type 0 where
   pub before : List (Request × Exit)
   pub request : Request

@@ -34,7 +34,7 @@ module _ {D : Type 0} {g : Ghosts D} where
 
   -- The files were to be opened, and it was refused: rest is what is left of them.
   pub record AreRefused (files : Files D) (fault : RunFault) (rest : Leftover D g) : Type 0 where
-    -- why, and memory is told only of that
+    -- why, and Memory is reported only if memory ran out
     pub error : Error
     pub told : fault ≡ told_of error
     pub cause : IsCleanLeft rest → FailsToOpenFiles files rest error

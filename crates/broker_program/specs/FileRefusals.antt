@@ -27,7 +27,7 @@ use Rattle.program_io.specs.Reported.{IsFromOutside}
 use Rattle.broker_program.specs.declared.left.Left.{Left}
 use Rattle.broker_program.specs.declared.left.Left.TheVariants.{Nothing, Unopened}
 
--- what is told of an error of the files: memory only if there was none
+-- the fault that reports an error of the files: Memory only if memory ran out
 abbrev pub told_of : Error → RunFault
 told_of (SqliteFailure OutOfMemory) = run_fault.Memory
 told_of _ = run_fault.File
@@ -52,7 +52,7 @@ module _ {D : Type 0} {g : Ghosts D} where
 
   -- ---- the calls that fail, from a connection to what they leave of it
 
-  -- no broker is opened: `judges` of `TablesFound` says of which database each fault is told
+  -- no broker is opened: `judges` of `TablesFound` says of which database each fault is reported
   abbrev pub OpensNone : Held (FileStore D g) → Held (FileStore D g) → OpenFault → Type 0
   OpensNone old new fault = Opened file_state old (Err (record { fault = fault; connection = new }))
 
@@ -77,11 +77,11 @@ module _ {D : Type 0} {g : Ghosts D} (held : Image) where
     -- they held this, and a crash left nothing else
     pub seen : image_of g files ≡ held
     pub settled : (image : Image) → outcomes g files.log files.db image → image ≡ held
-    -- why, and memory is told only of that
+    -- why, and Memory is reported only if memory ran out
     pub error : Error
     pub told : fault ≡ told_of error
     pub cause : IsCleanLeft rest → FailsToOpenFiles files rest error
-    -- a crash leaves what was there; where there was no database, perhaps a beginning of one
+    -- a crash leaves what was there; if there was no database, perhaps a beginning of one
     pub left : IsCleanLeft rest → LeavesFiles files rest
 
   -- no connection is opened: the file isn't there or couldn't be taken, or it isn't opened
@@ -101,7 +101,7 @@ module _ {D : Type 0} {g : Ghosts D} (held : Image) where
     pub clean : HasCleanDisk (file_state end)
     -- a crash leaves what it might have left before it was to be closed
     pub closed : IsClosed end store
-    -- why, and memory is told only of that
+    -- why, and Memory is reported only if memory ran out
     pub error : Error
     pub told : fault ≡ told_of error
     pub cause : FailsToClose end store error

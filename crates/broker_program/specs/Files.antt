@@ -54,7 +54,7 @@ module _ {D : Type 0} {g : Ghosts D} where
   pub record Leaves (conn : Held (FileStore D g)) (rest : Leftover D g) : Type 0 where
     -- If the disk is clean, its last commit is in the database file; or what a crash leaves of its store it left before.
     pub ends : EndsClean rest → HasCleanDisk (file_state conn) × EndsAs g conn rest
-    -- where the reads of the connection are tested, they were to the end
+    -- if the reads of the connection are tested, they were to the end
     pub shield : (file_state conn).IsShielded → IsTested rest
 
   -- For private clauses: the connection's files were closed.

@@ -35,7 +35,7 @@ periods_of [] = []
 periods_of (work ∷ works) = periods_of works ++ (Serving work.calls ∷ [])
 
 module _ {D : Type 0} (g : Ghosts D) where
-  -- whatever a crash leaves keeps something to which these periods lead from what the files held
+  -- all that a crash may leave keeps something to which these periods lead from what the files held
   abbrev pub KeepsAfter : Image → List Period → (Image → Type 0) → Type 0
   KeepsAfter held life may_leave =
       (old : Kept) → IsKeptIn old held → (image : Image) → may_leave image

@@ -33,7 +33,7 @@ module _ {D : Type 0} {g : Ghosts D} where
     pub same : new.1 ≡ false → IsClean (view new.0) → view new.0 ≡ view old
     pub broke : new.1 ≡ true → BreaksInCopy old new.0
 
-  -- a store that was given up is so now
+  -- a store that was given up, as it is now: nothing was called on it
   pub record IsStillGiven (store now : FileStore D g) : Type 0 where
     pub clean : IsClean (view now)
     pub quiet : IsQuietCall store now
@@ -93,7 +93,7 @@ module _ {D : Type 0} {g : Ghosts D} where
       → MatchResult found (ServesOn held visits) (λ failed. ServesNoMore held visits failed.0 failed.1 failed.2)
 
 module _ {D : Type 0} (g : Ghosts D) where
-  -- the peers that came in between were served by brokers, in whatever files
+  -- brokers served the peers that came in between, over any files
   pub record ServesBetween (old new : Queue) : Type 0 where
     pub visits : List Visit
     pub visited : AreVisited old new visits

@@ -22,9 +22,9 @@ IsStoppedByChange (Running s) = Unit {0}
 IsStoppedByChange (IsStopped s token command) = IsToBeDone s token command
 
 module _ (office : Text) (before after old new : Option (List ℕ)) where
-  -- What was read is a stream whose messages are answered in turn, as the machine answers them from the
-  -- opening state of an office with this token, and nothing else is written: the answers that are steps run
-  -- it, in order, to its last state. It ends where the reader ends, or behind an answer that closes.
+  -- What was read is a stream whose messages are answered one after another, as the machine answers them from
+  -- the opening state of an office with this token, and nothing else is written: the answers that are steps run
+  -- it, in order, to its last state. It ends where the reader ends, or after an answer that closes.
   unfoldable pub Replays : Type 0
   Replays =
       (last : Journal) × (served : Served)

@@ -33,7 +33,7 @@ module _ {D : Type 0} {g : Ghosts D} (held : Image) (before after old new : Opti
   abbrev pub IsSilent : Type 0
   IsSilent = (after ≡ before) × (new ≡ old)
 
-  -- The command came to an end: it is done, its check passed or its version is permitted; or not so.
+  -- The command ended; `passes` is true if it is done, its check passed or its version is permitted.
   abbrev pub CommandEnds : Line → Bool → Type 0
   CommandEnds (Replay token) passes = (passes ≡ true) × IsToken token.now × Replays token.now before after old new
   CommandEnds (Init file token) passes =
@@ -47,7 +47,7 @@ module _ {D : Type 0} {g : Ghosts D} (held : Image) (before after old new : Opti
   CommandEnds (CanIDeploy file token pacticipant version environment) passes =
       (after ≡ before) × Asks held (question token pacticipant version environment) old new rest passes
 
-  -- The command failed: what it wrote is a beginning of what it would have told.
+  -- The command failed: what it wrote is a beginning of what it would have written.
   abbrev pub CommandFails : Line → Type 0
   CommandFails (Replay token) = IsSilent ⊎ ReplaysUntil token.now before after old new
   CommandFails (Init file token) = IsSilent
@@ -71,8 +71,8 @@ module _ {D I O : Type 0} {g : Ghosts D} (held : Image) (remaining : I → Optio
   IsFaultOn = IsFaultOf held (remaining before) (remaining after) (contents old) (contents new) rest
 
 -- The texts are the words; the reader was before and is after, standard output was old and is new, standard error was
--- untold and is told, and shows what it has taken. The end is the status, whether standard error took all that it was to
--- be told, and what is left of the command's file.
+-- `untold` and is `told`, and shows what it has taken. The end is the status, whether standard error took all that it
+-- was to take, and what is left of the command's file.
 module _ {D I O E : Type 0} {g : Ghosts D} (held : Image) (remaining : I → Option (List ℕ)) (contents : O → Option (List ℕ)) (shows : E → Option (List ℕ)) where
   -- what carrying out a command promises of the status that the program ends with
   pub record LineRan (line : Line) (before after : I) (old new : O) (untold told : E) (end : Ended D g) : Type 0 where
@@ -91,7 +91,7 @@ module _ {D I O E : Type 0} {g : Ghosts D} (held : Image) (remaining : I → Opt
   -- what running the words promises of it
   pub record Ran (words : List Text) (before after : I) (old new : O) (untold told : E) (end : Ended D g) : Type 0 where
     pub statuses : (end.status ≡ 0) ⊎ ((end.status ≡ 1) ⊎ ((end.status ≡ 2) ⊎ (end.status ≡ 3)))
-    -- what the command was to do is done, and standard output has what it tells
+    -- what the command was to do is done, and standard output has what it writes
     pub done : end.status ≡ 0 → is_line words ≡ true
         → (line : Line) × Says words line
         × CommandEndsOn held remaining contents before after old new end.left line true
@@ -104,12 +104,12 @@ module _ {D I O E : Type 0} {g : Ghosts D} (held : Image) (remaining : I → Opt
     pub quiet_refused : end.status ≡ 1 → told ≡ untold
     -- 2 is only for words that are no command line
     pub usage : end.status ≡ 2 → is_line words ≢ true
-    -- They run nothing: nothing is read. By what clap finds in them, a mistake is told on standard error and ends with 2,
-    -- and help and version, if they are asked for, are shown on standard output and end with 0.
+    -- They run nothing: nothing is read. By what clap finds in them, a mistake is reported on standard error and ends
+    -- with 2, and help and version, if they are asked for, are shown on standard output and end with 0.
     pub unread : is_line words ≢ true → after ≡ before
     pub told_of : is_line words ≢ true
         → TellsOfWords contents shows (IsFoundIn words) old new untold told end.line end.status
-    -- a command that failed has written no more than a beginning of what it would have told
+    -- a command that failed has written no more than a beginning of what it would have written
     pub fails : end.status ≡ 3 → is_line words ≡ true
         → ((after ≡ before) × (new ≡ old))
         ⊎ ((line : Line) × Says words line

@@ -1,4 +1,5 @@
--- what is told of words that are no command line: clap's text, on one stream or the other (this project's own choice)
+-- what is reported of words that are no command line: clap's text, on one stream or the other (this project's own
+-- choice)
 use Rattle.std.specs.Prelude.{◌≡◌, ◌⊎◌, ℕ, List, ◌++◌, Option, Result}
 use Rattle.std.specs.Io.KnownBytes.{Appends}
 use Rattle.clap.specs.declared.error.kind.ErrorKind.{ErrorKind}
@@ -8,8 +9,8 @@ use Rattle.program_io.specs.Reported.{IsReported}
 use Rattle.program_io.specs.Written.{IsLineOut, newline}
 use Rattle.program_io.specs.declared.fault.RunFault.TheVariants as run_fault
 
--- Standard output was old and is new, standard error was untold and is told, and they show what they have taken. Line
--- is whether standard error took all that it was to be told.
+-- Standard output was old and is new, standard error was `untold` and is `told`, and they show what they have taken.
+-- Line is whether standard error took all that it was to take.
 module _ {O E : Type 0} (contents : O → Option (List ℕ)) (shows : E → Option (List ℕ)) where
   module _ (old new : O) (untold told : E) (line : Result (Unit {0}) WriteFault) (status : ℕ) where
     -- a text is on standard error, and nothing on standard output; which text it is, no contract of clap says
@@ -34,8 +35,8 @@ module _ {O E : Type 0} (contents : O → Option (List ℕ)) (shows : E → Opti
     LacksMemory =
         (status ≡ 3) × (new ≡ old) × IsReported run_fault.Memory line (shows untold) (shows told)
 
-  -- Of words in which clap finds these kinds. If one is a mistake, it is told; if one is a request for the help or for
-  -- the version, that is; and memory may be lacking for either.
+  -- Of words in which clap finds these kinds. If one is a mistake, it is reported; if one is a request for the help or
+  -- for the version, that is shown; and memory may be lacking for either.
   abbrev pub TellsOfWords : (ErrorKind → Type 0) → (old new : O) (untold told : E)
       → Result (Unit {0}) WriteFault → ℕ → Type 0
   TellsOfWords Has old new untold told line status =

@@ -41,7 +41,7 @@ pub(crate) fn fault_of<S: Start>(failed: Failed<S>) -> RunFault
     fault
 }
 
-/// What is told of an error of the files.
+/// The fault that reports an error of the files.
 pub(crate) fn told_of(error: &Error) -> RunFault
     ensures same { result ≡ told_of error.now }
     ensures outside { IsFromOutside result }

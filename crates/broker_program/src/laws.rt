@@ -10,7 +10,7 @@ use sqlite_disk::{Calls, Disk, Modelled};
 
 /// Each of the commands over a file that are done is a period of the life of that file (`lives` of
 /// `broker_database`), and `serve` is one for each time that it opened it: if the files held no tables, a broker's state
-/// of format 1 or one of today's, then whatever a crash leaves of what the command left keeps what the periods lead to.
+/// of format 1 or one of today's, then what a crash leaves of what the command left keeps what the periods lead to.
 /// `init` makes a broker (`making`), `migrate` makes today's database with the same state (`migrating`), `can-i-deploy`
 /// serves one command (`asking`), and `serve` those of all its peers, of each opening those that its broker ran, until
 /// the file is closed, a sync of it fails or it was given up and isn't opened again (`serving`).
@@ -21,8 +21,8 @@ pub fn life_over_commands<D: Disk>()
     ensures serving { ServingLeads D.Disk }
 {}
 
-/// What is left of a file by a `serve` that fails once it served keeps what its periods lead to, too: where no broker is
-/// found in the file that was opened again (`unfound`), where it isn't opened again (`shut`), and where it can't be
+/// What is left of a file by a `serve` that fails once it served keeps what its periods lead to, too: if no broker is
+/// found in the file that was opened again (`unfound`), if it isn't opened again (`shut`), and if it can't be
 /// closed (`unclosed`). So the next program that opens it goes on from there. Of the last two the kit's clauses leave
 /// out a little, which is a premise: of files whose opening is refused, that they are unharmed (`unopened` of
 /// `kept_files`); of a store that broke as its log was copied or that couldn't be closed, that its trees are numbered.

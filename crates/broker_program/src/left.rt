@@ -54,7 +54,7 @@ pub enum Left<D: Disk> {
 pub struct Ended<D: Disk> {
     /// The status that the program ends with.
     pub status: u8,
-    /// Whether standard error took all that it was to be told. It did if that was nothing.
+    /// Whether standard error took all that it was to take. It did if that was nothing.
     pub line: Result<(), WriteFault>,
     /// What is left of the file that the command worked on.
     pub left: Left<D>,

@@ -15,7 +15,7 @@ use sqlite_disk::Disk;
 use sqlite_trees::store::Store;
 use std::alloc::Global;
 
-/// Why a broker's files aren't opened again, what is left of them, and the want of a seed, if that is why.
+/// Why a broker's files aren't opened again, what is left of them, and that there is no seed, if that is why.
 pub(crate) type Refused<S> = (RunFault, Leftover<FileFrom<S>>, Option<NoSeed>);
 
 /// Copies the log of a store that was given up into the database file, so that the log has room again, and says whether

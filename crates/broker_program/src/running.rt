@@ -27,7 +27,7 @@ use sqlite_disk::Disk;
 use std::alloc::Global;
 use std::io::{Read, Write};
 
-/// A status, and whether standard error took all that it was to be told.
+/// A status, and whether standard error took all that it was to take.
 type Told = (u8, Result<(), WriteFault>);
 
 /// The status of a command that failed, with the fault on standard error.
@@ -198,7 +198,7 @@ fn run_line<S: Start, R: Read, W: Write, E: Write>(
 /// for anything else.
 /// If `errors` fails too, the rest of its text is lost, which the result says. Neither `output` nor `errors` is flushed.
 ///
-/// `S` stands for what the file of the command held, if it has one. What is left of it comes with the status: it was
+/// `S` says what the file of the command held, if it has one. What is left of it comes with the status: it was
 /// closed, or given up as it was, after a failure too; or it couldn't be opened. Of `check` the bytes come that it read.
 pub fn run_from<S: Start, R: Read, W: Write, E: Write>(
     rt: &HostRuntime,

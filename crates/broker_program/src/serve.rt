@@ -132,7 +132,7 @@ fn serve_reopened<P: Peers>(
     Ok(())
 }
 
-/// Why serving ended, what is left of the files, if no sync of them failed, and the want of a seed, if that is why.
+/// Why serving ended, what is left of the files, if no sync of them failed, and that there is no seed, if that is why.
 type CutShort<S> = (RunFault, Option<Leftover<FileFrom<S>>>, Option<NoSeed>);
 
 /// Serves the peers that are to come. If a sync of the broker's files fails, those of its path are opened.

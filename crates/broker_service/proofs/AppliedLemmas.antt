@@ -12,7 +12,7 @@ use Rattle.broker_service.proofs.EndLemmas.{deployed_exactly, released_exactly}
 use Rattle.table_access.specs.declared.StoreFault.TheVariants as fault
 use Rattle.broker_core.specs.declared.answer.Answer.TheVariants as answers
 
--- the answer that what a transaction came to is told as
+-- the answer that reports a transaction's result
 abbrev pub answer_of : Result Answer StoreFault → Answer
 answer_of (Ok answer) = answer
 answer_of (Err why) = failed_as why
@@ -38,13 +38,13 @@ runs_told (Ok answer) it is = it.2 is
 runs_told (Err fault.Memory) it is = absurd (cc)
 runs_told (Err fault.Store) it is = absurd (cc)
 
--- Store is told of a failure alone
+-- `Store` is answered only if the result is its fault
 store_told : (r : Result Answer StoreFault) → IfOk r IsNoFailure → answer_of r ≡ answers.Store → r ≡ Err fault.Store
 store_told (Ok answer) it is = absurd (it.1 is)
 store_told (Err fault.Memory) it is = absurd (cc)
 store_told (Err fault.Store) it is = refl
 
--- a transaction that is told as Store failed by it in a call, or had its COMMIT refused
+-- a transaction whose fault is Store failed by it in a call, or its COMMIT was refused
 is_store : (r : Result Answer Failure) → told r ≡ Err fault.Store → (r ≡ Err (Call fault.Store)) ⊎ ((why : StoreFault) × (r ≡ Err (Commit why)))
 is_store (Ok answer) is = absurd (cc)
 is_store (Err (Call why)) is = inl (let same : why ≡ fault.Store = (let h = is in cc) in ap (λ (f : StoreFault). let r : Result Answer Failure = Err (Call f) in r) same)

@@ -19,7 +19,7 @@ use Rattle.broker_service.specs.Transacted.{AppliesOrFails, FailsAtCommit, Fails
 use Rattle.broker_service.proofs.EndLemmas.{done_steps, next_stored, steps_on, undone_keeps}
 use Rattle.table_access.proofs.EndLemmas as ends
 
--- an answer is that which the work came to
+-- an answer of the transaction is that of the work
 pub answered : (P : Answer → Type 0) (worked : Result Answer StoreFault) (ended : Result (Unit {0}) StoreFault) (result : Result Answer Failure) → told result ≡ conclusion worked ended → IfOk worked P → IfOk result P
 answered P worked (Ok u) (Ok answer) is it = subst (λ (r : Result Answer StoreFault). IfOk r P) (sym is) it
 answered P worked (Err fault) (Ok answer) is it = absurd (cc)
@@ -53,12 +53,12 @@ module _ (token : Option Text) (command : Command) where
       let out : Transition = record { answer = Done change.0; state = change.1 } in
       (out, tt, done_steps s token command db was out (change.2 was.contents) tt)
 
-  -- where BEGIN was refused, no transaction was open
+  -- if BEGIN was refused, no transaction was open
   begin_fails : (s : Broker) (old new : State) (fault : StoreFault) → HoldsState s old → FailsToBegin old new fault → HasFailed old new fault
   begin_fails s old new fault holds (ran, inl failed) = failed
   begin_fails s old new fault holds (ran, inr within) = absurd (let outside = (holds.held within.1.0.was_open).autocommit in let inside = within.0 in cc)
 
-  -- there is no answer without one that was come to
+  -- a result that is done is an answer
   done_is_ok : (r : Result Answer StoreFault) → IsOkAnd r IsDone → IsOk r
   done_is_ok (Ok answer) is = refl
   done_is_ok (Err fault) is = absurd is
@@ -165,7 +165,7 @@ module _ (token : Option Text) (command : Command) where
         t : WholeTransaction (shown old) (shown mid) (shown done) (shown new) (IsPerformed (shown mid) (shown done)) IsDone (told result)
         t = record { worked = worked; keeps = keeps; begun = begun; begins = begins; works = works; kept = kept; concludes = concludes }
 
-    -- where BEGIN was refused
+    -- if BEGIN was refused
     pub untransacted : (old new : Held X) (why : StoreFault) → (HasCleanDisk (shown new) → IsLeft (shown old) (shown new)) → (HasCleanDisk (shown new) → FailsToBegin (shown old) (shown new) why)
         → Survives (shown old) (shown new) (λ _. ⊥) → Transacted shown token command old new (Err (Call why))
     untransacted old new why refused cause begins = record {

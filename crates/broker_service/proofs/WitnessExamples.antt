@@ -1,4 +1,4 @@
--- What a wrong body leaves: a clause that ends in an existential excludes it, whatever witness is given.
+-- What a wrong body leaves: a clause that ends in an existential excludes it, for each witness.
 use Rattle.std.{specs.Prelude.{IsTrue}, proofs.Common.{◌≡◌, ◌≢◌, inl, inr, Option, Result, Err, true, false, sym, ◌∙◌}}
 use Rattle.sqlite.specs.{Held.{Held}, State.{State, HasCleanDisk, HasCause}}
 use Rattle.sqlite_trees.specs.declared.error.StoreError.TheVariants.{Io}

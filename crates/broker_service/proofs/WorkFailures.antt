@@ -1,4 +1,4 @@
--- Why the work of a command fails: the store failed, a growth was refused, or its change was.
+-- Why the work of a command fails: the store failed, memory ran out, or the command's change was refused.
 use Rattle.std.{specs.Prelude.{⊤}, proofs.Common.{Bool, ◌≡◌, inl, inr, true, false, Ok, Some, Option, Result, sym, ap, subst, ◌∙◌, ◌⊎◌}}
 use Rattle.std.proofs.lemmas.Result.{IfErr-weaker}
 use Rattle.sqlite.specs.State.{State, HasCleanDisk}
@@ -29,11 +29,11 @@ module _ (old new : State) (r : Result Answer StoreFault) (caller : Caller) (giv
   pub change_may_fail : FailsBetween true old new r (IsMisnamed command) (λ _. ⊤) (IsStepOf caller command) → FailsFromBetween old new r (IsMisnamed given) (HasSoundContents broker_primitives) (IsToChange (CallersStep caller given))
   change_may_fail why clean s here sound = IfErr-weaker r _ _ (told s) (why clean s here tt)
 
-  -- one that does so only where each stored pact can be read again
+  -- such a command, if each stored pact can be read again
   pub sound_may_fail : FailsFromBetween old new r (IsMisnamed command) (HasSoundContents broker_primitives) (IsToChange (IsStepOf caller command)) → FailsFromBetween old new r (IsMisnamed given) (HasSoundContents broker_primitives) (IsToChange (CallersStep caller given))
   sound_may_fail why clean s here sound = IfErr-weaker r _ _ (told s) (why clean s here sound)
 
--- a command that no change of it is refused of
+-- a command whose change is never refused
 pub never_by_change : (TooBig : Type 0) (old new : State) (r : Result Answer StoreFault) (Allows Changes : Broker → Type 0) → FailsOnlyBy old new r (HasFailedOrMemory old new) → FailsFromBetween old new r TooBig Allows Changes
 never_by_change TooBig old new r Allows Changes why clean s here allowed = IfErr-weaker r _ _ (λ fault it. inl it) (why clean s here)
 
@@ -46,7 +46,7 @@ pub fails_then : {A : Type 0} (TooBig : Type 0) (old mid new : State) (a : A) (r
     → CalmQueriesBetween true old mid (Ok a) P → CallsTablesBetween mid new r Q → FailsFromBetween mid new r TooBig Allows Made → FailsFromBetween old new r TooBig Allows Changes
 fails_then TooBig old mid new a r P Q Allows Made Changes more one = fails_after TooBig old mid new a r P Q Allows Allows Changes Made (λ s held allowed read. (allowed, more s read)) one.call
 
--- ---- what a command came to is no failure
+-- ---- the answer of a command is no failure
 
 step_is_none : (answer : Answer) → is_step answer ≡ true → IsNoFailure answer
 step_is_none answer step = (

@@ -1,4 +1,4 @@
--- what a known caller's command does inside its transaction, and why it fails where each stored pact can be read again
+-- what a known caller's command does inside its transaction, and why it fails if each stored pact can be read again
 use Rattle.std.specs.Prelude.{Result}
 use Rattle.sqlite.specs.Held.{Held, state}
 use Rattle.sqlite.specs.State.{State}

@@ -20,7 +20,7 @@ use Rattle.broker_database.specs.declared.ending.Failure.{Failure}
 use Rattle.broker_database.specs.declared.ending.Failure.TheVariants.{Call, Commit}
 use Rattle.broker_tables.specs.Room.{HasRoomFor, enough}
 
--- an answer that a command may come to inside its transaction; the broker alone answers a failure, or Stopped
+-- an answer that a command may have inside its transaction: only the broker itself answers a failure, or Stopped
 abbrev pub IsNoFailure : Answer → Type 0
 IsNoFailure answer = (answer ≢ Memory) × (answer ≢ Store) × (answer ≢ Stopped)
 
@@ -44,13 +44,13 @@ abbrev pub FailsInside : Broker → Option Text → Command → State → State 
 FailsInside s token command old new =
     IsToBeDone s token command × (HasRoomFor enough old.now → HasFailed old new faults.Store)
 
--- its COMMIT was refused by this fault, for want of memory
+-- its COMMIT was refused by this fault, since memory ran out
 abbrev pub FailsAtCommit : {X : Type 0} → (Held X → State) → Broker → Option Text → Command → Held X → Held X → StoreFault
     → Type 0
 FailsAtCommit shown s token command old new why =
     (why ≡ faults.Memory) × IsToBeDone s token command × CommitLacksMemory shown s token command old new
 
--- What it leaves, and what it came to. Shown is what a connection shows.
+-- What it leaves, and its result. Shown is what a connection shows.
 pub record Transacted {X : Type 0} (shown : Held X → State) (token : Option Text) (command : Command) (old new : Held X)
     (result : Result Answer Failure) : Type 0 where
   pub ends : HasCleanDisk (shown new) → (s : Broker) → HoldsState s (shown old)

@@ -144,8 +144,8 @@ fn step_of<S: Alter>(
     }
 }
 
-/// The answer with its body. A failure, and that the broker is stopped, is answered only by `Broker::apply`: no command
-/// comes to it.
+/// The answer with its body. Only `Broker::apply` answers a failure, or that the broker is stopped: no command has such
+/// an answer.
 fn answer_of(alloc: Global, answer: Answer) -> Result<RenderedAnswer, StoreFault>
     ensures ok { IfOk result (λ made. (made ≡ answer) × IsNoFailure made) }
     ensures cause { IsNoFailure answer → IfErr result (λ e. e ≡ StoreFault.Memory) }

@@ -1,4 +1,4 @@
--- A schema that has the broker's tables consists of them, with whatever else tables have; and what a text asks of it.
+-- A schema that has the broker's tables consists of them, and may have more in them; and what a text asks of it.
 use Rattle.std.specs.{List.{AllZip}, Prelude.{is_some, ◌↔◌}}
 use Rattle.std.proofs.Common.{◌≡◌, ◌∙◌, ◌≤◌, ℕ, zero, suc, List, [], ◌∷◌, Bool, true, false, IsTrue, Option, None, Some, slice_get, refl, sym, subst, arith}
 use Rattle.std.proofs.lemmas.List.Sorted.{Contains-permutation}
@@ -88,7 +88,7 @@ module _ {sql : List ℕ} {params : Row} {t : ℕ} {terms project : List Term} {
       let here = has_map (shows project params) _ r (has_filter (keeps terms params) (old.now.trees t) r has kept) in
       nothing_in rows none _ (contains_has rows _ (Contains-permutation _ rows _ (selects sql params old new t terms project order asks.names asks.means rows shown) (has_contains _ _ here)))
 
-  -- so one is shown just where WHERE keeps a row
+  -- so one is shown if and only if WHERE keeps a row
   pub any_kept : (b : Bool) → b ≡ is_some (slice_get rows 0) → IsTrue b ↔ ((r : Row) × Has (old.now.trees t) r × (keeps terms params r ≡ true))
   any_kept b is = go b (slice_get rows 0) refl is
     where
@@ -105,7 +105,7 @@ cause_since a b c Broken live up h = absurd (let e = live in cc)
 cause_since a b c Unstorable live up h = h
 cause_since a b c _ live up h = omega (arith, up, h)
 
--- where a query left all as it was, a later failure of the store is one of both
+-- if a query left all as it was, a later failure of the store is one of both calls together
 pub failed_since_query : (a b c : State) (e : StoreFault) → IsUnchanged a b → a.faults ≤ b.faults → HasFailed b c e → HasFailed a c e
 failed_since_query a b c e same up h = record { cause = h.cause; fault_is = h.fault_is; has = cause_since a b c h.cause same.0.is_open up h.has; over = h.over; blamed = h.blamed }
 

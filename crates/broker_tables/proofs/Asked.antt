@@ -19,7 +19,7 @@ use Rattle.broker_tables.proofs.{Frames.{meant, runs_here, held_still}, NoVersio
 use Rattle.broker_tables.proofs.{ReadableRows.{IsLow, number_cell}, Listed.{has_read}}
 
 -- The text asks this query of the broker's tables, and can be run with these parameters: `refl` finds each field of both,
--- under `unfolding understood everything`, also where the parameters are variables.
+-- under `unfolding understood everything`, even if the parameters are variables.
 pub record Asked (sql : List ℕ) (params : Row) (query : Query) : Type 0 where
   pub names : List (List ℕ)
   pub means : Means broker_schema sql (Select (record { lets = []; body = query }) names)
@@ -29,7 +29,7 @@ pub record Asked (sql : List ℕ) (params : Row) (query : Query) : Type 0 where
 abbrev pub IsShown : {sql : List ℕ} {params : Row} {query : Query} → Asked sql params query → Database → List Row → Type 0
 IsShown {sql} {params} {query} asked db rows = Answers db (record { lets = []; body = query }) params rows
 
--- whatever the rows of its answer are, each is such
+-- each row of any answer is such a row
 abbrev pub EachShown : {sql : List ℕ} {params : Row} {query : Query} → Asked sql params query → Database → (Row → Type 0) → Type 0
 EachShown asked db Is = (rows : List Row) → IsShown asked db rows → (row : Row) → Has rows row → Is row
 
@@ -44,11 +44,11 @@ EachReads asked db Is = (s : Broker) → Holds db s → IsReadable s → EachSho
 abbrev pub FirstReads : {sql : List ℕ} {params : Row} {query : Query} → Asked sql params query → Database → (Row → Type 0) → Type 0
 FirstReads asked db Is = (s : Broker) → Holds db s → IsReadable s → FirstShown asked db Is
 
--- no row is, where no version has this number
+-- no row is shown, if no version has this number
 abbrev pub NoneFor : {sql : List ℕ} {params : Row} {query : Query} → Asked sql params query → Database → ℕ → Type 0
 NoneFor asked db number = (s : Broker) → Holds db s → ((v : Version) → ¬ (number_of s.versions v ≡ Some number)) → EachShown asked db (λ row. ⊥)
 
--- a row fails so only where it isn't such: as Store
+-- a row fails with Store only if it isn't such a row
 abbrev pub FailsOnly : (Row → StoreFault → Type 0) → (Row → Type 0) → Type 0
 FailsOnly Fails Is = (row : Row) (fault : StoreFault) → Fails row fault → fault ≡ Store → ¬ Is row
 
@@ -106,7 +106,7 @@ module _ {sql : List ℕ} {params : Row} {query : Query} (asked : Asked sql para
       list_ends sql params old new query asked.names (here at.held.broker) (runs_there at.held.broker) at.unlimited _ _
       (λ rows row h has fault why. else_memory fault (only row fault why) (each s at.held at.readable rows (reads s at.held rows h).0 row has))
 
-  -- where no row is shown, it isn't the first row that wasn't read
+  -- if no row is shown and the answer isn't read, the store failed: there is no first row to read
   pub why_unread : (s : Broker) → Serves old s → FirstShown asked old.now (λ row. ⊥) → (fault : StoreFault) → FailsToTake TellsText sql params old new fault
       → HasFailed old new fault
   why_unread s at none fault (inl refused) = why_refused s at fault refused
@@ -118,7 +118,7 @@ module _ {sql : List ℕ} {params : Row} {query : Query} (asked : Asked sql para
   abbrev Was : {A : Type 0} → (A → List Row → Type 0) → A → Type 0
   Was Read a = (rows : List Row) × Shown sql params old new rows × Read a rows
 
-  -- and what that tells of a state
+  -- if what was read is Read, it has P of each state that is held
   abbrev Tells : {A : Type 0} → (A → List Row → Type 0) → (A → Broker → Type 0) → Type 0
   Tells {A} Read P = (s : Broker) → Holds old.now s → (rows : List Row) → IsShown asked old.now rows → (a : A) → Read a rows → P a s
 
@@ -136,7 +136,7 @@ module _ {sql : List ℕ} {params : Row} {query : Query} (asked : Asked sql para
       → FailsFor r (FailsToRead Reads FailsAs sql params old new) → CalmQueriesBetween true old new r P
   lists {r = r} {P = P} only tells each = read_out old new r _ P _ (told _ P tells) (why_list only each)
 
-  -- where nothing is to be listed, no row is shown, and so none was refused
+  -- if nothing is to be listed, no row is shown, and so none was refused
   pub lists_in_place : {A B : Type 0} {Reads : Row → B → Type 0} {Is : Row → Type 0} {Nothing : Broker → Type 0} (r : Result A StoreFault) (Fails : Row → StoreFault → Type 0)
       → ((row : Row) → Is row → (x : B) × Reads row x) → ((s : Broker) → Holds old.now s → Nothing s → (rows : List Row) → IsShown asked old.now rows → (items : List B)
       → AreRead Reads rows items → (x : B) → ¬ (Contains items x)) → EachReads asked old.now Is → FailsFor r (FailsToRead Reads Fails sql params old new)
@@ -177,7 +177,7 @@ module _ {sql : List ℕ} {params : Row} {query : Query} (asked : Asked sql para
       → FailsFor r (IsRefusedAs sql params old new) → CalmQueriesBetween false old new r P
   looks_for {r = r} {P = P} tells = read_out old new r _ P _ (told _ P tells) why_refused
 
-  -- ---- where no version has the number
+  -- ---- if no version has the number
 
   pub lists_none : {A B : Type 0} {items : A → List B} {Reads : Row → B → Type 0} {r : Result A StoreFault} {number : ℕ} → NoneFor asked old.now number
       → CallsTablesBetween old new r (Was (λ list rows. AreRead Reads rows (items list))) → IfNoVersionBetween old new r number (λ list. items list ≡ [])
@@ -197,7 +197,7 @@ module _ {sql : List ℕ} {params : Row} {query : Query} (asked : Asked sql para
 
 -- ---- what is so of each row that is shown
 
--- what is shown of a row that WHERE keeps is such
+-- each row that WHERE keeps is shown as Is says
 abbrev EachKept : Row → List Term → List Term → ℕ → Database → (Row → Type 0) → Type 0
 EachKept params terms project t db Is = (r : Row) → Has (db.trees t) r → keeps terms params r ≡ true → Is (shows project params r)
 
@@ -245,13 +245,13 @@ module _ {sql : List ℕ} {params : Row} {terms project : List Term} {order : Li
 -- ---- what is shown of one column
 
 module _ {sql : List ℕ} {params : Row} {t place : ℕ} {terms : List Term} {order : List (Term × Key)} where
-  -- a number, where each row of the table has a low one there
+  -- a number, if each row of the table has a low one there
   pub number_reads : (asked : Asked sql params (from_table t terms (col 1 place ∷ []) order)) (db : Database)
       → ((r : Row) → Has (db.trees t) r → (column r place ≡ Int (whole_at place r)) × IsLow (whole_at place r)) → EachShown asked db IsNumberRow
   number_reads asked db low =
       of_table asked db _ (λ r has kept. let it = low r has in number_cell (shows (col 1 place ∷ []) params r) 0 (whole_at place r) (omega arith) it.0 it.1)
 
-  -- a text, where each row has one and what is shown first is UTF-8
+  -- a text, if each row has one and what is shown first is UTF-8
   pub text_reads : (asked : Asked sql params (from_table t terms (col 1 place ∷ []) order)) (db : Database)
       → ((r : Row) → Has (db.trees t) r → column r place ≡ Text (text place r)) → FirstShown asked db (λ row. IsUtf8 (text 0 row))
       → FirstShown asked db (IsTextAt 0)

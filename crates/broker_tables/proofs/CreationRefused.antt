@@ -29,7 +29,7 @@ pub record IsAlone (schema : Schema) (sql : List ℕ) (command : Command) : Type
   pub whole : is_whole sql 0 (understood schema sql) ≡ true
   pub text : statement_of sql (understood schema sql) ≡ sql
 
--- where nothing stops its command, it fails only as the store fails
+-- if nothing stops its command, it fails only as the store fails
 text_fails : (sql : List ℕ) (old new : State) (command : Command) → IsAlone old.now.schema sql command → is_query command ≡ false → is_pragma command ≡ false
     → is_anywhere command ≡ true → ((stop : Option Error) → ¬ Does old.step_limit (mode_of old) [] old.now sql None command (Err stop))
     → (e : Error) → Executes sql [] old new (Err e) → Fails old new ⊥ e

@@ -9,7 +9,7 @@ use Rattle.std.proofs.lemmas.Result.{IfErr-weaker}
 use Rattle.table_access.{specs.{Calls.{CallsBetween}, declared.StoreFault.{StoreFault}}, proofs.CallLemmas.{ended_since, ended_with}}
 
 module _ {A B : Type 0} {any takes : Bool} (old mid new : State) (a : A) (r : Result B StoreFault) (P : A → Broker → Type 0) (Q : B → Type 0) (First Then : Broker → Type 0) where
-  -- a query tells that the state allows the next call
+  -- a call after a query, whose answer shows that the state allows it
   pub calm_after : ((s : Broker) → Holds old.now s → First s → P a s → Then s) → QueriesBetween any old mid (Ok a) P → CallsBetween takes mid new r Q → IsCalmFromBetween mid new r Then → IsCalmFromBetween old new r First
   calm_after more one two why clean s here may =
       let mid_clean : HasCleanDisk mid = omega (arith, two.survives.clean, clean) in
@@ -29,7 +29,7 @@ module _ {A B : Type 0} {any takes : Bool} (TooBig : Type 0) (old mid new : Stat
         | inr made ↦ inr (go.1 made.0, λ room. ended_since old mid new e on one.survives.counts (made.1 (subst (HasRoomFor enough) (sym read.1) room)))
       ]) (why clean s (serves_on old mid a P mid_clean one s here) go.0)
 
--- the failure of a call, handed on
+-- the same failure, of a call with another kind of answer
 pub fails_as : (TooBig A B : Type 0) (old new : State) (e : StoreFault) (First Changes Made : Broker → Type 0) → ((s : Broker) → First s → Made s → Changes s) → FailsFromBetween {A = A} old new (Err e) TooBig First Made → FailsFromBetween {A = B} old new (Err e) TooBig First Changes
 fails_as TooBig A B old new e First Changes Made more why clean s here may = elim (why clean s here may) [ inl calm ↦ inl calm | inr made ↦ inr (more s may made.0, made.1) ]
 
@@ -44,14 +44,14 @@ pub taking : {A : Type 0} (TooBig : Type 0) (old new : State) (r : Result A Stor
     → IsCalmUnlessBetween old new r tables TooBig Allows → IsCalmTakingBetween taken old new r TooBig Allows
 taking TooBig old new r tables counted taken one Allows why clean s here may room = why clean s here may (numbers_of tables counted taken one old.now room)
 
--- what is so where a row was too big is so of more
+-- what is so if a row was too big may be weakened
 pub calm_with : {A : Type 0} (TooBig More : Type 0) (old new : State) (r : Result A StoreFault) (tables : List (List ℕ)) (Allows : Broker → Type 0) → (TooBig → More) → IsCalmUnlessBetween old new r tables TooBig Allows → IsCalmUnlessBetween old new r tables More Allows
 calm_with TooBig More old new r tables Allows more why clean s here may room = IfErr-weaker r _ _ (λ e ended. ended_with old new e more ended) (why clean s here may room)
 
 pub fails_more : {A : Type 0} (TooBig More : Type 0) (old new : State) (r : Result A StoreFault) (First Changes : Broker → Type 0) → (TooBig → More) → FailsFromBetween old new r TooBig First Changes → FailsFromBetween old new r More First Changes
 fails_more TooBig More old new r First Changes more why clean s here may = IfErr-weaker r _ _ (λ e it. elim it [ inl calm ↦ inl calm | inr made ↦ inr (made.0, λ room. ended_with old new e more (made.1 room)) ]) (why clean s here may)
 
--- and where they are allowed, a call fails so
+-- a call whose change takes few enough numbers fails so, if the state allows it
 pub fails_taking : {A : Type 0} (TooBig : Type 0) (old new : State) (r : Result A StoreFault) (taken : ℕ) → taken ≤ enough → (Allows First Changes : Broker → Type 0) → ((s : Broker) → Holds old.now s → First s → Allows s × Changes s)
     → IsCalmTakingBetween taken old new r TooBig Allows → FailsFromBetween old new r TooBig First Changes
 fails_taking TooBig old new (Ok a) taken few Allows First Changes more why clean s here may = tt

@@ -70,7 +70,7 @@ module _ (n : ℕ) (old new : Database) (s : Broker) where
       (made.schema ∙ ap (λ c. created c strict_environments) held.schema) (made_kept (strict_environments ∷ []) old new (new, made, refl) held.kept)
       (keeps.1.1.1.1.1.1.1.1.1.1.1.1.1.0 ∙ held.empty.0, (subst (λ c. new.trees (next_tree c) ≡ []) held.schema made.empty, tt))
 
-  -- meta tells another format
+  -- meta gets another format
   pub format_told : (m : ℕ) → HoldsUnmarked n added_tables old s → new.schema ≡ old.schema → IsKept new → AllByRecursion (KeepsOthers old.trees new.trees) (schema_of all_tables).tables → IsMeta m s.office (new.trees in_meta.tree) → HoldsUnmarked m added_tables new s
   format_told m held same kept others meta =
       let front = all_front (KeepsOthers old.trees new.trees) (schema_of former_tables).tables (record checked_results { tree = in_checked_results.tree } ∷ record strict_environments { tree = in_strict_environments.tree } ∷ []) others in
@@ -123,7 +123,7 @@ unmarked n more db s held = record {
 -- ---- the entries of the indexes
 
 module _ (n : ℕ) (db : Database) (s : Broker) (readable : IsReadable s) (held : HoldsUnmarked n added_tables db s) where
-  -- the keys of an index are short if the columns that it takes are, where the row's number is
+  -- the keys of an index are short if the row's number and the columns that it takes are
   keys_at : (at : ℕ) (one : Table × Index) → slice_get (schema_of (former_tables ++ added_tables)).tables at ≡ Some one.0
       → (Has db.schema.tables one.0 → (r : Row) → Has (db.trees one.0.tree) r → IsShortValue (column r 0) → AllByRecursion IsShortValue (entry_of one.1.columns r))
       → AreShortKeys db.trees one

@@ -87,12 +87,12 @@ still_broker changed old new frame broker = record { schema = frame.schema ∙ b
 -- ---- the state that is held after a change
 
 module _ (changed : List (List ℕ)) (old new : Database) where
-  -- what is known of a field: if its table is as it was, that the rows tell the next value where they told the old one;
-  -- else that they tell it now
+  -- what is known of a field: if its table is as it was, that the rows have the next value if they had the old one;
+  -- else that they have it now
   abbrev Known : List ℕ → (List Row → Type 0) → (List Row → Type 0) → Type 0
   Known name Was Is = MatchBool (is_other changed name) (Was (rows_of old name) → Is (rows_of old name)) (Is (rows_of new name))
 
-  -- the same of a field that two tables tell
+  -- the same of a field that is read from two tables
   abbrev KnownOfBoth : List ℕ → List ℕ → (List Row → List Row → Type 0) → (List Row → List Row → Type 0) → Type 0
   KnownOfBoth one two Was Is = MatchBool (is_other changed one && is_other changed two) (Was (rows_of old one) (rows_of old two) → Is (rows_of old one) (rows_of old two)) (Is (rows_of new one) (rows_of new two))
 
@@ -147,7 +147,7 @@ module _ (changed : List (List ℕ)) (old new : Database) where
 pub same : {A : Type 0} → A → A
 same h = h
 
--- ---- one field of the state is another: where only these tables changed, the state is held with what their rows tell now
+-- ---- one field of the state changes: if only these tables changed, the state with the field as the rows say is held
 
 module _ (old new : Database) (s : Broker) where
   pub teams_change : (next : Text → Option Text) → Holds old s → Frame (codes "teams" ∷ []) old new → AreTeams next (rows_of new (codes "teams")) → Holds new (record s { teams = next })

@@ -14,7 +14,7 @@ use Rattle.broker_tables.proofs.Placed.{Placed, at_branches, at_contracts, at_la
 -- ---- no row has the key
 
 module _ {K V : Type 0} (R : K → K → Ordering) (key : Row → K) (value : Row → V) (k : K) where
-  -- no row stands at a key, where no row's key ties with it
+  -- no row has a key, if no row's key ties with it
   pub none_stands : (rows : List Row) → ((r : Row) → Has rows r → eq_by_cmp R k (key r) ≡ false) → stands_at R key rows k ≡ false
   none_stands [] apart = refl
   none_stands (r ∷ rows) apart = ap (λ b. b || stands_at R key rows k) (apart r (inl refl)) ∙ none_stands rows (λ x has. apart x (inr has))

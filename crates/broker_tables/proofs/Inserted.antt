@@ -169,7 +169,7 @@ module _ (sql : List ℕ) (params : Row) (old new : State) (t : Table) (at : ℕ
 
 module _ {t : Table} (at : Placed t) {sql : List ℕ} {params row made : Row} (puts : Puts at sql params row) (old new : State) (broker : IsBroker old.now)
     (stored : with_rowid Chosen (old.now.trees t.tree) (cast_row t row) ≡ made) where
-  -- where it is done, the row is added, and no other table changes
+  -- if it is done, the row is added, and no other table changes
   pub inserted : (count : ℕ) → Executes sql params old new (Ok count) → ChangesOnly t.tree old new × IsAdded (old.now.trees t.tree) (new.now.trees t.tree) made
   inserted count h =
       inserts t.name t.tree t.columns t.key t.primary t.uniques t.orders t.checks t.references sql params old new at.place (plain_there at old.now broker) puts.terms puts.width row made puts.one stored (meant old.now broker sql puts.means) count h
@@ -245,11 +245,11 @@ module _ {t : Table} {at : Placed t} {sql : List ℕ} {params rest : Row} (adds 
   stored : with_rowid Chosen (old.now.trees t.tree) (cast_row t (Null ∷ rest)) ≡ added
   stored = λ i. with_rowid Chosen (old.now.trees t.tree) (cast_null i ∷ adds.stored i)
 
-  -- where it is done, the row is added, and no other table changes
+  -- if it is done, the row is added, and no other table changes
   pub adds_row : (count : ℕ) → Executes sql params old new (Ok count) → ChangesOnly t.tree old new × IsAdded (old.now.trees t.tree) (new.now.trees t.tree) added
   adds_row = inserted at adds.puts old new broker stored
 
-  -- so the state is held that the rows tell then
+  -- so the next state is held, if that follows from the row that was added and the tables that stayed
   pub held_added : {taken : ℕ} → 1 ≤ taken → {next : Broker} (count : ℕ) → Executes sql params old new (Ok count)
       → (Frame (t.name ∷ []) old.now new.now → IsAdded (old.now.trees t.tree) (new.now.trees t.tree) added → Holds new.now next) → HoldsAfter taken old new next
   held_added {taken} some {next} count h holds =

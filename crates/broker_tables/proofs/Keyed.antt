@@ -51,11 +51,11 @@ module _ {K : Type 0} {R : K → K → Ordering} {key : Row → K} (t : Keyed R 
   abbrev rows : List Row
   rows = db.trees t.table.tree
 
-  -- a key stands once
+  -- no two rows have one key
   pub keys_of : IsAscending (λ a b. eq_by_cmp R (key a) (key b) ≡ false) rows
   keys_of = once t.columns.of rows (t.columns.typed db broker) (keys_apart t.at db broker t.places t.unique)
 
-  -- it is free if no row stands by it
+  -- a made row is free if no row has its key
   pub is_free : (made : Row) → HasCells t.columns.of made → stands_at R key rows (key made) ≡ false → IsFree rows made t.places
   is_free made cells none r has =
       agrees t.columns.of r made (t.columns.typed db broker r has) cells ∙ (eq_by_cmp_equiv t.columns.of.total).symm (key r) (key made)
@@ -74,7 +74,7 @@ module _ {K : Type 0} {R : K → K → Ordering} {key : Row → K} (t : Keyed R 
         looks_up_at t.columns.of.total t.columns.of.exact key value (shows project params) read same k (keeps (are_params t.places 0) params) rows out kept_by keys_of
         (answered db params t.table.tree (are_params t.places 0) project [] out h)
 
-    -- and there is one just where a row stands by the key
+    -- and a row is found if and only if some row has the key
     pub finds_row : {project : List Term} (out : List Row) → Answers db (record { lets = []; body = from_table t.table.tree (are_params t.places 0) project [] }) params out
         → is_some (slice_get out 0) ≡ stands_at R key rows k
     finds_row out h =

@@ -13,7 +13,7 @@ use Rattle.broker_core.{specs.Listing.{Lists}, proofs.Lists.{contains_none, cont
 
 -- ---- what is read of a list, by members
 
--- where rows are read into items one by one, each item is read of a row of the list
+-- if rows are read into items one by one, each item is read of a row of the list
 pub read_has : {A B : Type 0} (reads : A → B → Type 0) (rows : List A) (items : List B) (x : B) → AreRead reads rows items → Contains items x → (row : A) × Has rows row × reads row x
 read_has reads [] [] x read c = absurd (contains_none x c)
 read_has {A} {B} reads (r ∷ rows) (y ∷ items) x read c = elim (contains_cases y items x c) [
@@ -22,7 +22,7 @@ read_has {A} {B} reads (r ∷ rows) (y ∷ items) x read c = elim (contains_case
 ]
 read_has reads _ _ x read c = absurd read
 
--- where rows are read into items one by one, each row is read into an item of the list
+-- if rows are read into items one by one, each row is read into an item of the list
 pub has_read : {A B : Type 0} (reads : A → B → Type 0) (rows : List A) (items : List B) (row : A) → AreRead reads rows items → Has rows row → (x : B) × Contains items x × reads row x
 has_read reads [] items row read has = absurd has
 has_read reads (r ∷ rows) [] row read has = absurd read
@@ -78,7 +78,7 @@ sorted_lists by total kept apart = record {
 }
 
 module _ {Y : Type 0} (db : Database) (params : Row) (terms project : List Term) (order : List (Term × Key)) (reads : Row → Y → Type 0) (R : Y → Y → Ordering) (Q : Y → Type 0) where
-  -- SELECT project FROM a table WHERE terms ORDER BY order, where no two rows tie
+  -- SELECT project FROM a table WHERE terms ORDER BY order, if no two rows tie
   pub lists_table : (t : ℕ) → let kept = filter (keeps terms params) (db.trees t) in let env : Row → List Row = λ r. params ∷ r ∷ [] in
       IsAscending (λ a b. is_eq (sorts order env a b) ≡ false) kept
       → ((a b : Row) (x y : Y) → Has kept a → Has kept b → reads (eval_all project (env a)) x → reads (eval_all project (env b)) y → sorts order env a b ≡ Less → R x y ≡ Less)
@@ -91,7 +91,7 @@ module _ {Y : Type 0} (db : Database) (params : Row) (terms project : List Term)
       lists_read (sorts order env) (Has kept) (λ r. reads (eval_all project (env r))) R Q less sound whole (sort_by (sorts order env) kept) items (sorted_lists (sorts order env) (sorts_total order env) kept apart)
       (read_of_map reads (shows project params) (sort_by (sorts order env) kept) items (subst (λ rs. AreRead reads rs items) (selects_in_order db params t terms project order rows h apart) read))
 
-  -- SELECT project FROM a table JOIN another WHERE terms ORDER BY order, where no two pairs tie
+  -- SELECT project FROM a table JOIN another WHERE terms ORDER BY order, if no two pairs tie
   pub lists_join : (t u : ℕ) → let kept = pairs_kept terms params (db.trees t) (db.trees u) in let env : Row × Row → List Row = λ q. params ∷ q.0 ∷ q.1 ∷ [] in
       IsAscending (λ a b. is_eq (sorts order env a b) ≡ false) kept
       → ((a b : Row × Row) (x y : Y) → Has kept a → Has kept b → reads (eval_all project (env a)) x → reads (eval_all project (env b)) y → sorts order env a b ≡ Less → R x y ≡ Less)

@@ -1,4 +1,4 @@
--- Texts that make tables or indexes fail only as the store fails, where they are those that come next.
+-- Texts that make tables or indexes fail only as the store fails, if they are those that come next.
 use Rattle.std.specs.List.{AllByRecursion}
 use Rattle.std.proofs.Common.{Ok, Result, arith, ◌≡◌, inl, inr, ℕ, List, [], ◌∷◌, ◌++◌, take, drop, refl, sym, ap, subst, ◌∙◌, Err}
 use Rattle.std.proofs.{lemmas.List.{append_assoc, take-append-drop, take-map}, lemmas.Result.{IfErr-weaker}}
@@ -77,9 +77,9 @@ text_fails texts front n sql old mid new fault more (inr (next, keys)) made ran 
     let now = still_short (makes_of first.0) _ old mid.now first.5 it.3 keys in
     has_failed sql [] mid new fault ran (index_fails sql mid new it.1.1 it.4 now.kept.sound (at_has (AreShortKeys mid.now.trees) all_indexes it.1.1 now.short it.4.known))
 
--- ---- calls in turn
+-- ---- one call after another
 
--- a call fails only so after another, which leaves what it asks for
+-- two calls fail only if the store failed, if the first leaves what the second needs
 pub calm_then : {A B : Type 0} (One Two : Database → Type 0) (old mid new : State) (a : A) (r : Result B StoreFault) (P : A → Type 0) (Q : B → Type 0)
     → CallsStoreBetween old mid (Ok a) P → CallsStoreBetween mid new r Q → IsCalmOverBetween Two mid new r → (P a → One old.now → Two mid.now) → IsCalmOverBetween One old new r
 calm_then One Two old mid new a r P Q one two calm next clean inside unlimited before =

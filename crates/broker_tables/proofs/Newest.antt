@@ -32,7 +32,7 @@ module _ {X : Type 0} (entry : Row → X) where
       last_number (n + 1) s rows y ys rest ∙ ap pos (let e : n + 1 + length ys ≡ n + length (y ∷ ys) = omega arith in e)
   last_number n r _ x _ is = absurd (let e = ap length is in cc)
 
-  -- What is listed from the row with the greatest number on: none where there is no row, and 0 stands for it.
+  -- The greatest number is how many items are listed; it is 0 if there is no row.
   pub newest : (rows : List Row) (xs : List X) (found : Option ℕ) → map listed rows ≡ numbered xs → option_map pos found ≡ option_map (whole_at 0) (slice_get (reverse rows) 0) → unwrap_or found 0 ≡ length xs
   newest [] [] None is read = refl
   newest [] [] (Some n) is read = absurd cc

@@ -41,7 +41,7 @@ module _ {X : Type 0} (f : Row → X) (xs : List X) (old new : List Row) (made :
       ∙ sym (ap (λ v. value_cmp v (rowid b)) one ∙ ap (value_cmp (Int (whole_at 0 made))) two) ∙ less in
       absurd (not_past (length xs) low.0 low.2 ordered)
 
-  -- a row that was put in under the next number stands last, with what it has
+  -- a row that was put in under the next number is the last one, with what it has
   pub next_row : IsAdded old new made → map {B = ℤ × X} (λ r. (whole_at 0 r, f r)) new ≡ numbered (xs ++ f made ∷ [])
   next_row it =
       let entry : Row → ℤ × X = λ r. (whole_at 0 r, f r) in

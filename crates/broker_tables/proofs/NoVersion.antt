@@ -1,4 +1,4 @@
--- Rows that name a version by its number: where no version has the number, no such row is there.
+-- Rows that name a version by its number: if no version has the number, there is no such row.
 use Rattle.std.{specs.Prelude.{option_map}, proofs.Common.{◌≡◌, ◌∙◌, inl, ℕ, pos, List, [], ◌∷◌, Option, Some, None, true, refl, sym, ap, codes, slice_get}}
 use Rattle.sqlite.specs.{declared.types.Value.TheVariants.{Int}, Order.{Row, column}, Collation.TheVariants.{Binary}, Table.{Table}, Effect.{Database}}
 use Rattle.sqlite_sql.specs.{Ops.{binary, is_true}, declared.ops.BinaryOp.TheVariants.{Compare}, declared.ops.CompareOp.TheVariants.{Eq}}
@@ -19,7 +19,7 @@ no_row db s held n none t listed p among r has typed tested =
     let same : k.0 ≡ n = cc in
     none (version (text in_versions.pacticipant x.0) (text in_versions.version x.0)) (k.1 ∙ ap Some same)
 
--- ---- where no row is shown, nothing is read
+-- ---- if no row is shown, nothing is read
 
 pub no_first : (rows : List Row) → ((row : Row) → Has rows row → ⊥) → slice_get rows 0 ≡ None
 no_first [] none = refl

@@ -27,7 +27,7 @@ known_from n (w ∷ versions) v =
     elim (eq_by_cmp pair_cmp (key_of v) (key_of w)) as (λ b. is_some (cond b (Some n) (from (n + 1) versions v)) ≡ (b || list_any (same_version v) versions)) [ true ↦ refl | false ↦ known_from (n + 1) versions v ]
     ∙ ap (λ b. b || list_any (same_version v) versions) (sym (version_ties v w))
 
--- a version has a number just where it is known
+-- a version has a number if and only if it is known
 pub known_numbered : (s : State) (v : Version) → is_some (number_of s.versions v) ≡ is_known s v
 known_numbered s v = known_from 1 s.versions v
 
@@ -93,7 +93,7 @@ newly_numbered versions v free =
     grown_from 1 versions v v ∙ ap (λ o. cond (is_some o) o (cond (same_version v v) (Some (1 + length versions)) None)) (none_numbered versions v free)
     ∙ ap (λ b. cond b (Some (1 + length versions)) None) (version_refl v) ∙ ap Some (let e : 1 + length versions ≡ length versions + 1 = omega arith in e)
 
--- What goes by the number of a version is the same, where it says of the next number what it says of none.
+-- What depends on the number of a version stays as one is added, if it is the same for the next number as for none.
 pub grown : {X : Type 0} (g : Option ℕ → X) (versions : List Version) (v w : Version) → list_any (same_version v) versions ≡ false → g (Some (length versions + 1)) ≡ g None
     → g (number_of (versions ++ v ∷ []) w) ≡ g (number_of versions w)
 grown g versions v w free same = go (number_of versions w) refl (cases_Bool (same_version w v))
@@ -121,7 +121,7 @@ version_row rows versions p name is = ap (find pair_cmp (p, name)) (sym (map-map
         elim (eq_by_cmp pair_cmp (p, name) (key_of v)) as (λ b. cond b (Some (pos m)) (find pair_cmp (p, name) (map turn (map (λ e. (pos e.0, e.1)) (enumerate_from (m + 1) vs))))
         ≡ option_map pos (cond b (Some m) (from (m + 1) vs (version p name)))) [ true ↦ refl | false ↦ numbers (m + 1) vs ]
 
--- two versions that are there are the same just where their numbers are
+-- two versions that are there are the same if and only if their numbers are
 pub number_ties : (versions : List Version) (v w : Version) (n k : ℕ) → number_of versions v ≡ Some n → number_of versions w ≡ Some k → same_version v w ≡ eq_by_cmp int_cmp (pos n) (pos k)
 number_ties versions v w n k one two =
     both_ways _ _ (λ same. eq-eqb n k (let e : Some n ≡ Some k = sym one ∙ ap (number_of versions) (version_is v w same) ∙ two in let nats : n ≡ k = cc in nats))

@@ -1,4 +1,4 @@
--- Each table as it stands in the schema, and what its columns hold.
+-- Each table at its place in the schema, and what its columns hold.
 use Rattle.std.specs.List.{AllByRecursion, enumerate_from, list_all}
 use Rattle.std.proofs.Common.{◌≡◌, ℕ, zero, suc, ◌+◌, List, [], ◌∷◌, map, filter, Bool, true, false, ap, refl, sym, subst, ◌∙◌, slice_get, Option, Some, None, codes, cond, add-one}
 use Rattle.sqlite.specs.{declared.types.Value.TheVariants.{Int, Text}, Order.{Row, column}, Schema.{Schema}, Table.{Table}, Tree.{IsAscending}}

@@ -8,7 +8,7 @@ use Rattle.table_access.proofs.CallLemmas.{call_with, then_result, then_err, seq
 use Rattle.broker_core.specs.State.{State as Broker}
 use Rattle.broker_tables.specs.{Holds.{Holds, IsRead, QueriesBetween}, Calm.{Serves, FailsOnlyBy, HasFailedTaking, CalmQueriesBetween}}
 
--- where the database is as it was, it holds the same state
+-- a database that is as it was holds the same state
 pub stays_held : (old new : State) (s : Broker) → new.now ≡ old.now → Holds old.now s → Holds new.now s
 stays_held old new s same held = subst (λ d. Holds d s) (sym same) held
 
@@ -25,7 +25,7 @@ serves_on old mid a P clean one s it = record {
   readable = it.readable;
 }
 
--- a later failure of the store is one of both
+-- a later failure of the store is one of both calls together
 pub ended_or_memory : {TooBig : Type 0} (old mid new : State) (e : StoreFault) → GoesOn old mid → old.faults ≤ mid.faults → EndsBy TooBig mid new e ⊎ (e ≡ Memory) → EndsBy TooBig old new e ⊎ (e ≡ Memory)
 ended_or_memory old mid new e on up (inl ended) = inl (ended_since old mid new e on up ended)
 ended_or_memory old mid new e on up (inr room) = inr room
@@ -34,24 +34,24 @@ failed_since : (takes : Bool) (old mid new : State) (e : StoreFault) → GoesOn 
 failed_since true = ended_or_memory
 failed_since false = ended_since
 
--- where a row reads, a fault that comes as Store only if it doesn't is Memory
+-- if a row reads, a fault that is Store only if it doesn't read is Memory
 pub else_memory : {Reads : Type 0} (fault : StoreFault) → (fault ≡ Store → ¬ Reads) → Reads → fault ≡ Memory
 else_memory Memory only reads = refl
 else_memory Store only reads = absurd (only refl reads)
 
 -- ---- one call
 
--- where the state is served, a failure for this cause has that one
+-- a failure for Cause is one for Why, if Cause gives Why in each state that is served
 pub calm_by : {A : Type 0} (old new : State) (r : Result A StoreFault) (Cause Why : StoreFault → Type 0) → ((s : Broker) → Serves old s → (e : StoreFault) → Cause e → Why e) → (HasCleanDisk new → IfErr r Cause) → FailsOnlyBy old new r Why
 calm_by old new r Cause Why why cause clean s here = IfErr-weaker r _ _ (why s here) (cause clean)
 
--- what a call answers is read of the state, and where that is served it fails for this cause alone
+-- what a call answers is read of the state, and if that is served, the call fails only for this cause
 pub read_out : {A : Type 0} {takes : Bool} (old new : State) (r : Result A StoreFault) (Q : A → Type 0) (P : A → Broker → Type 0) (Cause : StoreFault → Type 0) → ((a : A) → Q a → IsRead old new P a) → ((s : Broker) → Serves old s → (e : StoreFault) → Cause e → HasFailedTaking takes old new e)
     → CallsBetween takes old new r Q → (HasCleanDisk new → IfErr r Cause) → CalmQueriesBetween takes old new r P
 read_out {takes} old new r Q P Cause more why call cause = record { call = call_with old new r Q _ more call; calm = calm_by old new r Cause (HasFailedTaking takes old new) why cause }
 
--- the same by the arms of a match on its answer: a computation that fails only where a row breaks the rules, which none
--- does where the state is served
+-- the same by the arms of a match on its answer: a computation that fails only if a row breaks the rules, which no row
+-- does if the state is served
 pub read_result : {A B : Type 0} {any takes : Bool} (old new : State) (a : A) (r : Result B StoreFault) (Q : A → Type 0) (P : B → Broker → Type 0) → IfOk r (λ b. Q a → IsRead old new P b) → (takes ≡ false → IfErr r (λ e. e ≡ Store)) → ((s : Broker) → Serves old s → Q a → IfErr r (λ e. ⊥))
     → CallsBetween any old new (Ok a) Q → CalmQueriesBetween takes old new r P
 read_result old new a r Q P more store never call =
@@ -74,7 +74,7 @@ read_never old new a e Q P never call = read_result old new a (Err e) Q P tt (λ
 pub placed : {A : Type 0} {takes : Bool} (old new : State) (a : A) (P : A → Broker → Type 0) → QueriesBetween takes old new (Ok a) P → CalmQueriesBetween takes old new (Ok a) P
 placed old new a P it = record { call = it; calm = λ clean s here. tt }
 
--- where there is no need of memory, there is none of saying so
+-- a query whose answer takes no memory is one whose answer may take some
 pub in_place : {A : Type 0} (old new : State) (r : Result A StoreFault) (P : A → Broker → Type 0) → CalmQueriesBetween false old new r P → CalmQueriesBetween true old new r P
 in_place old new r P it = record { call = may_take old new r _ it.call; calm = λ clean s here. IfErr-weaker r _ _ (λ e why. inl why) (it.calm clean s here) }
 
@@ -114,7 +114,7 @@ calm_answers old new x y P Q f = query_ok old new x y P Q (λ h s held. let it =
 pub calm_then : {A B : Type 0} {any takes : Bool} (old mid new : State) (x : A) (r : Result B StoreFault) (P : A → Broker → Type 0) (Q R : B → Broker → Type 0) → ((s : Broker) → P x s → (b : B) → Q b s → R b s) → CalmQueriesBetween any old mid (Ok x) P → CalmQueriesBetween takes mid new r Q → CalmQueriesBetween takes old new r R
 calm_then old mid new x r P Q R f = query_seq old mid new x r P Q R (λ p b. both_read old mid new x b b P Q R (λ s one two. f s one b two) p)
 
--- what both tell
+-- two queries give what each of them gives
 pub both_told : {A B : Type 0} {any takes : Bool} (old mid new : State) (x : A) (y : B) (P : A → Broker → Type 0) (Q : B → Broker → Type 0) → CalmQueriesBetween any old mid (Ok x) P → CalmQueriesBetween takes mid new (Ok y) Q → CalmQueriesBetween takes old new (Ok y) (λ b s. P x s × Q b s)
 both_told old mid new x y P Q = calm_then old mid new x (Ok y) P Q (λ b s. P x s × Q b s) (λ s one b two. (one, two))
 

@@ -93,7 +93,7 @@ module _ (db : Database) (broker : IsBroker db) where
 
 -- ---- the numbers of the versions
 
--- where rows have the numbers of a list that is numbered from n on, each is below n plus the length of the list
+-- if rows have the numbers of a list that is numbered from n on, each is below n plus the length of the list
 pub row_number : {X : Type 0} (f : Row → X) (rows : List Row) (xs : List X) (n : ℕ) → map {B = ℤ × X} (λ r. (whole_at 0 r, f r)) rows ≡ map (λ e. (pos e.0, e.1)) (enumerate_from n xs) → (r : Row) → Has rows r
     → (k : ℕ) × (whole_at 0 r ≡ pos k) × (k < n + length xs)
 row_number f [] xs n is r has = absurd has

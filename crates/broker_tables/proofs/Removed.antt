@@ -26,13 +26,13 @@ module _ {t : Table} {at : Placed t} {sql : List ℕ} {params : Row} {terms : Li
   numbered : IsNumbered (old.now.trees t.tree)
   numbered = numbered_in at old.now broker
 
-  -- where it is done, these rows are gone, the count says how many they were, and no other table changes
+  -- if it is done, these rows are gone, the count says how many they were, and no other table changes
   pub taken_from : (count : ℕ) → Executes sql params old new (Ok count) → ChangesOnly t.tree old new × (new.now.trees t.tree ≡ filter (λ r. not (keeps terms params r)) (old.now.trees t.tree))
       × (count ≡ length (filter (keeps terms params) (old.now.trees t.tree)))
   taken_from = deletes t.name t.tree t.columns t.key t.primary t.uniques t.orders t.checks t.references sql params old new at.place found terms
       (meant old.now broker sql takes.means) (calm old.now broker) numbered
 
-  -- so the state is held that the rows tell then
+  -- so the next state is held, if that follows from the rows that are left and the tables that stayed
   pub held_taken : {taken : ℕ} → 1 ≤ taken → {next : Broker} (count : ℕ) → Executes sql params old new (Ok count)
       → (Frame (t.name ∷ []) old.now new.now → new.now.trees t.tree ≡ filter (λ r. not (keeps terms params r)) (old.now.trees t.tree) → Holds new.now next) → HoldsAfter taken old new next
   held_taken {taken} some {next} count h holds =

@@ -20,11 +20,11 @@ fewer n m low rows (few, all) = (omega (arith, low, few), all_weaker (LeavesAbov
 pub room_for : (n m : ℕ) → n ≤ m → (db : Database) → HasRoomFor m db → HasRoomFor n db
 room_for n m low db = all_weaker (λ name. LeaveNumbers m (rows_of db name)) (λ name. LeaveNumbers n (rows_of db name)) (λ name. fewer n m low (rows_of db name)) counted_tables
 
--- where nothing changed, none is taken
+-- if nothing changed, no number is taken
 pub takes_none : (taken : ℕ) (old new : Database) → new ≡ old → TakesRoom taken old new
 takes_none taken old new same n room = subst (HasRoomFor n) (sym same) (room_for n (n + taken) (omega arith) old room)
 
--- where fewer were taken, at most so many were
+-- what takes so many numbers at most takes no more than any greater count
 pub takes_more : (taken more : ℕ) → taken ≤ more → (old new : Database) → TakesRoom taken old new → TakesRoom more old new
 takes_more taken more low old new takes n room = takes n (room_for (n + taken) (n + more) (omega (arith, low)) old room)
 
@@ -86,7 +86,7 @@ module _ (changed : List (List ℕ)) (old new : Database) (frame : Frame changed
       let all = frame.others in
       (all.1.0, (all.1.1.0, (all.1.1.1.1.0, (all.1.1.1.1.1.0, (all.1.1.1.1.1.1.1.1.1.1.1.1.1.1.0, (all.1.1.1.1.1.1.0, (all.1.1.1.1.1.1.1.1.0, (all.1.1.1.1.1.1.1.1.1.1.0, (all.1.1.1.1.1.1.1.1.1.1.1.0, (all.1.1.1.1.1.1.1.1.1.1.1.1.0, tt))))))))))
 
-  -- where each changed table of those grew by a row at most, a number of a table was taken at most
+  -- if each changed table of those grew by a row at most, a number of a table was taken at most
   pub takes_rows : AllByRecursion (λ name. is_counted name ≡ true → Grows (rows_of old name) (rows_of new name)) changed → TakesRoom 1 old new
   takes_rows grow n room = go counted_tables are_counted stays room
     where
@@ -107,7 +107,7 @@ module _ (changed : List (List ℕ)) (old new : Database) (frame : Frame changed
 pub number_for : (rows : List Row) → LeaveNumbers 1 rows → fits_i64 (next_rowid rows) ≡ true
 number_for rows room = let at = next_number 0 rows room in ap fits_i64 at.1 ∙ lt-ltb at.0 (2 ^ 63) (let low : at.0 < 2 ^ 63 = omega (arith, at.2) in low)
 
--- the table has room where all have, and several have numbers
+-- a table has room if all have
 pub room_of : (n : ℕ) (db : Database) → HasRoomFor n db → (name : List ℕ) → is_counted name ≡ true → LeaveNumbers n (rows_of db name)
 room_of n db room name counted =
     let c = any_has (same_text name) counted_tables counted in

@@ -1,4 +1,4 @@
--- Rows by their keys: whether one stands, after a row is put in or taken out.
+-- Rows by their keys: whether a key has a row, after a row is put in or taken out.
 use Rattle.std.specs.{Prelude.{is_some, option_map}, List.{AllByRecursion}, Ordering.{eq_by_cmp}, Cmp.{IsTotalOrder}, FinMap.{IsAntisymmetric}}
 use Rattle.std.proofs.Common.{◌≡◌, List, [], ◌∷◌, ◌++◌, Bool, true, false, cond, not, ◌||◌, refl, sym, ap, ◌∙◌, filter, Some, None, Option, Ordering}
 use Rattle.sqlite.specs.Order.{Row}
@@ -6,7 +6,7 @@ use Rattle.table_access.{specs.Statements.{IsAdded}, proofs.Maps.{find_without}}
 use Rattle.broker_tables.specs.Rows.{value_at, stands_at}
 
 module _ {K : Type 0} (R : K → K → Ordering) (key : Row → K) where
-  -- what is found by a key tells whether a row stands there
+  -- something is found by a key if and only if a row has the key
   pub stands_found : {V : Type 0} (value : Row → V) (rows : List Row) (k : K) → is_some (value_at R key value rows k) ≡ stands_at R key rows k
   stands_found value [] k = refl
   stands_found value (r ∷ rows) k =
@@ -33,7 +33,7 @@ module _ {K : Type 0} (R : K → K → Ordering) (key : Row → K) where
   stands_put old new row it k =
       ap (λ rows. stands_at R key rows k) it.is ∙ past it.front it.back row k ∙ ap (λ rows. eq_by_cmp R k (key row) || stands_at R key rows k) (sym it.was)
 
-  -- one stands at the place that is set, and elsewhere just where one stood
+  -- the key that is put in has a row, and any other key has one if and only if it had one
   pub stands_set : (old new : List Row) (row : Row) → IsAdded old new row → (k : K) → stands_at R key new k ≡ cond (eq_by_cmp R k (key row)) true (stands_at R key old k)
   stands_set old new row it k = stands_put old new row it k ∙ elim (eq_by_cmp R k (key row)) as (λ b. (b || stands_at R key old k) ≡ cond b true (stands_at R key old k)) [ true ↦ refl | false ↦ refl ]
 
@@ -48,7 +48,7 @@ cond_some true found = refl
 cond_some false found = refl
 
 module _ {K : Type 0} {R : K → K → Ordering} (o : IsTotalOrder R) (exact : IsAntisymmetric R) (key : Row → K) where
-  -- once the rows of a key are taken out, none stands there, and at another key one stands just where one stood
+  -- once the rows of a key are taken out, it has none, and any other key has one if and only if it had one
   pub stands_out : (k : K) (p : Row → Bool) (old new : List Row) → AllByRecursion (λ r. p r ≡ eq_by_cmp R k (key r)) old → new ≡ filter (λ r. not (p r)) old
       → (q : K) → stands_at R key new q ≡ cond (eq_by_cmp R q k) false (stands_at R key old q)
   stands_out k p old new same is q =

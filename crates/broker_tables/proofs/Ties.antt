@@ -4,10 +4,10 @@ use Rattle.std.{specs.Cmp.Lexicographic.{texts_ties}, proofs.Common.{◌≡◌, 
 use Rattle.std.proofs.{lemmas.Map.Views.{exact_unsigned_eq}, lemmas.Bool.{eq-eqb}}
 use Rattle.table_access.specs.Columns.{text_cmp, by_both}
 use Rattle.broker_core.specs.Text.{Text, same_text, same_pair}
--- two comparisons are both ties just where the first, with its ties broken by the second, is one
+-- two comparisons are both ties if and only if the first, with its ties broken by the second, is one
 pub use Rattle.std.specs.Cmp.{tied_then as both_eq}
 
--- whether two tests both hold depends on their answers alone
+-- whether two tests both hold depends only on their answers
 pub two_tests : (x y u v : Bool) → x ≡ u → y ≡ v → (x && y) ≡ (u && v)
 two_tests x y u v e f = λ i. e i && f i
 
@@ -16,7 +16,7 @@ pub pair_ties : {A B : Type 0} (same_a : A → A → Bool) (same_b : B → B →
     → same_a x.0 y.0 ≡ eq_by_cmp R x.0 y.0 → same_b x.1 y.1 ≡ eq_by_cmp S x.1 y.1 → same_pair same_a same_b x y ≡ eq_by_cmp (by_both R S) x y
 pair_ties same_a same_b R S x y a b = two_tests _ _ _ _ a b ∙ tied_then (R x.0 y.0) (S x.1 y.1)
 
--- pairs of texts, as a grant has them, are the same by the machine's test just where they tie in their order
+-- pairs of texts, as a grant has them, are the same by the machine's test if and only if they tie in their order
 pub grant_ties : (x y : Text × Text) → same_pair same_text same_text x y ≡ eq_by_cmp (by_both text_cmp text_cmp) x y
 grant_ties x y = pair_ties same_text same_text text_cmp text_cmp x y (texts_ties x.0 y.0) (texts_ties x.1 y.1)
 

@@ -68,7 +68,7 @@ module _ {t : Table} {at : Placed t} {sql : List ℕ} {params : Row} {target : L
         (AreConflicts (Some target) old.now.schema.indexes (plainly t) rows it [] × IsAdded rows (new.now.trees t.tree) it)
         ⊎ ((r : Row) × Has rows r × IsMet r × IsAdded (filter (λ x. not (is_eq (value_cmp (rowid x) (rowid r)))) rows) (new.now.trees t.tree) (rowid r ∷ rest))
 
-    -- where it is done, the row is there, and no other table changes
+    -- if it is done, the row is there, and no other table changes
     pub upserted : (count : ℕ) → Executes sql params old new (Ok count) → ChangesOnly t.tree old new × IsPutOver
     upserted count h =
         let done = upsert_leaves t.name t.tree t.columns t.key t.primary t.uniques t.orders t.checks t.references sql params old new at.place target n project puts.terms puts.width (Null ∷ rest) found puts.one puts.placed
@@ -140,7 +140,7 @@ module _ {K V : Type 0} {R : K → K → Ordering} {key : Row → K} (t : Keyed 
   abbrev row : Row
   row = Int (next_rowid there) ∷ rest
 
-  -- a row is met just where it has the key
+  -- a row is met if and only if it has the key
   meets : (r : Row) → Has there r → conflicts (Some t.places) old.now.schema.indexes (plainly t.table) row r ≡ eq_by_cmp R k (key r)
   meets r has =
       ap (λ (s : Schema). conflicts (Some t.places) s.indexes (plainly t.table) row r) broker.schema ∙ puts.met row r ∙ or-false (agree plain t.places r t.places row)
@@ -154,7 +154,7 @@ module _ {K V : Type 0} {R : K → K → Ordering} {key : Row → K} (t : Keyed 
       at.sets _ r ∙ ap (λ cells. rowid r ∷ (cells ++ at.last)) (t.columns.typed old.now broker r has ∙ ap t.columns.of.cells (sym same))
       ∙ ap (λ xs. rowid r ∷ xs) (sym at.whole)
 
-  -- where it is done, the key has the value, each other key has what it had, and no other table changes
+  -- if it is done, the key has the value, each other key has what it had, and no other table changes
   pub put_at : (count : ℕ) → Executes sql params old new (Ok count) → ChangesOnly t.table.tree old new × Grows there (new.now.trees t.table.tree)
       × ((q : K) → value_at R key value (new.now.trees t.table.tree) q ≡ cond (eq_by_cmp R q k) (Some v) (value_at R key value there q))
   put_at count h =

@@ -27,11 +27,11 @@ tests {R = R} code o exact tested x y a b xs ys =
 pub whole_test : (x y : Value) (a b : ℤ) → x ≡ Int a → y ≡ Int b → (is_true (binary (Compare Eq Binary) x y) ≡ true) ↔ (a ≡ b)
 whole_test = tests Int int_cmp_total int_cmp-IsAntisymmetric same_ints
 
--- two values that are texts are equal by the test = just where the texts are the same
+-- two values that are texts are equal by the test = if and only if the texts are the same
 pub text_test : (x y : Value) (a b : Words) → x ≡ Text a → y ≡ Text b → (is_true (binary (Compare Eq Binary) x y) ≡ true) ↔ (a ≡ b)
 text_test = tests Text nat_list_cmp_total exact_texts same_texts
 
--- three tests joined by AND hold just where each of them does
+-- three tests joined by AND hold if and only if each of them does
 pub all_three : (a b c : Bool) → ((a && (b && (c && true))) ≡ true) ↔ ((a ≡ true) × (b ≡ true) × (c ≡ true))
 all_three a b c = (
   λ h. let one = and_parts a _ h in let two = and_parts b _ one.1 in (one.0, two.0, (and_parts c true two.1).0),
@@ -40,7 +40,7 @@ all_three a b c = (
 
 -- ---- rows by their keys
 
--- a key stands in one row
+-- two rows with one key are one
 pub one_row : {K : Type 0} {R : K → K → Ordering} (o : IsTotalOrder R) (key : Row → K) (rows : List Row) → IsAscending (λ a b. eq_by_cmp R (key a) (key b) ≡ false) rows → (a b : Row) → Has rows a → Has rows b → key a ≡ key b → a ≡ b
 one_row {R = R} o key rows keys a b ha hb same = elim (apart_or_same _ rows a b keys ha hb) [
   | inl is ↦ is

@@ -1,5 +1,5 @@
--- What a call tells of any database with the broker's tables, whatever rows they have and whatever CHECKs, keys and
--- references: no state need be held in it.
+-- What a call says of any database with the broker's tables, with any rows, CHECKs, keys and references in them: no
+-- state need be held in it.
 use Rattle.std.specs.Prelude.{◌≡◌, None, Result, MatchResult}
 use Rattle.std.specs.List.{AllZip}
 use Rattle.sqlite.specs.Table.{Table}
@@ -29,7 +29,7 @@ HasBrokerTables schema = AllZip HasColumns broker_schema.tables schema.tables
 abbrev pub CanBeAsked : State → Type 0
 CanBeAsked c = (c.step_limit ≡ None) × HasBrokerTables c.now.schema
 
--- there the answer is such, by what the database held; or there is this cause of the fault
+-- if the tables can be asked, the answer has P of what the database held, or there is this cause of the fault
 abbrev pub TellsOfAnyBetween : {A : Type 0} → State → State → Result A StoreFault → (A → Database → Type 0)
     → (State → State → StoreFault → Type 0) → Type 0
 TellsOfAnyBetween old new r P Cause =

@@ -20,20 +20,20 @@ pub record Serves (c : State) (s : Broker) : Type 0 where
   pub held : Holds c.now s
   pub readable : IsReadable s
 
--- if such a state is shown, the call fails for this cause alone
+-- if such a state is shown, the call fails only for this cause
 abbrev pub FailsOnlyBy : {A : Type 0} → State → State → Result A StoreFault → (StoreFault → Type 0) → Type 0
 FailsOnlyBy old new r Cause = HasCleanDisk new → (s : Broker) → Serves old s → IfErr r Cause
 
--- the store failed, which ended the transaction, or the fault is Memory, whatever its cause
+-- the store failed, which ended the transaction, or the fault is Memory, for any cause
 abbrev pub HasFailedOrMemory : State → State → StoreFault → Type 0
 HasFailedOrMemory old new fault = HasFailed old new fault ⊎ (fault ≡ Memory)
 
--- where such a state is shown, and allows the call, it fails for that alone
+-- if such a state is shown, and allows the call, it fails only for that
 abbrev pub IsCalmFromBetween : {A : Type 0} → State → State → Result A StoreFault → (Broker → Type 0) → Type 0
 IsCalmFromBetween old new r Allows =
     HasCleanDisk new → (s : Broker) → Serves old s → Allows s → IfErr r (HasFailedOrMemory old new)
 
--- Or since a change of its own was refused, which it makes from these states alone: if the tables have numbers for its
+-- Or since a change of its own was refused, which it makes only from these states: if the tables have numbers for its
 -- rows, the store failed, or a row was too big for it. TooBig is what is so then.
 abbrev pub FailsFromBetween : {A : Type 0} → State → State → Result A StoreFault → Type 0 → (Broker → Type 0)
     → (Broker → Type 0) → Type 0
@@ -41,7 +41,7 @@ FailsFromBetween old new r TooBig Allows Changes = HasCleanDisk new → (s : Bro
     → IfErr r (λ fault. HasFailedOrMemory old new fault
     ⊎ (Changes s × (HasRoomFor enough old.now → EndsBy TooBig old new fault)))
 
--- where it has nothing to answer, it takes no room for that: only the store failed
+-- if it has nothing to answer, it takes no room for that: only the store failed
 abbrev pub NeedsNoRoomBetween : {A : Type 0} → State → State → Result A StoreFault → (Broker → Type 0) → Type 0
 NeedsNoRoomBetween old new r Nothing =
     HasCleanDisk new → (s : Broker) → Serves old s → Nothing s → IfErr r (HasFailed old new)
@@ -61,7 +61,7 @@ pub record CalmQueriesBetween {A : Type 0} (takes : Bool) (old new : State) (r :
 
 -- ---- of a version's number
 
--- if no version of the state that the database holds has this number, the answer is such
+-- if no version of the state that the database holds has this number, the answer says so
 abbrev pub IfNoVersionBetween : {A : Type 0} → State → State → Result A StoreFault → ℕ → (A → Type 0) → Type 0
 IfNoVersionBetween old new r number Nothing = HasCleanDisk new → (s : Broker) → Holds old.now s
     → ((v : Version) → ¬ (number_of s.versions v ≡ Some number)) → IfOk r Nothing
@@ -69,7 +69,7 @@ IfNoVersionBetween old new r number Nothing = HasCleanDisk new → (s : Broker) 
 -- ---- the same of a connection over this store
 
 module _ {X : Type 0} (store : Ghosts X) (old new : Held X) where
-  -- a query, where there may be no room for its answer
+  -- a query for whose answer there may be no room
   abbrev pub CalmQueries : {A : Type 0} → Result A StoreFault → (A → Broker → Type 0) → Type 0
   CalmQueries r P = CalmQueriesBetween true (state store old) (state store new) r P
 

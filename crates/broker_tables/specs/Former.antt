@@ -1,5 +1,5 @@
 -- What it means that a database holds a state of the broker in format 1, the one before today's (this project's own):
--- no table tells which results the broker checked, and none which environments are strict.
+-- no table says which results the broker checked, and none which environments are strict.
 use Rattle.std.specs.Prelude.{◌≡◌, ℕ, List, [], ◌∷◌, ◌++◌, codes, false, Some}
 use Rattle.std.specs.List.{AllByRecursion}
 use Rattle.sqlite.specs.Table.{Table}
@@ -24,8 +24,8 @@ abbrev pub added_tables : List Table
 added_tables = checked_results ∷ strict_environments ∷ []
 
 -- The database has the tables of format 1, and after them these, which have no row; its format is n. Each field of
--- the state is what the rows of its tables say, where no result stands among the checked ones and no environment
--- among the strict ones.
+-- the state is what the rows of its tables say, with no result among the checked ones and no environment among the
+-- strict ones.
 pub record HoldsUnmarked (n : ℕ) (more : List Table) (db : Database) (s : Broker) : Type 0 where
   pub schema : db.schema ≡ schema_of (former_tables ++ more)
   pub kept : IsKept db

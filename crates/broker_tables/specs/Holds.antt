@@ -67,7 +67,7 @@ AreBranches versions branches rows = (v : Version) (branch : Text)
     (number_of versions v) false
     ≡ branches (v, branch)
 
--- an environment: its name, whether it is gated, and whether its name stands among the strict ones
+-- an environment: its name, whether it is gated, and whether its name is among the strict ones
 abbrev pub marks_in : List Row → Row → Marks
 marks_in strict r = record {
   gated = truth in_environments.gated r;
@@ -111,10 +111,10 @@ pub record ResultRow : Type 0 where
   pub version : Option ℤ
   pub pass : Bool
   pub checked : Bool
-  -- none where its column tells nothing of a run
+  -- none if its column says nothing of a run
   pub run : Option (Option Text)
 
--- as its row has it, and as its number stands among the checked ones or doesn't
+-- as its row has it, and checked if its number is among the checked ones
 abbrev pub result_in : List Row → Row → ResultRow
 result_in checked r = record {
   content = whole_at in_results.content r;
@@ -161,7 +161,7 @@ number_at_place rows place =
 abbrev pub number_named : List Version → Text → Text → Option ℤ
 number_named versions p name = option_map pos (number_of versions (version p name))
 
--- An environment, a pacticipant and an instance have a row where a version is deployed, and only there: it has the
+-- An environment, a pacticipant and an instance have a row if and only if a version is deployed there: the row has the
 -- number of the version, which is one of that pacticipant.
 abbrev pub AreDeployed : List Version → (Text × Text × Text → Option Text) → List Row → Type 0
 AreDeployed versions deployed rows = (e p instance : Text)
@@ -218,7 +218,7 @@ ChangesTakingBetween taken old new r Next =
     CallsStoreBetween old new r
     (λ _. (s : Broker) → Holds old.now s → (t : Broker) → Next s t → HoldsAfter taken old new t)
 
--- where the state that the database holds allows it, an answer, and another state that the database holds now
+-- if the state that the database holds allows it, an answer, and another state that the database holds now
 abbrev pub AnswersTakingBetween : {A : Type 0} → ℕ → State → State → Result A StoreFault → (Broker → Type 0)
     → (A → Broker → Broker → Type 0) → Type 0
 AnswersTakingBetween taken old new r Allows Next =
@@ -236,7 +236,7 @@ ChangesAndAnswersBetween = AnswersTakingBetween 2
 -- ---- the same of a connection over this store
 
 module _ {X : Type 0} (store : Ghosts X) (old new : Held X) where
-  -- a query, where there may be no room for its answer
+  -- a query for whose answer there may be no room
   abbrev pub Queries : {A : Type 0} → Result A StoreFault → (A → Broker → Type 0) → Type 0
   Queries r P = QueriesBetween true (state store old) (state store new) r P
 

@@ -70,7 +70,7 @@ pub record KeepsUtf8 (parts : Primitives) : Type 0 where
 abbrev pub ReadableBegins : Type 0
 ReadableBegins = (office : Text) → IsUtf8 office → IsReadable (opening office)
 
--- a state that can be read back stays such, whatever is asked
+-- a state that can be read back stays so after any command
 abbrev pub ReadableStays : Primitives → Type 0
 ReadableStays parts =
     (s : Broker) (token : Option Text) (command : Command) (out : Transition) → HasReadableNames command

@@ -27,7 +27,7 @@ pub record IsBlank (db : Database) : Type 0 where
   pub schema : db.schema ≡ no_schema
   pub sound : IsDatabase db
 
--- just these tables, made in this order, with no row but the one of meta
+-- exactly these tables, made in this order, with no row but the one of meta
 pub record HasTables (tables : List Table) (n : ℕ) (office : Text) (db : Database) : Type 0 where
   pub schema : db.schema ≡ schema_of tables
   pub kept : IsKept db
@@ -80,7 +80,7 @@ index_texts =
     ∷ (LATEST_BY_PROVIDER_VERSION.now, schema.latest_by_provider_version)
     ∷ (VERSIONS_BY_PACTICIPANT.now, schema.versions_by_pacticipant) ∷ []
 
--- Where these texts are a part of all of them, and what those before them make is there, what they make is made.
+-- If these texts are a part of all of them, and what those before them make is there, what they make is made.
 abbrev pub MakesPart : {X : Type 0} → (Database → Database → X → Type 0) → (Schema → X → Schema) → Schema
     → List (Maker X) → List (List ℕ) → Database → Database → Type 0
 MakesPart {X} One next start all texts old new =
@@ -95,8 +95,7 @@ MakesTexts texts old new =
 
 -- ---- why they aren't made
 
--- On a database with P, in an open transaction where no statement has a limit of steps: an error means that the store
--- failed.
+-- On a database with P, in an open transaction with no limit of steps: an error means that the store failed.
 abbrev pub IsCalmOverBetween : {A : Type 0} → (Database → Type 0) → State → State → Result A StoreFault → Type 0
 IsCalmOverBetween P old new r =
     HasCleanDisk new → IsTrue old.in_transaction → old.step_limit ≡ None → P old.now → IfErr r (HasFailed old new)

@@ -9,7 +9,7 @@ use Rattle.broker_core.specs.declared.command.Version.{Version}
 abbrev pub numbered : {X : Type 0} → List X → List (ℤ × X)
 numbered xs = map (λ e. (pos e.0, e.1)) (enumerate_from 1 xs)
 
--- the number of a version, none where the version isn't there
+-- the number of a version, none if the version isn't there
 abbrev pub number_of : List Version → Version → Option ℕ
 number_of versions v = find pair_cmp (v.pacticipant, v.name)
     (map (λ e. ((e.1.pacticipant, e.1.name), e.0)) (enumerate_from 1 versions))

@@ -42,8 +42,8 @@ mark_of false = 0
 abbrev pub IsTruthAt : ℕ → Row → Type 0
 IsTruthAt at row = (at < length row) × ((n : ℕ) × (column row at ≡ value.Int (pos n)) × (n ≤ 1))
 
--- What stands for no run in the row of this number: a tab, and the number. It is no name, and no other row has it, so
--- a test that a run stands once finds no row but its own.
+-- The text for no run in the row of this number: a tab, and the number. It is no name, and no other row has it, so
+-- a test that no two rows have one run finds only the row itself.
 abbrev pub no_run : ℤ → Text
 no_run number = 9 ∷ signed_decimal number
 
@@ -51,8 +51,8 @@ abbrev pub begins_with_tab : Text → Bool
 begins_with_tab [] = false
 begins_with_tab (b ∷ bs) = b == 9
 
--- The run in a column of the row of this number: none where there is NULL, or what stands for none. Another text that
--- begins with a tab, and what is no text, tells nothing of a run.
+-- The run in a column of the row of this number: none if there is NULL, or the text for no run. Another text that
+-- begins with a tab, and what is no text, says nothing of a run.
 abbrev pub run_in : ℤ → Value → Option (Option Text)
 run_in number value.Null = Some None
 run_in number (value.Int n) = None
@@ -61,7 +61,7 @@ run_in number (value.Text t) =
     if begins_with_tab t then (if same_text t (no_run number) then Some None else None) else Some (Some t)
 run_in number (value.Blob b) = None
 
--- what the row with this key has, none where there is no such row
+-- what the row with this key has, none if there is no such row
 abbrev pub value_at : {K V : Type 0} → (K → K → Ordering) → (Row → K) → (Row → V) → List Row → K → Option V
 value_at order key value rows k = find order k (map (λ r. (key r, value r)) rows)
 

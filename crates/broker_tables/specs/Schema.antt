@@ -1,7 +1,7 @@
 -- The tables of the broker's database, format 2 (this project's own): names, columns and keys, as SQLite reads
 -- the texts that make them.
--- A place counts the columns from 1. Place 0 is a row's number, for which a column stands that is an INTEGER
--- PRIMARY KEY.
+-- A place counts the columns from 1. Place 0 is a row's number, of which a column that is an INTEGER PRIMARY KEY is
+-- another name.
 -- Before each table its places are named, and other files use these names: `in_results.provider` is the place of the
 -- column `provider` of `results`, and `in_results.tree` is the tree that has the rows of `results`.
 use Rattle.std.specs.Prelude.{ℕ, pos, true, false, List, [], ◌∷◌, ◌++◌, Some, None, codes, fold, map}
@@ -37,7 +37,7 @@ numbers name = record {
   collation = Binary;
 }
 
--- NULL where there is none
+-- a column with NULL in the rows that have no value there
 abbrev pub optional : Column → Column
 optional column = record column { not_null = false }
 
@@ -60,7 +60,7 @@ is_number place n = op2 (Compare Eq Binary) (col 1 place) (lit (Int (pos n)))
 abbrev pub is_truth : ℕ → Term
 is_truth place = op2 Or (is_number place 0) (is_number place 1)
 
--- a table by its name, its columns, the places of its PRIMARY KEY, of each key that stands once, its REFERENCES
+-- a table by its name, its columns, the places of its PRIMARY KEY, the places of each UNIQUE key, its REFERENCES
 -- and its CHECKs
 abbrev pub table : List ℕ → List Column → List ℕ → List (List ℕ) → List Reference → List Term → Table
 table name columns primary uniques references checks =
@@ -211,7 +211,7 @@ pub record InResults : Type 0 where
 abbrev pub in_results : InResults
 in_results = record { tree = 17; number = 0; content = 2; provider = 3; provider_version = 4; pass = 5; run = 6 }
 
--- SQLite's UNIQUE takes no two NULLs for equal, so a run stands once with its provider where there is one
+-- SQLite's UNIQUE takes no two NULLs for equal: so no two rows have one run and one provider, if there is a run
 abbrev pub results : Table
 results = numbered_table (codes "results")
     (numbers (codes "number") ∷ numbers (codes "content") ∷ texts (codes "provider")
@@ -314,7 +314,7 @@ registry_part = meta ∷ teams ∷ pacticipants ∷ versions ∷ branches ∷ en
 abbrev pub contract_part : List Table
 contract_part = contracts ∷ results ∷ latest ∷ []
 
--- what stands where
+-- the tables of what is deployed and released
 abbrev pub deploy_part : List Table
 deploy_part = deployed ∷ released ∷ []
 

@@ -13,8 +13,8 @@ use table_access::{StoreFault, change};
 /// are there keep their rows.
 ///
 /// # Errors
-/// `StoreFault::Memory` if the database is out of memory; `StoreFault::Store` if it refused a text: only if the store
-/// failed, where the tables, or the indexes, are those that come next, and each entry of an index can be stored.
+/// `StoreFault::Memory` if the database is out of memory; `StoreFault::Store` if it refused a text. It refuses none
+/// unless the store fails, if the tables, or the indexes, come next and each entry of an index can be stored.
 pub fn make_each<S: Alter>(conn: &mut Connection<S>, texts: &[&str]) -> Result<(), StoreFault>
     requires { AllByRecursion (λ text. IsWriteText (first text.now)) texts.now }
     ensures makes { CallsStore S.Store conn.old conn.new result

@@ -193,7 +193,7 @@ pub(crate) const BEGIN: Course = Course {
 };
 
 impl Course {
-    /// Goes by what is answered to the questions, and says whether that is right.
+    /// Takes the answers to the questions, which show whether the cut request was done; says whether they are right.
     fn settle(&mut self, script: &Script, told: &[u8]) -> bool {
         let next = self.done.saturating_add(1);
         let is_here = script.is_shown(told, self.done);

@@ -1,4 +1,4 @@
-//! Stories over files that stop at a call, at each one in turn, and are opened again.
+//! Stories over files that stop at a call, at each one after another, and are opened again.
 use crate::disks::{Act, Fuses, Held, Left, NEVER, session};
 use crate::scripts::{BEGIN, Course, Script};
 use crate::stories::{
@@ -46,7 +46,7 @@ impl Stop {
     }
 }
 
-/// What a test goes by: a story, what each session does, and what is there before.
+/// What a test needs: a story, what each session does, and what is there before.
 #[derive(Clone, Copy)]
 struct Plan<'a> {
     alloc: Global,
@@ -100,7 +100,7 @@ fn goes_on(plan: &Plan<'_>, held: Held, stop: Stop, course: Course) -> Result<bo
 /// Of which of the two files all is lost that wasn't synced.
 const LOSSES: [(bool, bool); 4] = [(false, false), (true, false), (false, true), (true, true)];
 
-/// What comes of a session that stopped so is right, whatever is lost.
+/// After a session that stopped so the story ends well, for each loss of what wasn't synced.
 fn survives(
     rt: &impl Abort,
     plan: &Plan<'_>,
@@ -125,7 +125,7 @@ fn survives(
 /// How often each step was the one that was cut.
 type Cuts = Vec<u64>;
 
-/// Stops one file at every call in turn, until a session meets no stop.
+/// Stops one file at each of its calls, one after another, until a session meets no stop.
 fn stops(rt: &impl Abort, plan: &Plan<'_>, in_log: bool, cuts: &mut Cuts) -> Result<(), Fail> {
     for calls in 0..NEVER.log {
         let stop = Stop {
@@ -161,7 +161,7 @@ fn are_cut(script: &Script, cuts: &Cuts) -> bool {
     true
 }
 
-/// Stops either file at every call in turn, so that each step that changes something is cut at each of its calls.
+/// Stops either file at each of its calls, so that each step that changes something is cut at each of its calls.
 fn stops_all(rt: &impl Abort, plan: &Plan<'_>) -> Result<(), Fail> {
     let mut cuts = Vec::new(plan.alloc);
     cuts.resize(plan.script.len(), 0)?;

@@ -441,7 +441,7 @@ const GATE_QUESTIONS: &[Question] = &[
     ),
 ];
 
-/// A contract whose provider stands in live, and has no result yet.
+/// A contract whose provider is deployed in live, and which has no result yet.
 const CONTRACT: &[Step] = &[
     TEAM_OF_RED,
     TEAM_OF_BLUE,
@@ -479,7 +479,7 @@ const REPLIES_QUESTIONS: &[Question] = &[
     ),
 ];
 
-/// The result of a run: sent again it stands once, and another one of the run is refused.
+/// The result of a run: sent again it is stored once, and another result of the run is refused.
 const RUN_OF_TESTS: &[Step] = &[
     (
         (BLUE, POST_RESULT, PASS_OF_RUN),

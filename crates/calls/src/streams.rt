@@ -217,7 +217,7 @@ fn is_outcome(outcome: &Outcome, answered: u64, ended: Ended, written: &str) -> 
         && outcome.written.as_slice() == written.as_bytes()
 }
 
-/// A stream is answered in the same way in whatever pieces it comes and is taken; sent again it changes nothing.
+/// A stream is answered in the same way in any pieces in which it comes and is taken; sent again it changes nothing.
 #[test]
 fn first_runs(rt: HostRuntime) -> Result<(), Fail> {
     let alloc = rt.alloc();
@@ -323,7 +323,7 @@ fn survives_reader<S: Alter>(
     ))
 }
 
-/// The reader fails in each of its calls in turn, until a stream meets no failure.
+/// The reader fails in each of its calls, one after another, until a stream meets no failure.
 #[test]
 fn failing_readers(rt: HostRuntime) -> Result<(), Fail> {
     let alloc = rt.alloc();
@@ -372,7 +372,7 @@ fn survives_writer<S: Alter>(
     ))
 }
 
-/// The writer fails in each of its calls in turn, until a stream meets no failure.
+/// The writer fails in each of its calls, one after another, until a stream meets no failure.
 #[test]
 fn failing_writers(rt: HostRuntime) -> Result<(), Fail> {
     let alloc = rt.alloc();

@@ -1,4 +1,4 @@
--- A normal text reads as its pact, and what is read is one, a pattern's refusal aside.
+-- A normal text reads as its pact, and a text is read in one way, unless a pattern is refused.
 use Rattle.std.specs.List.{AllByRecursion}
 use Rattle.std.proofs.Common.{◌≡◌, ◌⊎◌, ◌↔◌, ◌<◌, inl, inr, ⊎_elim, ℕ, ◌+◌, List, [], ◌∷◌, Option, Some, None, Result, Ok, Err, refl, sym, ap, ◌∙◌, subst, arith}
 use Rattle.serde_json.specs.Data.{Data}
@@ -28,7 +28,7 @@ pact_again file consumer provider text (Err e) normal is = absurd cc
 pub reads_again : ReadsAgain broker_primitives
 reads_again file consumer provider text reads = pact_again file consumer provider text reads.0 reads.1 reads.2
 
--- ---- a pact file is read in one way, a pattern's refusal aside
+-- ---- a pact file is read in one way, unless a pattern is refused
 
 refusal_told : (reading : Reading) (answer : Result Pact PactFault) → reading ≡ reading_of answer → IsRefusal answer → ReadsRefusal is_refusal reading
 refusal_told reading answer is (i, refused) =

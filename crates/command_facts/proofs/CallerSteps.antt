@@ -1,4 +1,4 @@
--- Who sends a command, to the machine; and what a known caller's command leads to, where its form has no fault.
+-- Who sends a command, to the machine; and what a known caller's command leads to, if its form has no fault.
 use Rattle.std.{specs.Prelude.{Option, Some, None, MatchOption}, proofs.Common.{◌≡◌, refl, sym, subst}}
 use Rattle.broker_core.specs.{State.{State}, Request.{refusal}, Change.{Transition, unchanged_with}}
 use Rattle.broker_core.specs.{Machine.{FindsFault, IsCallerOfToken, TakesEffect, StepOfCaller}, Text.{Text}, declared.answer.Answer.{Answer}}

@@ -1,5 +1,5 @@
--- How a command is put together from calls on the tables, with why it fails: one lemma a return. The states, what a query
--- tells and what a command does are found from the records that the calls are stated by.
+-- How a command is put together from calls on the tables, with why it fails: one lemma per return. The states, what a
+-- query finds and what a command does are inferred from the records that state the calls.
 use Rattle.std.specs.{Prelude.{⊤}, List.{AllByRecursion}}
 use Rattle.std.proofs.{Common.{Bool, true, false, ◌≡◌, ◌≤◌, ℕ, List, Ok, Err, Result, inl, inr, refl, sym, subst, ◌∙◌, arith}, lemmas.Result.{IfErr-weaker}}
 use Rattle.sqlite.specs.State.{State}
@@ -15,16 +15,16 @@ use Rattle.command_facts.proofs.PerformLemmas.{held_on, where_answered, where_ch
 
 -- ---- why a command fails
 
--- one that is calm may also be one that changes something
+-- a command that fails only by the store or memory meets also the law of one that may be refused its change
 only_calm : (changes : Bool) (old new : State) (r : Result Answer StoreFault) (TooBig : Type 0) (Open : Broker → Type 0) (Q : Broker → Transition → Type 0) → IsCalmFromBetween old new r Open → FailsBetween changes old new r TooBig Open Q
 only_calm true old new r TooBig Open Q why = calm_fails TooBig old new r Open (IsToChange Q) why
 only_calm false old new r TooBig Open Q why = why
 
--- one that answers fails for nothing
+-- a command that answers doesn't fail
 no_failure : (changes : Bool) (old new : State) (answer : Answer) (TooBig : Type 0) (Open : Broker → Type 0) (Q : Broker → Transition → Type 0) → FailsBetween changes old new (Ok answer) TooBig Open Q
 no_failure changes old new answer TooBig Open Q = only_calm changes old new (Ok answer) TooBig Open Q (λ clean s here may. tt)
 
--- after a query a command fails as it does
+-- a command after a query fails for the causes for which it fails by itself
 fails_on : {A : Type 0} {any : Bool} (changes : Bool) (old mid new : State) (x : A) (r : Result Answer StoreFault) (TooBig : Type 0) (P : A → Broker → Type 0) (Next Open Then : Broker → Type 0) (Q R : Broker → Transition → Type 0)
     → ((s : Broker) → Holds old.now s → Open s → P x s → Then s × ((out : Transition) → Q s out → R s out)) → QueriesBetween any old mid (Ok x) P → PerformsWhereBetween mid new Next Q r → FailsBetween changes mid new r TooBig Then Q → FailsBetween changes old new r TooBig Open R
 fails_on true old mid new x r TooBig P Next Open Then Q R more one two why =
@@ -74,7 +74,7 @@ pub carries : {A : Type 0} {any changes : Bool} {old mid new : State} {x : A} {r
     → ((s : Broker) → Allows s → P x s → Next s × ((out : Transition) → Q s out → R s out)) → CalmQueriesBetween any old mid (Ok x) P → CarriesBetween changes mid new Next Next TooBig Q r → CarriesBetween changes old new Allows Allows TooBig R r
 carries more one two = carries_from more (λ s held may told. more s may told) one two
 
--- a query, and then one whose change is never refused, whatever the state, and that takes no memory
+-- a query, and then a command that takes no memory and whose change is refused at no state
 pub carries_calmly : {A : Type 0} {any : Bool} {old mid new : State} {x : A} {r : Result Answer StoreFault} {TooBig : Type 0} {P : A → Broker → Type 0} {Allows Next : Broker → Type 0} {Q R : Broker → Transition → Type 0}
     → ((s : Broker) → Allows s → P x s → Next s × ((out : Transition) → Q s out → R s out)) → CalmQueriesBetween any old mid (Ok x) P → PerformsWhereBetween mid new Next Q r → FailsOnlyBy mid new r (HasFailed mid new) → CarriesBetween false old new Allows (λ _. ⊤) TooBig R r
 carries_calmly {A} {any} {old} {mid} {new} {x} {r} {TooBig} {P} {Allows} {Next} {Q} {R} more one two why = record {
@@ -82,7 +82,7 @@ carries_calmly {A} {any} {old} {mid} {new} {x} {r} {TooBig} {P} {Allows} {Next} 
   calm = calm_after old mid new x r P _ (λ _. ⊤) (λ _. ⊤) (λ s held may told. tt) one.call two (λ clean s here free. IfErr-weaker r _ _ (λ e is. inl is) (why clean s here));
 }
 
--- a query, and then a listing that is calm where the query found what it did
+-- a query, and then a listing that fails only by the store or memory at the states that the query's answer describes
 pub shows_found : {A : Type 0} {any changes : Bool} {old mid new : State} {x : A} {r : Result Answer StoreFault} {TooBig : Type 0} {P : A → Broker → Type 0} {Allows Open Then : Broker → Type 0} {Q : Answer → Broker → Type 0} {R : Broker → Transition → Type 0}
     → ((s : Broker) → Allows s → P x s → (answer : Answer) → Q answer s → R s (unchanged_with s answer)) → ((s : Broker) → Holds old.now s → P x s → Then s)
     → CalmQueriesBetween any old mid (Ok x) P → QueriesBetween true mid new r Q → IsCalmFromBetween mid new r Then → CarriesBetween changes old new Allows Open TooBig R r
@@ -91,7 +91,7 @@ shows_found {A} {any} {changes} {old} {mid} {new} {x} {r} {TooBig} {P} {Allows} 
   calm = only_calm changes old new r TooBig Open R (calm_after old mid new x r P _ Open Then (λ s held may told. found s held told) one.call two why);
 }
 
--- and one that is calm everywhere
+-- and a listing that fails only by the store or memory at every state
 pub shows : {A : Type 0} {any changes : Bool} {old mid new : State} {x : A} {r : Result Answer StoreFault} {TooBig : Type 0} {P : A → Broker → Type 0} {Allows Open : Broker → Type 0} {Q : Answer → Broker → Type 0} {R : Broker → Transition → Type 0}
     → ((s : Broker) → Allows s → P x s → (answer : Answer) → Q answer s → R s (unchanged_with s answer)) → CalmQueriesBetween any old mid (Ok x) P → CalmQueriesBetween true mid new r Q → CarriesBetween changes old new Allows Open TooBig R r
 shows more one two = shows_found {Then = λ _. ⊤} more (λ s held told. tt) one two.call (λ clean s here free. two.calm clean s here)
@@ -116,7 +116,7 @@ takes_failure old mid new x (Ok u) P Allows Next Q TooBig one two why = λ clean
 takes_failure old mid new x (Err e) P Allows Next Q TooBig one two why =
     calm_after {B = Unit {0}} old mid new x (Err e) P _ Allows (λ _. ⊤) (λ s held may told. tt) one two (λ clean s here free. inl (why clean s here))
 
--- changes that take so many numbers of a table, and fail for want of so many
+-- changes that take so many row numbers of a table, and are refused if fewer are left
 pub makes_taking_from : {A : Type 0} {any : Bool} {old mid new : State} {x : A} {r : Result (Unit {0}) StoreFault} {answer : Result Answer StoreFault} {Long TooBig : Type 0} {P : A → Broker → Type 0} {Allows Open Made : Broker → Type 0} {Next : Broker → Broker → Type 0} {Q : Broker → Transition → Type 0}
     → (taken numbers : ℕ) → taken ≤ enough → numbers ≤ enough → ((s : Broker) → Allows s → P x s → (t : Broker) × Next s t × Q s (done t)) → ((s : Broker) → Open s → P x s → Made s × IsToChange Q s) → (Long → TooBig)
     → answer ≡ told_done r → CalmQueriesBetween any old mid (Ok x) P → ChangesTakingBetween taken mid new r Next → IsCalmTakingBetween numbers mid new r Long Made → CarriesBetween true old new Allows Open TooBig Q answer
@@ -138,7 +138,7 @@ pub makes_from : {A : Type 0} {any : Bool} {old mid new : State} {x : A} {r : Re
     → answer ≡ told_done r → CalmQueriesBetween any old mid (Ok x) P → ChangesBetween mid new r Next → IsCalmUnlessBetween mid new r tables Long Made → CarriesBetween true old new Allows Open TooBig Q answer
 makes_from tables counted more fails long is one two why = makes_taking_from 2 1 (omega arith) (omega arith) more fails long is one two (taking _ _ _ _ tables counted 1 (omega arith) _ why)
 
--- where it is allowed if it leads to another state
+-- one change, allowed at each state from which it leads to another
 pub makes : {A : Type 0} {any : Bool} {old mid new : State} {x : A} {r : Result (Unit {0}) StoreFault} {answer : Result Answer StoreFault} {Long TooBig : Type 0} {P : A → Broker → Type 0} {Allows : Broker → Type 0} {Next : Broker → Broker → Type 0} {Q : Broker → Transition → Type 0}
     → (tables : List (List ℕ)) → AllByRecursion (λ name. is_counted name ≡ true) tables → ((s : Broker) → Allows s → P x s → (t : Broker) × Next s t × Q s (done t)) → (Long → TooBig)
     → answer ≡ told_done r → CalmQueriesBetween any old mid (Ok x) P → ChangesBetween mid new r Next → IsCalmUnlessBetween mid new r tables Long (λ s. (t : Broker) × Next s t) → CarriesBetween true old new Allows Allows TooBig Q answer

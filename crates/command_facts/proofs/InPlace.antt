@@ -1,4 +1,4 @@
--- That a command which takes no memory of its own is out of it only as the store is.
+-- A command that takes no memory of its own runs out of memory only if the store does.
 use Rattle.std.{specs.Prelude.{⊤}, proofs.Common.{Bool, false, ◌≡◌, Ok, Err, Result, sym, subst}}
 use Rattle.sqlite.specs.State.{State}
 use Rattle.table_access.specs.{Calls.{CallsBetween, CallsStoreBetween, TellsMemory}, declared.StoreFault.{StoreFault}}
@@ -10,7 +10,7 @@ told_memory : (old new : State) (r : Result (Unit {0}) StoreFault) (P : Unit {0}
 told_memory old new (Ok u) P it = memory_ok false old new (Done Plain)
 told_memory old new (Err e) P it = (then_err {B = Answer} old new e P (λ _. ⊤) it).memory
 
--- a call that answers, and a change that is told
+-- a call that answers, and then a change, whose result is the command's answer
 pub told_in_place : {A : Type 0} {any : Bool} {old mid new : State} {x : A} {r : Result (Unit {0}) StoreFault} {answer : Result Answer StoreFault} {P : A → Type 0} {Q : Unit {0} → Type 0}
     → answer ≡ told_done r → CallsBetween any old mid (Ok x) P → CallsStoreBetween mid new r Q → TellsMemory old new answer
 told_in_place {A} {any} {old} {mid} {new} {x} {r} {answer} {P} {Q} is one two =

@@ -1,4 +1,4 @@
--- Where a pattern is refused as a file is read, and the file is read as a pact too, the pact has a pattern.
+-- If a file is read as a pact, and the same reading may also be refused a pattern, the pact has a pattern.
 use Rattle.std.proofs.Common.{◌≡◌, ◌⊎◌, inl, inr, ⊎_elim, ℕ, zero, suc, ◌+◌, slice_get, IfOk, List, [], ◌∷◌, codes, Bool, true, false, cond, nat_le, length, Option, Some, None, Result, Ok, Err, refl, sym, ap, ◌∙◌, subst}
 use Rattle.std.proofs.lemmas.Option.{same_Some}
 use Rattle.serde_json.specs.Data.{Data}
@@ -13,11 +13,11 @@ use Rattle.pact_rules.specs.{declared.rule_fault.RuleFault.TheVariants.{Pattern}
 use Rattle.pact_rules.proofs.ReadingLemmas.{refused_regex}
 use Rattle.reply_check.specs.{Recorded.{Reply}, Verdicts.{IsKnown, AreKnown, IsFirstUnknown, UsesPattern}, Meeting.{HasPattern}}
 
--- what may be read as x where the same reading may be refused has P
+-- what may be read as x, if the same reading may be refused, has P
 abbrev Tells : {A : Type 0} → (A → Type 0) → (Result A PactFault → Type 0) → Type 0
 Tells {A} P reads = (r : Result A PactFault) (x : A) → IsRefusal r → reads r → reads (Ok x) → P x
 
--- what is read by a function isn't both
+-- a function reads only one value, so it isn't both read and refused
 just_tells : {A : Type 0} (P : A → Type 0) (read : Result A PactFault) → Tells P (just read)
 just_tells P read r x (i, is) h k = let clash : Path _ (Err (Rules i Pattern)) (Ok x) = sym is ∙ sym h ∙ k in absurd cc
 
@@ -30,7 +30,7 @@ module _ {A B : Type 0} (P : B → Type 0) (first : Result A PactFault → Type 
   refused_at (Ok x) s is h = inr (x, refl, h)
   refused_at (Err e) s (i, is) h = inl (i, ap Err (err_same e (Rules i Pattern) (sym h ∙ is)))
 
-  -- the first has one value, or tells it; and what follows tells it
+  -- the result has P if the first reading may be refused, and if the second may be refused
   bind_tells : ((x : A) (y : B) (r : Result A PactFault) → IsRefusal r → first r → first (Ok x) → next x (Ok y) → P y)
       → ((x z : A) (y : B) (s : Result B PactFault) → first (Ok x) → first (Ok z) → IsRefusal s → next x s → next z (Ok y) → P y)
       → Tells P (first >>= next)
@@ -174,7 +174,7 @@ pub ok_both : {A F : Type 0} (r : Result A F) (P Q R : A → Type 0) → ((x : A
 ok_both (Ok x) P Q R f h k = f x h k
 ok_both (Err e) P Q R f h k = tt
 
--- ---- what a check tells
+-- ---- what a check reports
 
 known_at : (interactions : List Interaction) (replies : List Reply) (i : ℕ) (r : Reply) → AreKnown interactions replies → slice_get replies i ≡ Some r → IsKnown interactions r
 known_at interactions [] i r all h = absurd cc

@@ -10,7 +10,7 @@ use Rattle.command_facts.specs.{Performs.{PerformsBetween, PerformsWhereBetween,
 
 -- ---- the state that is held
 
--- where the database is as it was
+-- if the database didn't change
 pub held_on : (old new : State) (s : Broker) → new.now ≡ old.now → Holds old.now s → HoldsAfter enough old new s
 held_on old new s same held = (stays_held old new s same held, takes_none enough old.now new.now same)
 
@@ -25,7 +25,7 @@ changed_alone taken few old new t it = (it.0, takes_more taken enough few old.no
 changed_on : (taken : ℕ) → taken ≤ enough → (old mid new : State) (t : Broker) → mid.now ≡ old.now → HoldsAfter taken mid new t → HoldsAfter enough old new t
 changed_on taken few old mid new t same it = changed_alone taken few old new t (after_read taken old mid new t same it)
 
--- where nothing is called
+-- if nothing is called
 pub unchanged : {A : Type 0} (c : State) (a : A) (Allows : Broker → Type 0) (Next : A → Broker → Broker → Type 0) → ((s : Broker) → Allows s → Next a s s) → ChangesAndAnswersBetween c c (Ok a) Allows Next
 unchanged c a Allows Next f = idle c a _ (λ s held may. (s, f s may, (held, takes_none 2 c.now c.now refl)))
 
@@ -52,13 +52,13 @@ always_steps old new r caller given command is it =
 
 -- ---- commands that the state allows
 
--- a query that tells that the state allows it, and then a command
+-- a query whose answer shows that the state allows the command, and then the command
 pub performs_where : {A : Type 0} {any : Bool} (old mid new : State) (x : A) (r : Result Answer StoreFault) (P : A → Broker → Type 0) (Allows : Broker → Type 0) (Q R : Broker → Transition → Type 0)
     → ((s : Broker) → P x s → Allows s × ((out : Transition) → Q s out → R s out)) → QueriesBetween any old mid (Ok x) P → PerformsWhereBetween mid new Allows Q r → PerformsBetween old new R r
 performs_where old mid new x r P Allows Q R f one two =
     seq old mid new x r _ _ _ (λ p b q s held. let first = p s held in let go = f s first.0 in let next = q s (stays_held old mid s first.1 held) go.0 in (next.0, go.1 _ next.1, after_read enough old mid new next.0 first.1 next.2)) one two
 
--- where the state allows it, a query and then a command
+-- if the state allows it, a query and then a command
 pub where_then : {A : Type 0} {any : Bool} (old mid new : State) (x : A) (r : Result Answer StoreFault) (Allows : Broker → Type 0) (P : A → Broker → Type 0) (Next : Broker → Type 0) (Q R : Broker → Transition → Type 0)
     → ((s : Broker) → Allows s → P x s → Next s × ((out : Transition) → Q s out → R s out)) → QueriesBetween any old mid (Ok x) P → PerformsWhereBetween mid new Next Q r → PerformsWhereBetween old new Allows R r
 where_then old mid new x r Allows P Next Q R f one two =

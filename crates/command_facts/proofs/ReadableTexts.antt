@@ -28,7 +28,7 @@ file_utf8 text d is =
     let short = bind_ok (guard (nat_le (length text) most_bytes) TooLong) _ d is in
     object_utf8 text d (object_ok as_file_fault (object_of text) d short.2)
 
--- where the first part failed, there is no answer
+-- if the first part failed, no pact is read
 read_utf8 : (text : Text) (p : Pact) (first : Result Data PactFault) (next : Data → Result Pact PactFault → Type 0) → file_of text ≡ first → Follows first next (Ok p) → IsUtf8 text
 read_utf8 text p (Ok d) next is _ = file_utf8 text d is
 read_utf8 text p (Err e) next is none = absurd (cc)

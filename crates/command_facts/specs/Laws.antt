@@ -12,11 +12,11 @@ use Rattle.broker_tables.specs.Readable.{IsReadable}
 use Rattle.command_facts.specs.Primitives.{broker_primitives}
 use Rattle.command_facts.specs.Readings.{is_refusal}
 
--- each command's file is read in one way, a pattern's refusal aside, and its replies in one way
+-- each command's file is read in one way, unless a pattern is refused, and its replies in one way
 abbrev pub AreReadOnce : Type 0
 AreReadOnce = (command : Command) → IsReadOnce broker_primitives is_refusal command
 
--- each state to which a run leads from the opening state of an office, whatever its token is, can be read back
+-- each state that a run reaches from the opening state of an office, for any token of the office, can be read back
 abbrev pub ReachedIsReadable : Type 0
 ReachedIsReadable =
     (token : Text) (requests : List Request) (answers : List Answer) (last : Broker)

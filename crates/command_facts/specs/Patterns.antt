@@ -14,8 +14,8 @@ use Rattle.command_facts.specs.Readings.{IsPatternAsked}
 use Rattle.reply_check.specs.Recorded.{Reply}
 use Rattle.reply_check.specs.Replies.{RepliesRead}
 
--- Well formed replies that nothing refuses are compared with the stored pact, and a pattern is asked: of the pact as it
--- is read again, or of an interaction that has a reply, where each reply belongs to one.
+-- Well formed replies that nothing refuses are compared with the stored pact, and a pattern is needed: of the pact as
+-- it is read again, or of an interaction that has a reply, if each reply belongs to one.
 abbrev pub ComparesPattern : State → Caller → Command → Type 0
 ComparesPattern s caller (PostReplies path report body) =
     (refusal s caller (PostReplies path report body) ≡ None)

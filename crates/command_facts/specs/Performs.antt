@@ -27,8 +27,7 @@ use Rattle.command_facts.specs.Patterns.{RefusesPattern, ComparesPattern, AsksPa
 abbrev pub IsStepOf : Caller → Command → Broker → Transition → Type 0
 IsStepOf caller command s out = StepOfCaller broker_primitives s caller command out
 
--- what a known caller's command does where each stored pact can be read again: a step, or no step where a pattern is
--- refused
+-- what a known caller's command does if each stored pact can be read again: a step, or no step if a pattern is refused
 abbrev pub CallersStep : Caller → Command → Broker → Transition → Type 0
 CallersStep caller command s out =
     HasSoundContents broker_primitives s
@@ -47,7 +46,7 @@ PerformsBetween old new P r =
     CallsTablesBetween old new r (λ answer. (s : Broker) → Holds old.now s → (t : Broker)
     × P s (record { answer = answer; state = t }) × HoldsAfter enough old new t)
 
--- the same where the state that the database held allows it
+-- the same if the state that the database held allows it
 abbrev pub PerformsWhereBetween : State → State → (Broker → Type 0) → (Broker → Transition → Type 0)
     → Result Answer StoreFault → Type 0
 PerformsWhereBetween old new Allows P r =
@@ -58,9 +57,9 @@ PerformsWhereBetween old new Allows P r =
 abbrev pub IsToChange : (Broker → Transition → Type 0) → Broker → Type 0
 IsToChange P s = (detail : Detail) × (t : Broker) × P s (record { answer = Done detail; state = t })
 
--- Why a call fails, in a transaction that shows a state which can be read back: as the store failed, or since a growth
--- was refused; or, only at such states, since a change of its own was refused. TooBig is what is so where a row was too
--- big for the store.
+-- Why a call fails, in a transaction that shows a state which can be read back: the store failed, or memory ran out;
+-- or, only at the states of At, a change of its own was refused. TooBig is what holds if a row was too big for the
+-- store.
 abbrev pub FailsOnlyAtBetween : {A : Type 0} → State → State → Type 0 → (Broker → Type 0) → Result A StoreFault → Type 0
 FailsOnlyAtBetween old new TooBig At r = FailsFromBetween old new r TooBig (λ _. ⊤) At
 
@@ -116,7 +115,7 @@ module _ {X : Type 0} (store : Ghosts X) (old new : Held X) where
       → (Broker → Transition → Type 0) → Type 0
   CarriesFrom r Allows Open TooBig P = CarriesBetween true (state store old) (state store new) Allows Open TooBig P r
 
-  -- where the states that allow it are those that are open to it
+  -- if the states that allow it are those that are open to it
   abbrev pub CarriesWhere : Result Answer StoreFault → (Broker → Type 0) → Type 0 → (Broker → Transition → Type 0)
       → Type 0
   CarriesWhere r Allows TooBig P = CarriesFrom r Allows Allows TooBig P

@@ -34,7 +34,7 @@ reading_of (Err found) = IsRefused (fault.Pact (number_text found))
 abbrev pub Reads : Text → Reading → Type 0
 Reads file reading = (answer : Result Pact PactFault) × Normal file answer × (reading ≡ reading_of answer)
 
--- the fault tells that a pattern of a pact file was refused
+-- the fault says that a pattern of a pact file was refused
 abbrev pub is_refusal : FormFault → Bool
 is_refusal (fault.Pact place) = starts_with nat_eq place (codes "7.7 ")
 is_refusal _ = false
@@ -51,7 +51,7 @@ abbrev pub ReadsReplies : Text → Option FormFault → Type 0
 ReadsReplies body found =
     (answer : Result (List Reply) RepliesFault) × RepliesRead body answer × (found ≡ replies_fault answer)
 
--- the places of the failing interactions; none where a reply belongs to no interaction
+-- the places of the failing interactions; none if a reply belongs to no interaction
 abbrev pub Compares : List Interaction → List Reply → Option (List ℕ) → Type 0
 Compares interactions replies None = ¬ (AreKnown interactions replies)
 Compares interactions replies (Some places) = AreKnown interactions replies × AreFailing interactions replies places
@@ -67,11 +67,11 @@ Fails text body failing =
 
 -- ---- what may keep a stored pact from being compared
 
--- the text is read as no pact, a pattern's refusal aside
+-- the text can't be read as a pact
 abbrev pub IsNoPact : Text → Type 0
 IsNoPact text = (p : Pact) → ¬ (Normal text (Ok p))
 
--- a pattern is refused where a file is read
+-- the fault says that a pattern was refused as a file was read
 abbrev pub TellsRefusal : PactFault → Type 0
 TellsRefusal found = (i : ℕ) × (found ≡ Rules i rule_fault.Pattern)
 
@@ -79,7 +79,7 @@ TellsRefusal found = (i : ℕ) × (found ≡ Rules i rule_fault.Pattern)
 abbrev pub HasPatternIfPact : Text → Type 0
 HasPatternIfPact text = (p : Pact) → Normal text (Ok p) → OneOf InteractionHasPattern p.interactions
 
--- a pattern is refused where the text is read
+-- a pattern is refused as the text is read
 abbrev pub IsReadToRefusal : Text → Type 0
 IsReadToRefusal text = (found : PactFault) × TellsRefusal found × Normal text (Err found)
 
@@ -88,12 +88,12 @@ abbrev pub IsComparedByPattern : Text → List Reply → Type 0
 IsComparedByPattern text replies = (p : Pact) × Normal text (Ok p)
     × (AreKnown p.interactions replies × UsesPattern p.interactions replies)
 
--- a pattern is asked of the text or of a reply to it: so none is where the text is no pact for another fault, or where
--- a reply belongs to no interaction
+-- a pattern of the text, or of an interaction that has a reply, is needed: not if the text is no pact for another
+-- fault, nor if a reply belongs to no interaction
 abbrev pub IsPatternAsked : Text → List Reply → Type 0
 IsPatternAsked text replies = IsReadToRefusal text ⊎ IsComparedByPattern text replies
 
--- what the comparison of a stored pact with replies tells
+-- what the comparison of a stored pact with replies says
 abbrev pub Tells : Text → List Reply → Comparison → Type 0
 Tells text replies (Failing places) = Compared text replies (Some places)
 Tells text replies UnknownReply = Compared text replies None

@@ -13,7 +13,7 @@ pub fn reading_again()
 {}
 
 /// What is kept of a token is 64 hexadecimal digits. So each name and each digest that a state of this
-/// broker has keeps its form, whatever is asked: see `names_stay` of `broker_core::laws`.
+/// broker has keeps its form, for all requests: see `names_stay` of `broker_core::laws`.
 pub fn names_stay()
     ensures digests { GivesDigests broker_primitives }
     ensures steps { NamesStay broker_primitives }

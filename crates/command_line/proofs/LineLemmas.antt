@@ -18,7 +18,7 @@ has_options a c words m line is simple matches taken read =
     (matches (ap is_simple is ∙ simple)).0 ∙ ap (λ (k : App). matches_of k words) same in
     (read.0, (sym (ap (λ (k : App). has_none (fault_of k words)) same) ∙ ap has_none taken, subst (λ (rs : List Row). HasValues rs line) rows read.1))
 
--- where nothing is wrong only memory can fail
+-- if nothing is wrong, only memory can fail
 pub only_memory : (a c : App) (words : List Text) (e : Error) → c ≡ a → HasKind (fault_of c words) e → is_taken a words ≡ true → kind_of e ≡ OutOfMemory
 unfolding is_taken
 only_memory a c words e is kinds taken = go (fault_of c words) kinds (ap (λ (k : App). has_none (fault_of k words)) is ∙ taken)
@@ -28,7 +28,7 @@ only_memory a c words e is kinds taken = go (fault_of c words) kinds (ap (λ (k 
     go [] (inr wrong) none = absurd wrong
     go (k ∷ ks) kinds none = absurd cc
 
--- the commands are of options with values alone
+-- the commands have only options with values
 pub named_is_simple : (name : CommandName) → is_simple (command_named name) ≡ true
 named_is_simple names.Replay = refl
 named_is_simple _ = refl
@@ -109,7 +109,7 @@ keeps_kind [] next e (inl memory) = inl memory
 keeps_kind [] next e (inr wrong) = absurd wrong
 keeps_kind (kind ∷ kinds) next e has = has
 
--- and so is one of the first kind where clap found none
+-- and so is one of the first kind if clap found none
 pub first_kind : (kinds : Kinds) (kind : ErrorKind) (e : Error) → kinds ≡ [] → kind_of e ≡ kind → HasKind (or_else kinds (kind ∷ [])) e
 first_kind kinds kind e none is = subst (λ (ks : Kinds). HasKind (or_else ks (kind ∷ [])) e) (sym none) (inr (inl is))
 

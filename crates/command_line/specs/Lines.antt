@@ -93,7 +93,7 @@ path_of path = path.text.now
 abbrev pub HasText : List Row → Text → Text → Type 0
 HasText rows name text = first_of name rows ≡ Some text
 
--- the option has this number, from 1 to 1,000,000: its text is decimal digits, behind a plus or not, which write it
+-- the option has this number, from 1 to 1,000,000: its text writes it in decimal digits, after a plus or without one
 abbrev pub HasNumberOption : List Row → Text → ℕ → Type 0
 HasNumberOption rows name n =
     (text : Text) × (one_of name rows ≡ Some text) × IsNumeral 10 (without_leading_plus text)
@@ -161,7 +161,7 @@ unfoldable pub is_line : List Text → Bool
 is_line [] = false
 is_line (program ∷ rest) = is_command rest
 
--- ---- what is told of words that are no command line
+-- ---- what is reported of words that are no command line
 
 -- the program before it has commands: one of them is required, and `--version` is answered
 abbrev pub bare_program : App

@@ -23,7 +23,7 @@ pub(crate) struct CommandText<'a> {
     /// The words by which its usage names it.
     pub(crate) words: &'a str,
     pub(crate) about: &'a str,
-    /// What stands below its options.
+    /// What its help says after its options.
     pub(crate) after: &'a str,
     pub(crate) options: &'a [CommandOption<'a>],
 }

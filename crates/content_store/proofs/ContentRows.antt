@@ -196,7 +196,7 @@ put_puts number dg body = record { terms = col 0 0 ∷ lit Null ∷ col 0 1 ∷ 
 put_stored : (number : ℕ) (dg body : List ℕ) (rows : List Row) → with_rowid Chosen rows (cast_row contents (Int (pos number) ∷ Null ∷ Text dg ∷ Text body ∷ [])) ≡ Int (pos number) ∷ Null ∷ Text dg ∷ Text body ∷ []
 put_stored number dg body rows = λ i. with_rowid Chosen rows (cast_int (pos number) i ∷ cast_null i ∷ Text dg ∷ Text body ∷ [])
 
--- of a change of this table alone
+-- the other tables keep their rows, if only this table changed
 others_kept : (name : List ℕ) (ts : List Table) (old new : Database) → AllByRecursion (λ n. is_other (name ∷ []) n ≡ true → rows_of new n ≡ rows_of old n) (map (λ t. t.name) ts) → AllByRecursion (λ t. same_text t.name name ≡ false → rows_of new t.name ≡ rows_of old t.name) ts
 others_kept name [] old new all = tt
 others_kept name (t ∷ ts) old new all = (λ apart. all.0 (ap (λ b. not (b || false)) apart), others_kept name ts old new all.1)
@@ -219,7 +219,7 @@ content_put digest number dg body by old new count texts held free is h =
       same = λ there. absurd (let clash : true ≡ false = sym there ∙ free in cc);
     }
 
--- where the number is the next one, and low, it fails only as the store fails, or since one of its texts is too long
+-- if the number is the next one, and low, it fails only as the store fails, or since one of its texts is too long
 pub content_ends : (number : ℕ) (dg body : List ℕ) (old new : State) → EndsFrom [] (dg ∷ body ∷ []) put_sql (Int (pos number) ∷ Text dg ∷ Text body ∷ []) old new (λ s. (number ≡ length s.contents + 1) × (has_room s.contents ≡ true))
 content_ends number dg body old new s here (is, room) numbers =
     let rows = old.now.trees in_contents.tree in

@@ -17,7 +17,7 @@ contents_held db s held = record { broker = held.broker; are = held.contents }
 
 -- ---- a read
 
--- a query about the contents, by whatever digest, answers of those of the state that the database holds
+-- a query about the contents whose answer holds for any digest answers of those of the state that the database holds
 pub reads_held : {A : Type 0} (old new : State) (r : Result A StoreFault) (P : A → List Text → Type 0) → CallsTablesBetween old new r (IsReadByAny old new P) → QueriesBetween true old new r (λ a s. P a s.contents)
 reads_held old new r P = call_with old new r _ _ (λ a read s held. read (hex_of sha256) s.contents (contents_held old.now s held))
 

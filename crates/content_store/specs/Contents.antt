@@ -55,11 +55,11 @@ KeepsOthers name old new =
 abbrev pub is_among : List Text → Text → Bool
 is_among texts body = list_any (same_text body) texts
 
--- the number of the first that is this text; the next number where none is
+-- the number of the first that is this text; the next number if none is
 abbrev pub number_in : List Text → Text → ℕ
 number_in texts body = position_or_len (same_text body) texts + 1
 
--- its number, where it is one of them
+-- its number, if it is one of them
 abbrev pub found_in : List Text → Text → Option ℕ
 found_in texts body = if is_among texts body then Some (number_in texts body) else None
 
@@ -71,7 +71,7 @@ text_in texts number = if number == 0 then None else slice_get texts (number - 1
 abbrev pub IsTextOf : List Text → ℕ → Option Text → Type 0
 IsTextOf texts number found = (number < 2 ^ 63 → found ≡ text_in texts number) × (2 ^ 63 ≤ number → found ≡ None)
 
--- the text is one of them, at the end where it wasn't
+-- the texts with this one: put at the end, if it isn't one of them
 abbrev pub with_text : List Text → Text → List Text
 with_text texts body = if is_among texts body then texts else texts ++ body ∷ []
 
@@ -86,12 +86,12 @@ TellsUnreadable rows fault =
 abbrev pub IsReadBy : {A : Type 0} → (Text → Text) → State → State → (A → List Text → Type 0) → A → Type 0
 IsReadBy digest old new P a = (texts : List Text) → ContentsBy digest old.now texts → P a texts × (new.now ≡ old.now)
 
--- the same, whatever the digest is
+-- the same, for any digest
 abbrev pub IsReadByAny : {A : Type 0} → State → State → (A → List Text → Type 0) → A → Type 0
 IsReadByAny old new P a = (digest : Text → Text) → IsReadBy digest old new P a
 
--- The text has this number, and it is one of the contents now. Where it was one before, nothing changes; else
--- it is the last. All other tables are as they were.
+-- The text has this number, and it is one of the contents now. If it was one before, nothing changes; else it is the
+-- last. All other tables are as they were.
 pub record IsPut (digest : Text → Text) (body : Text) (texts : List Text) (number : ℕ)
     (old new : Database) : Type 0 where
   pub number_is : number ≡ number_in texts body
@@ -106,7 +106,7 @@ IsPutBy digest body old new number =
 
 -- ---- for private clauses: the steps of a put
 
--- a text that isn't there is put among them, whatever its number is to be
+-- a text that isn't there is put among them, and this is its number
 abbrev pub IsNewBy : (Text → Text) → Text → State → State → ℕ → Type 0
 IsNewBy digest body old new number =
     (texts : List Text) → ContentsBy digest old.now texts → is_among texts body ≡ false
@@ -118,7 +118,7 @@ IsPutUnder digest body old new number =
     (texts : List Text) → ContentsBy digest old.now texts → is_among texts body ≡ false
     → number ≡ length texts + 1 → IsPut digest body texts number old.now new.now
 
--- a text that isn't there is put among them, where they are so many
+-- a text that isn't there is put among them, if they are so many
 abbrev pub IsNewAfter : (Text → Text) → Text → ℕ → State → State → ℕ → Type 0
 IsNewAfter digest body count old new number =
     (texts : List Text) → ContentsBy digest old.now texts → is_among texts body ≡ false
@@ -139,7 +139,7 @@ StaysBroker old new = IsBroker old.now → new.now ≡ old.now
 abbrev pub IsNextContent : ℕ → Broker → Type 0
 IsNextContent number s = (number ≡ length s.contents + 1) × (has_room s.contents ≡ true)
 
--- ---- a put where there may be no place
+-- ---- a put for which there may be no place
 
 -- the text is one of them, or there is room for one more
 abbrev pub has_place : List Text → Text → Bool
@@ -162,7 +162,7 @@ StoresIfRoom body None s t = (t ≡ s) × (has_place s.contents body ≡ false)
 abbrev pub CanBeAdded : Text → List Text → Type 0
 CanBeAdded body texts = (is_among texts body ≡ false) × (has_room texts ≡ true)
 
--- Why a put fails, where a state is shown that can be read back, whose contents were all stored by this digest: the store
+-- Why a put fails, if a state is shown that can be read back, whose contents were all stored by this digest: the store
 -- failed, or a row was refused, which is only made if the contents are such.
 abbrev pub FailsToAddBetween : {A : Type 0} → State → State → (Text → Text) → Result A StoreFault → (List Text → Type 0)
     → Type 0

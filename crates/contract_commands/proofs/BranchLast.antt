@@ -16,7 +16,7 @@ use Rattle.contract_commands.specs.{Pacts.{AreSidesRead, missing_of_branch, Admi
 use Rattle.command_facts.{specs.Primitives.{broker_primitives}, proofs.CallerSteps.{refuses, acts}}
 use Rattle.broker_core.specs.declared.answer.Missing.TheVariants as missing
 
--- ---- versions that stand where their numbers say
+-- ---- versions whose places in the list are their numbers
 
 module _ (versions : List Version) where
   -- from this number on
@@ -25,7 +25,7 @@ module _ (versions : List Version) where
   StandFrom n (x ∷ xs) = (number_of versions x ≡ Some n) × StandFrom (n + 1) xs
 
   module _ (test : Version → Bool) where
-    -- where none passes, none is the last
+    -- if none passes, none is the last
     none_last : (n : ℕ) (xs : List Version) → StandFrom n xs → (o : Option Version) → ((v : Version) (k : ℕ) → number_of versions v ≡ Some k → n ≤ k → test v ≡ false) → last_or o (filter test xs) ≡ o
     none_last n [] stand o none = refl
     none_last n (x ∷ xs) stand o none =

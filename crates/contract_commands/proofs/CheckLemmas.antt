@@ -40,7 +40,7 @@ module _ (s : State) (caller : Caller) (path : PactPath) (r : Report) (body : Te
         → CallersStep caller (PostReplies path r body) s out
     replies_checked out content is none it = by_told out content it.0 it.2.0 is none it.1 it.2.1 it.2.2
 
-    -- where something is to change, it is a step
+    -- if something is to change, it is a step
     pub step_checked : (detail : Detail) (t : State) (content : ℕ) → HasSoundContents broker_primitives s → s.contracts (consumer_version path, path.provider) ≡ Some content → refusal s caller (PostReplies path r body) ≡ None
         → Checks s path.provider r content replies (record { answer = Done detail; state = t }) → StepOfCaller broker_primitives s caller (PostReplies path r body) (record { answer = Done detail; state = t })
     step_checked detail t content sound is none it = elim (replies_checked (record { answer = Done detail; state = t }) content is none it sound) [
@@ -58,14 +58,14 @@ pact_there s path content sound is =
     by_answer (Ok p) reads is = (p, reads)
     by_answer (Err found) reads is = absurd cc
 
--- a comparison with it doesn't tell that it is none
+-- a comparison with it doesn't answer `NoPact`
 pub pact_told : (s : State) (content : ℕ) (text : Text) (replies : List Reply) (told : Comparison) → text_of s content ≡ Some text → ((old : Text) × (text_of s content ≡ Some old) × ((p : Pact) × Normal old (Ok p))) → Tells text replies told → ¬ (told ≡ NoPact)
 pact_told s content text replies told stored has tells is =
     let both : Some has.0 ≡ Some text = sym has.1 ∙ stored in
     let same : has.0 ≡ text = cc in
     subst (λ (c : Comparison). Tells text replies c) is tells has.2.0 (subst (λ t. Normal t (Ok has.2.0)) same has.2.1)
 
--- no interaction fails where the list of those that do is empty
+-- no interaction fails if the list of those that do is empty
 pub empty_is : (failing : List ℕ) → (length failing == 0) ≡ is_empty failing
 empty_is [] = refl
 empty_is (place ∷ failing) = some_fail (length failing) where

@@ -44,7 +44,7 @@ module _ (s : State) (caller : Caller) (path : PactPath) (text : Text) where
 pub form_fault : (s : State) (caller : Caller) (path : PactPath) (file : Text) (found : FormFault) → FindsFault broker_primitives (PutPact path file) (Some found) → StepOfCaller broker_primitives s caller (PutPact path file) (unchanged_with s (BadForm found))
 form_fault s caller path file found is = (Some found, is, refl)
 
--- where nothing refuses, the two sides are there
+-- if nothing refuses, the two sides are there
 pub sides_there : (command : Command) (p c may : Bool) → None ≡ refused command (unless p missing.Pacticipant (unless c missing.Pacticipant None)) may → (p ≡ true) × (c ≡ true)
 sides_there command true true may h = (refl, refl)
 sides_there command false c may h = absurd cc
@@ -140,7 +140,7 @@ module _ (s : State) (text : Text) where
       )
 
   module _ (v : Version) where
-    -- storing a text and naming a version come to the same in either order
+    -- storing a text and naming a version give the same state in either order
     commutes : named (stored s text) v ≡ stored (named s v) text
     commutes =
         ap (λ t. named t v) (stored_is s text) ∙ named_is (record s { contents = contents_with s.contents text }) v
@@ -151,7 +151,7 @@ module _ (s : State) (text : Text) where
         let contracts_are : (named (stored s text) v).contracts ≡ s.contracts = named_contracts (stored s text) v ∙ ap (λ t. t.contracts) (stored_is s text) in
         λ i. record (commutes i) { contracts = put_at (same_pair same_version same_text) (contracts_are i) (v, provider) (Some (is i)) }
 
--- where its version was named, a contract is added
+-- if its version was named, a contract is added
 pub adds_contract : (s t : State) (path : PactPath) (provider : Text) (version : VersionNumber) (number content : ℕ) → provider ≡ path.provider → CanRecord path version content s → NamesAs (consumer_version path) number s t
     → AddsContract number provider content t (contracted t (consumer_version path) provider content)
 adds_contract s t path provider version number content is can names =

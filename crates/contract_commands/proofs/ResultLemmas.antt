@@ -21,7 +21,7 @@ use Rattle.broker_core.specs.declared.answer.Answer.TheVariants as answer
 use Rattle.broker_core.specs.declared.answer.Clash.TheVariants as clash
 use Rattle.broker_core.specs.declared.answer.Missing.TheVariants as missing
 
--- ---- where nothing refuses
+-- ---- if nothing refuses
 
 first_there : (command : Command) (b may : Bool) (what : Missing) (rest : Option Missing) → refused command (unless b what rest) may ≡ None → b ≡ true
 first_there command true may what rest h = refl
@@ -35,7 +35,7 @@ provider_there s caller path command is none =
 
 -- ---- a run that was used
 
--- the result that a row tells
+-- the result that a row gives
 pub row_told : (s : State) (o : Option (ℕ × Verification)) (found : Option ResultRow) (row : ResultRow) → found ≡ Some row → option_map told_row found ≡ option_map (told_of s.versions) o → (e : ℕ × Verification) × (o ≡ Some e) × IsRowOf s row e
 row_told s o found row is h = by_result o (sym (ap (option_map told_row) is) ∙ h) where
   by_result : (o : Option (ℕ × Verification)) → Some (told_row row) ≡ option_map (told_of s.versions) o → (e : ℕ × Verification) × (o ≡ Some e) × IsRowOf s row e
@@ -48,7 +48,7 @@ none_told s o found is h = by_result o (sym (ap (option_map told_row) is) ∙ h)
   by_result None g = refl
   by_result (Some e) g = absurd cc
 
--- ---- what is told
+-- ---- what is reported
 
 module _ (s : State) (r : Verification) (unused : result_of_run s r.version.pacticipant r.run ≡ None) where
   abbrev newly : (ℕ → Detail) → Bool → Transition
@@ -99,14 +99,14 @@ module _ (s t : State) (provider : Text) (r : Report) (found : Finding) (p : Tex
   is_next : next ≡ length s.results + 1 → next ≡ length t.results + 1
   is_next is = is ∙ ap (λ (rows : List Verification). length rows + 1) (sym results_stay)
 
-  -- it stands last, where its version was named
+  -- the result is the last, and its version was named
   pub records : next ≡ length s.results + 1 → RecordsResult next found.content p number found.pass found.checked r.run t (record t { results = t.results ++ reported_result provider r found ∷ [] })
   records is = (reported_version provider r, names.1, sym of, is_next is, refl)
 
   pub now_recorded : record t { results = t.results ++ reported_result provider r found ∷ [] } ≡ recorded s (reported_result provider r found)
   now_recorded = λ i. record (names.0 i) { results = results_stay i ++ reported_result provider r found ∷ [] }
 
-  -- and may, where its run is new and its content is there
+  -- the tables allow the result, if its run is new and its content is there
   pub allows : (version : VersionNumber) → AllowsReport provider r found version next s → AllowsResult next found.content p number r.run t
   allows version can =
       let there = number_there s found.content can.2 in (
@@ -121,7 +121,7 @@ module _ (s t : State) (provider : Text) (r : Report) (found : Finding) (p : Tex
 
 -- ---- calls that a report makes
 
--- what was read is told, and nothing changes
+-- the answer is what was read, and nothing changes
 pub told_read : {A B : Type 0} (old new : Connection) (a : A) (b : B) (P : A → State → Type 0) (Allows : State → Type 0) (Next : B → State → State → Type 0) → ((s : State) → Allows s → P a s → Next b s s) → CalmQueriesBetween false old new (Ok a) P → AnswersTakingBetween 4 old new (Ok b) Allows Next
 told_read old new a b P Allows Next f it =
     then_ok old new a b _ _ (λ read s held may. let first = read s held in (s, f s may first.0, (stays_held old new s first.1 held, takes_none 4 old.now new.now first.1))) it.call

@@ -14,7 +14,7 @@ pub unread : (c : State) (e : ReadFault) (r : Result Answer StoreFault) (Q : Bro
 unread c (Form found) r Q is f = subst (λ (a : Result Answer StoreFault). PerformsBetween c c Q a) (sym is) (refused c (BadForm found) Q (f found refl))
 unread c Memory r Q is f = subst (λ (a : Result Answer StoreFault). PerformsBetween c c Q a) (sym is) (then_stop {any = true} c c (tt {0}) store.Memory (λ _. ⊤) _ (idle c (tt {0}) (λ _. ⊤) tt))
 
--- a file isn't read only if it is at fault, or for want of memory
+-- a file is left unread only if it is at fault, or if memory runs out
 pub unread_fails : (TooBig : Type 0) (c : State) (e : ReadFault) (r : Result Answer StoreFault) (First Changes : Broker → Type 0) → r ≡ answer_to e → FailsFromBetween c c r TooBig First Changes
 unread_fails TooBig c (Form found) r First Changes is = subst (λ (a : Result Answer StoreFault). FailsFromBetween c c a TooBig First Changes) (sym is) (λ clean s here may. tt)
 unread_fails TooBig c Memory r First Changes is = subst (λ (a : Result Answer StoreFault). FailsFromBetween c c a TooBig First Changes) (sym is) (λ clean s here may. inl (inr refl))

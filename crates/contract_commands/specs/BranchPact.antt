@@ -25,18 +25,18 @@ IsNextBelow s provider consumer branch bound (Some next) =
     IsNewestBelow s consumer branch bound (Some next.number)
     × ((v : Version) → number_of s.versions v ≡ Some next.number → next.content ≡ s.contracts (v, provider))
 
--- the content of the contract of the version that the branch shows; none just where there is no such version
+-- the content of the contract of the version that the branch shows; none if and only if there is no such version
 abbrev pub IsBranchContent : Broker → Text → Text → Text → Option ℕ → Type 0
 IsBranchContent s provider consumer branch content =
     MatchOption content (branch_version s provider consumer branch ≡ None)
     (λ n. (v : Version) × (branch_version s provider consumer branch ≡ Some v) × (s.contracts (v, provider) ≡ Some n))
 
--- the content that the branch shows, where no version from this number on has a contract
+-- the content that the branch shows, if no version from this number on has a contract
 abbrev pub IsContentBelow : Broker → Text → Text → Text → ℕ → Option ℕ → Type 0
 IsContentBelow s provider consumer branch bound content =
     NoneFrom s provider consumer branch bound → IsBranchContent s provider consumer branch content
 
--- that content, where nothing refuses to show its text, or the refusal
+-- that content, if nothing refuses to show its text, or the refusal
 abbrev pub ReachesBranch : Broker → Caller → Text → Text → Text → Result ℕ Answer → Type 0
 ReachesBranch s caller provider consumer branch (Ok content) =
     IsBranchContent s provider consumer branch (Some content)

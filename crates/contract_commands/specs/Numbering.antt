@@ -9,17 +9,17 @@ use Rattle.broker_tables.specs.Numbers.{number_of}
 use Rattle.contract_commands.specs.declared.numbers.VersionNumber.{VersionNumber}
 use Rattle.contract_commands.specs.declared.numbers.VersionNumber.TheVariants.{Old, New}
 
--- the number after so many, where there is room for one more
+-- the number after so many, if there is room for one more
 abbrev pub IsNextNumber : ℕ → Option ℕ → Type 0
 IsNextNumber count (Some n) = HasRoom count × (n ≡ count + 1)
 IsNextNumber count None = ¬ (HasRoom count)
 
--- the number after these rows, where there is room for one more
+-- the number after these rows, if there is room for one more
 abbrev pub IsNextOf : {X : Type 0} → List X → Option ℕ → Type 0
 IsNextOf rows (Some n) = (has_room rows ≡ true) × (n ≡ length rows + 1)
 IsNextOf rows None = has_room rows ≡ false
 
--- of what has this number among these rows, if it has one: that number, or the next; none where there is no room
+-- of what has this number among these rows, if it has one: that number, or the next; none if there is no room
 abbrev pub IsNumberFor : {X : Type 0} → List X → Option ℕ → Option VersionNumber → Type 0
 IsNumberFor rows own (Some (Old n)) = own ≡ Some n
 IsNumberFor rows own (Some (New n)) = (own ≡ None) × (has_room rows ≡ true) × (n ≡ length rows + 1)

@@ -37,7 +37,7 @@ pub record AreSidesRead (s : Broker) (caller : Caller) (rule : Rule) (owned : Li
   pub consumer_is : is_some (s.pacticipants consumer) ≡ sides.has_consumer
   pub may_is : (granted : Bool) → allows rule caller (filter_map s.pacticipants owned) granted ≡ sides.is_allowed
 
--- the first side that is missing; where both are there, what else is
+-- the first side that is missing; if both are there, what else is
 abbrev pub missing_side : Sides → Option Missing → Option Missing
 missing_side sides rest =
     unless sides.has_provider missing.Pacticipant (unless sides.has_consumer missing.Pacticipant rest)
@@ -61,7 +61,7 @@ missing_part place =
 abbrev pub missing_of_branch : Sides → Option ℕ → Option Missing
 missing_of_branch sides content = missing_side sides (unless (is_some content) missing.Contract None)
 
--- the content, where no command by this rule is refused for what is missing or for who asks; or the refusal
+-- the content, if no command by this rule is refused for what is missing or for who asks; or the refusal
 abbrev pub Admits : Rule → Option ℕ → Option Missing → Bool → Result ℕ Answer → Type 0
 Admits rule content lacks may (Ok found) =
     (content ≡ Some found) × ((command : Command) → (asks command).rule ≡ rule → refused command lacks may ≡ None)
@@ -125,7 +125,7 @@ Publishes s caller path text out =
 abbrev pub AsksContract : PactPath → Rule → List Text → Command → Type 0
 AsksContract path rule owned command = asks command ≡ asked (contract_of path) rule owned None
 
--- the content of the contract, where nothing refuses such a command, or the refusal
+-- the content of the contract, if nothing refuses such a command, or the refusal
 abbrev pub Reaches : Broker → Caller → PactPath → Rule → List Text → Result ℕ Answer → Type 0
 Reaches s caller path rule owned (Ok content) =
     (s.contracts (consumer_version path, path.provider) ≡ Some content)
@@ -144,7 +144,7 @@ abbrev pub HasReachedContent : Broker → Result ℕ Answer → Type 0
 HasReachedContent s (Ok content) = HasContent s content
 HasReachedContent s (Err refusal) = ⊤
 
--- what is told of a file that wasn't read
+-- what is answered for a file that wasn't read
 abbrev pub answer_to : ReadFault → Result Answer StoreFault
 answer_to (Form found) = Ok (BadForm found)
 answer_to Memory = Err store.Memory

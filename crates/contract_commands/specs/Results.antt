@@ -1,4 +1,4 @@
--- what the commands on results read of a state and tell of it, for the clauses of private functions: no public clause
+-- what the commands on results read of a state and report of it, for the clauses of private functions: no public clause
 -- cites it
 use Rattle.std.specs.Prelude.{◌≡◌, ◌+◌, ◌++◌, ◌∷◌, [], ℕ, List, unwrap_or, Option, Some, None, Bool, is_some, IsTrue, length}
 use Rattle.broker_core.specs.Text.{Text, version}
@@ -43,23 +43,23 @@ names_of provider report = provider ∷ report.provider_version ∷ unwrap_or re
 abbrev pub AreLong : Text → Report → Type 0
 AreLong provider report = ¬ AreShort (names_of provider report)
 
--- the result that a report and what was found come to
+-- the result that a report gives with what was found
 abbrev pub reported_result : Text → Report → Finding → Verification
 reported_result provider report found =
     result_for found.content (reported_version provider report) found.pass found.checked report.run
 
--- what is told of a result, with this detail beside its number
+-- what is answered for a result, with this detail beside its number
 abbrev pub told_as : (ℕ → Detail) → Reported → Answer
 told_as detail (Recorded number) = answer.Done (detail number)
 told_as detail (Known number) = answer.Already (detail number)
 told_as detail RunTaken = answer.Taken clash.Run
 told_as detail Full = answer.Full
 
--- the result comes in: this is told of it, whatever the detail is, and the next state is t
+-- the result comes in: this is reported of it, for any detail, and the next state is t
 abbrev pub Reports : Broker → Verification → Reported → Broker → Type 0
 Reports s r it t = (detail : ℕ → Detail) → record { answer = told_as detail it; state = t } ≡ report s r detail
 
--- a report of what was found comes in: this is told of it, and the next state is t
+-- a report of what was found comes in: this is reported of it, and the next state is t
 abbrev pub Receives : Text → Report → Finding → Reported → Broker → Broker → Type 0
 Receives provider report found it s t = Reports s (reported_result provider report found) it t
 
@@ -72,7 +72,7 @@ abbrev pub Claims : Text → Report → ℕ → Bool → Broker → Transition �
 Claims provider r content success s out =
     out ≡ report s (claimed_result content (reported_version provider r) success r.run) detail.Result
 
--- the row as the tables tell a result
+-- the row as a result of the tables
 abbrev pub told_row : ResultRow → Told
 told_row row = told row.number row.content row.provider_version row.pass row.checked
 
@@ -87,7 +87,7 @@ TellsSame s row number found same =
     → number_of s.versions (reported_version provider report) ≡ number
     → same ≡ says_same e.1 (reported_result provider report found)
 
--- what is told of any such report whose run was used for the result of the row; nothing changes
+-- what is reported of any such report whose run was used for the result of the row; nothing changes
 abbrev pub TellsAgain : Broker → ResultRow → Option ℕ → Finding → Reported → Type 0
 TellsAgain s row number found it =
     (provider : Text) (report : Report) (e : ℕ × Verification) → IsRowOf s row e
@@ -105,7 +105,7 @@ pub record IsUnused (s : Broker) (provider : Text) (report : Report) (number : O
   pub owned : HasPacticipant s provider
   pub unused : result_of_run s provider report.run ≡ None
 
--- the result stands last, and its version is named
+-- the result is added as the last, and its version is named
 abbrev pub recorded : Broker → Verification → Broker
 recorded s r = record (named s r.version) { results = s.results ++ r ∷ [] }
 
@@ -119,7 +119,7 @@ abbrev pub CanRecordReport : Text → Report → VersionNumber → ℕ → Broke
 CanRecordReport provider report version next s =
     CanName s (reported_version provider report) version × (next ≡ length s.results + 1)
 
--- nothing stands against it: the run is new and the content of what was found is there
+-- nothing refuses it: the run is new and the content of what was found is there
 abbrev pub AllowsReport : Text → Report → Finding → VersionNumber → ℕ → Broker → Type 0
 AllowsReport provider report found version next s =
     CanReport provider report version s × (next ≡ length s.results + 1) × HasContent s found.content

@@ -131,7 +131,7 @@ fn check_replies<S: Alter>(
     }
 }
 
-/// Checks recorded replies against the contract and records what they come to, or says why not.
+/// Checks recorded replies against the contract and records the result, or says why not.
 pub fn post_replies<S: Alter>(
     alloc: Global,
     conn: &mut Connection<S>,

@@ -198,7 +198,7 @@ module _ (n : ℕ) (old new : State) (asked : CanBeAsked old) (fault : StoreFaul
   marks_fail (inr (rows, shown, row, has, inl why)) = inr (why.0, inr (marks_lost n old new asked.1 rows shown row has why.1))
   marks_fail (inr (rows, shown, row, has, inr room)) = inl (inr room.0)
 
--- where a query left all as it was, a later failure is one of both
+-- if a query left all as it was, a later failure is one of both calls together
 pub listed_since : (n : ℕ) (old mid new : State) (fault : StoreFault) → IsUnchanged old mid → old.faults ≤ mid.faults → FailsAsListed n mid new fault → FailsAsListed n old new fault
 listed_since n old mid new fault same up (inl (inl failed)) = inl (inl (failed_since_query old mid new fault same up failed))
 listed_since n old mid new fault same up (inl (inr memory)) = inl (inr memory)

@@ -1,5 +1,5 @@
--- What the statements for latest results ask wherever the broker's tables are there, whatever their CHECKs, keys and
--- references, STRICT or not: beside a column that isn't, SQLite takes a parameter as a number if it can.
+-- What the statements for latest results ask in any schema that has the broker's tables, with any CHECKs, keys and
+-- references, STRICT or not: for a column that isn't STRICT, SQLite takes a parameter as a number if it can.
 use Rattle.std.specs.{Prelude.{if◌then◌else◌}, List.{AllZip}}
 use Rattle.std.proofs.Common.{◌≡◌, ◌==◌, ◌∙◌, ℕ, pos, codes, List, [], ◌∷◌, Bool, true, false, Some, None, refl, sym, ap, subst}
 use Rattle.sqlite.specs.{declared.types.Value.TheVariants.{Int}, Order.{Row}, Term.{Term, col, op1, op2}, Query.{Query}, Table.{Table}, Schema.{Schema}}

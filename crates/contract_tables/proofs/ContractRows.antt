@@ -67,7 +67,7 @@ content_found n p db s v held is rows h found read = same_numbers found (s.contr
     )
 
 module _ (db : Database) (s : Broker) (held : Holds db s) (v : Version) (n : ℕ) (is : number_of s.versions v ≡ Some n) where
-  -- a row of the version tells its contract
+  -- a row of the version says what its contract is
   pub row_content : (r : Row) (p : List ℕ) (content : ℕ) → Has (db.trees in_contracts.tree) r → whole_at in_contracts.version_number r ≡ pos n
       → text in_contracts.provider r ≡ p → whole_at in_contracts.content r ≡ pos content
       → s.contracts (v, p) ≡ Some content
@@ -77,7 +77,7 @@ module _ (db : Database) (s : Broker) (held : Holds db s) (v : Version) (n : ℕ
       ∙ has_find marked_total exact_marked key (whole_at in_contracts.content) (db.trees in_contracts.tree) r (keys_of contracts_by_key db held.broker) has ∙ ap Some told
       )
 
-  -- and its contract is told by a row of it
+  -- and the version has a row for its contract
   pub content_row : (p : List ℕ) (content : ℕ) → s.contracts (v, p) ≡ Some content
       → (r : Row) × Has (db.trees in_contracts.tree) r × (whole_at in_contracts.version_number r ≡ pos n) × (text in_contracts.provider r ≡ p) × (whole_at in_contracts.content r ≡ pos content)
   content_row p content there =

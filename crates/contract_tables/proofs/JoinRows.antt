@@ -1,4 +1,4 @@
--- The rows that a JOIN shows, in whatever order: one of each pair that it keeps.
+-- The rows that a JOIN shows, in any order: one of each pair that it keeps.
 use Rattle.std.{specs.{List.{flat_map}, List.Sorted.{IsPermutation}, Prelude.{Contains}}, proofs.Common.{◌≡◌, ℕ, List, [], ◌∷◌, map, filter, sym, subst, ◌∙◌}}
 use Rattle.std.proofs.lemmas.List.Sorted.{Contains-permutation, IsPermutation-sym}
 use Rattle.sqlite.specs.{Order.{Row}, Term.{Term, eval_all}, Effect.{Database, Answers}}

@@ -1,4 +1,4 @@
--- The last row that passes a test stands at the place of its number; and the last one after one more row.
+-- The last row that passes a test is at the place of its number; and the last one after one more row.
 use Rattle.std.specs.{Prelude.{option_map, if◌then◌else◌}, List.{last_or, enumerate_from}}
 use Rattle.std.proofs.Common.{◌≡◌, ◌⊎◌, ◌==◌, ◌+◌, ◌-◌, inl, inr, ℕ, suc, List, [], ◌∷◌, ◌++◌, length, filter, Bool, true, false, ◌&&◌, cond, refl, sym, ap, ◌∙◌, slice_get, Some, None, Option, arith}
 use Rattle.std.proofs.{lemmas.Bool.{eqb-true, ne_eqb, cond-false}, lemmas.List.Elements.{filter-append}}
@@ -45,7 +45,7 @@ last_of_more true o [] x = refl
 last_of_more false o [] x = refl
 last_of_more b o (y ∷ xs) x = last_of_more b (Some y) xs x
 
--- it is the last that passes, where it passes
+-- one more row is the last that passes, if it passes
 pub last_pushed : {X : Type 0} (test : X → Bool) (rows : List X) (x : X)
     → last_row test (rows ++ x ∷ []) ≡ cond (test x) (Some (length rows + 1, x)) (last_row test rows)
 last_pushed test rows x =
@@ -66,7 +66,7 @@ latest_pair s content v e is =
     let both = (last_kept (λ r. r.content == content && same_version r.version v) s.results e is).1 in
     (eqb-true e.1.content content (first_of_both _ _ both), version_is e.1.version v (second_of_both _ _ both))
 
--- what is told of a result, with the mark whether the broker checked it, which is looked up by its number
+-- what is said of a result, with the mark whether the broker checked it, which is looked up by its number
 pub with_mark : {A B : Type 0} (s : Broker) (o : Option (ℕ × Verification)) (f : ℕ × Verification → A) (tell : A → Bool → B) (number : A → ℕ)
     (a : A) (checked : Bool) → ((e : ℕ × Verification) → o ≡ Some e → (result_with s e.0 ≡ Some e.1) × (number (f e) ≡ e.0)) → Some a ≡ option_map f o
     → ((r : Verification) → result_with s (number a) ≡ Some r → checked ≡ r.checked) → Some (tell a checked) ≡ option_map (λ e. tell (f e) e.1.checked) o

@@ -34,7 +34,7 @@ module _ (db : Database) (broker : IsBroker db) where
   pub marked_rows : IsNumbered (db.trees in_checked_results.tree)
   marked_rows = numbered_in at_checked_results db broker
 
--- WHERE the number is the parameter
+-- WHERE number = ?1 keeps the rows with this number
 of_number : (rows : List Row) → IsNumbered rows → (n : ℕ) → AllByRecursion (λ r. keeps (is_param 0 0 ∷ []) (Int (pos n) ∷ []) r ≡ eq_by_cmp int_cmp (pos n) (whole_at 0 r)) rows
 of_number rows rising n = all_of _ rows (λ r has. keeps_key (whole_key 0) 0 (Int (pos n) ∷ []) (pos n) refl r (λ i. int_is (rowid r) (at_has _ rows r rising.1 has) i ∷ []))
 
@@ -160,7 +160,7 @@ module _ (db : Database) (broker : IsBroker db) (p u : List ℕ) (name : IsName 
         ∙ ap (filter passes) (held.results ∙ numbered_map (result_of s.versions) 1 s.results) ∙ filter-map passes as_row (enumerate_from 1 s.results) in
         one_of entry as_row kept _ few listed
 
-    -- no row is kept where no result has the run
+    -- if no result has the run, no row is kept
     none_kept : result_of_run s p (Some u) ≡ None → (r : Row) → Has (db.trees in_results.tree) r
         → keeps (by_two in_results.provider in_results.run) params r ≡ false
     none_kept none r has = false_from_ne_true _ (λ hit. gone kept (kept_is ∙ ap (option_map as_row) none)
@@ -197,7 +197,7 @@ run_free db s held p number (Some u) name next few none made owner is r has = (�
 
 -- ---- the answer
 
--- what is read of a row, and what a row has of a result, tell it by numbers
+-- what is read of a row, and what a row has of a result, as numbers
 abbrev by_cells : Cells → ByNumbers
 by_cells c = numbers_are (whole (id_in c.0)) (whole (id_in c.1)) (whole (id_in c.2)) c.3
 

@@ -59,7 +59,7 @@ module _ (number content : ℕ) (provider : List ℕ) (version : ℕ) (pass : Bo
     pub result_put : IsBroker old.now → (count : ℕ) → Executes sql params old new (Ok count) → PutsRow in_results.tree made old new
     result_put broker count h = inserted at_results puts old new broker stored count h
 
-    -- where it may be recorded, it fails only as the store fails, or since one of its names is too long
+    -- if it may be recorded, it fails only as the store fails, or since one of its names is too long
     pub result_ends : number < 2 ^ 32 → IfSome run IsName → EndsFrom [] (texts_of provider run) sql params old new (AllowsResult number content provider version run)
     result_ends few name s here (v, numbered, owner, is, low, high, unused) numbers =
         let held = here.held in
@@ -82,7 +82,7 @@ module _ (number content : ℕ) (provider : List ℕ) (version : ℕ) (pass : Bo
 abbrev pub mark_sql : List ℕ
 mark_sql = codes "INSERT INTO checked_results (result) VALUES (?1)"
 
--- no row has the number that none stands by
+-- a number that no row has isn't taken
 not_taken : (rows : List Row) → IsNumbered rows → (n : ℕ) → stands_at int_cmp (whole_at 0) rows (pos n) ≡ false → is_taken rows (Int (pos n) ∷ []) ≡ false
 not_taken rows rising n off = false_from_ne_true _ (λ taken.
     let hit = some_has (λ r. is_eq (value_cmp (rowid r) (Int (pos n)))) rows taken in

@@ -134,7 +134,7 @@ module _ (s : Broker) (r : Verification) (n : ℕ) (is : number_of s.versions r.
         takes_more 1 2 (omega arith) old.now new.now (takes_rows _ old.now new.now all ((λ no. absurd cc), ((λ no. absurd cc), ((λ counted. grows), tt)))),
       )
 
--- ---- as the calls tell it
+-- ---- what the calls say of it
 
 pub marked_broker : (checked : Bool) (number : ℕ) (old new : State) → IsBroker old.now → Marks checked number old new → IsBroker new.now
 marked_broker checked number old new broker marks = still_broker (codes "checked_results" ∷ []) old.now new.now (frame_of (codes "checked_results" ∷ []) in_checked_results.tree refl old new broker marks.0) broker

@@ -17,11 +17,11 @@ module _ {X : Type 0} (key : X → ℕ) where
       ap (λ n. is_lt (nat_cmp (key (get_or (x ∷ y ∷ xs) n d)) (key (get_or (y ∷ xs) k d)))) next ∙ sorted (y ∷ xs) up.1 k d (omega arith) (omega arith)
   sorted _ up k d low high = absurd (omega arith)
 
-  -- where a key is found, the element there has it
+  -- if a key is found, the element there has it
   pub found_at : (k : ℕ) (xs : List X) (i : ℕ) (d : X) → IsBinarySearchResult (λ y. nat_cmp (key y) k) xs (Ok i) → key (get_or xs i d) ≡ k
   found_at k xs i d at = ranked (key (get_or xs i d)) k Equal (sym (at d))
 
-  -- where it isn't, no element has it
+  -- if it isn't found, no element has it
   pub missing : (k : ℕ) (xs : List X) (i : ℕ) → IsBinarySearchResult (λ y. nat_cmp (key y) k) xs (Err i) → IsSortedBy (λ x y. is_lt (nat_cmp (key x) (key y))) xs → (y : X) → Contains xs y → key y ≡ k → ⊥
   missing k xs i parts up y at same =
       let parted = parts (searchable_from_sorted nat_cmp_total key xs k up) in

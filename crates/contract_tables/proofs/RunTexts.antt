@@ -1,4 +1,4 @@
--- The texts in the column of a run: a name, or what stands for none in its row.
+-- The texts in the column of a run: a name, or the text for no run in that row.
 use Rattle.std.specs.{Prelude.{IfSome, unwrap_or}, Cmp.Lexicographic.{texts_ties}}
 use Rattle.std.proofs.Common.{◌≡◌, ◌==◌, ◌<◌, ◌≤◌, ◌^◌, ℕ, ℤ, pos, List, [], ◌∷◌, length, decimal, Bool, true, false, cond, Option, Some, None, refl, sym, ap, ◌∙◌, arith}
 use Rattle.std.proofs.{lemmas.Bool.{and_parts, false_from_ne_true, leb-true, ne_eqb}, lemmas.Fmt.{decimal_injective, length-decimal-le}}
@@ -21,12 +21,12 @@ no_tab (b ∷ bs) name =
     let first : is_name_byte b ≡ true = (and_parts _ _ bytes).0 in
     above_tab b (leb-true 32 b (and_parts _ _ first).0)
 
--- whether a column that was read tells of this run
+-- whether a column that was read has this run
 abbrev pub has_run : List ℕ → Option (Option (List ℕ)) → Bool
 has_run u None = false
 has_run u (Some run) = is_text u run
 
--- a column has a run in SQL just as it is read
+-- a column has a run in SQL if and only if it is read as that run
 pub run_test : (number : ℤ) (v : Value) (u : List ℕ) → IsName u → is_true (binary (Compare Eq Binary) v (Text u)) ≡ has_run u (run_in number v)
 unfolding binary value_cmp
 run_test number (Text t) u name = same_texts t u ∙ sym (texts_ties t u) ∙ by (begins_with_tab t) refl
@@ -40,7 +40,7 @@ run_test number (Text t) u name = same_texts t u ∙ sym (texts_ties t u) ∙ by
     by true e = false_from_ne_true _ (λ same. absurd (let clash : true ≡ false = sym e ∙ ap begins_with_tab (text_is t u same) ∙ no_tab u name in cc)) ∙ sym (neither (same_text t (no_run number)))
 run_test number _ u name = refl
 
--- what stands for none in another row tells nothing
+-- the text for no run of another row says nothing of a run
 pub of_another : (m n : ℕ) → m < 2 ^ 64 → n < 2 ^ 64 → (m ≡ n → ⊥) → run_in (pos m) (Text (no_run (pos n))) ≡ None
 of_another m n few many other =
     ap (λ b. cond b (Some None) None) (false_from_ne_true _ (λ same.

@@ -1,5 +1,5 @@
 -- What the latest results for a content say: rows of latest, joined with those of results and with the marks; and the
--- versions that are told with them.
+-- versions that are listed with them.
 use Rattle.std.specs.Prelude.{Contains, option_map, IsSomeAnd, IsPermutation, ⊤, ◌↔◌}
 use Rattle.std.proofs.Common.{◌≡◌, ◌==◌, ℕ, pos, codes, List, [], ◌∷◌, Bool, true, false, true≢false, refl, sym, ap, subst, ◌∙◌, Some, None, Option}
 use Rattle.std.proofs.{lemmas.Bool.{eq-eqb, eqb-true}, lemmas.List.Sorted.{Contains-permutation, IsPermutation-sym}}
@@ -23,7 +23,7 @@ use Rattle.sqlite_sql.specs.{declared.ops.BinaryOp.TheVariants.{Compare}, declar
 
 -- ---- the two statements
 
--- ON the row's number is the result, WHERE the content is the parameter
+-- ON the row's number is the result, WHERE content = ?1
 abbrev pub terms : List Term
 terms = op2 (Compare Eq Binary) (col 2 0) (col 1 in_latest.result) ∷ op2 (Compare Eq Binary) (col 1 in_latest.content) (col 0 0) ∷ []
 
@@ -112,7 +112,7 @@ told_moved number Says item Meets s k xs ys moved tell = (
   λ w e found meets. Contains-permutation xs ys (item e) moved (tell.1 w e found meets),
 )
 
--- ---- the versions that are told with them
+-- ---- the versions that are listed with them
 
 module _ (s : Broker) (content : ℕ) (passes : List ContentPass) (checked : List ℕ) (tell : TellPasses s content passes) (are_checked : TellChecked s content checked) where
   -- whether a latest result was checked is whether its number is there
@@ -167,7 +167,7 @@ module _ (s : Broker) (content : ℕ) (passes : List ContentPass) (checked : Lis
               λ i. record { provider_version = is.0 i; result = is.1 i; latest = latest i },
         ))
 
-    -- each of their results is told of
+    -- the passes say something of each of their results
     pub none_untold : (named : List NumberedName) → Lists named_cmp IsNamed named → ¬ ((x : NumberedName) × Contains named x × IsUntold passes x.number)
     none_untold named listed (x, there, untold) =
         let w = version p x.name in

@@ -17,7 +17,7 @@ use Rattle.broker_tables.proofs.{Orders.{exact_texts, numbers_total, exact_numbe
 use Rattle.contract_tables.specs.{declared.listings.NumberedName.{NumberedName}, ToldVersions.{named_cmp}, Listings.{IsNumberedName}, Verified.{latest_at}}
 use Rattle.contract_tables.proofs.{ItemLists.{and_tests, last_test, last_text, answers_of, list_pairs}, ResultRows.{key, contents, versions, latest_numbered}}
 
--- a result by what is told of it
+-- a result from what is said of it
 pub told_as : {A B : Type 0} (f : A → B) (o : Option A) (b : B) → option_map f o ≡ Some b → (e : A) × (o ≡ Some e) × (f e ≡ b)
 told_as f None b h = absurd cc
 told_as f (Some e) b h = (e, refl, cc)
@@ -27,7 +27,7 @@ module _ (db : Database) (s : Broker) (held : Holds db s) (v : Version) (n : ℕ
   held_latest : (content : ℕ) → latest_at (db.trees in_latest.tree) content n ≡ option_map (λ e. pos e.0) (latest_result s content v)
   held_latest content = sym (ap (option_and_then (λ k. latest_at (db.trees in_latest.tree) content k)) is) ∙ held.latest content v
 
-  -- a row of the version tells the latest result for its content
+  -- a row of the version says which result is the latest for its content
   pub row_tells : (l : Row) (content : ℕ) → Has (db.trees in_latest.tree) l → whole_at in_latest.content l ≡ pos content
       → whole_at in_latest.provider_version l ≡ pos n
       → (e : ℕ × Verification) × (latest_result s content v ≡ Some e) × (whole_at in_latest.result l ≡ pos e.0)
@@ -37,7 +37,7 @@ module _ (db : Database) (s : Broker) (held : Holds db s) (v : Version) (n : ℕ
       (sym (held_latest content) ∙ ap (value_at (by_both int_cmp int_cmp) key (whole_at in_latest.result) (db.trees in_latest.tree)) (λ i. (sym one i, sym two i)) ∙ value) in
       (e.0, e.1, sym e.2)
 
-  -- and the latest result for a content is told by a row of the version
+  -- and the version has a row for the latest result for a content
   pub tells_row : (content : ℕ) (e : ℕ × Verification) → latest_result s content v ≡ Some e
       → (l : Row) × Has (db.trees in_latest.tree) l × (whole_at in_latest.content l ≡ pos content) × (whole_at in_latest.provider_version l ≡ pos n) × (whole_at in_latest.result l ≡ pos e.0)
   tells_row content e found =

@@ -27,7 +27,7 @@ use Rattle.contract_tables.proofs.{ResultLookups.{numbered_rows, marked_rows, re
 
 -- ---- the two statements
 
--- ON the row's number is the result, WHERE the version is the parameter
+-- ON the row's number is the result, WHERE provider_version = ?1
 abbrev pub terms : List Term
 terms = op2 (Compare Eq Binary) (col 2 0) (col 1 in_latest.result) ∷ op2 (Compare Eq Binary) (col 1 in_latest.provider_version) (col 0 0) ∷ []
 
@@ -125,7 +125,7 @@ module _ (db : Database) (s : Broker) (held : Holds db s) (v : Version) (n : ℕ
         and_tests (whole_test (column r 0) (column l in_latest.result) (whole_at 0 r) (whole_at in_latest.result l) (numbered r hr) (numbers db held.broker l hl))
         (last_test (whole_test (column l in_latest.provider_version) (Int (pos n)) (whole_at in_latest.provider_version l) (pos n) (versions db held.broker l hl) refl))
 
-    -- one item a content, each read of the row that tells its latest result and of a row with that result's number
+    -- one item per content, each read of the row of its latest result and of a row with that result's number
     list_results : {sql : List ℕ} {project : List Term} {Y : Type 0} (asked : Asked sql params (from_both in_latest.tree u terms project order)) (reads : Row → Y → Type 0)
         (Q : Y → Type 0) (content : Y → ℕ) → ((l r : Row) (x : Y) → reads (eval_all project (params ∷ l ∷ r ∷ [])) x → column l in_latest.content ≡ Int (pos (content x)))
         → ((l r : Row) (x : Y) (e : ℕ × Verification) → latest_result s (content x) v ≡ Some e → Has (db.trees u) r → whole_at 0 r ≡ pos e.0
@@ -191,7 +191,7 @@ read_self f [] = tt
 read_self f (x ∷ xs) = (refl, read_self f xs)
 
 module _ (s : Broker) (v : Version) (checked : List ℕ) (marked_are : Lists nat_cmp (λ content. option_map (λ e. e.1.checked) (latest_result s content v) ≡ Some true) checked) where
-  -- a latest result was checked where its content is one of these
+  -- a latest result was checked if and only if its content is one of these
   among : (content : ℕ) (e : ℕ × Verification) → latest_result s content v ≡ Some e → is_among checked content ≡ e.1.checked
   among content e found = both_ways (is_among checked content) e.1.checked
       (λ here.
@@ -234,7 +234,7 @@ module _ (s : Broker) (v : Version) (results : List LatestResult) (listed : List
       let e = told_as said_of (latest_result s x.content v) (x.result, x.latest) ((listed.exactly x).0 there) in
       sym (ap (λ c. latest s c v) (sym same) ∙ ap (option_map (λ (e : ℕ × Verification). said_by e.1)) e.1 ∙ ap (λ (l : ℕ × Latest). Some l.1) e.2)
 
-  -- where none is for the content, there is none
+  -- if none is for the content, there is none
   pub none_said : (content : ℕ) → ((x : LatestResult) → Contains results x → x.content ≡ content → ⊥) → None ≡ latest s content v
   none_said content apart = go (latest_result s content v) refl
     where
@@ -270,7 +270,7 @@ module _ (db : Database) (s : Broker) (held : Holds db s) (v : Version) (content
       (and_tests (whole_test (column l in_latest.content) (Int (pos content)) (whole_at in_latest.content l) (pos content) (contents db held.broker l hl) refl)
       (last_test (whole_test (column l in_latest.provider_version) (Int (pos n)) (whole_at in_latest.provider_version l) (pos n) (versions db held.broker l hl) refl)))
 
-  -- a row that is shown tells the latest result
+  -- a row that is shown has the latest result
   abbrev Tells : Row → Type 0
   Tells row = (option_map passed_of (latest_result s content v) ≡ Some (passed_as (whole (whole_at 0 row)) (truth 1 row)))
 
@@ -289,7 +289,7 @@ module _ (db : Database) (s : Broker) (held : Holds db s) (v : Version) (content
       let kept = has_pair (keeps_both one_terms one_params) (db.trees in_results.tree) (db.trees in_latest.tree) l.0 r.0 l.1 r.1 ((one_joined l.0 r.0 l.1 r.1).1 (r.2 ∙ sym l.4, (l.2, l.3))) in
       (eval_all passes_project (one_params ∷ l.0 ∷ r.0 ∷ []), pair_shown db one_params in_latest.tree in_results.tree one_terms passes_project [] rows h (l.0, r.0) kept)
 
--- the first row tells the latest result, and there is none where there is no row
+-- the first row has the latest result, and there is none if there is no row
 pub join_found : {X : Type 0} (number : X → ℕ) (pass : X → Bool) (content n : ℕ) (db : Database) (rows : List Row) (found : Option X) (s : Broker) (v : Version) → Holds db s → number_of s.versions v ≡ Some n
     → IsShown (join content n) db rows → option_map (λ x. pass_of (number x) (pass x)) found ≡ option_map pass_cells (slice_get rows 0)
     → option_map (λ x. passed_as (number x) (pass x)) found ≡ option_map passed_of (latest_result s content v)

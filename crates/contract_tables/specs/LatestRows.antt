@@ -1,5 +1,5 @@
--- What is told of latest results in any database with the broker's tables, whatever their CHECKs, keys and references:
--- a row of `latest` may name the result of another content or version, and the mark of a result be neither 0 nor 1.
+-- What is said of latest results in any database with the broker's tables, with any CHECKs, keys and references: a row
+-- of `latest` may name the result of another content or version, and the mark of a result be neither 0 nor 1.
 use Rattle.std.specs.Prelude.{◌≡◌, ◌⊎◌, ◌↔◌, ℕ, pos, Bool, true, IsTrue, IsSorted, List, Contains, codes, Option, MatchOption}
 use Rattle.std.specs.Ordering.{nat_cmp}
 use Rattle.sqlite.specs.declared.types.Value.{Value}
@@ -121,7 +121,7 @@ abbrev pub IsUnsoundFor : ℕ → Database → Type 0
 IsUnsoundFor version db = ((l r : Row) × NamesFor version db l r × (¬ IsSoundPair l r))
     ⊎ ((l c : Row) × NamesChecked version db l c × (¬ IsNumberAt in_latest.content l))
 
--- the store failed, which ended the transaction, or a growth was refused; or Store, since a row isn't sound
+-- the store failed, which ended the transaction, or an allocation failed; or Store, since a row isn't sound
 abbrev pub FailsAsListed : ℕ → State → State → StoreFault → Type 0
 FailsAsListed version old new fault =
     HasFailedOrMemory old new fault ⊎ ((fault ≡ Store) × IsUnsoundFor version old.now)

@@ -43,7 +43,7 @@ ReadsAsNames row = IsNameAt 0 row × IsNameAt 1 row
 abbrev pub ReadsAsNumbers : Row → Type 0
 ReadsAsNumbers row = IsNumberRow row × IsNumberAt 1 row
 
--- Store comes only where the row doesn't read, and wherever one of its columns doesn't
+-- Store only if the row doesn't read, and always if one of its columns doesn't
 abbrev pub FailsAsMarked : Row → StoreFault → Type 0
 FailsAsMarked row fault =
     (fault ≡ Store → ¬ ReadsAsMarked row) × ((¬ IsNumberRow row) → fault ≡ Store)

@@ -44,14 +44,14 @@ TellChecked = Tell (λ n. n) (λ n r. r.checked ≡ true) (λ e. e.0) (λ r. r.c
 abbrev pub ArePassesByNumber : List ContentPass → Type 0
 ArePassesByNumber = IsSortedByKey (λ x. x.result) nat_cmp
 
--- none of these tells of the result with this number; one does, whether it is a pass
+-- none of these says anything of the result with this number; one says so, whether it is a pass
 abbrev pub IsUntold : List ContentPass → ℕ → Type 0
 IsUntold passes number = ¬ ((x : ContentPass) × Contains passes x × (x.result ≡ number))
 
 abbrev pub TellsPass : List ContentPass → ℕ → Bool → Type 0
 TellsPass passes number pass = (x : ContentPass) × Contains passes x × (x.result ≡ number) × (x.pass ≡ pass)
 
--- a growth was refused, or a result is named that isn't there
+-- an allocation failed, or a result is named that isn't there
 abbrev pub FailsAsTold : StoreFault → Type 0 → Type 0
 FailsAsTold fault IsNamed = (fault ≡ Memory) ⊎ ((fault ≡ Store) × IsNamed)
 

@@ -1,5 +1,5 @@
--- What a contract and a result change of the state, and what is told of a result; and, for private clauses, what the
--- columns of a row tell of one, and what the three statements that record a result make of the rows.
+-- What a contract and a result change of the state, and what is said of a result; and, for private clauses, what the
+-- columns of a row say of one, and what the three statements that record a result make of the rows.
 use Rattle.std.specs.Prelude.{◌≡◌, ◌==◌, ◌+◌, ◌-◌, ◌≤◌, ℕ, ℤ, pos, Bool, ◌&&◌, ◌||◌, IsTrue, List, [], ◌∷◌, ◌++◌, length, Option, Some, None, is_some, cond, if◌then◌else◌, slice_get, codes, unwrap_or, true, false, Result, IfErr}
 use Rattle.std.specs.Ordering.{eq_by_cmp, int_cmp}
 use Rattle.sqlite.specs.declared.types.Value.{Value}
@@ -39,7 +39,7 @@ abbrev pub result_for : ℕ → Version → Bool → Bool → Option Text → Ve
 result_for content v pass checked run =
     record { content = content; version = v; pass = pass; checked = checked; run = run }
 
--- the number is the next, the version of that number is one of the provider, and the result stands last
+-- the number is the next, the version of that number is one of the provider, and the result is the last one
 abbrev pub RecordsResult : ℕ → ℕ → Text → ℕ → Bool → Bool → Option Text → Broker → Broker → Type 0
 RecordsResult number content provider version_number pass checked run s t =
     (v : Version) × (number_of s.versions v ≡ Some version_number) × (v.pacticipant ≡ provider)
@@ -74,7 +74,7 @@ result_with s number = if number == 0 then None else slice_get s.results (number
 
 -- ---- for private clauses: a result as the look-ups read it from a row, column by column
 
--- the columns that tell of a result: its number, its content, the number of its version, and whether it is a pass
+-- the columns of a result: its number, its content, the number of its version, and whether it is a pass
 abbrev pub Cells : Type 0
 Cells = Value × Value × Value × Bool
 
@@ -89,7 +89,7 @@ cells_of number content version pass =
 abbrev pub ReadsAsResult : Row → Type 0
 ReadsAsResult row = IsNumberAt 0 row × IsNumberAt 1 row × IsNumberAt 2 row × IsTruthAt 3 row
 
--- the columns that tell a result's number, and whether it is a pass
+-- the columns of a result's number, and of whether it is a pass
 abbrev pub PassCells : Type 0
 PassCells = Value × Bool
 
@@ -109,7 +109,7 @@ by_numbers versions e = (e.0, e.1.content, number_of versions e.1.version, e.1.p
 abbrev pub numbers_are : ℕ → ℕ → ℕ → Bool → ByNumbers
 numbers_are number content version pass = (number, content, Some version, pass)
 
--- by its own number alone, and whether it is a pass
+-- only its own number, and whether it is a pass
 abbrev pub Passed : Type 0
 Passed = ℕ × Bool
 
@@ -119,7 +119,7 @@ passed_of e = (e.0, e.1.pass)
 abbrev pub passed_as : ℕ → Bool → Passed
 passed_as number pass = (number, pass)
 
--- ---- what is told of a result: its number, its content, the number of its version, whether it is a pass
+-- ---- what is said of a result: its number, its content, the number of its version, whether it is a pass
 
 -- with the mark whether the broker checked it
 abbrev pub Told : Type 0
@@ -132,9 +132,9 @@ abbrev pub told : ℕ → ℕ → ℕ → Bool → Bool → Told
 told number content version pass checked = (number, content, Some version, pass, checked)
 
 -- ---- for private clauses: the statements that record a result. Between them the database holds no state, so each is
--- told by the rows; what all of them do is `RecordsResult`
+-- said by the rows; what all of them do is `RecordsResult`
 
--- a run in its column, or what stands for none there
+-- the text for a run in its column: the run, or the text for no run
 abbrev pub run_text : ℕ → Option Text → Text
 run_text number run = unwrap_or run (no_run (pos number))
 
@@ -164,8 +164,8 @@ Points content version result old new =
     (Some (pos result)) (latest_at (old.now.trees in_latest.tree) c v))
     × ((n : ℕ) → LeaveNumbers (n + 1) (old.now.trees in_latest.tree) → LeaveNumbers n (new.now.trees in_latest.tree))
 
--- where the result was checked, its number is among those of checked results; all others stand as they did, and
--- no other table changes
+-- if the result was checked, its number is among those of checked results now; all other numbers are among them if
+-- they were, and no other table changes
 abbrev pub Marks : Bool → ℕ → State → State → Type 0
 Marks checked number old new =
     ChangesOnly in_checked_results.tree old new

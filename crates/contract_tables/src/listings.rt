@@ -21,7 +21,7 @@ pub struct Contract {
     pub content: u32,
 }
 
-/// A number, and the name that stands beside it.
+/// A number, and the name that belongs to it.
 #[derive(Debug, Drop)]
 pub struct NumberedName {
     pub number: u32,

@@ -93,8 +93,8 @@ fn latest_pass<S: Alter>(
 }
 
 /// What the latest result for a content and the version of this number says, or `None` if there is none. A mark that is
-/// neither 0 nor 1 is never taken for a pass, nor the result of another content or version, whatever CHECKs and
-/// references the tables have.
+/// neither 0 nor 1 is never taken for a pass, nor the result of another content or version, with any CHECKs and
+/// references in the tables.
 ///
 /// # Errors
 /// `StoreFault::Memory` if the database is out of memory; `StoreFault::Store` if it refused a query, or holds no number

@@ -19,10 +19,10 @@ use itoa::Buffer;
 use sqlite::{Alter, Connection, params};
 use table_access::{StoreFault, change};
 
-/// How many bytes the text has at most that stands for no run: a tab, and ten digits.
+/// How many bytes the text for no run has at most: a tab, and ten digits.
 const NO_RUN_LIMIT: usize = 11;
 
-/// What stands for no run in the row of this number: a tab, which no name has, and the number. No memory is taken.
+/// The text for no run in the row of this number: a tab, which no name has, and the number. No memory is taken.
 fn no_run(number: u32) -> ArrayString<NO_RUN_LIMIT>
     ensures { result.bytes ≡ no_run (pos number) }
 {

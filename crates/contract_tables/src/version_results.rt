@@ -171,7 +171,7 @@ fn with_marks(
 
 /// The contents for which the version of this number has a result, each once, in the order of their numbers, with the
 /// number of the latest result and what it says. A mark that is neither 0 nor 1 is never taken for a pass, nor the
-/// result of another content or version, whatever CHECKs and references the tables have.
+/// result of another content or version, with any CHECKs and references in the tables.
 ///
 /// # Errors
 /// `StoreFault::Memory` if the database is out of memory, or there is none for the answer; `StoreFault::Store` if it
@@ -196,8 +196,8 @@ pub fn latest_results<S: Alter>(
     }
 }
 
-/// What the latest result for the content says, found among all of a version: the list that `latest_results` answers. Of
-/// any other list it tells only what one of it says that is for this content.
+/// What the latest result for the content says, found among all of a version: the list that `latest_results` answers.
+/// Of any other list it says only what one of its results for this content says.
 pub fn latest_among(results: &[LatestResult], content: u32) -> Option<Latest>
     ensures answers { (s : Broker) (v : VersionModel) →
         Lists latest_cmp (IsLatestOf s v) results.now → result ≡ latest s content v }

@@ -1,5 +1,5 @@
--- Queries that fail only as the store fails where the state allows them: their answers, and their failures, as
--- `MatrixLoop` has it of those that each state allows.
+-- Queries that fail only as the store fails if the state allows them: their answers, and their failures, as
+-- `QueryLemmas` of broker_tables has it of those that each state allows.
 use Rattle.std.{specs.Prelude.{⊤}, proofs.Common.{Bool, Ok, Err, Result, true}}
 use Rattle.sqlite.specs.State.{State}
 use Rattle.table_access.{specs.declared.StoreFault.{StoreFault}, proofs.CallLemmas.{may_take, seq, then_err}}
@@ -30,7 +30,7 @@ pub answers_then : {A B : Type 0} {any takes : Bool} (old mid new : State) (x : 
 answers_then old mid new x r P Q R f one two =
     seq old mid new x r (IsRead old mid P) (IsRead mid new Q) (IsRead old new R) (λ p b. both_read old mid new x b b P Q R (λ s one two. f s one b two) p) one two
 
--- a query tells that the state allows the next one
+-- a query after another, whose answer shows that the state allows it
 pub calm_allowed : {A B : Type 0} {any takes : Bool} (old mid new : State) (x : A) (r : Result B StoreFault) (P : A → Broker → Type 0) (Q R : B → Broker → Type 0) (Allows : Broker → Type 0)
     → ((s : Broker) → P x s → Allows s) → ((s : Broker) → P x s → (b : B) → Q b s → R b s)
     → CalmQueriesBetween any old mid (Ok x) P → QueriesBetween takes mid new r Q → IsCalmFromBetween mid new r Allows → CalmQueriesBetween true old new r R

@@ -1,4 +1,4 @@
--- What the statements for an environment ask and show wherever the broker's tables are there, whatever their CHECKs, keys
+-- What the statements for an environment ask and show in any schema that has the broker's tables, with any CHECKs, keys
 -- and references, STRICT or not.
 use Rattle.std.specs.{Prelude.{if◌then◌else◌}, List.{AllZip}}
 use Rattle.std.proofs.Common.{◌≡◌, ◌==◌, ◌∙◌, ℕ, pos, codes, List, [], ◌∷◌, Bool, true, false, Option, Some, None, refl, sym, ap, subst, ◌&&◌}

@@ -1,4 +1,4 @@
--- The contracts with a provider of the versions that stand in an environment: rows of deployed, each beside the contract
+-- The contracts with a provider of the versions that are in an environment: rows of deployed, each beside the contract
 -- of its version or NULL, and rows of released that have one.
 use Rattle.std.specs.{Prelude.{Contains, ◌↔◌, filter_map}, List.{list_all}}
 use Rattle.std.proofs.Common.{◌≡◌, ◌++◌, inl, inr, ℕ, ℤ, pos, codes, List, [], ◌∷◌, Bool, true, refl, sym, ap, subst, ◌∙◌, Option, Some, None}
@@ -64,7 +64,7 @@ of_released e p = record { names = _; means = record { is = refl; plain = (refl,
 same_contract : (x y : NumberedContract) → pos y.number ≡ pos x.number → pos y.content ≡ pos x.content → y ≡ x
 same_contract x y number content i = record { number = same_pos y.number x.number number i; content = same_pos y.content x.content content i }
 
--- a number is read first, also where there is no contract
+-- a number is read first, even if there is no contract
 pub first_number : (row : Row) (found : Option NumberedContract) → IsContractIfAny row found → (n : ℕ) × (column row 0 ≡ Int (pos n))
 first_number row None read = read.0
 first_number row (Some x) read = (x.number, read.0)
@@ -79,7 +79,7 @@ module _ (db : Database) (s : Broker) (held : Holds db s) (e p : Words) where
   abbrev params : Row
   params = Text e ∷ Text p ∷ []
 
-  -- what a row of a contract tells: its version is there
+  -- what a row of a contract says: its version is there
   row_contract : (c : Row) → Has (db.trees in_contracts.tree) c → text in_contracts.provider c ≡ p → (w : Version) × ((n : ℕ) × (number_of s.versions w ≡ Some n) × (whole_at in_contracts.version_number c ≡ pos n) × ((content : ℕ) → whole_at in_contracts.content c ≡ pos content → s.contracts (w, p) ≡ Some content))
   row_contract c has provider =
       let v = refers_version db held.broker contracts (listed at_contracts db held.broker) in_contracts.version_number (inl refl) c has (contract_rows.numbers db held.broker c has) in

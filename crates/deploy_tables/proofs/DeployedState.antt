@@ -58,7 +58,7 @@ is_number_there vs p value (Some name) held v n numbered owner =
     let it = valued vs p name value held in
     ap (is_number n) it.2 ∙ (eq_by_cmp_equiv int_cmp_total).symm (pos n) (pos it.0) ∙ sym (number_ties vs (version p name) v it.0 n it.1 numbered) ∙ ap (λ t. t && same_text name v.name) (ap (same_text p) owner ∙ text_refl p)
 
--- where no version of the pacticipant has this number, none of this number is there
+-- if no version of the pacticipant has this number, none of this number is there
 pub none_is_there : (vs : List Version) (p : Words) (value : Option ℤ) (there : Option Words) → IsNumberOf vs p value there → (n : ℕ)
     → ((v : Version) → number_of vs v ≡ Some n → v.pacticipant ≡ p → ⊥) → is_number n value ≡ false
 none_is_there vs p None there held n none = refl
@@ -135,7 +135,7 @@ module _ (e p i : Words) (n : ℕ) (old new : State) (count : ℕ) (s : Broker) 
         after (is_text v.0.name (s.deployed (e, p, i))) (told v.0 v.1 v.2),
       )
 
-  -- where the pacticipant has no version of that number, all stays
+  -- if the pacticipant has no version of that number, all stays
   pub none_taken : ¬ (IsVersionOf p n s) → (t : Broker) × FindsNothing (nat_lt 0 count) s t × HoldsAfter 2 old new t
   none_taken none =
       let miss = none_is_there s.versions p there (s.deployed (e, p, i)) (held.deployed e p i) n (λ v is owner. none (v, is, owner)) in

@@ -1,4 +1,4 @@
--- A LEFT JOIN shows a row also of what names nothing of the other table, with NULL for the other's columns. Where each row
+-- A LEFT JOIN also shows a row that names nothing of the other table, with NULL for the other's columns. If each row
 -- names one, it shows what the JOIN shows.
 use Rattle.std.specs.List.{flat_map, list_all}
 use Rattle.std.proofs.Common.{◌≡◌, ◌∙◌, ◌⊎◌, inl, inr, ℕ, List, [], ◌∷◌, ◌++◌, Bool, true, false, ◌&&◌, cond, filter, refl, sym, ap, subst}
@@ -90,7 +90,7 @@ module _ (db : Database) (params : Row) (t u : ℕ) (on : Term) (terms project :
         };
   }
 
--- ---- what it shows, also where a row names nothing
+-- ---- what it shows, with a row that names nothing too
 
 has_flat : {X Y : Type 0} (f : X → List Y) (xs : List X) (x : X) (y : Y) → Has xs x → Has (f x) y → Has (flat_map f xs) y
 has_flat f xs x y has here = contains_has (flat_map f xs) y (Contains-flat_map f xs x y (has_contains xs x has) (has_contains (f x) y here))
@@ -166,7 +166,7 @@ module _ (db : Database) (params : Row) (t u : ℕ) (ons terms project : List Te
   pub is_beside : (r s : Row) → Has (db.trees u) s → goes r s ≡ true → Has (beside r) s
   is_beside r s has go = let one = has_filter (goes r) (db.trees u) s has go in subst (λ ss. Has ss s) (sym (not_null (filter (goes r) (db.trees u)) s one)) one
 
-  -- a row is shown of each that WHERE keeps, whatever goes with it
+  -- a row is shown of each that WHERE keeps, with some row beside it
   pub some_shown : (r : Row) → Has (db.trees t) r → ((s : Row) → keeps r s ≡ true) → (s : Row) × Has rows (eval_all project (params ∷ r ∷ s ∷ []))
   some_shown r has kept = let s = some_or_null (filter (goes r) (db.trees u)) in (s.0, env_shown r s.0 has s.1 (kept s.0))
 
@@ -175,7 +175,7 @@ module _ (db : Database) (params : Row) (t u : ℕ) (on : Term) (terms project :
   abbrev goes_by : Row → Row → Bool
   goes_by = goes db params t u (on ∷ []) terms project order rows h
 
-  -- where the row with NULL isn't shown, there is one that goes with it
+  -- if the row with NULL isn't shown, there is one that goes with it
   pub goes_with : (r : Row) → Has (db.trees t) r → list_all (holds (params ∷ r ∷ [] ∷ [])) terms ≡ true → (¬ Has rows (eval_all project (params ∷ r ∷ [] ∷ [])))
       → (s : Row) × Has (db.trees u) s × (holds (params ∷ r ∷ s ∷ []) on ≡ true)
   goes_with r hr kept none = go (filter (goes_by r) (db.trees u)) refl

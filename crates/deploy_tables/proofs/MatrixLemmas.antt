@@ -24,7 +24,7 @@ mapped_is f xs listed y = (
   λ is. subst (Contains (map f xs)) (sym is.2) (has_contains (map f xs) (f is.0) (has_map f xs is.0 (contains_has xs is.0 ((listed.exactly is.0).1 is.1)))),
 )
 
--- a member of a list, or the one that stands where the list is empty
+-- a member of a list, or the one that is taken if the list is empty
 or_one_is : {X : Type 0} (xs : List X) (z y : X) → Contains (or_one xs z) y ↔ (Contains xs y ⊎ (((x : X) → ¬ (Contains xs x)) × (y ≡ z)))
 or_one_is [] z y = (
   λ c. elim (contains_cases z [] y c) [ inl same ↦ inr (contains_none, sym same) | inr none ↦ inl none ],
@@ -141,7 +141,7 @@ module _ (s : State) (v : Version) where
         ),
       )
 
-  -- what both sides tell of is the matrix
+  -- what both sides list is the matrix
   pub both_sides : (own others all : List MatrixRow) → all ≡ own ++ others → ((x : MatrixRow) → Contains own x ↔ IsConsumed s v x)
       → ((x : MatrixRow) → Contains others x ↔ IsProvided s v x) → (x : MatrixRow) → Contains all x ↔ IsMatrixRow s v x
   both_sides own others all is mine theirs x = both_ways (both_of own others all is x (mine x) (theirs x))
@@ -180,7 +180,7 @@ module _ (s : State) (v : Version) where
 
 -- ---- each once
 
--- sorted, then without what stands twice, where those that tie are one
+-- a list that is sorted and then loses what is in it twice, if those that tie are one
 pub once : {X : Type 0} {R : X → X → Ordering} {E : X → X → Bool} (o : IsTotalOrder R) (ties : (x y : X) → E x y ≡ eq_by_cmp R x y) (Is : X → Type 0)
     (tied : (x y : X) → Is x → Is y → R x y ≡ Equal → x ≡ y) (xs ys : List X) → ((x : X) → Contains xs x ↔ Is x) → IsPermutation xs ys → IsSorted R ys → Lists R Is (dedup E ys)
 once {X} {R} {E} o ties Is tied xs ys are moved sorted = record {

@@ -37,7 +37,7 @@ module _ {C Y : Type 0} (Is : C → Y → Type 0) (cs : List C) where
     λ some. elim ((turn cs at c some.0 low).0 some.1) [ inl old ↦ inl (some.0, old, some.2) | inr new ↦ inr (subst (λ d. Is d x) (new ∙ sym is) some.2) ],
   )
 
-  -- the same, where the member is told by its place
+  -- the same, with the member given by its place
   pub of_more_at : (at : ℕ) (d : C) (a more b : List Y) → at < length cs → b ≡ a ++ more → ((x : Y) → Contains a x ↔ IsOfSome (λ c. Is c x) (take at cs)) → ((x : Y) → Contains more x ↔ Is (get_or cs at d) x)
       → (x : Y) → Contains b x ↔ IsOfSome (λ c. Is c x) (take (at + 1) cs)
   of_more_at at d a more b low grown was here = of_more at (get_or cs at d) a more b low (get_or_default cs at d (get_or cs at d) low) grown was here

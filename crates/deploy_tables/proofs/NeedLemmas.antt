@@ -17,7 +17,7 @@ use Rattle.broker_core.proofs.{Order.{text_tied, option_tied, both_equal}, Judge
 
 -- ---- a latest result, and lists of at most one
 
--- something is lacking where the need isn't good
+-- something is lacking if and only if the need isn't good
 lacking_is : (strict : Bool) (w : Text) (said : Option Latest) → is_some (kind_of strict (Some w) said) ≡ not (is_good strict said)
 lacking_is strict w None = refl
 lacking_is strict w (Some l) = go l.pass l.checked strict
@@ -43,7 +43,7 @@ module _ (s : State) (v : Version) (wanted : Wanted) (said : Option Latest) (goo
   lacks : (x : Need) (u : Version) (p w : Text) → x ≡ need_with u p (Some w) said → is_wanted wanted x ≡ not good
   lacks x u p w is = ap (is_wanted wanted) is ∙ left_out_is wanted u p w said ∙ ap not (sym says_good)
 
-  -- one that isn't left out is told, with the version of this number
+  -- one that isn't left out is in the answer, with the version of this number
   pub open_with : (c : Contract) (n : ℕ) → good ≡ false → ((w : Version) → number_of s.versions w ≡ Some n → said ≡ latest s c.content w)
       → (w : Version) → number_of s.versions w ≡ Some n → (found : List Need) → found ≡ need_with v c.provider (Some w.name) said ∷ [] → (x : Need)
       → Contains found x ↔ IsWithPartner s v c wanted n x
@@ -69,7 +69,7 @@ module _ (s : State) (v : Version) (wanted : Wanted) (said : Option Latest) (goo
             (subst (λ (u : Version). u.pacticipant ≢ v.pacticipant) alike is.2, is.4 ∙ (λ i. need_with (alike i) v.pacticipant (Some v.name) (sym says i))),
       )
 
--- ---- a contract with all that stand there
+-- ---- a contract with all versions that are there
 
 module _ (s : State) (v : Version) (e : Text) (wanted : Wanted) (c : Contract) (numbered : AreNumbered s e) where
   pub with_some : (there : List ℕ) → ArePartners s c.provider (Stands s e) there → (length there == 0) ≡ false → (x : Need) → IsOfSome (λ n. IsWithPartner s v c wanted n x) there ↔ IsNeedOfContract s v e wanted c x

@@ -48,12 +48,12 @@ module _ (db : Database) (s : Broker) (held : Holds db s) (e p : Words) where
       let r = it.2 in
       (r.0, r.1, (is_kept r.0 r.1).1 (r.2, r.3), λ y shown. same_pos y n (sym (ap id_in shown) ∙ r.5 ∙ ap pos (some_is it.0 n (sym it.1 ∙ there.2)))))
 
--- each version that stands there has a number
+-- each version that is there has a number
 pub standing_numbered : (db : Database) (s : Broker) → Holds db s → (e : Words) → AreNumbered s e
 standing_numbered db s held e w (inl there) = let it = deployed_row db s held e w.pacticipant there.0 w.name there.1 in (it.0, it.1)
 standing_numbered db s held e w (inr there) = released_numbered db s held e w there
 
--- what is deployed and what is released of the provider is what stands there
+-- what is deployed and what is released of the provider is what is there
 pub partners_are : (s : Broker) (e p : Words) (deployed : List ℕ) (released : List NumberedName) → ArePartners s p (IsDeployedIn s e) deployed → AreReleasedNumbers s e released
     → ArePartners s p (Stands s e) (deployed ++ filter_map (number_if p) released)
 partners_are s e p deployed released are_deployed are_released n = both_ways

@@ -82,7 +82,7 @@ module _ (db : Database) (broker : IsBroker db) where
 -- ---- what the rows of an environment say
 
 module _ (db : Database) (s : Broker) (held : Holds db s) (e : Words) where
-  -- a row stands at the place of a version just where that is released
+  -- the place of a version has a row if and only if the version is released there
   pub stands : (w : Version) (n : ℕ) → number_of s.versions w ≡ Some n → stands_at placed place_of (db.trees in_released.tree) (e, pos n) ≡ s.released (e, w)
   stands w n known = sym (ap (λ o. option_map_or (λ m. stands_at placed place_of (db.trees in_released.tree) (e, pos m)) o false) known) ∙ held.released e w
 
@@ -189,7 +189,7 @@ release_found e n db rows s v held is h =
 
 -- ---- a change of one place
 
--- the rows that hold the releases, where one place was set
+-- the rows that hold the releases, once one place was set
 module _ (old new : Database) (s : Broker) (held : Holds old s) (e : Words) (n : ℕ) (v : Version) (is : number_of s.versions v ≡ Some n) (set : Bool)
     (now : (q : Words × ℤ) → stands_at placed place_of (new.trees in_released.tree) q ≡ cond (eq_by_cmp placed q (e, pos n)) set (stands_at placed place_of (old.trees in_released.tree) q)) where
   pub each : (f : Words) (w : Version) (o : Option ℕ) → number_of s.versions w ≡ o → option_map_or (λ k. stands_at placed place_of (new.trees in_released.tree) (f, pos k)) (number_of s.versions w) false ≡ put_at (same_pair same_text same_version) s.released (e, v) set (f, w)

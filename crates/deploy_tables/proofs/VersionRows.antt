@@ -1,4 +1,4 @@
--- What is read of the rows that a query shows, in whatever order; and rows of a table that name an environment and a
+-- What is read of the rows that a query shows, in any order; and rows of a table that name an environment and a
 -- version, with their JOIN with the versions.
 use Rattle.std.specs.{Prelude.{Contains, ◌↔◌}, Ordering.{ordering_then}}
 use Rattle.std.proofs.Common.{◌≡◌, ◌∙◌, ℕ, pos, codes, List, [], ◌∷◌, true, refl, sym, Some, Ordering, Less, Equal, map, filter, subst}
@@ -49,7 +49,7 @@ module _ {Y : Type 0} (db : Database) (params : Row) (terms project : List Term)
 abbrev pub on_number : ℕ → Term
 on_number place = op2 (Compare Eq Binary) (col 2 0) (col 1 place)
 
--- WHERE the environment is the parameter. It is at the same place in deployed and in released
+-- WHERE environment = ?1. The column is at the same place in deployed and in released
 abbrev pub in_environment : List Term
 in_environment = op2 (Compare Eq Binary) (col 1 in_deployed.environment) (col 0 0) ∷ []
 
@@ -82,7 +82,7 @@ pub record Names (db : Database) (s : Broker) (t place : ℕ) (e : Words) (Is : 
 
 module _ (db : Database) (broker : IsBroker db) (t place : ℕ) (environments : (r : Row) → Has (db.trees t) r → column r in_deployed.environment ≡ Text (text in_deployed.environment r))
     (numbers : (r : Row) → Has (db.trees t) r → column r place ≡ Int (whole_at place r)) (e : Words) where
-  -- each row names a version, where the table has a reference for it
+  -- each row names a version, if the table has a reference for it
   pub named_version : (table : Table) → Has db.schema.tables table → table.tree ≡ t → Has table.references (to place (codes "versions") (codes "number"))
       → (r : Row) → Has (db.trees t) r → (v : Row) × Has (db.trees in_versions.tree) v × (holds ((Text e ∷ []) ∷ r ∷ v ∷ []) (on_number place) ≡ true)
   named_version table listed here among r has =
@@ -115,7 +115,7 @@ module _ (db : Database) (broker : IsBroker db) (t place : ℕ) (environments : 
   is_kept q it = has_pair (keeps_both (joined_by place) (Text e ∷ [])) (db.trees in_versions.tree) (db.trees t) q.0 q.1 it.0 it.1 ((joins q.0 q.1 it.0 it.1).1 it.2)
 
 module _ (db : Database) (s : Broker) (held : Holds db s) (t place : ℕ) (e : Words) (Is : Version → Type 0) (names : Names db s t place e Is) where
-  -- each pair is that of a version that is such
+  -- each pair is that of a version that meets Is
   pub pair_is : (q : Row × Row) → AreJoined db held.broker t place names.environments names.numbers e q
       → (k : ℕ) × (number_of s.versions (version (text in_versions.pacticipant q.1) (text in_versions.version q.1)) ≡ Some k) × (whole_at place q.0 ≡ pos k)
       × Is (version (text in_versions.pacticipant q.1) (text in_versions.version q.1))
@@ -124,7 +124,7 @@ module _ (db : Database) (s : Broker) (held : Holds db s) (t place : ℕ) (e : W
       let number = sym it.2.0 ∙ known.2 in
       (known.0, known.1, number, names.row_is q.0 (version (text in_versions.pacticipant q.1) (text in_versions.version q.1)) known.0 it.0 it.2.1 known.1 number)
 
-  -- and each version that is such has a pair
+  -- and each version that meets Is has a pair
   pub is_pair : (w : Version) (n : ℕ) → number_of s.versions w ≡ Some n → Is w
       → (q : Row × Row) × AreJoined db held.broker t place names.environments names.numbers e q
       × (text in_versions.pacticipant q.1 ≡ w.pacticipant) × (text in_versions.version q.1 ≡ w.name) × (whole_at place q.0 ≡ pos n)

@@ -1,4 +1,4 @@
--- What is told of an environment in any database with the broker's tables, whatever their CHECKs, keys and references: a
+-- What is said of an environment in any database with the broker's tables, with any CHECKs, keys and references: a
 -- row of it may have no version, or one that isn't there.
 use Rattle.std.specs.Prelude.{◌≡◌, codes, Result, IfOk}
 use Rattle.sqlite.specs.declared.types.Value.{Value}
@@ -39,7 +39,7 @@ EachReleasedIsThere e db = (r : Row) → IsReleasedRowIn e db r → IsOfAVersion
 abbrev pub HasNull : Text → Database → Type 0
 HasNull e db = (d : Row) × IsDeployedRowIn e db d × (column d in_deployed.version_number ≡ value.Null)
 
--- where the tables can be asked there is an answer only if this is so of what the database held
+-- if the tables can be asked, there is an answer only if this is so of what the database held
 module _ {X A : Type 0} (store : Ghosts X) (old new : Held X) (r : Result A StoreFault) where
   abbrev pub AnswersOnlyIf : (Database → Type 0) → Type 0
   AnswersOnlyIf P =

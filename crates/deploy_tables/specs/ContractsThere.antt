@@ -19,7 +19,7 @@ IsDeployedIn s e w = (instance : Text) × (s.deployed (e, w.pacticipant, instanc
 abbrev pub IsReleasedIn : State → Text → Version → Type 0
 IsReleasedIn s e w = IsTrue (s.released (e, w))
 
--- it is the contract with the pacticipant of a version that is such
+-- it is the contract with the pacticipant of a version that meets Is
 abbrev pub IsContractThere : State → Text → (Version → Type 0) → NumberedContract → Type 0
 IsContractThere s p Is x =
     (w : Version) × Is w × (number_of s.versions w ≡ Some x.number) × (s.contracts (w, p) ≡ Some x.content)

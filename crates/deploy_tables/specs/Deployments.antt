@@ -24,12 +24,12 @@ IsEnvironment e s = IsTrue (is_some (s.environments e))
 abbrev pub MayBeDeployed : Text → Text → ℕ → State → Type 0
 MayBeDeployed e p number s = IsEnvironment e s × IsVersionOf p number s
 
--- the state where nothing is deployed in that instance, and all else is as it was
+-- the state with nothing deployed in that instance, and all else as it was
 abbrev pub without_instance : State → Text → Text → Text → State
 without_instance s e p instance = record s { deployed = put_at same_place s.deployed (e, p, instance) None }
 
--- the version of this number, one of the pacticipant, isn't deployed in that instance any more; where another
--- version or none is deployed there, all is as it was
+-- the version of this number, one of the pacticipant, isn't deployed in that instance any more; if another version or
+-- none is deployed there, all is as it was
 abbrev pub TakesOut : Text → Text → Text → ℕ → State → State → Type 0
 TakesOut e p instance number s t =
     (v : Version) × (number_of s.versions v ≡ Some number) × (v.pacticipant ≡ p)
@@ -49,6 +49,6 @@ FindsDeployed e p instance number stood s =
 abbrev pub FindsNothing : Bool → State → State → Type 0
 FindsNothing stood s t = (stood ≡ false) × (t ≡ s)
 
--- it is taken out, and whether it was there is told
+-- it is taken out, and the answer says whether it was there
 abbrev pub TakesOutAndTells : Text → Text → Text → ℕ → Bool → State → State → Type 0
 TakesOutAndTells e p instance number stood s t = TakesOut e p instance number s t × TellsDeployed e p instance number stood s

@@ -27,7 +27,7 @@ ReadsAsDeployed row = IsNameAt 0 row × IsTextAt 1 row × IsNameAt 2 row
 abbrev pub ReadsAsReleased : Row → Type 0
 ReadsAsReleased row = IsNameAt 0 row × IsNameAt 1 row
 
--- Store comes exactly where the row doesn't read, whichever of its columns is at fault
+-- Store if and only if the row doesn't read, for any of its columns
 abbrev pub FailsAsDeployed : Row → StoreFault → Type 0
 FailsAsDeployed row fault = (fault ≡ Store) ↔ (¬ ReadsAsDeployed row)
 

@@ -1,4 +1,4 @@
--- The matrix of a version, by its number. What it is, `IsMatrixRow` of broker_core says; all behind `ListsMatrix`, which
+-- The matrix of a version, by its number. What it is, `IsMatrixRow` of broker_core says; all after `ListsMatrix`, which
 -- the clause of `matrix` cites, is for private clauses: how it is put together from the parts that are read, its own
 -- contracts with the versions that have results for them, and what it has results for itself with the consumers.
 use Rattle.std.specs.Prelude.{Contains, ◌≡◌, ◌⊎◌, ℕ, List, [], ◌∷◌, map, Option, Some, None}
@@ -14,13 +14,13 @@ use Rattle.contract_tables.specs.declared.version_results.LatestResult.{LatestRe
 use Rattle.contract_tables.specs.VersionResults.{IsLatestOf}
 use Rattle.deploy_tables.specs.Releases.{IsOfNumber}
 
--- these are the rows of the matrix of the version of this number, each once, in their order; none where no version has it
+-- these are the rows of the matrix of the version of this number, each once, in their order; none if no version has it
 abbrev pub ListsMatrix : State → ℕ → List MatrixRow → Type 0
 ListsMatrix s number rows = IsOfNumber s number (λ v. Lists matrix_cmp (IsMatrixRow s v) rows) (rows ≡ [])
 
 -- ---- what `rows_with` and its parts compute, step by step as the code does it
 
--- the contract of v with this provider, and what is told of a version of the provider, if anything
+-- the contract of v with this provider, and what is said of a version of the provider, if anything
 abbrev pub row_of : Version → Text → Option Verified → MatrixRow
 row_of v provider verified = record {
   consumer = v.pacticipant;
@@ -56,7 +56,7 @@ row_used v c w =
 abbrev pub HasNone : State → ℕ → Text → Type 0
 HasNone s content provider = (w : Text) → latest_result s content (version provider w) ≡ None
 
--- the contract c of v, with a version of the provider and its result, or with none where no version has one
+-- the contract c of v, with a version of the provider and its result, or with none if no version has one
 abbrev pub IsOfContract : State → Version → Contract → MatrixRow → Type 0
 IsOfContract s v c x =
     ((r : Verified) × IsLatest s c.content (version c.provider r.provider_version) r × (x ≡ row_with v c r))

@@ -24,7 +24,7 @@ use Rattle.deploy_tables.specs.declared.contracts_there.NumberedContract.{Number
 
 -- ---- the faults
 
--- these are the faults of v in e, in their order, where e is strict or not
+-- these are the faults of v in e, in their order, if this says whether e is strict
 abbrev pub AreFaults : State → Version → Text → Bool → List PairFault → Type 0
 AreFaults s v e strict faults = is_strict s e ≡ strict → Lists fault_cmp (IsFault s v e) faults
 
@@ -34,13 +34,13 @@ ListsFaults s number v e strict faults = number_of s.versions v ≡ Some number 
 
 -- ---- the needs
 
--- needs stand in the order of faults: by consumer, its version, provider, its version (none first)
+-- needs are in the order of faults: by consumer, its version, provider, its version (none first)
 abbrev pub need_cmp : Need → Need → Ordering
 need_cmp x y = ordering_then (text_cmp x.consumer y.consumer)
     (ordering_then (text_cmp x.consumer_version y.consumer_version)
     (ordering_then (text_cmp x.provider y.provider) (option_cmp text_cmp x.provider_version y.provider_version)))
 
--- these are the needs in e of the version of this number, each once, in their order; none where no version has it
+-- these are the needs in e of the version of this number, each once, in their order; none if no version has it
 abbrev pub ListsNeeds : State → ℕ → Text → List Need → Type 0
 ListsNeeds s number e needs = IsOfNumber s number (λ v. Lists need_cmp (IsNeed s v e) needs) (needs ≡ [])
 
@@ -68,7 +68,7 @@ is_wanted (Open strict) need = is_some (kind_of strict need.provider_version nee
 abbrev pub IsWanted : Wanted → Need → Type 0
 IsWanted wanted need = IsTrue (is_wanted wanted need)
 
--- the need is good of a contract of which the latest result says this, where the provider has a version there
+-- whether a need is good, by what the latest result for its contract says, if the provider has a version there
 abbrev pub is_good : Bool → Option Latest → Bool
 is_good strict said = option_map_or (λ l. l.pass && (l.checked || not strict)) said false
 
@@ -87,7 +87,7 @@ need_with v p partner said = record {
   latest = said;
 }
 
--- the need of a contract of w with the pacticipant of v, where w is a version of another
+-- the need of a contract of w with the pacticipant of v, if w is a version of another
 abbrev pub need_used : Version → Option Latest → Version → Option Need
 need_used v said w =
     if same_text w.pacticipant v.pacticipant then None else Some (need_with w v.pacticipant (Some v.name) said)
@@ -97,7 +97,7 @@ abbrev pub IsWithPartner : State → Version → Contract → Wanted → ℕ →
 IsWithPartner s v c wanted n x = (w : Version) × (number_of s.versions w ≡ Some n) × IsWanted wanted x
     × (x ≡ need_with v c.provider (Some w.name) (latest s c.content w))
 
--- the contract c of v, with a version of its provider that stands in e, or with none where none does
+-- the contract c of v, with a version of its provider that is in e, or with none if no version of it is
 abbrev pub IsNeedOfContract : State → Version → Text → Wanted → Contract → Need → Type 0
 IsNeedOfContract s v e wanted c x =
     ((w : Text) × Stands s e (version c.provider w) × IsWanted wanted x

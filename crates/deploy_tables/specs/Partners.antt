@@ -20,7 +20,7 @@ AreReleasedNumbers s e xs = (x : NumberedName) → Contains xs x
     ↔ ((name : Text) × IsReleasedIn s e (version x.name name)
     × (number_of s.versions (version x.name name) ≡ Some x.number))
 
--- each version that stands there has a number
+-- each version that is there has a number
 abbrev pub AreNumbered : State → Text → Type 0
 AreNumbered s e = (w : Version) → Stands s e w → (n : ℕ) × (number_of s.versions w ≡ Some n)
 
@@ -28,7 +28,7 @@ AreNumbered s e = (w : Version) → Stands s e w → (n : ℕ) × (number_of s.v
 abbrev pub AreNumbersOfVersions : State → List ℕ → Type 0
 AreNumbersOfVersions s numbers = (n : ℕ) → Contains numbers n → IsVersion n s
 
--- what is released there by numbers, and all that stands there has numbers
+-- what is released there by numbers, and each version that is there has a number
 abbrev pub AreReleasedThere : State → Text → List NumberedName → Type 0
 AreReleasedThere s e xs = AreReleasedNumbers s e xs × AreNumbered s e
 

@@ -10,12 +10,12 @@ use Rattle.deploy_tables.specs.Deployments.{IsEnvironment}
 abbrev pub IsVersion : ℕ → State → Type 0
 IsVersion number s = (v : Version) × (number_of s.versions v ≡ Some number)
 
--- this is so of the version of this number, or that where no version has it
+-- this is so of the version of this number, or that if no version has it
 abbrev pub IsOfNumber : State → ℕ → (Version → Type 0) → Type 0 → Type 0
 IsOfNumber s number Is Otherwise =
     ((v : Version) → number_of s.versions v ≡ Some number → Is v) × ((¬ IsVersion number s) → Otherwise)
 
--- the version of this number, or none where no version has it
+-- the version of this number, or none if no version has it
 abbrev pub FindsVersion : ℕ → Option Version → State → Type 0
 FindsVersion number found s =
     MatchOption found (¬ IsVersion number s) (λ v. number_of s.versions v ≡ Some number)
@@ -25,7 +25,7 @@ abbrev pub FindsReleased : Text → ℕ → Bool → State → Type 0
 FindsReleased e number stood s = ((v : Version) → number_of s.versions v ≡ Some number → stood ≡ s.released (e, v))
     × ((¬ IsVersion number s) → stood ≡ false)
 
--- the version of this number is released there, where it wasn't, and all else is as it was
+-- the version of this number wasn't released there and now is, and all else is as it was
 abbrev pub RecordsReleased : Text → ℕ → State → State → Type 0
 RecordsReleased e number s t = (v : Version) × (number_of s.versions v ≡ Some number)
     × (s.released (e, v) ≡ false)

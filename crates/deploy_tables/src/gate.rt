@@ -14,7 +14,7 @@ use table_access::StoreFault;
 /// each version of their providers that is there, or with none, and of the contracts that versions of other pacticipants
 /// which are there have with its pacticipant. Each fault is there once, in the order of faults. Nothing is said if the
 /// version has another number, or if the environment is strict where it should not be: a caller has asked for both.
-/// Names are looked up only for what is told.
+/// Names are looked up only for the faults that are returned.
 ///
 /// # Errors
 /// `StoreFault::Memory` if the database is out of memory, or there is none for the answer; `StoreFault::Store` if it

@@ -75,7 +75,7 @@ impl ReadRow for VersionRow {
 }
 
 /// What is deployed in the environment, each once, in the order of pacticipants and instances. A row of it that
-/// names no version is never left out, whatever CHECKs and references the tables have.
+/// names no version is never left out, with any CHECKs and references in the tables.
 ///
 /// # Errors
 /// `StoreFault::Memory` if the database is out of memory, or there is none for the answer; `StoreFault::Store` if it
@@ -101,7 +101,7 @@ pub fn deployed<S: Alter>(
 }
 
 /// The versions that are released in the environment, each once, in the order of pacticipants and versions. A row
-/// of it that names no version is never left out, whatever CHECKs and references the tables have.
+/// of it that names no version is never left out, with any CHECKs and references in the tables.
 ///
 /// # Errors
 /// `StoreFault::Memory` if the database is out of memory, or there is none for the answer; `StoreFault::Store` if it

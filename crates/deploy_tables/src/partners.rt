@@ -59,7 +59,7 @@ fn number_if(released: &NumberedName, provider: &Name) -> Option<u32>
     }
 }
 
-/// These numbers, and behind them those of the provider's versions among the released ones.
+/// These numbers, and after them those of the provider's versions among the released ones.
 fn with_released(
     deployed: Vec<u32>,
     released: &[NumberedName],
@@ -77,7 +77,7 @@ fn with_released(
     Ok(found)
 }
 
-/// The versions of the provider that are in the environment, each once, where these are released there.
+/// The versions of the provider that are in the environment, each once, if these are released there.
 pub(crate) fn partners<S: Alter>(
     alloc: Global,
     conn: &mut Connection<S>,

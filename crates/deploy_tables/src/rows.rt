@@ -16,7 +16,7 @@ use contract_tables::{Contract, LatestResult};
 use std::alloc::{AllocError, Global};
 use std::cmp::Ordering;
 
-/// The contract of this consumer with this provider, and what is told of a version of the provider, if anything.
+/// The contract of this consumer with this provider, and what is said of a version of the provider, if anything.
 fn row_of(
     consumer: &Version,
     provider: &Name,

@@ -1,5 +1,5 @@
 //! The needs of a version in an environment: all of them, or those that aren't good. Each is decided on numbers; names
-//! are looked up only for those that are told.
+//! are looked up only for those that are returned.
 ghost use Rattle.std.specs.Prelude.{◌≡◌, ◌∷◌, [], ◌↔◌, IfOk, IfErr, Some, None, Contains, option_to_list};
 ghost use Rattle.broker_core.specs.declared.need.Need.{Need as NeedModel};
 ghost use Rattle.broker_core.specs.Gate.{IsNeed};
@@ -166,7 +166,7 @@ fn with_partners<S: Alter>(
     Ok(found)
 }
 
-/// The needs of the contract that are wanted, where these versions are released in the environment.
+/// The needs of the contract that are wanted, if these versions are released in the environment.
 fn needs_of_contract<S: Alter>(
     alloc: Global,
     conn: &mut Connection<S>,
@@ -189,7 +189,7 @@ fn needs_of_contract<S: Alter>(
     with_partners(alloc, conn, version, contract, &there, wanted)
 }
 
-/// The needs of these contracts that are wanted, where these versions are released in the environment.
+/// The needs of these contracts that are wanted, if these versions are released in the environment.
 fn needs_of_contracts<S: Alter>(
     alloc: Global,
     conn: &mut Connection<S>,

@@ -22,7 +22,7 @@ use Rattle.environment_commands.specs.declared.places.PlaceFacts.{PlaceFacts}
 use Rattle.environment_commands.specs.declared.places.VersionFacts.{VersionFacts}
 use Rattle.broker_core.specs.declared.answer.Missing.TheVariants as missing
 
--- of a version: whether its pacticipant is there, whether the rule lets the caller, with a grant or without, and its
+-- of a version: whether its pacticipant is there, whether the rule allows the caller, with a grant or without, and its
 -- number
 pub record IsVersionRead (s : Broker) (caller : Caller) (rule : Rule) (v : Version) (granted : Bool)
     (found : VersionFacts) : Type 0 where
@@ -30,7 +30,7 @@ pub record IsVersionRead (s : Broker) (caller : Caller) (rule : Rule) (v : Versi
   pub number_is : number_of s.versions v ≡ found.number
   pub known_is : is_known s v ≡ is_some found.number
 
--- what is asked of a version by a caller who would change where it stands, and the environment's marks
+-- what is read of a version for a caller who would change where it is deployed or released, and the environment's marks
 pub record IsPlaceRead (s : Broker) (caller : Caller) (e : Text) (v : Version) (found : PlaceFacts) : Type 0 where
   pub version : IsVersionRead s caller A7 v (has_grant s caller (Some e)) found.version
   pub marks_is : s.environments e ≡ found.marks
@@ -51,7 +51,7 @@ IsLongPlace e v instance = ¬ AreShort (e ∷ v.pacticipant ∷ instance ∷ [])
 abbrev pub IsAdmitted : Text → Version → Admitted → Broker → Type 0
 IsAdmitted e v place s = (s.environments e ≡ Some place.marks) × HasNumber v place.number s
 
--- the command would change whether v stands in e
+-- the command would change whether v is deployed or released in e
 abbrev pub ChangesPlace : Text → Version → Command → Type 0
 ChangesPlace e v command =
     ((instance : Option Text) × (command ≡ Deploy e v instance))
@@ -69,34 +69,34 @@ abbrev pub unless_version : Broker → Version → Option Missing → Option Mis
 unless_version s v next =
     unless (is_some (s.pacticipants v.pacticipant)) missing.Pacticipant (unless (is_known s v) missing.Version next)
 
--- where this was read of a version, what is missing first follows so from what is missing next
+-- if this was read of a version, what is missing first follows so from what is missing next
 abbrev pub MissesFirst : VersionFacts → (Option Missing → Option Missing) → Type 0
 MissesFirst found first = (s : Broker) (v : Version) (next : Option Missing)
     → is_some (s.pacticipants v.pacticipant) ≡ found.owner.has_pacticipant → is_known s v ≡ is_some found.number
     → unless_version s v next ≡ first next
 
--- each command of this caller that would change whether v stands in e has this refusal, or none
+-- each command of this caller that would change whether v is deployed or released in e has this refusal, or none
 abbrev pub ChangeHasRefusal : Caller → Text → Version → Option Answer → Broker → Type 0
 ChangeHasRefusal caller e v answer s = (command : Command) → ChangesPlace e v command
     → refusal s caller command ≡ answer
 
--- the caller may change whether v stands in e, with what is there; or the answer that refuses it
+-- the caller may change whether v is deployed or released in e, with what is there; or the answer that refuses it
 abbrev pub IsAdmission : Caller → Text → Version → Result Admitted Answer → Broker → Type 0
 IsAdmission caller e v (Ok place) s = IsAdmitted e v place s × ChangeHasRefusal caller e v None s
 IsAdmission caller e v (Err answer) s = ChangeHasRefusal caller e v (Some answer) s
 
--- where this was read of a place, its change is admitted or refused so
+-- if this was read of a place, its change is admitted or refused so
 abbrev pub Admits : PlaceFacts → Result Admitted Answer → Type 0
 Admits place admission = (s : Broker) (caller : Caller) (e : Text) (v : Version)
     → IsPlaceRead s caller e v place → IsAdmission caller e v admission s
 
--- where this was read of a version and an environment, the question to the gate has this refusal, or none
+-- if this was read of a version and an environment, the question to the gate has this refusal, or none
 abbrev pub GateHasRefusal : VersionFacts → Option Marks → Option Answer → Type 0
 GateHasRefusal version marks answer = (s : Broker) (caller : Caller) (v : Version) (e : Text)
     → IsVersionRead s caller A6 v false version → s.environments e ≡ marks
     → refusal s caller (CanIDeploy v e) ≡ answer
 
--- where this was read of a version, the question for its matrix has this refusal, or none
+-- if this was read of a version, the question for its matrix has this refusal, or none
 abbrev pub MatrixHasRefusal : VersionFacts → Option Answer → Type 0
 MatrixHasRefusal version answer = (s : Broker) (caller : Caller) (v : Version)
     → IsVersionRead s caller A6 v false version → refusal s caller (GetMatrix v) ≡ answer

@@ -22,7 +22,7 @@ no_line (b ∷ bytes) none =
     let ne : b ≢ line_feed = none 0 (omega arith) in
     rw (ne_eqb b line_feed ne, no_line bytes (λ k h. none (suc k) (omega arith))) refl
 
--- The head text at the front, where its first line stands further in front: `started` says whether that line is one that isn't empty.
+-- What bytes add to a head text that begins before them: `started` says whether a line that isn't empty came before.
 abbrev pub rest_text : Bool → List ℕ → Option (List ℕ)
 rest_text started bytes = option_map concat (cond started (through_empty (lines_of bytes)) (head_lines (lines_of bytes)))
 

@@ -53,7 +53,7 @@ head_lines-more (line ∷ lines) more t p =
     head_lines-line line (head_lines lines) (head_lines (lines ++ more)) (through_empty lines) (through_empty (lines ++ more)) t (is_empty_line line)
     (λ u. head_lines-more lines more u) (λ u. through_empty-more lines more u) p
 
--- a head text stays the head text, whatever follows
+-- a head text stays the head text when more follows
 pub head_text-more : (a b t : List ℕ) → head_text a ≡ Some t → head_text (a ++ b) ≡ Some t
 head_text-more a b t p =
     let more = lines_of-more a b in
@@ -106,7 +106,7 @@ take_more zero a b = ([], refl)
 take_more (suc n) [] b = (take (suc n) b, refl)
 take_more (suc n) (x ∷ a) b = let rest = take_more n a b in (rest.0, ap (λ l. x ∷ l) rest.1)
 
--- the head at the front stays, whatever follows
+-- the head at the front stays when more follows
 pub IsHeadOf-more : (stream more head : List ℕ) → IsHeadOf stream head → IsHeadOf (stream ++ more) head
 IsHeadOf-more stream more head p =
     let grown = take_more head_limit stream more in
@@ -118,7 +118,7 @@ IsHeadOf-more stream more head p =
     (ap head_text same, same, omega (arith, long, length-append stream more)))
     p
 
--- a message at the front stays there, whatever follows
+-- a message at the front stays there when more follows
 pub BeginsWithMessage-more : (stream more after : List ℕ) (m : Message) → BeginsWithMessage stream m after → BeginsWithMessage (stream ++ more) m (after ++ more)
 BeginsWithMessage-more stream more after m p = record {
   whole = ap (λ l. l ++ more) p.whole ∙ append_assoc m.head (m.body ++ after) more ∙ ap (λ l. m.head ++ l) (append_assoc m.body after more);

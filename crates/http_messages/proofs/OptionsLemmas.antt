@@ -9,7 +9,7 @@ abbrev pub is_comma : ℕ → Bool
 is_comma b = b == comma
 
 module _ (rest : List ℕ) (i : ℕ) (at : position_or_len is_comma rest ≡ i) where
-  -- up to a comma and behind it
+  -- up to a comma and after it
   parted : i < length rest → has_close rest ≡ (is_close (take i rest) || has_close (drop (i + 1) rest))
   parted within =
       ap (list_any is_close) (slice_split_first is_comma rest 0 (subst (λ n. n < length rest) (sym at) within))

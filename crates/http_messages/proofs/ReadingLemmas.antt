@@ -1,4 +1,4 @@
--- One read behind another.
+-- One read after another.
 use Rattle.std.specs.{Io.KnownBytes.{Consumes}, Result.{result_unwrap_or}}
 use Rattle.std.proofs.Common.{◌≡◌, ℕ, ◌+◌, ◌<◌, ◌≤◌, List, ◌++◌, Option, Result, Ok, Err, OnErr, length, take, refl, sym, ap, ◌∙◌, subst, append_assoc, append-nil, length-append, arith, inr}
 use Rattle.std.proofs.{KnownBytes.{Consumes-trans}, lemmas.List.{take-append-le, nil_from_length}}

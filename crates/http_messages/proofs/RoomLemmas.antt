@@ -31,7 +31,7 @@ module _ {A : Type 0} (is_ready : A → Bool) where
       subst (λ all. filter is_ready (remove (first ∷ others) place) ≡ filter is_ready all) (sym (split_at (first ∷ others) place first is.0))
       (without _ _ _ (un_not _ is.1))
 
-  -- and if one comes behind them
+  -- and if one is added after them
   pub joined : (ok : Bool) (old mid new : List A) (it : A) → filter is_ready mid ≡ filter is_ready old
       → new ≡ (if ok then mid ++ it ∷ [] else mid) → KeepsReady is_ready old new
   joined true old mid new it same is = (filter is_ready (it ∷ []), rw (is, ← same) (filter-append is_ready mid (it ∷ [])))

@@ -22,11 +22,11 @@ served_methods = codes "DELETE" ∷ codes "GET" ∷ codes "POST" ∷ codes "PUT"
 unfoldable pub served_method : List ℕ → Option (List ℕ)
 served_method method = if is_among served_methods method then Some method else None
 
--- a check, and the refusal where it fails
+-- a check, and the refusal if it fails
 abbrev pub Check : Type 0
 Check = Bool × Refusal
 
--- this where all checks hold, or the refusal of the first that fails
+-- this if all checks hold, or the refusal of the first that fails
 abbrev pub first_failing : {A : Type 0} → List Check → A → Result A Refusal
 first_failing [] found = Ok found
 first_failing (check ∷ checks) found = if check.0 then first_failing checks found else Err check.1
@@ -73,7 +73,7 @@ AreChecked method target minor host coding length checked =
 abbrev pub fields_of : RequestHead → List (List ℕ × List ℕ)
 fields_of h = map name_and_value h.fields
 
--- the length of the body behind this head, or its first fault
+-- the length of the body after this head, or its first fault
 abbrev pub body_of_head : RequestHead → Result ℕ Refusal
 body_of_head h =
     judge h.method h.target h.minor
@@ -98,7 +98,7 @@ unread refusal = record { is_bodiless = false; body = Err refusal }
 abbrev pub judge_head : RequestHead → Judgement
 judge_head h = record { is_bodiless = is_head_method h.method; body = body_of_head h }
 
--- the connection closes behind the answer: after HTTP/1.0, or where the head has the option close (RFC 9112,
+-- the connection closes after the answer: to HTTP/1.0, or if the head has the option close (RFC 9112,
 -- section 9.6; that HTTP/1.0 always closes is this project's own choice)
 abbrev pub is_last : ℕ → List (List ℕ) → Bool
 is_last minor connections = if minor == 0 then true else list_any has_close connections
@@ -124,6 +124,6 @@ IsJudged text judged =
     ⊎ ((is_too_large text ≡ false) × ((h : RequestHead) → ¬ (IsHeadText text h)) × (judged ≡ unread BadRequest))
     ⊎ ((is_too_large text ≡ false) × (h : RequestHead) × IsHeadText text h × (judged ≡ judge_head h))
 
--- how many bytes of body the head announces: none where it is refused
+-- how many bytes of body the head announces: none if it is refused
 unfoldable pub IsBodyLength : List ℕ → ℕ → Type 0
 IsBodyLength text n = (judged : Judgement) × IsJudged text judged × (n ≡ result_unwrap_or judged.body 0)

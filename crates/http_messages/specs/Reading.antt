@@ -13,7 +13,7 @@ use Rattle.http_messages.specs.declared.reading.ReadOutcome.TheVariants as outco
 abbrev pub Gains : (before after : Option (List ℕ)) (old new : List ℕ) → Type 0
 Gains before after old new = (more : List ℕ) × Consumes before after more × (new ≡ old ++ more)
 
--- What a fault leaves: where the reader failed, the buffer grew by all that it gave; where memory ran out,
+-- What a fault leaves: if the reader failed, the buffer grew by all that it gave; if memory ran out,
 -- the last bytes that it gave are lost.
 abbrev pub LeavesAtFault : (before after : Option (List ℕ)) (old new : List ℕ) → ReadFault → Type 0
 LeavesAtFault before after old new (Reader failed) = Gains before after old new
@@ -41,22 +41,22 @@ size_limit outcomes.End = head_limit + body_limit
 
 -- The reader had before to give and has after; the buffer had the bytes old and has new.
 module _ (before after : Option (List ℕ)) (old new : List ℕ) where
-  -- what reading a message promises where it comes to an outcome
+  -- what reading a message promises if it comes to an outcome
   pub record ReadsMessage (read : ReadOutcome) : Type 0 where
-    -- what the reader gave is behind what was in the buffer
+    -- what the reader gave is after what was in the buffer
     pub gains : Gains before after old new
-    -- the buffer begins with the message, and its head says what is told of it; or no message is whole
+    -- the buffer begins with the message, whose head says what is returned of it; or it begins with no message
     pub outcome : IsOutcome new read
-    -- no message is whole only where the reader is at its end
+    -- it finds no message only if the reader is at its end
     pub end : read ≡ outcomes.End → IsAtEnd after
-    -- it reads no further than the head may go, or the message goes
+    -- it reads no more than the limit of a head, or than the message
     pub wanted : length new ≤ max (length old) (size_limit read)
 
-  -- what it promises where it fails
+  -- what it promises if it fails
   pub record FailsToReadMessage (fault : ReadFault) : Type 0 where
-    -- bytes are lost only where memory ran out, and some are lost then
+    -- bytes are lost only if memory ran out, and some are lost then
     pub leaves : LeavesAtFault before after old new fault
     -- it fails only while no message is whole
     pub none : HasNoMessage new
-    -- memory runs out only behind a head, for a body that it announces
+    -- memory runs out only after a head, for a body that it announces
     pub body : fault ≡ Memory → AnnouncesBody new

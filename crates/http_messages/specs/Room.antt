@@ -7,7 +7,7 @@ abbrev pub next_of : {A : Type 0} → (A → Bool) → List A → Option ℕ
 next_of is_ready [] = None
 next_of is_ready (first ∷ others) = Some (unwrap_or (position is_ready (first ∷ others)) 0)
 
--- each that was ready still waits, in the same order, and who is ready beside them has come behind them
+-- each that was ready still waits, in the same order; others that are ready have come after them
 abbrev pub KeepsReady : {A : Type 0} → (A → Bool) → (old new : List A) → Type 0
 KeepsReady {A} is_ready old new = (more : List A) × (filter is_ready new ≡ filter is_ready old ++ more)
 

@@ -10,7 +10,7 @@ use Rattle.http_messages.specs.declared.head.Refused.{Refused}
 abbrev pub judgement_of : Refused → Judgement
 judgement_of refused = record { is_bodiless = refused.is_bodiless; body = Err refused.refusal }
 
--- the length alone of what is found
+-- only the length of what is found
 abbrev pub length_found : Result (List ℕ × ℕ) Refusal → Result ℕ Refusal
 length_found (Ok found) = Ok found.1
 length_found (Err refusal) = Err refusal

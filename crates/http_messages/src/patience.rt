@@ -50,10 +50,10 @@ pub const LIMITS: Limits = Limits {
 
 /// What the other end of a connection sends.
 pub trait PeerReader {
-    /// The bytes that are still to come, where they are known.
+    /// The bytes that are still to come, if they are known.
     ghost remaining: { Self → Option (List ℕ) } = { λ _. None };
 
-    /// How long it was waited for in vain, in nanoseconds, where that is known.
+    /// How long it was waited for in vain, in nanoseconds, if that is known.
     ghost waited: { Self → ℕ } = { λ _. 0 };
 
     /// Reads once, and waits for the first byte no longer than that: it fails with `WouldBlock` then.
@@ -65,10 +65,10 @@ pub trait PeerReader {
 
 /// What the other end of a connection takes.
 pub trait PeerWriter {
-    /// The bytes that it has taken, where they are known.
+    /// The bytes that it has taken, if they are known.
     ghost contents: { Self → Option (List ℕ) } = { λ _. None };
 
-    /// How long it was waited for in vain, in nanoseconds, where that is known.
+    /// How long it was waited for in vain, in nanoseconds, if that is known.
     ghost waited: { Self → ℕ } = { λ _. 0 };
 
     /// Writes once, and waits for room no longer than that: it fails with `WouldBlock` then.
@@ -274,7 +274,7 @@ fn spent_on_answer(limits: Limits, wait: Wait) -> Duration
     }
 }
 
-/// What a peer sends, as far as it is waited for. Where the wait is cut short by a signal, it goes on. No limit is longer
+/// What a peer sends, as far as it is waited for. A wait that a signal cuts short goes on. No limit is longer
 /// than that of `broker serve`.
 #[derive(Drop)]
 pub struct Incoming<'a, 'w, R: PeerReader, D: Door, C: Clock> {
@@ -420,7 +420,7 @@ impl<R: PeerReader, D: Door, C: Clock> Read for Incoming<'_, '_, R, D, C> {
     }
 }
 
-/// What a peer takes, as far as it is waited for. Where the wait is cut short by a signal, it goes on. No limit is longer
+/// What a peer takes, as far as it is waited for. A wait that a signal cuts short goes on. No limit is longer
 /// than that of `broker serve`.
 #[derive(Drop)]
 pub struct Outgoing<'a, 'w, W: PeerWriter, C: Clock> {

@@ -40,7 +40,7 @@ pub fn next_of<S: Read + Drop>(waiting: &[Waiting<S>]) -> Option<usize>
     }
 }
 
-/// Takes one in behind those that wait. If as many wait as may, the first that isn't ready goes, or if all are ready,
+/// Adds one after those that wait. If as many wait as may, the first that isn't ready goes, or if all are ready,
 /// this one does. It says how many went: none, or one, also if there is no memory.
 pub fn take_in<S: Read + Drop>(waiting: &mut Vec<Waiting<S>>, it: Waiting<S>) -> u32
     ensures ready { KeepsReady (λ it. is_ready it.arrived) waiting.old.items waiting.new.items }

@@ -1,4 +1,4 @@
-//! A socket as a peer: no call waits longer than it is told.
+//! A socket as a peer: no call waits longer than the limit that was set.
 ghost use Rattle.std.specs.Prelude.{◌≡◌, ◌≤◌, ℕ, List, Option, None, OnOk};
 ghost use Rattle.std.specs.Duration.{as_nanos};
 ghost use Rattle.std.specs.Io.{ReadsAtMost, WritesAtMost};
@@ -12,13 +12,13 @@ use std::time::Duration;
 
 /// The reading side of a socket: a read waits no longer than a limit that was set before.
 trait Source {
-    /// The bytes that are still to come, where they are known.
+    /// The bytes that are still to come, if they are known.
     ghost remaining: { Self → Option (List ℕ) } = { λ _. None };
 
-    /// How long it was waited for in vain, in nanoseconds, where that is known.
+    /// How long it was waited for in vain, in nanoseconds, if that is known.
     ghost waited: { Self → ℕ } = { λ _. 0 };
 
-    /// How long a read waits at most, in nanoseconds, where that is known.
+    /// How long a read waits at most, in nanoseconds, if that is known.
     ghost limit: { Self → ℕ } = { λ _. 0 };
 
     /// Sets the limit.
@@ -36,13 +36,13 @@ trait Source {
 
 /// The writing side of a socket: a write waits no longer than a limit that was set before.
 trait Sink {
-    /// The bytes that it has taken, where they are known.
+    /// The bytes that it has taken, if they are known.
     ghost contents: { Self → Option (List ℕ) } = { λ _. None };
 
-    /// How long it was waited for in vain, in nanoseconds, where that is known.
+    /// How long it was waited for in vain, in nanoseconds, if that is known.
     ghost waited: { Self → ℕ } = { λ _. 0 };
 
-    /// How long a write waits at most, in nanoseconds, where that is known.
+    /// How long a write waits at most, in nanoseconds, if that is known.
     ghost limit: { Self → ℕ } = { λ _. 0 };
 
     /// Sets the limit.

@@ -18,7 +18,7 @@ path-text target text = by (ltb (position_or_len is_question_mark target) (lengt
         let over : length target ≤ position_or_len is_question_mark target = grind (arith, nat_tests) in
         subst IsUtf8 (sym (take_all (position_or_len is_question_mark target) target over)) text
 
--- the resource that is told of a path is that of the target's path
+-- a function that finds the resource of each path in UTF-8 finds that of the target's path
 pub resource-read : (target read path : List ℕ) (told : Option Resource) → IsUtf8 target → path ≡ path_of read → read ≡ target → (IsUtf8 path → told ≡ resource_of path) → told ≡ resource_of (path_of target)
 resource-read target read path told text is-path is-target is-told =
     let same : path ≡ path_of target = is-path ∙ ap path_of is-target in

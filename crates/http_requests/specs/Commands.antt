@@ -1,6 +1,6 @@
 -- The command that a message asks (the forms are this project's own choice).
--- The first fault is told: those of the path's names come first, in the path's order, and then those of
--- the fields or the query's keys in the order in which they stand here.
+-- The first fault is returned: those of the path's names come first, in the path's order, and then those of
+-- the fields or the query's keys, in the order in which they are written here.
 use Rattle.std.specs.Prelude.{◌≡◌, ℕ, Bool, codes, Option, Result, Ok, Err, MatchOption, MatchResult}
 use Rattle.serde_json.specs.Data.{Data}
 use Rattle.broker_core.specs.Text.{Text, version}
@@ -92,7 +92,7 @@ IsResultFields fields =
     AndThen (IsOptionalName (codes "run") fields) (λ run.
     IsMade (report_on v run, success))))
 
--- of which version of a provider and of which run something is told
+-- a report: on which version of a provider, and of which run
 abbrev pub IsReportFields : Data → CommandPart Report
 IsReportFields fields =
     AndThen (IsNameField (codes "providerApplicationVersion") fields) (λ v.

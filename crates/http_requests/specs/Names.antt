@@ -16,12 +16,12 @@ abbrev pub IsNamed : Text → Option Text → Type 0
 IsNamed text (Some name) = (name ≡ text) × IsUtf8 text × IsName text
 IsNamed text None = IsUtf8 text → ¬ (IsName text)
 
--- the name that a segment of a path stands for, its escapes decoded
+-- the name in a segment of a path, its escapes decoded
 abbrev pub IsPathName : ℕ → Text → CommandPart Text
 IsPathName index path r =
     (name : Option Text) × IsNamed (percent_decode (segment index path)) name
     × (r ≡ ok_or name fault.Name)
 
--- the segment stands for a name
+-- the segment is a name once its escapes are decoded
 abbrev pub HasPathName : ℕ → Text → Type 0
 HasPathName index path = IsName (percent_decode (segment index path))

@@ -10,7 +10,7 @@ use Rattle.http_requests.specs.Names.{CommandPart, IsNamed}
 use Rattle.http_requests.specs.declared.queries.Values.{Values}
 use Rattle.http_requests.specs.declared.queries.Values.TheVariants.{Absent, Once, Repeated}
 
--- the text that encoded bytes stand for; bytes that aren't UTF-8 become the replacement character
+-- the text of encoded bytes; bytes that aren't UTF-8 become the replacement character
 abbrev pub decoded_text : List ℕ → List ℕ
 decoded_text bytes = utf8_lossy (decode bytes)
 

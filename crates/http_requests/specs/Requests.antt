@@ -22,7 +22,7 @@ use Rattle.http_requests.specs.declared.requests.Request.TheVariants as request
 abbrev pub is_question_mark : ℕ → Bool
 is_question_mark b = b == 63
 
--- a target's part before its first question mark, and the part behind it
+-- a target's part before its first question mark, and the part after it
 abbrev pub path_of : List ℕ → List ℕ
 path_of target = before_first is_question_mark target
 
@@ -46,8 +46,8 @@ AsksOperation m =
     (h : RequestHead) × IsHeadText m.head h × (size : ℕ) × (body_of_head h ≡ Ok size)
     × (operation : Operation) × IsOperationOf h operation
 
--- the code's head is this one: its parts stand so in the text, it closes the connection where this one does, and
--- has its method
+-- the code's head is this one: its parts are at these places of the text, it closes the connection if and only if
+-- this one does, and it has its method
 abbrev pub IsReadFrom : List ℕ → Head → RequestHead → Type 0
 IsReadFrom text head h =
     IsRequestAt text head.spans head.parsed h × (head.closes ≡ is_last_head h)

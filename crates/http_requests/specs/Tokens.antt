@@ -11,12 +11,12 @@ abbrev pub skip_spaces : List ℕ → List ℕ
 skip_spaces [] = []
 skip_spaces (b ∷ rest) = if b == space then skip_spaces rest else b ∷ rest
 
--- what stands behind one or more spaces
+-- what follows one or more spaces
 abbrev pub behind_spaces : List ℕ → Option (List ℕ)
 behind_spaces [] = None
 behind_spaces (b ∷ rest) = if b == space then Some (skip_spaces rest) else None
 
--- what stands behind the scheme, which is compared without ASCII case
+-- what follows the scheme, which is compared without ASCII case
 abbrev pub credentials : List ℕ → Option (List ℕ)
 credentials value = if same_name (take 6 value) (codes "Bearer") then behind_spaces (drop 6 value) else None
 

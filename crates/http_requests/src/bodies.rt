@@ -18,7 +18,7 @@ pub(crate) struct Fields {
     object: Value,
 }
 
-/// Whether it was a fault of the text that ended its reading. An `Err` means that it was want of memory, and nothing else.
+/// Whether a fault of the text ended its reading. An `Err` means out of memory, and nothing else.
 fn of_text(error: &Error) -> Result<(), AllocError>
     ensures { IsOk result ↔ (¬ (IsMemory error.now)) }
 {
@@ -71,7 +71,7 @@ fn text_named(alloc: Global, text: Option<&str>) -> Result<Option<Name>, AllocEr
     }
 }
 
-/// The truth value that is found, or the fault of the field, which alone takes memory.
+/// The truth value that is found, or the fault of the field; only the fault takes memory.
 fn truth_or(alloc: Global, key: &str, truth: Option<bool>) -> Parsed<bool>
     ensures truth { IfOk result (λ r. r ≡ ok_or truth (FormFault.Field key.now)) }
     ensures memory { IfErr result (λ _. truth ≡ None) }
@@ -121,7 +121,7 @@ fn given_name(alloc: Global, value: Option<&Value>, key: &str) -> Parsed<Option<
     }
 }
 
-/// The truth value in a value that is given, or the fault of the field, which alone takes memory.
+/// The truth value in a value that is given, or the fault of the field; only the fault takes memory.
 fn given_truth(alloc: Global, value: Option<&Value>, key: &str) -> Parsed<bool>
     ensures truth { IfOk result (IsGivenTruth key.now (option_map (λ v. view v.now) value.entry)) }
     ensures memory { IfErr result

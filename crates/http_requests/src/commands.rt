@@ -231,7 +231,7 @@ fn report_in(alloc: Global, body: &[u8]) -> Parsed<Report>
     report_fields(alloc, &fields)
 }
 
-/// What is told of replies, and a copy of the body.
+/// The report on replies, and a copy of the body.
 fn replies_in(alloc: Global, body: &[u8]) -> Parsed<(Report, Body)>
     ensures { IfOk result (IsBeside body.now (WithFields body.now IsReportFields)) }
 {

@@ -15,7 +15,7 @@ pub record Response : Type 0 where
   pub text : List ℕ
   pub closes : Bool
 
--- the part of a body that is sent: none of it where the method is HEAD
+-- the part of a body that is sent: none of it if the method is HEAD
 unfoldable pub sent_part : Bool → List ℕ → List ℕ
 sent_part is_bodiless body = if is_bodiless then [] else body
 

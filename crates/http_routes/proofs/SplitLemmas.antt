@@ -1,4 +1,4 @@
--- A route's tokens take a path exactly where its pieces fit the path's segments.
+-- A route's tokens take a path if and only if its pieces fit the path's segments.
 use Rattle.std.specs.{List.{onto_first}, Str.{bytes_eq}}
 use Rattle.std.proofs.Common.{◌≡◌, ℕ, List, [], ◌∷◌, ◌++◌, length, Bool, true, false, cond, refl, sym, ap, ◌∙◌, arith, nat_lt, ◌==◌, ltb, ◌||◌, ◌&&◌, not}
 use Rattle.std.proofs.{lemmas.Bool.{and_parts, not-true}, lemmas.Bool.Decides.{nat_tests}}
@@ -8,7 +8,7 @@ use Rattle.http_routes.{specs.Routes.{segments, is_parameter, fits, all_fit}, pr
 abbrev pub piece_tokens : List ℕ → List ℕ
 piece_tokens piece = cond (is_parameter piece) (256 ∷ []) piece
 
--- the tokens behind a piece
+-- the tokens of the pieces that follow one, each after a slash
 abbrev pub tokens_behind : List (List ℕ) → List ℕ
 tokens_behind [] = []
 tokens_behind (piece ∷ more) = 47 ∷ (piece_tokens piece ++ tokens_behind more)
@@ -28,7 +28,7 @@ abbrev pub are_pieces : List (List ℕ) → Bool
 are_pieces [] = true
 are_pieces (piece ∷ more) = (is_parameter piece || is_literal piece) && are_pieces more
 
--- a path's first segment, and those behind it
+-- a path's first segment, and the other ones
 abbrev pub first_part : List ℕ → List ℕ
 first_part [] = []
 first_part (b ∷ path) = cond (b == 47) [] (b ∷ first_part path)
@@ -65,7 +65,7 @@ module _ (more : List (List ℕ)) (behind : (path : List ℕ) → takes (tokens_
       by true e h = h
       by false e h = none more e
 
-  -- the rest of a piece that stands for itself
+  -- the rest of a piece that is no parameter
   takes-literal : (w path : List ℕ) → is_literal w ≡ true → takes (w ++ tokens_behind more) path ≡ (bytes_eq w (first_part path) && all_fit more (more_parts path))
   takes-literal [] path l = takes-end path
   takes-literal (x ∷ w) [] l = refl
@@ -97,7 +97,7 @@ module _ (more : List (List ℕ)) (behind : (path : List ℕ) → takes (tokens_
       by true = refl
       by false = behind path ∙ sym (ap (λ v. v && all_fit more (more_parts path)) some)
 
-  -- a piece, and what stands behind it
+  -- a piece, and what follows it
   takes-piece : (piece path : List ℕ) → (is_parameter piece || is_literal piece) ≡ true → takes (piece_tokens piece ++ tokens_behind more) path ≡ (fits piece (first_part path) && all_fit more (more_parts path))
   unfolding fits
   takes-piece piece path e = by (is_parameter piece) e
@@ -106,7 +106,7 @@ module _ (more : List (List ℕ)) (behind : (path : List ℕ) → takes (tokens_
       by true e = takes-parameter path
       by false e = takes-literal piece path e
 
--- what stands behind a segment
+-- what follows a segment
 takes-behind : (more : List (List ℕ)) → are_pieces more ≡ true → (path : List ℕ) → takes (tokens_behind more) (behind_segment path) ≡ all_fit more (more_parts path)
 takes-behind [] good [] = refl
 takes-behind [] good (b ∷ path) = by (b == 47) (takes-behind [] good path)

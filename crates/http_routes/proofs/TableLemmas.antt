@@ -144,7 +144,7 @@ takes-route text path good =
 
 -- the rows of the table
 
--- each row's tokens take paths of its resource alone
+-- each row's tokens take only paths of its resource
 abbrev pub Right : Rows → Type 0
 Right [] = Unit {0}
 Right ((t, r) ∷ rest) = (is_plain t ≡ true) × ((path : List ℕ) → takes t path ≡ true → resource_of path ≡ Some r.value) × Right rest

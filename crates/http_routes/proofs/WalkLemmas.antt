@@ -15,7 +15,7 @@ abbrev pub is_plain : List ℕ → Bool
 is_plain [] = true
 is_plain (x ∷ t) = cond (x == 256) (ends_segment t) (ltb x 256) && is_plain t
 
--- what stands behind the first segment
+-- what follows the first segment
 abbrev pub behind_segment : List ℕ → List ℕ
 behind_segment [] = []
 behind_segment (b ∷ path) = cond (b == 47) (b ∷ path) (behind_segment path)
@@ -60,7 +60,7 @@ some-segment (c ∷ q) e = by (c == 47)
     by true = omega arith
     by false = omega arith
 
--- behind the first byte, a segment ends with a slash exactly where there is one
+-- after a first byte that is no slash, a segment ends with a slash if and only if there is one
 pub cuts-other : (b : ℕ) (p : List ℕ) → (b == 47) ≡ false → cuts (segment (b ∷ p)) (47 ∷ []) ≡ has_slash p
 cuts-other b p e = rw e (rw (ends_with-segment b p e) (by (has_slash p) refl))
   where
@@ -135,7 +135,7 @@ module _ {K : Type 0} where
   goes_on (([], k) ∷ rest) = goes_on rest
   goes_on ((x ∷ t, k) ∷ rest) = true
 
-  -- rows behind a token
+  -- rows after a token
 
   pub HasRow-step : (b : ℕ) (rs : RowsOf K) (t : List ℕ) (k : K) → HasRow (step b rs) t k → HasRow rs (b ∷ t) k
   HasRow-step b [] t k h = h
@@ -228,7 +228,7 @@ module _ {K : Type 0} where
   or-second None b e = e
   or-second (Some j) b e = refl
 
-  -- rows behind a parameter
+  -- rows after a parameter
 
   pub ArePlain-with : (s : List ℕ) (rs : RowsOf K) → ArePlain rs → ArePlain (with_suffix s rs)
   ArePlain-with s [] h = tt
@@ -269,7 +269,7 @@ module _ {K : Type 0} where
   longest-kept seg (([], j) ∷ rest) h = longest-kept seg rest h.1
   longest-kept seg ((x ∷ u, j) ∷ rest) h = rw h.0 (longest-kept seg rest h.1)
 
-  -- where rows end their segments, the longest suffix is a slash or nothing
+  -- if rows end their segments, the longest suffix is a slash or nothing
   pub longest-is : (seg : List ℕ) (rs : RowsOf K) → EndSegments rs → longest_suffix seg rs ≡ cond (cuts seg (47 ∷ []) && goes_on rs) (47 ∷ []) []
   longest-is seg [] h = by (cuts seg (47 ∷ []))
     where
@@ -301,7 +301,7 @@ module _ {K : Type 0} where
         let long = longest-is (segment (b ∷ p)) rs ends ∙ ap (λ v. cond (v && goes_on rs) (47 ∷ []) []) (cuts-slash b p e) in
         ap (λ r. r.1) (param-by rs (b ∷ p) [] long ∙ ap (λ v. cond {A = ℕ × RowsOf K} (cond v true (has_slash p)) (0, []) (length (b ∷ p), rs)) e)
 
-    -- all behind the last slash
+    -- no slash follows: the parameter takes all that is left
     param-last : (b == 47) ≡ false → has_slash p ≡ false → param_step rs (b ∷ p) ≡ (length (b ∷ p), rs)
     param-last e d =
         let long = longest-is (segment (b ∷ p)) rs ends ∙ ap (λ v. cond (v && goes_on rs) (47 ∷ []) []) (cuts-other b p e ∙ d) in
@@ -333,7 +333,7 @@ module _ {K : Type 0} where
         let n : suc (length p) - 1 ≡ length p = omega arith in
         ap (λ m. drop m p) n ∙ drop-all p ∙ sym (behind-none p d)
 
-  -- a row that is left behind a parameter, and takes what is left of the path
+  -- a row that is left after a parameter, and takes what is left of the path
   abbrev pub GoesOn : RowsOf K → ℕ → List ℕ → List ℕ → K → (ℕ × RowsOf K) → Type 0
   GoesOn rs b p t k next = HasRow next.1 t k × (takes t (drop (next.0 - 1) p) ≡ true)
 
@@ -407,7 +407,7 @@ module _ {K : Type 0} where
       by true d = (let bad : false ≡ true = sym (ap (λ v. not v && takes t (behind_segment p)) d) ∙ e in cc)
       by false d = other (has_slash p) d refl (sym (ap (λ v. not v && takes t (behind_segment p)) d) ∙ e)
 
-  -- the rows behind a parameter are plain
+  -- the rows after a parameter are plain
   ArePlain-param : (rs : RowsOf K) (path : List ℕ) → ArePlain rs → ArePlain (param_step rs path).1
   unfolding param_step
   ArePlain-param rs path h = by (ltb 0 (length (longest_suffix (segment path) rs))) (has_slash path)

@@ -30,7 +30,7 @@ operation_under method [] = None
 operation_under method (entry ∷ more) =
     if bytes_eq method entry.0 then Some entry.1 else operation_under method more
 
--- what is asked; nothing where the resource doesn't have the method
+-- what is asked; nothing if the resource doesn't have the method
 abbrev pub operation_at : Resource → List ℕ → Option Operation
 operation_at resource method = operation_under method (operations resource)
 

@@ -1,4 +1,4 @@
--- Where the names stand in the routes.
+-- Which segments of the routes are names.
 use Rattle.std.specs.Prelude.{◌≡◌, ⊤, ℕ, List, [], ◌∷◌, codes}
 use Rattle.http_routes.specs.Routes.{routes, segment}
 use Rattle.http_routes.specs.declared.Resource.{Resource}

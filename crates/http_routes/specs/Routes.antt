@@ -8,7 +8,7 @@ use Rattle.http_routes.specs.declared.Resource.TheVariants.{Team, Pacticipant, E
 abbrev pub is_slash : ℕ → Bool
 is_slash b = b == 47
 
--- what stands before, between and behind the slashes
+-- what is before, between and after the slashes
 abbrev pub segments : List ℕ → List (List ℕ)
 segments path = slice_split is_slash path
 
@@ -16,7 +16,7 @@ segments path = slice_split is_slash path
 abbrev pub is_parameter : List ℕ → Bool
 is_parameter piece = starts_with nat_eq piece (codes "{")
 
--- a segment fits a parameter where it isn't empty, and every other piece where it is the same
+-- a segment fits a parameter if it isn't empty, and every other piece if it is the same
 unfoldable pub fits : List ℕ → List ℕ → Bool
 fits piece segment = if is_parameter piece then nat_lt 0 (length segment) else bytes_eq piece segment
 
@@ -78,6 +78,6 @@ resource_in (route ∷ more) path = if is_on route.0 path then Some route.1 else
 unfoldable pub resource_of : List ℕ → Option Resource
 resource_of path = resource_in routes path
 
--- one segment of a path, counted from 0, empty where there is none
+-- one segment of a path, counted from 0, empty if there is none
 unfoldable pub segment : ℕ → List ℕ → List ℕ
 segment n path = unwrap_or (slice_get (segments path) n) []

@@ -11,7 +11,7 @@ use Rattle.http_routes.specs.declared.Resource.{Resource}
 abbrev pub Rows : Type 0
 Rows = RowsOf (RouteOf Resource)
 
--- the rows with one more, where the route's text is one
+-- the rows with one more, if the route's text is one
 abbrev pub with_route : Result Scan InsertError → Resource → Rows → Rows
 with_route (Ok scan) resource rows = placed (scan.pattern, route_from scan resource) rows
 with_route (Err e) resource rows = rows

@@ -68,7 +68,7 @@ fn add(router: &mut Router<Resource>, route: &str, resource: Resource) -> Result
     router.insert(route, resource).map_err(|_| AllocError)
 }
 
-/// Adds routes in turn.
+/// Adds routes, one after another.
 fn add_routes(router: &mut Router<Resource>, routes: &[(&str, Resource)]) -> Result<(), AllocError>
     ensures { OnOk result (router.new ≡ with_routes (map (λ row. (row.0.now, row.1)) routes.now) router.old) }
 {

@@ -1,4 +1,4 @@
--- Two readings of one file agree, but where a pattern was refused.
+-- Two readings of one file agree, unless a pattern was refused.
 use Rattle.std.proofs.Common.{◌≡◌, ◌⊎◌, inl, inr, ℕ, ◌+◌, List, [], ◌∷◌, codes, Option, Some, None, Result, Ok, Err, sym, ap, ◌∙◌, subst}
 use Rattle.serde_json.specs.Data.{Data}
 use Rattle.pact_rules.specs.{Rules.{Rules as Table}, declared.rule_fault.RuleFault.{RuleFault}, declared.rule_fault.RuleFault.TheVariants.{Pattern}}

@@ -114,7 +114,7 @@ pact_pushed c p xs =
 one_more : (n a b : ℕ) → n ≡ a + b → suc n ≡ suc a + b
 one_more n a b h = omega (arith, h)
 
--- what an item adds to those behind it
+-- what an item adds to the length of those after it
 pub adds : (xs : List Interaction) (i : ℕ) (x : Interaction) (text : List ℕ) → i < length xs → x ≡ get_or xs i x → text ≡ compact_text (interaction_data x)
     → length (left interaction_data i (drop i xs)) ≡ item_length i text + length (left interaction_data (i + 1) (drop (i + 1) xs))
 adds xs i x text lt is written =

@@ -35,7 +35,7 @@ tree_ok true false x h = (refl, refl)
 tree_ok true true x h = absurd cc
 tree_ok false float x h = absurd cc
 
--- where a text reads as one object, that is sound data, nesting at most 100
+-- if a text reads as one object, that is sound data, nesting at most 100
 pub object_sound : (bytes : List ℕ) (d : Data) → object_of bytes ≡ Ok d → IsSound 100 d
 unfolding object_of json_of
 object_sound bytes d e =
@@ -59,14 +59,14 @@ pub of_text : (bytes text : List ℕ) (r : Result Value FileFault) → text ≡ 
 unfolding json_of
 of_text bytes text r is utf8 h = rw (is_utf8-from_IsUtf8 bytes utf8) (subst (λ t. Gives Memory view r (ok_or (read t) NotJson)) is h)
 
--- what follows of want of memory follows where it is the other fault
+-- what follows if reading the file ran out of memory, follows if the whole did
 pub memory_as : {A B P : Type 0} (e : FileFault) (fault : PactFault) → fault ≡ as_file_fault e → (◌≡◌ {A = Result A FileFault} (Err e) (Err Memory) → P) → ◌≡◌ {A = Result B PactFault} (Err fault) (Err PactMemory) → P
 memory_as Memory fault is h memory = h refl
 memory_as e fault is h memory = let same : as_file_fault e ≡ PactMemory = sym is ∙ err_same fault PactMemory memory in absurd cc
 
 -- ---- another fault for each
 
--- where an answer whose fault was renamed is a success, the answer itself was that success
+-- if an answer whose fault was renamed is a success, the answer itself was that success
 pub object_ok : {A F G : Type 0} (convert : F → G) (r : Result A F) (x : A) → with_fault convert r ≡ Ok x → r ≡ Ok x
 object_ok convert (Ok y) x h = ap Ok (ok_same y x h)
 object_ok convert (Err e) x h = absurd cc

@@ -67,7 +67,7 @@ module _ {A : Type 0} (cmp : A → A → Ordering) (total : IsTotalOrder cmp) wh
     by_case later Equal e = inl (twin_as x y ys e (twin_of x ys (omega (arith, h, sum_by-cons (λ z. one (cmp x z)) y ys, ap one e))))
     by_case later o e = inr (later (omega (arith, h, sum_by-cons (λ z. one (cmp x z)) y ys, ap one e)))
 
-  -- in another order there are twins just where there were
+  -- a list in another order has twins if the list has
   twins_moved : (xs ys : List A) → IsPermutation xs ys → HasTwins xs → HasTwins ys
   twins_moved xs ys p h =
       let t = twins_many xs h in

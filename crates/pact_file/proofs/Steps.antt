@@ -3,12 +3,12 @@ use Rattle.std.{specs.Option.{ok_or}, proofs.Common.{◌≡◌, Bool, true, fals
 use Rattle.std.proofs.lemmas.Option.{same_Some}
 use Rattle.pact_rules.specs.Outcome.{◌>>=◌, guard}
 
--- where two steps in a row succeed, the first gave some value and the second succeeds on it
+-- if two steps in a row succeed, the first gave some value and the second succeeds on it
 pub bind_ok : {A B F : Type 0} (r : Result A F) (f : A → Result B F) (y : B) → (r >>= f) ≡ Ok y → (x : A) × (r ≡ Ok x) × (f x ≡ Ok y)
 bind_ok (Ok x) f y h = (x, refl, h)
 bind_ok (Err e) f y h = absurd cc
 
--- where a value that may be absent is required and the answer is a success, it was there
+-- if a value that may be absent is required and the answer is a success, it was there
 pub found_ok : {A F : Type 0} (o : Option A) (fault : F) (x : A) → ok_or o fault ≡ Ok x → o ≡ Some x
 found_ok None fault x h = absurd cc
 found_ok (Some y) fault x h = cc
@@ -36,7 +36,7 @@ pub map_some : {A B : Type 0} (f : A → B) (o : Option A) (y : B) → option_ma
 map_some f None y h = absurd cc
 map_some f (Some x) y h = (x, refl, same_Some _ _ h)
 
--- where two lookups in a row find a value, the first found one and the second finds its value from that
+-- if two lookups in a row find a value, the first found one and the second finds its value from that
 pub then_some : {A B : Type 0} (f : A → Option B) (o : Option A) (y : B) → option_and_then f o ≡ Some y → (x : A) × (o ≡ Some x) × (f x ≡ Some y)
 then_some f None y h = absurd cc
 then_some f (Some x) y h = (x, refl, h)

@@ -128,7 +128,7 @@ abbrev mutual
   MembersHaveTexts json.no_members = ⊤
   MembersHaveTexts (json.member k j ms) = IsUtf8 k × HasTexts j × MembersHaveTexts ms
 
--- what is read, where something is, and what is left
+-- what is read, if something is, and what is left
 abbrev Read : {A : Type 0} → (A → Type 0) → Option (A × List Token) → Type 0
 Read P o = IfSome o (λ x. P x.0 × AreTexts x.1)
 

@@ -1,4 +1,4 @@
--- How the logic stores JSON data: as the list of its parts, each behind what it holds.
+-- How the logic stores JSON data: as the list of its parts, each after what it holds.
 use Rattle.std.specs.Prelude.{◌≡◌, ◌⊎◌, ℕ, ◌==◌, ℤ, Bool, Float, List, [], ◌∷◌, cond, refl}
 use Rattle.std.specs.Coded.{Coded, code_by, coded_ℕ, coded_ℤ, coded_bool, coded_list, coded⊎}
 use Rattle.std.proofs.Common.{inl, inr, ap, ◌∙◌}

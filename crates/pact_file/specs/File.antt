@@ -89,7 +89,7 @@ sides_of file = do
   two ← guard (not (bytes_eq consumer provider)) SelfContract
   Ok (consumer, provider)
 
--- the values that stand as interactions
+-- the values that are to be interactions
 unfoldable pub items_of : Data → Result (List Data) PactFault
 items_of file = do
   items ← ok_or (list_at (codes "interactions") file) (Shape Interactions)

@@ -1,4 +1,4 @@
--- For private clauses: what is kept beside an interaction is what its definitions give.
+-- For private clauses: what is kept with an interaction is what its definitions give.
 use Rattle.std.specs.Prelude.{◌≡◌, ℕ, List, Option, Some}
 use Rattle.serde_json.specs.Written.{compact_text}
 use Rattle.serde_json.specs.Data.{Data}

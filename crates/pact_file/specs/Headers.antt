@@ -5,7 +5,7 @@ use Rattle.pact_file.specs.Pact.{Header, name_cmp}
 use Rattle.pact_file.specs.Parts.{headers_found}
 use Rattle.pact_file.specs.Sets.{IsSetInOrder, HasClash}
 
--- two of one name, whatever their values
+-- two of one name, with any values
 abbrev pub HasTwins : List Header → Type 0
 HasTwins found = HasClash name_cmp (λ x y. ⊤) found
 
@@ -19,7 +19,7 @@ pub record HasHeaders (response : Data) (headers : List Header) : Type 0 where
 abbrev pub LacksHeaders : Data → Type 0
 LacksHeaders response = (headers : List Header) → ¬ HasHeaders response headers
 
--- reading them gives the headers, or this fault where they aren't as they must be
+-- reading them gives the headers, or this fault if they aren't as they must be
 abbrev pub HeadersRead : {F : Type 0} → F → Data → Result (List Header) F → Type 0
 HeadersRead fault response (Ok headers) = HasHeaders response headers
 HeadersRead fault response (Err found) = LacksHeaders response × (found ≡ fault)

@@ -10,7 +10,7 @@ NormalAgain = (bytes : List ℕ) (p : Pact) → Normal bytes (Ok p)
     → Normal (normal_text p) (Ok p)
     × ((answer : Result Pact PactFault) → Normal (normal_text p) answer → (answer ≡ Ok p) ⊎ IsRefusal answer)
 
--- Two pacts have one normal text only where they are equal.
+-- Two pacts have one normal text only if they are equal.
 abbrev pub OnePact : Type 0
 OnePact = (a b : List ℕ) (p q : Pact) → Normal a (Ok p) → Normal b (Ok q) → normal_text p ≡ normal_text q → p ≡ q
 

@@ -1,4 +1,4 @@
--- The normal pact of a file, or its first fault. At a pattern this is a relation: it goes on only where the rules were
+-- The normal pact of a file, or its first fault. At a pattern this is a relation: it goes on only if the rules were
 -- read, and a pattern may be refused; everywhere else it is a function.
 use Rattle.std.specs.Prelude.{◌≡◌, ◌≢◌, ℕ, List, length, nat_le, Result, Ok, Err, if◌then◌else◌}
 use Rattle.serde_json.specs.Data.{Data}

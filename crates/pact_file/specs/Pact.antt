@@ -9,7 +9,7 @@ use Rattle.serde_json.specs.View.{items_of}
 use Rattle.serde_json.specs.Written.{compact_text}
 use Rattle.pact_file.specs.DataCode.{data_code}
 
--- a state that the provider is in, with parameters where they are given
+-- a state that the provider is in, with parameters if they are given
 pub record State : Type 0 where
   pub name : List ℕ
   pub params : Option Data
@@ -19,7 +19,7 @@ pub record Header : Type 0 where
   pub name : List ℕ
   pub value : List ℕ
 
--- an interaction: its request and its response are the data as they stand in the file
+-- an interaction: its request and its response are the data as they are in the file
 pub record Interaction : Type 0 where
   pub description : List ℕ
   pub states : List State

@@ -1,4 +1,4 @@
--- The parts of an interaction, as they stand in JSON data (Pact Specification, version 3). A part that isn't as it
+-- The parts of an interaction, read from JSON data (Pact Specification, version 3). A part that isn't as it
 -- must be is none.
 use Rattle.std.specs.Prelude.{ℕ, ◌&&◌, List, [], ◌∷◌, ◌++◌, Option, Some, None, option_map, option_and_then, nat_le, codes, if◌then◌else◌}
 use Rattle.std.specs.Option.{option_or, option_map_or}
@@ -45,7 +45,7 @@ all_of f (x ∷ xs) = option_and_then (λ y. option_map (λ ys. y ∷ ys) (all_o
 
 -- ---- provider states
 
--- an object with a name, and parameters where they are given
+-- an object with a name, and parameters if they are given
 abbrev pub state_in : Data → Option State
 state_in d =
     option_map (λ name. record { name = name; params = optional_at (codes "params") d }) (text_at (codes "name") d)
@@ -58,7 +58,7 @@ abbrev pub states_from : Option Data → Option Data → Option (List State)
 states_from None older = one_state older
 states_from (Some list) older = option_and_then (λ ds. all_of state_in (listed ds)) (as_array list)
 
--- the list under `providerStates`, or where it is absent the one state of the older spelling
+-- the list under `providerStates`, or if it is absent the one state of the older spelling
 unfoldable pub states_in : Data → Option (List State)
 states_in d = states_from (optional_at (codes "providerStates") d) (optional_at (codes "providerState") d)
 
@@ -70,7 +70,7 @@ status_at d =
     option_and_then (λ n. if nat_le 100 n && nat_le n 999 then Some n else None)
     (option_and_then as_u64 (as_number d))
 
--- the status, 200 where it is absent
+-- the status, 200 if it is absent
 unfoldable pub status_in : Data → Option ℕ
 status_in response = option_map_or status_at (optional_at (codes "status") response) (Some 200)
 
@@ -97,7 +97,7 @@ header_value d =
 abbrev pub header_in : List ℕ × Data → Option Header
 header_in m = option_map (λ value. record { name = str_to_ascii_lowercase m.0; value = value }) (header_value m.1)
 
--- the headers in the order of the file, none where they are absent
+-- the headers in the order of the file, none if they are absent
 unfoldable pub headers_found : Data → Option (List Header)
 headers_found response =
     option_map_or (λ d. option_and_then (λ ms. all_of header_in (members_listed ms)) (as_object d))

@@ -9,7 +9,7 @@ use Rattle.pact_file.specs.declared.fault.PactFault.TheVariants.{Rules}
 use Rattle.pact_file.specs.Objects.{with_fault}
 use Rattle.pact_file.specs.Parts.{optional_at}
 
--- no rules where they are absent
+-- no rules if they are absent
 abbrev pub TableRead : Option Data → Result Table RuleFault → Type 0
 TableRead None answer = answer ≡ Ok no_rules
 TableRead (Some d) answer = IsReading d answer

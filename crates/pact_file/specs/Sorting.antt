@@ -22,10 +22,10 @@ insert_all_sorted cmp same list (x ∷ xs) =
 abbrev pub same_text : Interaction → Interaction → Bool
 same_text x y = bytes_eq (compact_text (interaction_data x)) (compact_text (interaction_data y))
 
--- an interaction in its place by key, where no other has the key
+-- the list with the interaction in its place by key, once if it is there; none if a different one has its key
 abbrev pub with_interaction : Interaction → List Interaction → Option (List Interaction)
 with_interaction new list = insert_sorted key_cmp same_text new list
 
--- it is the list with the new one in front of what stands from the index on
+-- it is the list with the new one inserted at this index
 abbrev pub IsInsertedAt : {A : Type 0} → A → List A → Option (List A) → ℕ → Type 0
 IsInsertedAt new list inserted at = (at ≤ length list) × (inserted ≡ Some (take at list ++ new ∷ drop at list))

@@ -8,17 +8,17 @@ use Rattle.serde_json.specs.View.{items_of}
 use Rattle.serde_json.specs.Written.{compact_text, items_text}
 use Rattle.pact_file.specs.Pact.{State, Interaction, interaction_with, interaction_data}
 
--- the text, where that of the states is given
+-- the text, if that of the states is given
 abbrev pub text_of_parts : List ℕ → List ℕ → Data → Data → List ℕ
 text_of_parts description states_text request response =
     codes "{\"description\":" ++ (quoted description ++ (codes ",\"providerStates\":" ++ (states_text
     ++ (codes ",\"request\":" ++ (compact_text request ++ (codes ",\"response\":" ++ (compact_text response ++ codes "}")))))))
 
--- what stands under a key of the value that a text is
+-- the value under a key of the JSON value that a text is
 abbrev pub said : List ℕ → List ℕ → Data
 said key text = unwrap_or (option_and_then (get key) (read text)) null
 
--- the interaction whose request and response stand in the text of its normal form
+-- the interaction whose request and response are read from the text of its normal form
 abbrev pub interaction_of_text : List ℕ → List State → List ℕ → Interaction
 interaction_of_text description states text =
     interaction_with description states (said (codes "request") text) (said (codes "response") text)
@@ -27,7 +27,7 @@ interaction_of_text description states text =
 abbrev pub interactions_text : List Interaction → List ℕ
 interactions_text xs = items_text false (items_of (map interaction_data xs))
 
--- the length of an item, with the comma before it where it isn't the first
+-- the length of an item, with the comma before it if it isn't the first
 abbrev pub item_length : ℕ → List ℕ → ℕ
 item_length zero text = length text
 item_length (suc i) text = suc (length text)

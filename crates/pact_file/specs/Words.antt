@@ -51,7 +51,7 @@ rule_number rule_fault.Pattern = codes "7"
 rule_number rule_fault.BadCombine = codes "8"
 rule_number rule_fault.Memory = codes "9"
 
--- the name of what isn't supported, behind a space
+-- the name of what isn't supported, after a space
 abbrev pub rule_name : RuleFault → List ℕ
 rule_name (rule_fault.Unsupported name) = codes " " ++ name
 rule_name fault = []

@@ -8,12 +8,12 @@ use std::alloc::{AllocError, AllocFailed, Global};
 use std::fmt;
 use thiserror::Error;
 
-/// A text in parts, so that it takes no memory to tell it.
+/// A text in parts, so that writing it takes no memory.
 #[derive(Clone, Copy, Drop)]
 pub enum TextParts<'a> {
     /// A text without a number.
     Plain(&'a str),
-    /// What is before a number, the number, what is behind it, and the end.
+    /// What is before a number, the number, what is after it, and the end.
     Numbered(&'static str, usize, &'static str, &'a str),
 }
 
@@ -53,7 +53,7 @@ pub enum Part {
 }
 
 impl Part {
-    /// The part's name behind a dot; nothing of it as a whole.
+    /// The part's name after a dot; empty for the whole.
     pub fn text(self) -> &'static str
         ensures { result.now ≡ part_text self }
     {

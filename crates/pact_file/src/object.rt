@@ -67,8 +67,8 @@ fn check_file(value: &Value) -> Result<(), FileFault>
 }
 
 /// Reads bytes that are one JSON object in UTF-8, as a pact file and a file of replies are. The fault is the first
-/// one in the order of `FileFault`'s variants. Memory may run out in its place, though not where the bytes aren't UTF-8
-/// or there are none.
+/// one in the order of `FileFault`'s variants. Memory may run out instead, but only if the bytes are UTF-8 and not
+/// empty.
 #[tactic(auto, unfolding(crate::specs::Objects::object_of))]
 pub fn read_object(alloc: Global, bytes: &[u8]) -> Result<Value, FileFault>
     ensures value { Gives Memory view result (object_of bytes.now) }

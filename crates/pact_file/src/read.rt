@@ -197,9 +197,9 @@ fn read_interactions(alloc: Global, file: Value) -> Result<Vec<Interaction>, Pac
 
 /// Reads a pact file (Pact Specification, version 3) to its normal pact: metadata and all other keys are dropped, equal
 /// interactions are kept once, and they are in the order of their descriptions, then of the compact texts of their
-/// states. The bytes are any. Each fault is the first one in the order of `PactFault`'s documentation, but that at a
-/// text under `regex` in matching rules the pattern may be refused, and that memory may run out in its place, though
-/// not in that of `TooLong` for the bytes, nor where they aren't UTF-8 or there are none.
+/// states. The bytes are any. Each fault is the first one in the order of `PactFault`'s documentation, with two
+/// exceptions: at a text under `regex` in matching rules the pattern may be refused; and memory may run out instead,
+/// but only if the bytes aren't too many, are UTF-8 and aren't empty.
 pub fn read_pact(alloc: Global, bytes: &[u8]) -> Result<Pact, PactFault>
     ensures reading { GivesOne Memory (λ p. p) result (Normal bytes.now) }
     ensures long { most_bytes < length bytes.now → result ≡ Err TooLong }

@@ -88,7 +88,7 @@ pub fn states_text(alloc: Global, states: &[State]) -> Result<String, AllocError
     Ok(text)
 }
 
-/// As many bytes has an interaction's text beside its parts, if nothing in its description is escaped; else it grows.
+/// How many bytes an interaction's text has besides its parts, if nothing in its description is escaped; else it grows.
 const PARTS_ROOM: usize = 64;
 
 /// The compact text of an interaction's normal form, made of the text of its states.
@@ -192,7 +192,7 @@ fn room_left(consumer: &str, provider: &str, interactions: &[Interaction]) -> Op
     room_behind_all(room, interactions)
 }
 
-/// How many bytes a normal text has beside its two names without quotes and its interactions, with the last bracket.
+/// How many bytes a normal text has besides its two names without quotes and its interactions, with the last bracket.
 const BESIDE: usize = 65;
 
 /// As many bytes as the normal text of a pact has, if nothing in its names is escaped; else it grows.

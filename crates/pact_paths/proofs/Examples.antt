@@ -141,7 +141,7 @@ too_many : path_in (codes "$" ++ concat (replicate 61 (codes ".a"))) ≡ Err Too
 unfolding tokens_in
 too_many = refl
 
--- behind 60 tokens no token is looked for
+-- after 60 tokens the text isn't read for another one
 too_many_and_bad : path_in (codes "$" ++ concat (replicate 60 (codes ".a")) ++ codes "*") ≡ Err TooManyTokens
 unfolding tokens_in
 too_many_and_bad = refl

@@ -48,7 +48,7 @@ position_more : (b : ℕ) (n : List ℕ) → eqb (position_or_len is_special n) 
 position_more b n h true e = ne_eqb 0 (suc (length n)) (omega arith)
 position_more b n h false e = ap (λ k. eqb k (suc (length n))) (one-add (position_or_len is_special n)) ∙ eqb-suc-suc (position_or_len is_special n) (length n) ∙ h
 
--- no byte is special where the first special one is at the end
+-- no byte is special if and only if the first special one would be at the end
 position_tells : (n : List ℕ) → eqb (position_or_len is_special n) (length n) ≡ list_all (λ b. not (is_special b)) n
 position_tells [] = refl
 position_tells (b ∷ n) = position_more b n (position_tells n) (is_special b) refl

@@ -12,11 +12,11 @@ token_weights_none : (ts : List Token) → token_weights ts [] ≡ []
 token_weights_none [] = refl
 token_weights_none (t ∷ ts) = refl
 
--- every path is alive at the root, where no step has been taken
+-- every path is alive at the root, before any step
 pub alive_at_root : (ts : List Token) → is_alive ts [] ≡ true
 alive_at_root ts = ap (λ ws. ltb 0 (product ws)) (token_weights_none ts)
 
--- no token of a path equals a step at the root, where there is none
+-- at the root no token of a path equals a step: there is none
 pub exact_at_root : (ts : List Token) → exact_tokens ts [] ≡ 0
 exact_at_root ts = ap (λ ws. length (filter (λ w. eqb w 2) ws)) (token_weights_none ts)
 
@@ -37,7 +37,7 @@ token_weights_step (t ∷ ts) (l ∷ at) s w e = ap (λ ws. token_weight t l ∷
 pub alive_past : (ts : List Token) (at : Location) (s : Step) → length ts ≤ length at → is_alive ts (at ++ s ∷ []) ≡ is_alive ts at
 alive_past ts at s h = ap (λ ws. ltb 0 (product ws)) (token_weights_past ts at s h)
 
--- a step behind the end of a path leaves the number of its exact tokens as it was
+-- a step after the end of a path leaves the number of its exact tokens as it was
 pub exact_past : (ts : List Token) (at : Location) (s : Step) → length ts ≤ length at → exact_tokens ts (at ++ s ∷ []) ≡ exact_tokens ts at
 exact_past ts at s h = ap (λ ws. length (filter (λ w. eqb w 2) ws)) (token_weights_past ts at s h)
 
@@ -55,7 +55,7 @@ positive_product p w = by_zero (eq-zero-or-pos p) (eq-zero-or-pos w) where
   by_zero (inr h) (inl e) = ap (λ n. ltb 0 n) (ap (λ n. p * n) e ∙ mul-zero p) ∙ sym (and_right (ltb 0 p) (ltb 0 w) (ap (λ n. ltb 0 n) e))
   by_zero (inr h) (inr k) = lt-ltb 0 (p * w) (mul-pos h k) ∙ sym (ap (λ b. b && ltb 0 w) (lt-ltb 0 p h) ∙ lt-ltb 0 w k)
 
--- another path lives on where its next token counts at the step
+-- another path stays alive if and only if its next token counts at the step
 pub alive_step : (ts : List Token) (at : Location) (s : Step) (w : ℕ) → length at < length ts → slice_get (map (λ t. token_weight t s) ts) (length at) ≡ Some w
     → is_alive ts (at ++ s ∷ []) ≡ (is_alive ts at && ltb 0 w)
 alive_step ts at s w h e = ap (λ n. ltb 0 n) (product_over_step ts at s w e) ∙ positive_product (product_over ts at) w

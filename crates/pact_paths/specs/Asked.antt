@@ -5,17 +5,17 @@ use Rattle.std.specs.Ordering.{nat_cmp}
 use Rattle.std.specs.Cmp.Lexicographic.{slice_cmp}
 use Rattle.pact_paths.specs.Paths.{Token, named, indexed, any, Step, key, item}
 
--- the one step that counts 2 at a token, where no other counts anything; none at Any
+-- the one step that counts 2 at a token, while any other counts 0; none at Any
 abbrev pub only_step : Token → Option Step
 only_step (named n) = Some (key n)
 only_step (indexed i) = Some (item i)
 only_step any = None
 
--- the one step at an index that doesn't rule the path out; none where no step does, at Any and behind its end
+-- the only step at an index that doesn't rule the path out; none at Any and after the path's end
 abbrev pub asked : List Token → ℕ → Option Step
 asked tokens index = option_and_then only_step (slice_get tokens index)
 
--- numbers that compare in turn as what is asked does: nothing, then keys by their bytes, then indexes
+-- lists of numbers whose order is that of what is asked: nothing, then keys by their bytes, then indexes
 abbrev pub sort_key : Option Step → List ℕ
 sort_key None = []
 sort_key (Some (key k)) = 0 ∷ k

@@ -1,4 +1,4 @@
--- What an `Asked` stands for.
+-- The value of an `Asked` in the logic.
 use Rattle.std.specs.Prelude.{Option, Some, None}
 use Rattle.pact_paths.specs.Paths as path
 use Rattle.pact_paths.specs.declared.asked.Asked.{Asked}

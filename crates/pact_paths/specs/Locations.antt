@@ -1,4 +1,4 @@
--- What a `Step` stands for.
+-- The value of a `Step` in the logic.
 use Rattle.std.specs.Prelude.{string_bytes}
 use Rattle.pact_paths.specs.Paths as path
 use Rattle.pact_paths.specs.declared.path.Step.{Step}

@@ -11,7 +11,7 @@ abbrev pub GivesAlways : {X Y F : Type 0} → (X → Y) → Result X F → Resul
 GivesAlways view (Ok x) read = read ≡ Ok (view x)
 GivesAlways view (Err e) read = read ≡ Err e
 
--- The same of a function that takes memory only where there is no fault: each fault is what it returned.
+-- The same of a function that takes memory only if there is no fault: each fault is what it returned.
 abbrev pub GivesChecked : {X Y F : Type 0} → F → (X → Y) → Result X F → Result Y F → Type 0
 GivesChecked {X} {Y} {F} memory view result read =
     Gives memory view result read × ((fault : F) → read ≡ Err fault → result ≡ Err fault)

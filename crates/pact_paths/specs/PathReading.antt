@@ -1,5 +1,5 @@
 -- For private clauses: the reading of a text, computed from left to right as the code does it; each token takes what it
--- can. It is the one reading of `Readings`, where the meaning is stated.
+-- can. It is the one reading of `Readings`, which states the meaning.
 use Rattle.std.specs.Prelude.{ℕ, zero, suc, ◌-◌, List, [], ◌∷◌, ◌++◌, length, take, drop, ◌==◌, nat_lt, Option, Some, None, option_map, option_and_then, Result, Ok, Err, if◌then◌else◌}
 use Rattle.std.specs.Option.{option_or}
 use Rattle.std.specs.List.{position_or_len, before_first, after_first}
@@ -13,12 +13,12 @@ use Rattle.pact_paths.specs.declared.path_reader.PathFault.TheVariants.{NoRoot, 
 abbrev pub Read : Type 0
 Read = Option (Token × List ℕ)
 
--- what stands behind a byte at the front
+-- the text after this byte, if it begins with it
 abbrev pub behind : ℕ → List ℕ → Option (List ℕ)
 behind c [] = None
 behind c (b ∷ bs) = if b == c then Some bs else None
 
--- what stands before and behind the first such byte
+-- the bytes before and after the first such byte
 abbrev pub cut : ℕ → List ℕ → Option (List ℕ × List ℕ)
 cut c bs =
     if nat_lt (position_or_len (λ b. b == c) bs) (length bs)
@@ -49,7 +49,7 @@ index t =
 abbrev pub closed_star : List ℕ → Read
 closed_star t = option_map (λ rest. (any, rest)) (option_and_then (behind 93) (behind 42 t))
 
--- behind a dot, and behind a bracket
+-- a token's text after its dot, and after its bracket
 abbrev pub dotted : List ℕ → Read
 dotted t = option_or (star t) (plain t)
 
@@ -63,7 +63,7 @@ abbrev pub with_front : Token → Result (List Token) PathFault → Result (List
 with_front t (Ok ts) = Ok (t ∷ ts)
 with_front t (Err e) = Err e
 
--- a token in front of what more reads behind it, or the fault
+-- a token in front of the tokens that `more` reads after it, or the fault
 abbrev pub first_of_more : (List ℕ → Result (List Token) PathFault) → PathFault → Read → Result (List Token) PathFault
 first_of_more more fault None = Err fault
 first_of_more more fault (Some read) = with_front read.0 (more read.1)

@@ -18,7 +18,7 @@ pub record IsLongestFront (limit : ℕ) (text front rest : List ℕ) (tokens : L
   pub longest : (other behind : List ℕ) (others : List Token) → IsFront limit text other behind others
       → length other ≤ length front
 
--- behind the root the longest front of at most 60 tokens ends at an offset of the text, with some of it left
+-- after the root the longest front of at most 60 tokens ends at an offset of the text, with some of it left
 pub record StopsAt (text : List ℕ) (tokens : List Token) (offset : ℕ) : Type 0 where
   pub body : List ℕ
   pub front : List ℕ

@@ -1,4 +1,4 @@
--- What a `Token` stands for.
+-- The value of a `Token` in the logic.
 use Rattle.std.specs.Prelude.{string_bytes}
 use Rattle.pact_paths.specs.Paths as path
 use Rattle.pact_paths.specs.declared.path.Token.{Token}

@@ -22,7 +22,7 @@ product (n ∷ ns) = n * product ns
 abbrev pub product_over : List Token → Location → ℕ
 product_over tokens steps = product (token_weights tokens steps)
 
--- 0 where the path is longer than the location, else 2 for the root times the product
+-- 0 if the path is longer than the location, else 2 for the root times the product
 abbrev pub weight : List Token → Location → ℕ
 weight tokens steps = if nat_le (length tokens) (length steps) then 2 * product_over tokens steps else 0
 

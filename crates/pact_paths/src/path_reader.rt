@@ -27,7 +27,7 @@ pub enum PathFault {
     /// The text doesn't begin with `$`.
     #[error("no `$` at the front")]
     NoRoot,
-    /// No token begins at this byte, counted from 0, where reading stops before it has 60 tokens.
+    /// No token begins at this byte, counted from 0: reading stops here, before it has 60 tokens.
     #[error("no token at byte {0}")]
     BadToken(usize),
     /// Text is left after 60 tokens.

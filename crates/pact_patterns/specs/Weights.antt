@@ -9,11 +9,11 @@ use Rattle.pact_patterns.specs.declared.weights.Weighing.{Weighing}
 abbrev pub most : ℕ
 most = 1000000000
 
--- what numbers in braces repeat may be more than one place behind `)`, `}`, `*`, `+`, `?` and a blank
+-- what numbers in braces repeat may be more than one place if `)`, `}`, `*`, `+`, `?` or a blank is before them
 abbrev pub may_be_long : ℕ → Bool
 may_be_long b = nat_le b 32 || (b == 41 || (b == 125 || (b == 42 || (b == 43 || b == 63))))
 
--- `\p` and `\P` stand for large classes
+-- `\p` and `\P` begin the name of a class, which may be large
 abbrev pub names_class : ℕ → ℕ → Bool
 names_class before b = before == 92 && (b == 112 || b == 80)
 

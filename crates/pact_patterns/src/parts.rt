@@ -11,13 +11,13 @@ use std::alloc::Global;
 /// What reading a byte of a pattern counts.
 const PARTS_OF_BYTE: u64 = 10;
 
-/// What reading a bracket or a backslash counts beside that: a class may be there.
+/// What reading a bracket or a backslash counts besides that: a class may be there.
 const PARTS_OF_MARK: u64 = 250;
 
-/// How many times as much a text counts that sets flags: letters may stand for their other cases.
+/// How many times as much a text counts that sets flags: each letter may also match in its other cases.
 const TIMES_WITH_FLAGS: u64 = 5;
 
-/// What a class of characters counts, beside one for each four of its ranges.
+/// What a class of characters counts, besides one for each four of its ranges.
 const PARTS_OF_CLASS: u64 = 8;
 
 /// The parts of the pattern of a text: those of the text, and what it asks for with its repetitions written out. They

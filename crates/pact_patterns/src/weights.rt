@@ -28,7 +28,7 @@ pub(crate) struct Weighing {
     is_wide: bool,
 }
 
-/// The weight of the pattern of a text, by this text alone: no less than how many places the pattern has with its
+/// The weight of a pattern, computed from its text: no less than how many places the pattern has with its
 /// repetitions written out, up to a billion. (This project's own choice.)
 pub fn weight(source: &str) -> u64
     ensures { result ≡ weight_of source.now }

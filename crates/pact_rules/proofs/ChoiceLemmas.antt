@@ -16,9 +16,9 @@ before_not_after a b h = rw (nat_list_cmp_total.antisymm b a, h) refl
 never_both : (a b : List ℕ) → IsBefore a b → IsBefore b a → ⊥
 never_both a b h k = true≢false (ap is_lt (sym k) ∙ before_not_after a b h)
 
--- ---- weights and lengths alone
+-- ---- weights and lengths only
 
--- the second is no better than the first, texts aside
+-- the first weighs more than the second, or as much and is at least as long; the texts don't count
 abbrev AtLeast : Location → BodyRule → BodyRule → Type 0
 AtLeast at r s = (weight s.path at < weight r.path at) ⊎ ((weight s.path at ≡ weight r.path at) × (length s.path ≤ length r.path))
 

@@ -8,11 +8,11 @@ with_front front (Ok bs) = Ok (front ++ bs)
 with_front front (Err e) = Err e
 
 module _ {V A B F : Type 0} (read : ℕ → A → Result B F → Type 0) (view : V → A) (xs : List V) where
-  -- whatever may be read of those that are left makes, behind those in front, what may be read of all
+  -- each possible reading of the elements that are left, put after the ones read so far, is a reading of the whole list
   abbrev pub Completes : List B → List V → Type 0
   Completes front left = (rest : Result (List B) F) → EachRead read (length front) (map view left) rest → EachRead read 0 (map view xs) (with_front front rest)
 
-  -- an element that is read joins those in front of it, and those behind it are left
+  -- an element that is read joins the ones read so far, and the elements after it are left
   pub goes_on : (front new : List B) (x : V) (left : List V) (b : B) → read (length front) (view x) (Ok b) → new ≡ front ++ b ∷ [] → Completes front (x ∷ left) → Completes new left
   unfolding EachRead
   goes_on front new x left b h pushed k = subst (λ bs. Completes bs left) (sym pushed) more where

@@ -100,7 +100,7 @@ least_place = refl
 abbrev one : Data → Data
 one n = array (item n no_items)
 
--- the least length counts at its own place alone
+-- the least length counts only at the own place of the rule
 least_at_own_place : holds (same_type (Some 1) None) (one (string (codes "a"))) (array no_items) true ≡ false
 least_at_own_place = refl
 
@@ -113,11 +113,11 @@ other_kind = refl
 equal_numbers : holds equality (number (unsigned 1)) (number (unsigned 2)) true ≡ false
 equal_numbers = refl
 
--- the values behind the keys are no matter of this place
+-- equality at a location compares the keys of two objects, not their values, which have locations of their own
 equal_keys : holds equality (object (member (codes "a") null no_members)) (object (member (codes "a") (boolean true) no_members)) true ≡ true
 equal_keys = refl
 
--- ---- the keys of objects, whatever stands under them
+-- ---- the keys of objects, with any values
 
 abbrev a_one : Members → Members
 a_one more = member (codes "a") (number (unsigned 1)) more
@@ -207,7 +207,7 @@ least_over_most : found_in computed_path no_pattern (at_root (item (match (codes
 unfolding tokens_in
 least_over_most = refl
 
--- bounds beside another name are further keys
+-- min and max beside another name than type are unknown keys, which are ignored
 further_bounds : found_in computed_path no_pattern (at_root (item (match (codes "integer") (member (codes "min") (number (negative (negsuc 0))) no_members)) no_items))
     ≡ Ok (record { body = record { path = []; entry = record { any = false; matchers = integer ∷ [] } } ∷ []; headers = [] })
 unfolding tokens_in

@@ -30,7 +30,7 @@ joined_twice true false = refl
 joined_twice false true = refl
 joined_twice false false = refl
 
--- what changes nothing, before and behind
+-- `not any` joined with a value, before or after it, is that value
 pub none_joined : (any a : Bool) → joined any (not any) a ≡ a
 none_joined true a = refl
 none_joined false a = refl
@@ -79,12 +79,12 @@ judged_last any test [] x = judged_first any test x [] ∙ ap (joined any (test 
 judged_last any test (y ∷ ys) x = judged_first any test y (ys ++ x ∷ []) ∙ ap (joined any (test y)) (judged_last any test ys x)
     ∙ sym (joined_assoc any (test y) (judged any test ys) (test x)) ∙ ap (λ a. joined any a (test x)) (sym (judged_first any test y ys))
 
--- the answer to none of them, whatever there is
+-- no element of a list passes a test that is always false
 pub judged_false : {A : Type 0} (xs : List A) → list_any (λ x. false) xs ≡ false
 judged_false [] = refl
 judged_false (x ∷ xs) = judged_false xs
 
--- what is kept and what is left, one further
+-- after one more element: the kept answer, joined with that of the elements left, is still that of all
 pub goes_on : {A : Type 0} (any : Bool) (test : A → Bool) (kept more whole : Bool) (x : A) (xs : List A) → more ≡ joined any kept (test x)
     → joined any kept (judged any test (x ∷ xs)) ≡ whole → joined any more (judged any test xs) ≡ whole
 goes_on any test kept more whole x xs e h =
@@ -162,7 +162,7 @@ module _ (any : Bool) where
   pub more_patterns : (p a q more h : Bool) → more ≡ joined any q h → joined any p (joined any a more) ≡ joined any (joined any p (joined any a q)) h
   more_patterns p a q more h is = more_right any p (joined any a q) _ h (more_right any a q more h is)
 
--- ---- where there is no text
+-- ---- for a value without a text
 
 pub none_of_some : {A : Type 0} (any : Bool) (xs : List A) (x : A) → slice_get xs 0 ≡ Some x → judged any (λ x. false) xs ≡ false
 none_of_some any [] x is = absurd cc

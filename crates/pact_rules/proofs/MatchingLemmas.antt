@@ -37,7 +37,7 @@ contains_decides r part bs h =
 
 -- ---- the arms
 
--- the list that a vector of values stands for has as many items as the vector has elements
+-- the JSON array that a vector of values is has as many items as the vector has elements
 pub len_view : (v : Vec Value Global) → items_len (items_view v.items) ≡ vec_len v
 len_view v = items_len-items_view v.items ∙ omega (arith, v.ok)
 

@@ -77,7 +77,7 @@ module _ {A : Type 0} (text : A → List ℕ) where
       (λ equal. (subst (λ t. AllByRecursion (λ z. IsBefore t (text z)) ys) (sym (equal_texts (text x) (text y) equal)) order.0, order.1))
       (λ greater. (all_put (λ z. IsBefore (text y) (text z)) x ys (nat_list_cmp_total.antisymm (text y) (text x) ∙ ap ordering_reverse greater) order.0, order_put x ys order.1))
 
-  -- where no other has its text, those before it stay
+  -- if no other element has its text, a new element replaces none
   pub any_put : (p : A → Bool) (x : A) (ys : List A) → list_any (λ y. bytes_eq (text x) (text y)) ys ≡ false → list_any p (put text x ys) ≡ (p x || list_any p ys)
   any_put p x [] free = refl
   any_put p x (y ∷ ys) free =

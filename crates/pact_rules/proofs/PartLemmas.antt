@@ -113,7 +113,7 @@ any_of_two f g (x ∷ xs) = ap (λ r. (f x || g x) || r) (any_of_two f g xs) ∙
     exchanged false true false d = refl
     exchanged false false c d = refl
 
--- one byte further
+-- a text contains one of the parts if it begins with one, or its rest after the first byte contains one
 pub further : (xs : List (String Global)) (b : ℕ) (bs : List ℕ)
     → list_any (λ s. contains (string_bytes s) (b ∷ bs)) xs ≡ (list_any (λ s. begins (string_bytes s) (b ∷ bs)) xs || list_any (λ s. contains (string_bytes s) bs) xs)
 further xs b bs = any_of_two (λ s. begins (string_bytes s) (b ∷ bs)) (λ s. contains (string_bytes s) bs) xs

@@ -95,7 +95,7 @@ goes_bind P Q R S r s f g h k = (
       ⊎_elim (λ p. ⊎_elim (λ q. inl (ap (λ t. t >>= g) p ∙ q)) (λ q. inr (ap (λ t. t >>= g) p ∙ q)) ((k b.0 first.0).1 e b.2)) (λ p. inr (ap (λ t. t >>= g) p.0)) first.1) (bind_err r f e d),
 )
 
--- behind a step in which no pattern has a part
+-- after a step that reads no pattern
 goes_on : {A B : Type 0} (P Q : B → Type 0) (r : Result A RuleFault) (f g : A → Result B RuleFault) → ((x : A) → Goes P Q (f x) (g x)) → Goes P Q (r >>= f) (r >>= g)
 goes_on P Q (Ok x) f g k = k x
 goes_on P Q (Err e) f g k = goes_fault P Q e
@@ -341,7 +341,7 @@ module _ (few : List ℕ → Bool) (among : (source : List ℕ) → few source �
 pub none_accepted : (source : List ℕ) → no_pattern source ≡ true → is_pattern source ≡ true
 none_accepted source e = absurd (true≢false (sym e))
 
--- a pattern that is met behind what was read is met in the whole
+-- if the next step ends with the fault Pattern, so does the whole, also if fewer patterns are accepted
 pub stops_on : {A B : Type 0} (P Q : A → Type 0) (r s : Result A RuleFault) (f : A → Result B RuleFault) (x : A) → Goes P Q r s → r ≡ Ok x → f x ≡ Err Pattern
     → (s >>= f) ≡ Err Pattern
 stops_on P Q r s f x goes e h = ⊎_elim (λ p. ap (λ t. t >>= f) p ∙ h) (λ p. ap (λ t. t >>= f) p.0) (goes.0 x e).1

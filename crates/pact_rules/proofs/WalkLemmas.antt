@@ -18,7 +18,7 @@ use Rattle.pact_rules.specs.declared.table.BodyRule as code
 
 -- ---- elements of a list
 
--- what stands in a list stands at a place
+-- an element of a list has an index in it
 pub place_of : {A : Type 0} (xs : List A) (x : A) → Contains xs x → (k : ℕ) × (k < length xs) × (slice_get xs k ≡ Some x)
 place_of xs x h = (h.0, h.1, slice_get-get_or xs h.0 x h.1 ∙ ap (λ y. Some y) h.2)
 
@@ -29,7 +29,7 @@ the_one : {A : Type 0} (x y : A) → Contains (y ∷ []) x → x ≡ y
 the_one x y (zero, lt, is) = sym is
 the_one x y (suc k, lt, is) = absurd (omega (arith, lt))
 
--- nothing stands in an empty list
+-- an empty list has no element
 pub none_there : {T : Type 0} (e : ℕ × ℕ) (xs : List Survivor) → xs ≡ [] → Contains (map survivor_view xs) e → T
 none_there e xs is h = absurd (omega (arith, h.1, ap (λ ys. length (map survivor_view ys)) is))
 
@@ -436,7 +436,7 @@ best_is_choice rules w at n (Some f) order h all best = (
 
 -- ---- the own place
 
--- what is chosen stands in the list
+-- the chosen rule is in the list, at the index it is given with
 abbrev pub IsThere : List BodyRule → Option (ℕ × BodyRule) → Type 0
 IsThere rules o = MatchOption o (Unit {0}) (λ b. slice_get rules b.0 ≡ Some b.1)
 
@@ -452,7 +452,7 @@ there_pick : (at : Location) (r : BodyRule) (rules : List BodyRule) (o : Option 
 there_pick at r rules None is = there_alone (ltb 0 (weight r.path at)) r rules
 there_pick at r rules (Some b) is = there_by (beats at b.1 r) r rules b is
 
--- the best rule at a location, if there is one, stands in the list at the index it is given with
+-- the best rule at a location, if there is one, is in the list at the index it is given with
 pub best_there : (rules : List BodyRule) (at : Location) → IsThere rules (best rules at)
 best_there [] at = tt
 best_there (r ∷ rules) at = there_pick at r rules (best rules at) (best_there rules at)

@@ -7,7 +7,7 @@ use Rattle.pact_rules.specs.declared.table.Candidate.{Candidate}
 abbrev pub outweighs : Candidate → Candidate → Bool
 outweighs a b = nat_lt b.weight a.weight || (a.weight == b.weight && nat_lt b.tokens a.tokens)
 
--- the earlier one, unless the one found behind it outweighs it; a rule of no weight is never one
+-- the earlier rule, unless the one found after it outweighs it; a rule of no weight is never taken
 abbrev pub better_of : Candidate → Option Candidate → Option Candidate
 better_of earlier None = if nat_lt 0 earlier.weight then Some earlier else None
 better_of earlier (Some found) = if outweighs found earlier then Some found else Some earlier

@@ -21,7 +21,7 @@ IsChosen rules at i =
     (r : BodyRule) × (slice_get rules i ≡ Some r) × (0 < weight r.path at)
     × ((j : ℕ) (s : BodyRule) → slice_get rules j ≡ Some s → j ≢ i → 0 < weight s.path at → Beats at r s)
 
--- there is none where no weight is positive
+-- no rule is chosen if none has a positive weight, and else the choice is the chosen rule
 abbrev pub IsChoice : List BodyRule → Location → Option ℕ → Type 0
 IsChoice rules at choice =
     MatchOption choice ((j : ℕ) (s : BodyRule) → slice_get rules j ≡ Some s → weight s.path at ≡ 0) (IsChosen rules at)

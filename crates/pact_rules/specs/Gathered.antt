@@ -60,7 +60,7 @@ gathered_hold any g x y own = joined any (plain_hold any g x y own) (texts_hold 
 abbrev pub SaysAs : Bool → Gathered → List Matcher → Type 0
 SaysAs any g ms = (x y : Data) (own : Bool) → gathered_hold any g x y own ≡ judged any (λ m. holds m x y own) ms
 
--- it has a pattern just where they have
+-- a pattern was gathered
 abbrev pub has_pattern : Gathered → Bool
 has_pattern g = list_any (λ s. true) g.patterns.items
 

@@ -1,4 +1,4 @@
--- What stands in a list.
+-- What a list has in it.
 use Rattle.std.specs.Prelude.{◌≡◌, ◌⊎◌, List, [], ◌∷◌}
 
 -- P holds of one of them

@@ -1,4 +1,4 @@
--- What a matcher stands for.
+-- The matcher of the specs that a matcher of the code is.
 use Rattle.std.specs.Prelude.{string_bytes}
 use Rattle.pact_rules.specs.Rules as rules
 use Rattle.pact_rules.specs.declared.table.Matcher.{Matcher}

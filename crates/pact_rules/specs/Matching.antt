@@ -79,7 +79,7 @@ text_form d = None
 abbrev pub begins : List ℕ → List ℕ → Bool
 begins part bs = bytes_eq part (take (length part) bs)
 
--- the part stands somewhere in the text
+-- the part is somewhere in the text
 abbrev pub contains : List ℕ → List ℕ → Bool
 contains part [] = begins part []
 contains part (b ∷ bs) = begins part (b ∷ bs) || contains part bs

@@ -8,7 +8,7 @@ abbrev pub ◌>>=◌ : {A B F : Type 0} → Result A F → (A → Result B F) �
 (Ok x) >>= f = f x
 (Err e) >>= f = Err e
 
--- the fault, where the test fails
+-- the fault, if the test fails
 abbrev pub guard : {F : Type 0} → Bool → F → Result ⊤ F
 guard true fault = Ok tt
 guard false fault = Err fault

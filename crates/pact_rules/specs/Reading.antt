@@ -5,7 +5,7 @@ use Rattle.std.specs.Prelude.{◌≡◌, ℕ, ◌+◌, List, [], ◌∷◌, Resu
 abbrev pub just : {A F : Type 0} → Result A F → Result A F → Type 0
 just read answer = read ≡ answer
 
--- what is answered behind a first answer: it goes on, or the fault stays
+-- what is answered after a first answer: a value goes to the next step, and a fault is the answer of the whole
 abbrev pub Follows : {A B F : Type 0} → Result A F → (A → Result B F → Type 0) → Result B F → Type 0
 Follows (Ok x) next answer = next x answer
 Follows (Err e) next answer = answer ≡ Err e

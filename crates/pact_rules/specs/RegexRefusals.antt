@@ -9,12 +9,12 @@ use Rattle.pact_rules.specs.declared.rule_fault.RuleFault.TheVariants as rule_fa
 use Rattle.pact_rules.specs.declared.matching.MatchFault.{MatchFault}
 use Rattle.pact_rules.specs.declared.matching.MatchFault.TheVariants as match_fault
 
--- no memory is Memory, and each other cause is Pattern: where a table is read,
+-- the fault of reading a table: Memory if memory ran out, and Pattern for each other error of the regex crate
 abbrev pub as_rule_fault : Error → RuleFault
 as_rule_fault OutOfMemory = rule_fault.Memory
 as_rule_fault e = rule_fault.Pattern
 
--- and where a matcher is compared with a value
+-- the same for the fault of comparing a matcher with a value
 abbrev pub as_match_fault : Error → MatchFault
 as_match_fault OutOfMemory = match_fault.Memory
 as_match_fault e = match_fault.Pattern
@@ -33,7 +33,7 @@ abbrev pub IsRefused : List ℕ → RuleFault → Type 0
 IsRefused source fault = HasCause as_rule_fault source fault
     ⊎ ((fault ≡ rule_fault.Pattern) × ((most_pattern_bytes < length source) ⊎ (is_pattern source ≡ true)))
 
--- How a matcher may fail: one that builds a text where no memory is left, one with a pattern as the crate refuses it,
+-- How a matcher may fail: one that builds a text if memory runs out, one with a pattern as the crate refuses it,
 -- and no other.
 abbrev pub CanFail : Matcher → MatchFault → Type 0
 CanFail (regex source) fault = HasCause as_match_fault source fault

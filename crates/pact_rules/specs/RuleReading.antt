@@ -1,6 +1,6 @@
 -- Reading a table of rules, with the first fault in the order: the table's form, old rules, then the categories and
--- entries in the order of their keys; of an entry its path, the same path, its form, combine, and its matchers in
--- turn; of a matcher its form, its name, its bounds and its pattern. A table is the entries with an effect: those of
+-- entries in the order of their keys; of an entry its path, the same path, its form, combine, then each of its
+-- matchers; of a matcher its form, name, bounds and pattern. A table is the entries with an effect: those of
 -- the body in the order of their paths' canonical text, those of headers in the order of their names without ASCII
 -- case. The names are those of the Pact Specification, version 3.
 use Rattle.std.specs.Prelude.{◌≡◌, ℕ, Bool, true, false, ◌&&◌, ◌||◌, not, List, [], ◌∷◌, codes, Option, Some, None, option_map, option_and_then, Result, Ok, Err, bytes_eq, is_some, nat_le, nat_eq, if◌then◌else◌}
@@ -113,7 +113,7 @@ module _ (accepts : List ℕ → Bool) where
       ok_or (as_text (Some n)) BadCombine >>= (λ word.
       if bytes_eq word (codes "AND") then Ok false else if bytes_eq word (codes "OR") then Ok true else Err BadCombine)
 
-  -- an entry, behind its key
+  -- an entry, from the value of its key
   abbrev pub entry_at : Bool → Data → Result Entry RuleFault
   entry_at in_header n = do
     fs ← ok_or (as_object n) Form
@@ -122,7 +122,7 @@ module _ (accepts : List ℕ → Bool) where
     ms ← matchers_at in_header ns
     Ok (record { any = any; matchers = ms })
 
-  -- a header entry: two names are one where they differ in ASCII case alone
+  -- a header entry: two names that differ only in ASCII case are the same name
   abbrev pub header_rule_at : List HeaderRule → List ℕ → Data → Result HeaderRule RuleFault
   header_rule_at before k n = do
     guarded ← guard (not (list_any (λ h. str_eq_ignore_ascii_case k h.name) before)) SamePathTwice

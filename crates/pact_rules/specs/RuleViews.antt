@@ -1,4 +1,4 @@
--- What the parts of a table stand for.
+-- The rules of the specs that the parts of a table in the code are.
 use Rattle.std.specs.Prelude.{◌≡◌, ℕ, List, map, String, string_bytes}
 use Rattle.std.specs.List.{AllByRecursion}
 use Rattle.std.specs.declared.alloc.Global.{Global}
@@ -28,6 +28,6 @@ body_rules es = map (λ e. rule_view e.1) es
 abbrev pub header_rules : List (String Global × HeaderRule) → List rules.HeaderRule
 header_rules es = map (λ e. header_view e.1) es
 
--- for private clauses: each value of a map stands under its text
+-- for private clauses: the key of each value of a map is the text of the value
 abbrev pub IsKeyedBy : {X A : Type 0} → (X → A) → (A → List ℕ) → List (String Global × X) → Type 0
 IsKeyedBy view text es = AllByRecursion (λ e. string_bytes e.0 ≡ text (view e.1)) es

@@ -145,7 +145,7 @@ fn distinct(alloc: Global, texts: Vec<String>) -> Result<Vec<String>, AllocError
     Ok(without_neighbours(alloc, &sorted)?)
 }
 
-/// The parts that are asked for: none that another one tells of too.
+/// The parts to look for: each once, and if one is enough, none that begins with another one.
 fn distinct_parts(alloc: Global, any: bool, texts: Vec<String>) -> Result<Vec<String>, AllocError>
     ensures { IfOk result (λ v. (x y : Data) (own : Bool)
         → judged any (part_holds x y own) v.items ≡ judged any (part_holds x y own) texts.items) }

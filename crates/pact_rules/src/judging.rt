@@ -54,7 +54,7 @@ impl Entry {
         }
     }
 
-    /// The same by each matcher in turn.
+    /// The same by each matcher, one after another.
     fn each_holds(
         &self,
         alloc: Global,

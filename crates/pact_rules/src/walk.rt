@@ -53,7 +53,7 @@ impl RuleTable {
     pub fn start(&self, alloc: Global) -> Result<Alive, AllocError>
         ensures walk { IfOk result (λ a. HasReached self.now a []) }
 
-        // The entries stand in order of canonical text.
+        // The entries are in the order of their canonical texts.
         ensures order { IsInOrder self.now.body }
     {
         let mut entries = first_survivors(alloc, &self.body)?;

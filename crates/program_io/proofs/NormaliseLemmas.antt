@@ -19,7 +19,7 @@ read_whole : (before after : Option (List ℕ)) (bytes : List ℕ) (pact : Pact)
 read_whole before after bytes pact read is =
     ⊎_elim (λ end. end) (λ long. absurd (omega (arith, long, short_pact bytes pact is))) read.1
 
--- so the normal text that is told of what was read, or the beginning of it, is that of the whole
+-- so the normal text that is written of what was read, or the beginning of it, is that of the whole
 module _ (before after old new : Option (List ℕ)) (bytes : List ℕ) (read : IsReadUpTo before after bytes) where
   pub told_whole : {F : Type 0} (r : Result (Unit {0}) F) → OnOk r (TellsNormalText bytes old new) → OnOk r (Normalises before after old new)
   told_whole (Ok u) (text, (pact, is, normal), out) =

@@ -5,7 +5,7 @@ use Rattle.std.proofs.{KnownBytes.{Appends-trans}, Math.Seq.{take-append-add}, l
 use Rattle.http_responses.specs.declared.writing.WriteFault.{WriteFault}
 use Rattle.program_io.specs.Written.{IsBegun, IsLineOut, newline}
 
--- a beginning of what stands behind the text
+-- the text is out, and then a beginning of what comes after it
 pub behind : (a b c : Option (List ℕ)) (text more : List ℕ) → Appends a b text → IsBegun more b c → IsBegun (text ++ more) a c
 behind a b c text more whole p = (
   length text + p.0,

@@ -1,4 +1,4 @@
--- what is told of a verdict, by whether no interaction fails
+-- The text of a verdict, by whether no interaction fails.
 use Rattle.std.{specs.List.{flat_map}, proofs.Common.{◌≡◌, ◌↔◌, ◌++◌, ℕ, List, [], ◌∷◌, Bool, true, false, IsTrue, codes, refl}}
 use Rattle.program_io.specs.Written.{is_pass, place_text, verdict_text}
 

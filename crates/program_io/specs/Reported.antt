@@ -76,6 +76,6 @@ FailsToCheck (files.Pact file) f = IsPactFault file.items f ⊎ ((pact : Pact) �
 FailsToCheck (files.Both file recorded) f =
     (pact : Pact) × Normal file.items (Ok pact) × (IsFromOutside f ⊎ IsRepliesFault pact recorded.items f)
 
--- what reading a file gave is handed on: memory is told only of that
+-- the fault of a file that couldn't be read: Memory if and only if reading it ran out of memory, else File
 abbrev pub IsReadFault : ErrorKind → RunFault → Type 0
 IsReadFault kind f = ((kind ≡ OutOfMemory) × (f ≡ run_fault.Memory)) ⊎ ((kind ≢ OutOfMemory) × (f ≡ run_fault.File))

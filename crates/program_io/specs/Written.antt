@@ -64,7 +64,7 @@ module _ (before after old new : Option (List ℕ)) where
 
 -- ---- check
 
--- a place, behind a space
+-- a place, after a space
 abbrev pub place_text : ℕ → List ℕ
 place_text place = codes " " ++ decimal place
 

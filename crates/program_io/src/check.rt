@@ -22,7 +22,7 @@ use std::io::{self, Read, Write};
 pub enum FilesRead {
     /// The pact file couldn't be read.
     Neither,
-    /// The pact file alone: it has a fault, or the file of replies couldn't be read.
+    /// Only the pact file: it has a fault, or the file of replies couldn't be read.
     Pact(Vec<u8>),
     /// The pact file and the file of replies.
     Both(Vec<u8>, Vec<u8>),

@@ -1,4 +1,4 @@
-//! Peers that come in one after the other, to be served by a function that is proved of whatever they send and take.
+//! Peers that come in one after the other, to be served by a function that is proved for all that they send and take.
 ghost use Rattle.std.specs.Prelude.{◌≡◌, ◌≢◌, ◌+◌, ◌<◌, length, refl, IfSome, MatchOption};
 ghost use Rattle.std.specs.Borrow.{sem, Lends};
 ghost use Rattle.program_io.specs.Entrance.{IsLetGo, IsLetIn, IsLost, Queue, peer_of, queue_of};
@@ -21,7 +21,7 @@ pub trait Peers {
     /// What is known of them.
     ghost queue: { Self → Queue };
 
-    /// The same peers behind another door.
+    /// The same peers with another door.
     ghost with_door: { Self → Self.Door → Self };
 
     /// How many are still to come,
@@ -52,7 +52,7 @@ pub trait Peers {
         0
     }
 
-    /// Lets the one go that is in.
+    /// Lets go the peer that is in.
     fn let_go(&mut self, reader: Self::Reader, writer: Self::Writer)
         requires { length (queue self.old).went < length (queue self.old).came }
         ensures { IsLetGo (queue self.old) (queue self.new)

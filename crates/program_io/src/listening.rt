@@ -20,7 +20,7 @@ pub struct Entrance {
     waiting: Vec<Waiting<TcpStream>>,
     /// How many more are to be taken in.
     room: u32,
-    /// How many were taken in and are gone, and weren't told of.
+    /// How many were taken in and are gone, and weren't reported as lost yet.
     gone: u32,
     rt: HostRuntime,
     ghost fits: { gone + room ≤ 4294967295 },
@@ -51,7 +51,7 @@ impl Entrance {
         }
     }
 
-    /// Takes in those that have come, but no more than will be served. They wait behind the others. Who is ready stays.
+    /// Takes in those that have come, but no more than will be served. They wait after the others. Who is ready stays.
     fn gather(&mut self)
         ensures ready { KeepsReady (λ it. is_ready it.arrived) self.old.waiting.items self.new.waiting.items }
         ensures counts { length self.old.waiting.items + self.old.room + self.old.gone
@@ -123,7 +123,7 @@ impl Door for Entrance {
 /// So many connections that come in at an address, one after the other.
 #[derive(Drop)]
 pub struct Connections {
-    /// Where they come in, and where it is seen whether another one waits.
+    /// Where they come in. It also sees whether another one waits.
     pub entrance: Entrance,
     /// How many are still to be taken,
     pub left: u32,

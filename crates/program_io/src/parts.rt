@@ -1,4 +1,4 @@
-//! The text of each fault, in parts, so that it takes no memory to tell it.
+//! The text of each fault, in parts, so that no memory is needed to write it.
 ghost use Rattle.std.specs.Prelude.{◌≡◌, ◌++◌};
 ghost use Rattle.pact_file.specs.Words.{parts_text};
 ghost use Rattle.program_io.specs.Faults.{fault_text, opening_text, serving_text as spec_serving_text};

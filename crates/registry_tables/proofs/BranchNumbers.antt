@@ -45,7 +45,7 @@ pub below : (p b : List ℕ) (k : ℕ)
 unfolding understood everything
 below p b k = record { names = _; means = record { is = refl; plain = (refl, refl); unlisted = refl }; runs = record { whole = refl; typed = refl; sumless = refl } }
 
--- where the versions are few enough, the numbers can be read
+-- if the versions are few enough, the numbers can be read
 pub numbers_reads : (p b : List ℕ) (db : Database) → EachReads (numbers p b) db IsNumberRow
 numbers_reads p b db s held readable =
     of_both (numbers p b) db _ (λ v x hv hx kept. number_cell (eval_all (col 1 in_versions.number ∷ []) ([] ∷ v ∷ x ∷ [])) 0 (whole_at in_versions.number v) (omega arith) (version_number db held.broker v hv) (version_low db s held readable v hv))
@@ -76,7 +76,7 @@ module _ (db : Database) (s : Broker) (held : Holds db s) (p b : List ℕ) where
       let branch = text_test (column x in_branches.branch) (Text b) _ b (texts_in at_branches db held.broker in_branches.branch refl x hx) refl in
       (λ kept. let it = all.0 kept in (number.0 it.0, owner.0 it.1, branch.0 it.2), λ is. all.1 (number.1 is.0, owner.1 is.1, branch.1 is.2))
 
-  -- a pair stands for a number on the branch
+  -- the number of a pair is one on the branch
   sound_pair : (r x : Row) → Has (db.trees in_versions.tree) r → Has (db.trees in_branches.tree) x → IsPair p b r x → (n : ℕ)
       → whole_at in_versions.number r ≡ pos n → IsBranchNumber s p b n
   sound_pair r x hr hx pair n is =

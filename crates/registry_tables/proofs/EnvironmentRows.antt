@@ -42,7 +42,7 @@ gated_query = from_table in_environments.tree by_name (col 1 in_environments.gat
 abbrev marked : Column → Column → Bool → Bool → List Column
 marked a b x y = record a { name = codes "name"; kind = kind.Text; collation = Binary; is_strict = x } ∷ record b { name = codes "gated"; kind = kind.Integer; collation = Binary; is_strict = y } ∷ []
 
--- the broker's tables, where environments is this one
+-- the broker's tables, with this one as environments
 abbrev with_marks : Schema → (ℕ → Table) → Table → Schema
 with_marks s given t = record s { tables = laid_out broker_schema.tables (λ n. if n == 5 then t else given n) }
 
@@ -144,7 +144,7 @@ mark_is_number row stands = (stands.0, (stands.1.0, stands.1.1, omega (arith, st
 
 -- ---- the mark strict
 
--- the marks of a name, by what its row has and by whether it stands among the strict ones
+-- the marks of a name, by what its row has and by whether the name is among the strict ones
 marks_at : (strict rows : List Row) (e : List ℕ) → value_at text_cmp (text in_environments.name) (marks_in strict) rows e ≡ option_map (λ g. marks g (stands_at text_cmp (text in_strict_environments.environment) strict e)) (value_at text_cmp (text in_environments.name) (truth in_environments.gated) rows e)
 marks_at strict [] e = refl
 marks_at strict (r ∷ rows) e = go (eq_by_cmp text_cmp e (text in_environments.name r)) refl (marks_at strict rows e)
@@ -155,7 +155,7 @@ marks_at strict (r ∷ rows) e = go (eq_by_cmp text_cmp e (text in_environments.
     go true same later = ap (λ k. Some (marks (truth in_environments.gated r) (stands_at text_cmp (text in_strict_environments.environment) strict k))) (sym (exact_texts e (text in_environments.name r) ((Equal-is (text_cmp e (text in_environments.name r))).0 same)))
     go false apart later = later
 
--- so whether a name that has marks stands there is one of them
+-- so whether a name that has marks is there is one of them
 strict_is : (g : Option Bool) (stands : Bool) (m : Marks) → option_map (λ x. marks x stands) g ≡ Some m → stands ≡ m.strict
 strict_is None stands m is = absurd cc
 strict_is (Some x) stands m is = let same : marks x stands ≡ m = cc in ap (λ (k : Marks). k.strict) same

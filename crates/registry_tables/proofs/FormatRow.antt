@@ -48,7 +48,7 @@ module _ (old new : State) (s : Broker) (held : HoldsUnmarked former_format adde
   abbrev rows : List Row
   rows = old.now.trees in_meta.tree
 
-  -- the row that is to stand there
+  -- the row that meta is to have
   abbrev made : Row
   made = row_of format s.office
 

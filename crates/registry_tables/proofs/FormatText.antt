@@ -90,12 +90,12 @@ module _ (s : Schema) (at : ℕ) (t : Table) (a b c : Column) (there : table_nam
   unlisted true is_accepted = ap misses_table (compiled_so true is_accepted)
   unlisted false is_accepted = ap misses_table (compiled_so false is_accepted)
 
-  -- it is read just if its types are accepted
+  -- it is read if and only if its types are accepted
   pub format_understood : (ok : Bool) → accepted ≡ ok → understood s format_sql ≡ read_if ok t.tree
   unfolding understood
   format_understood ok is_accepted = ap (λ x. if x then if_select (compiled listing_schema format_sql) else compiled s format_sql) (unlisted ok is_accepted) ∙ compiled_so ok is_accepted
 
-  -- where it is read at all, it is this query
+  -- if it is read at all, it is this query
   pub format_means : (it : Compiled) → understood s format_sql ≡ Ok it → Means s format_sql (format_command t.tree)
   format_means it e = go accepted refl
     where

@@ -8,11 +8,11 @@ use Rattle.broker_tables.proofs.Former.{KeepsOthers}
 use Rattle.registry_tables.specs.Format.{KeepsFormerRows}
 
 module _ (old mid new : Database) where
-  -- they stay where all of them stayed before
+  -- they stay if all of them stayed before
   pub rows_stay : KeepsRows (schema_of former_tables).tables old.trees mid.trees → KeepsFormerRows mid new → KeepsFormerRows old new
   rows_stay = all_both (λ t. mid.trees t.tree ≡ old.trees t.tree) (KeepsOthers mid.trees new.trees) (KeepsOthers old.trees new.trees) (λ t same still other. still other ∙ same) (schema_of former_tables).tables
 
-  -- so they do where the table of strict environments was made
+  -- they stay too if the table of strict environments was made before
   pub rows_stay_strict : old.schema ≡ schema_of (former_tables ++ checked_results ∷ []) → Creates old mid strict_environments → KeepsFormerRows mid new → KeepsFormerRows old new
   rows_stay_strict is made =
       rows_stay (all_front (λ t. mid.trees t.tree ≡ old.trees t.tree) (schema_of former_tables).tables (record checked_results { tree = in_checked_results.tree } ∷ [])

@@ -64,7 +64,7 @@ Shows rows out = IsPermutation (map (shows (col 1 in_meta.format ∷ []) []) (fi
 as_many : (rows out : List Row) → Shows rows out → length out ≡ length rows
 as_many rows out same = length_permutation _ out same ∙ length-map (filter (keeps [] []) rows) (shows (col 1 in_meta.format ∷ []) []) ∙ ap length (filter_all (keeps [] []) rows (λ r has. refl))
 
--- where one row is shown, it shows the format in the one row of the table
+-- if one row is shown, it shows the format in the one row of the table
 one_shown : (rows out : List Row) → Shows rows out → length out ≡ 1 → (r : Row) × (rows ≡ r ∷ []) × (out ≡ (column r in_meta.format ∷ []) ∷ [])
 one_shown [] out same one = let many = as_many [] out same in absurd (omega arith)
 one_shown (r ∷ []) out same one = (r, refl, one_permutation _ out same)

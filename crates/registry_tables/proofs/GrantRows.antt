@@ -15,7 +15,7 @@ use Rattle.registry_tables.specs.Registry.{AddsGrant, RemovesGrant}
 abbrev key : Row → List ℕ × List ℕ
 key r = (text in_grants.team r, text in_grants.environment r)
 
--- ---- whether a grant stands
+-- ---- whether there is a grant
 
 pub granted : (team e : List ℕ)
     → Asked (codes "SELECT team FROM grants WHERE team = ?1 AND environment = ?2")

@@ -182,14 +182,14 @@ office_found db rows s held h =
     (answered db [] in_meta.tree [] _ [] rows h)) in
     ap (λ xs. option_map (text 0) (slice_get xs 0)) shown ∙ ap Some one.3
 
--- where the digest is a text in UTF-8, it can be read
+-- the digest of the office's token can be read, as it is a text in UTF-8
 pub office_reads : (db : Database) → FirstReads office db (IsTextAt 0)
 office_reads db s held readable = text_reads office db (texts_in at_meta db held.broker in_meta.office_digest refl) (λ rows h row head.
     let is : Some (text 0 row) ≡ Some s.office = sym (ap (option_map (text 0)) head) ∙ office_found db rows s held h in
     let same : text 0 row ≡ s.office = cc in
     subst IsUtf8 (sym same) readable.office)
 
--- where meta has no row, only the store is ever out of memory
+-- if meta has no row, only the store is ever out of memory
 pub no_office : (old new : State) (fault : StoreFault) → IsBroker old.now → old.now.trees in_meta.tree ≡ [] → FailsToTake TellsText office_sql [] old new fault → IsTrue old.in_transaction → fault ≡ Memory → IsEnded old new Memory
 no_office old new fault broker none (inl refused) inside is = refused_memory old new refused.0 fault refused.1 (query_by office_sql [] old new refused.0 refused.2) is
 no_office old new fault broker none (inr (rows, shown, row, first, tells)) inside is =

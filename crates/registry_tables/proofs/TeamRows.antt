@@ -26,12 +26,12 @@ pub token_found : (team : List ℕ) (db : Database) (rows : List Row) (s : Broke
 token_found team db rows s held h =
     finds teams_by_name db held.broker (Text team ∷ []) team refl (text in_teams.token_digest) (text 0) (λ r. refl) rows h ∙ held.teams team
 
--- where the digest is a text in UTF-8, it can be read
+-- the digest of a team's token can be read, as it is a text in UTF-8
 pub token_reads : (team : List ℕ) (db : Database) → FirstReads (token team) db (IsTextAt 0)
 token_reads team db s held readable =
     text_reads (token team) db (texts_in at_teams db held.broker in_teams.token_digest refl) (λ rows h row head. (readable.teams team (text 0 row) (sym (token_found team db rows s held h) ∙ ap (option_map (text 0)) head)).1)
 
--- where nothing is told of a first row, no row is shown
+-- if the first row of no answer has a text, no row is shown
 pub none_shown : {sql : List ℕ} {params : Row} {query : Query} (asked : Asked sql params query) (db : Database)
     → ((rows : List Row) → IsShown asked db rows → option_map (text 0) (slice_get rows 0) ≡ None) → FirstShown asked db (λ row. ⊥)
 none_shown asked db none rows h row head = let clash : Some (text 0 row) ≡ None = ap (option_map (text 0)) (sym head) ∙ none rows h in cc
@@ -57,12 +57,12 @@ holder_found digest db rows s held h =
     go None e = λ t has. no_other_way nat_list_cmp_total exact_texts nat_list_cmp_total exact_texts (text in_teams.name) (text in_teams.token_digest) (db.trees in_teams.tree) t digest e (held.teams t ∙ has)
     go (Some name) e = sym (held.teams name) ∙ other_way nat_list_cmp_total exact_texts nat_list_cmp_total exact_texts (text in_teams.name) (text in_teams.token_digest) (db.trees in_teams.tree) name digest (keys_of teams_by_name db held.broker) e
 
--- where the team's name is a text in UTF-8, it can be read
+-- the team's name can be read, as it is a text in UTF-8
 pub holder_reads : (digest : List ℕ) (db : Database) → FirstReads (holder digest) db (IsTextAt 0)
 holder_reads digest db s held readable =
     text_reads (holder digest) db (texts_in at_teams db held.broker in_teams.name refl) (λ rows h row head. (readable.teams (text 0 row) digest (subst (IsTeamOf s digest) (ap (option_map (text 0)) head) (holder_found digest db rows s held h))).0.0)
 
--- where no team has this digest, no row is shown
+-- if no team has this digest, no row is shown
 pub holder_missing : (digest : List ℕ) (db : Database) (s : Broker) → Holds db s → ((t : List ℕ) → ¬ (s.teams t ≡ Some digest)) → FirstShown (holder digest) db (λ row. ⊥)
 holder_missing digest db s held none rows h row head = none (text 0 row) (subst (IsTeamOf s digest) (ap (option_map (text 0)) head) (holder_found digest db rows s held h))
 
@@ -122,7 +122,7 @@ pub owner_found : (p : List ℕ) (db : Database) (rows : List Row) (s : Broker) 
 owner_found p db rows s held h =
     finds pacticipants_by_name db held.broker (Text p ∷ []) p refl (text in_pacticipants.team) (text 0) (λ r. refl) rows h ∙ held.pacticipants p
 
--- where the owner is a text in UTF-8, it can be read
+-- the owner can be read, as it is a text in UTF-8
 pub owner_reads : (p : List ℕ) (db : Database) → FirstReads (owner p) db (IsTextAt 0)
 owner_reads p db s held readable =
     text_reads (owner p) db (texts_in at_pacticipants db held.broker in_pacticipants.team refl) (λ rows h row head. (readable.pacticipants p (text 0 row) (sym (owner_found p db rows s held h) ∙ ap (option_map (text 0)) head)).1.0)

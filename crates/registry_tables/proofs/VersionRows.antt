@@ -34,7 +34,7 @@ known_found p name db rows s found held h read =
     ∙ version_row (db.trees in_versions.tree) s.versions p name held.versions) in
     (same, ap is_some same ∙ known_numbered s (version p name))
 
--- where the versions are few enough, the number can be read
+-- if the versions are few enough, the number can be read
 pub known_reads : (p name : List ℕ) (db : Database) → EachReads (known p name) db IsNumberRow
 known_reads p name db s held readable = number_reads (known p name) db (λ r has. (version_number db held.broker r has, version_low db s held readable r has))
 

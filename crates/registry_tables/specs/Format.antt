@@ -1,4 +1,4 @@
--- What tells that a database is a broker's, and the format of its tables.
+-- Which databases are a broker's, and the format of their tables.
 use Rattle.std.specs.Prelude.{◌≡◌, ◌≢◌, ◌⊎◌, ◌<◌, ◌^◌, ◌==◌, ℕ, pos, [], ◌∷◌, List, find, map, length, slice_get, option_and_then, Option, Some, None, MatchOption, IsSomeAnd, Result, IfErr}
 use Rattle.std.specs.List.{AllByRecursion, AllZip}
 use Rattle.sqlite.specs.Table.{Table}
@@ -69,13 +69,13 @@ abbrev pub SharesTree : Database → Type 0
 SharesTree db = (table : Table) × (table_of meta.name db.schema ≡ Some table) × IsMetaTable table
     × (find (λ t. t.tree == table.tree) db.schema.tables ≢ Some table)
 
--- Why no format is told: the store failed, there is no number, or two tables have one tree. Nothing else that a schema
+-- Why no format is found: the store failed, there is no number, or two tables have one tree. Nothing else that a schema
 -- may have refuses the query: no view of that name, no column that is computed, no collation, no other columns or keys.
 abbrev pub FailsToFind : State → State → StoreFault → Type 0
 FailsToFind old new fault =
     HasFailed old new fault ⊎ ((fault ≡ Store) × (HasNoFormat old.now ⊎ SharesTree old.now))
 
--- without a limit of steps it fails for this alone
+-- without a limit of steps it fails only for this
 abbrev pub FailsOnlyFor : {A : Type 0} → State → State → Result A StoreFault → (State → State → StoreFault → Type 0)
     → Type 0
 FailsOnlyFor old new r Cause = HasCleanDisk new → old.step_limit ≡ None → IfErr r (Cause old new)
@@ -91,7 +91,7 @@ abbrev pub HasKeys : Option ℕ → List ℕ → List (List ℕ) → Table → T
 HasKeys key primary uniques table = (table.key ≡ key) × (table.primary ≡ primary) × AreKeys uniques table.uniques
 
 -- Each column compares texts by their bytes: neither letters without their case (NOCASE), nor without the blanks at
--- their end (RTRIM). So a row is found by its own name alone.
+-- their end (RTRIM). So only its own name finds a row.
 abbrev pub CompareBytes : List Column → Type 0
 CompareBytes = AllByRecursion (λ c. c.collation ≡ Binary)
 
@@ -116,7 +116,7 @@ FindsFormer db found = MatchOption found
     (λ n. IsOfFormat n db × (n ≡ former_format → HasFormerTables db.schema))
 
 -- A database has the tables of format 1, and after them these, and holds a state. The digest of its office's token,
--- which stands in the row of meta, has ten million bytes at most; that of any token has 64.
+-- which is in the row of meta, has ten million bytes at most; that of any token has 64.
 abbrev pub CanBecomeFormat2 : List Table → Database → Type 0
 CanBecomeFormat2 more db = (s : Broker) × HoldsUnmarked former_format more db s × AreShort (s.office ∷ [])
 

@@ -1,5 +1,5 @@
--- What is told of an environment's mark, whether it is gated, in any database with the broker's tables and any CHECKs:
--- a row may be there whose mark is neither 0 nor 1.
+-- What is reported of an environment's mark, whether it is gated, in any database with the broker's tables, with any
+-- CHECKs: a row may be there whose mark is neither 0 nor 1.
 use Rattle.std.specs.Prelude.{◌≡◌, ◌⊎◌, ◌<◌, ℕ, pos, Bool, codes, Option, Some, MatchOption, Result, MatchResult}
 use Rattle.sqlite.specs.declared.types.Value.TheVariants as value
 use Rattle.sqlite.specs.Order.{Row, column}
@@ -37,13 +37,13 @@ abbrev pub FailsAsMark : Text → State → State → StoreFault → Type 0
 FailsAsMark environment old new fault =
     HasFailed old new fault ⊎ ((fault ≡ Store) × HasNoMark environment old.now)
 
--- the mark that is there, or why none is told
+-- the mark that is there, or why none is returned
 abbrev pub TellsMark : Text → State → State → Result (Option Bool) StoreFault → Type 0
 TellsMark environment old new r = HasCleanDisk new → CanBeAsked old
     → MatchResult r (IsMarkIn environment old.now) (FailsAsMark environment old new)
 
--- The answer fits the mark that is there. If there is none, that mark isn't told; or it is there, and only what else
--- was asked isn't told.
+-- The answer fits the mark that is there. If the call fails, it is since there is no mark that is 0 or 1 or the store
+-- failed; or there is such a mark, and the other part of the answer failed.
 abbrev pub FitsMark : {A : Type 0} → Text → State → State → Result A StoreFault → (A → Option Bool → Type 0) → Type 0
 FitsMark environment old new r Fits = HasCleanDisk new → CanBeAsked old
     → MatchResult r (λ a. (gated : Option Bool) × IsMarkIn environment old.now gated × Fits a gated)

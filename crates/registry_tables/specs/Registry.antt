@@ -33,7 +33,7 @@ AddsGrant team e s t =
     IsTrue (is_some (s.teams team)) × IsTrue (is_some (s.environments e)) × (s.grants (team, e) ≡ false)
     × (t ≡ record s { grants = put_at (same_pair same_text same_text) s.grants (team, e) true })
 
--- the grant stands
+-- the grant is there, and is taken out
 abbrev pub RemovesGrant : Text → Text → State → State → Type 0
 RemovesGrant team e s t = (s.grants (team, e) ≡ true)
     × (t ≡ record s { grants = put_at (same_pair same_text same_text) s.grants (team, e) false })
@@ -74,7 +74,7 @@ IsLenient e s = (m : Marks) × (s.environments e ≡ Some m) × (m.strict ≡ fa
 abbrev pub CanAddVersion : Version → State → Type 0
 CanAddVersion v s = IsReadable s × AllowsVersion v s
 
--- the version stands last and has the next number, which is the one that is answered; it is on no branch
+-- the version is the last one and has the next number, which is the one that is answered; it is on no branch
 abbrev pub AddsVersion : Version → ℕ → State → State → Type 0
 AddsVersion v number s t =
     (t ≡ record s { versions = s.versions ++ v ∷ [] }) × (number ≡ length s.versions + 1)
@@ -108,7 +108,7 @@ abbrev pub IsBranchNumber : State → Text → Text → ℕ → Type 0
 IsBranchNumber s p branch n = (v : Version) × (number_of s.versions v ≡ Some n) × (v.pacticipant ≡ p)
     × (s.branches (v, branch) ≡ true)
 
--- the greatest of those numbers that are below this one; none just where there is none
+-- the greatest of those numbers that are below this one; none if and only if there is no such number
 abbrev pub IsNewestBelow : State → Text → Text → ℕ → Option ℕ → Type 0
 IsNewestBelow s p branch below found =
     MatchOption found ((n : ℕ) → IsBranchNumber s p branch n → below ≤ n)

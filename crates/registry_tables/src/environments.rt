@@ -16,7 +16,7 @@ use sqlite::{Alter, Connection, params};
 use table_access::{StoreFault, change, find_number, has_row};
 
 /// Whether the environment is gated, or `None` if there is no such environment. A mark that is neither 0 nor 1 is never
-/// taken for one of both, whatever CHECKs the tables have.
+/// taken for one of both, with any CHECKs in the tables.
 ///
 /// # Errors
 /// `StoreFault::Memory` if the database is out of memory; `StoreFault::Store` if it failed or holds no truth value

@@ -15,7 +15,7 @@ use sqlite::{Alter, Connection, Row};
 use sqlite_schema::schema::{Column, Kind, Schema, Table};
 use table_access::{StoreFault, number_in, select};
 
-/// What tells that a table is one of the broker's: its name, the names and kinds of its columns, and its keys. A place
+/// How a table of the broker's is recognized: by its name, the names and kinds of its columns, and its keys. A place
 /// counts the columns from 1, and place 0 is the row's number.
 #[derive(Clone, Copy)]
 pub(crate) struct Form {

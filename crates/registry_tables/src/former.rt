@@ -146,7 +146,7 @@ fn are_keys(keys: &[Items<usize>], wanted: &[&[usize]]) -> bool
     }
 }
 
-/// Whether each column compares texts by their bytes, so that a row is found by its own name alone.
+/// Whether each column compares texts by their bytes, so that only its own name finds a row.
 fn compare_bytes(columns: &[Column]) -> bool
     ensures { IsTrue result ↔ CompareBytes columns.now }
 {

@@ -2,7 +2,7 @@
 use Rattle.std.proofs.Common.{codes, refl}
 use Rattle.reply_check.specs.HeaderValues.{HasValue}
 
--- blanks behind a comma don't count
+-- blanks after a comma don't count
 behind_commas : HasValue (codes "x") (codes "a, b") (codes "a,b")
 behind_commas = refl
 
@@ -10,7 +10,7 @@ behind_commas = refl
 in_front_of_commas : ¬ HasValue (codes "x") (codes "a,b") (codes "a , b")
 in_front_of_commas h = absurd cc
 
--- the parameters of a media type don't, nor its case, where none is expected
+-- the parameters of a media type don't, nor its case, if none is expected
 media_types : HasValue (codes "content-type") (codes "Application/JSON") (codes "application/json;charset=x")
 media_types = refl
 

@@ -1,4 +1,4 @@
--- The computed form says just what the relation says.
+-- The computed form says the same as the relation.
 use Rattle.std.specs.{Cmp.Lexicographic.{slice_cmp}, Ordering.{match_ordering}}
 use Rattle.std.proofs.Common.{Ordering, Equal, is_eq, cond, nat_cmp, option_and_then, slice_get, ◌≡◌, ◌⊎◌, inl, inr, ◌↔◌, ℕ, zero, suc, ◌+◌, Bool, true, false, ◌&&◌, List, [], ◌∷◌, ◌++◌, Option, Some, None, is_some, IsTrue, refl, sym, ap, ◌∙◌, subst, arith, bytes_eq}
 use Rattle.std.proofs.{lemmas.Bool.{and_from, and_parts, false≢true}, lemmas.Slice.Eq.{bytes_eq-Decides}, lemmas.Map.Text.{is_eq-slice_cmp}}

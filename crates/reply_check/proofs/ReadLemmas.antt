@@ -25,7 +25,7 @@ memory_alone : (e : FileFault) → as_file_fault e ≡ Memory → e ≡ file_fau
 memory_alone file_fault.Memory h = refl
 memory_alone e h = absurd cc
 
--- what follows of want of memory follows where it is the other fault
+-- what follows if reading the file ran out of memory, follows if the whole did
 pub memory_as : {A B P : Type 0} (e : FileFault) (fault : RepliesFault) → fault ≡ as_file_fault e → (◌≡◌ {A = Result A FileFault} (Err e) (Err file_fault.Memory) → P) → ◌≡◌ {A = Result B RepliesFault} (Err fault) (Err Memory) → P
 memory_as e fault is h memory = h (ap Err (memory_alone e (sym is ∙ err_same fault Memory memory)))
 

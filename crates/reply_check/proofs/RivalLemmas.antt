@@ -8,7 +8,7 @@ use Rattle.serde_json.specs.Written.{compact_text}
 use Rattle.pact_file.{specs.{Pact.{State, states_data}, Sound.{IsSound}}, proofs.{Lists.{left_at}, OrderedSets.{one_states}}}
 use Rattle.reply_check.{specs.{Recorded.{Reply}, Replies.{AreRivals, HasRivals}}, proofs.Deciding.{by_test, one_between, one_or_last, all_and_last}}
 
--- the descriptions are equal, and so are the states where their texts are
+-- the descriptions are equal, and so are the states if their texts are
 pub same_key : (d b t e : List ℕ) (ss ts : List State) (r : Bool) → r ≡ (bytes_eq d b && bytes_eq (compact_text (states_data ss)) t) → b ≡ e → t ≡ compact_text (states_data ts)
     → IsSound 97 (states_data ss) → IsSound 97 (states_data ts) → IsTrue r ↔ ((d ≡ e) × (ss ≡ ts))
 same_key d b t e ss ts r is eb et g h =

@@ -56,7 +56,7 @@ mutual
       (λ comma. rw comma (ap (λ ps. [] ∷ ps) (kept_begins bs)))
       (λ other. rw other (ap (in_front b) (kept_inside bs) ∙ sym (later_front b (parts_between bs))))
 
--- what is kept has just the parts that count
+-- what is kept has exactly the parts that count
 pub kept_parts : (value : List ℕ) → parts_between (kept true (without_end value)) ≡ counting_parts value
 kept_parts value = kept_begins (without_end value)
 

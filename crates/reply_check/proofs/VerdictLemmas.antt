@@ -65,11 +65,11 @@ module _ (interactions : List Interaction) (replies : List Reply) where
       ⊎_elim (λ l. absurd (h.unknown (k.first i h.reply l h.stands)))
       (λ le. ⊎_elim (λ l. absurd (k.unknown (h.first j k.reply l k.stands))) (λ ge. omega (arith, le, ge)) (cases_lt j i)) (cases_lt i j)
 
--- and none where each is known
+-- and none if each is known
 pub none_first : (interactions : List Interaction) (replies : List Reply) (i : ℕ) → AreKnown interactions replies → ¬ IsFirstUnknown interactions replies i
 none_first interactions replies i all first = first.unknown (get_member (IsKnown interactions) replies i first.reply all first.stands)
 
--- ---- what stands at an index
+-- ---- the member at an index
 
 pub read_at : {A : Type 0} (xs : List A) (n : ℕ) (x : A) → n < length xs → x ≡ get_or xs n x → slice_get xs n ≡ Some x
 read_at xs n x l is = slice_get_read xs (length xs) n x refl l is

@@ -10,7 +10,7 @@ is_empty null = true
 is_empty (string s) = length s == 0
 is_empty d = false
 
--- Where none is expected, any body meets it. An empty body asks for none or the same, whatever the rules say; any other
+-- If none is expected, any body meets it. An empty one is met by none or by the same, under any rules; any other one
 -- must be there and fit at the root.
 abbrev pub MeetsBody : Rules → Option Data → Option Data → Type 0
 MeetsBody rules None actual = ⊤

@@ -14,8 +14,8 @@ use Rattle.serde_json.specs.Find.{get_member, get_item}
 abbrev pub rule_for : Rules → Location → Option BodyRule
 rule_for rules at = option_and_then (slice_get rules.body) (chosen rules.body at)
 
--- the chosen rule's entry holds, its own place being where the path is as long as the location; without a rule the
--- two are alike
+-- the chosen rule's entry holds (the location is its own place if the path is as long); without a rule the two are
+-- alike
 abbrev pub meets_rule : Option BodyRule → Location → Data → Data → Bool
 meets_rule None at x y = are_alike x y
 meets_rule (Some r) at x y = entry_holds r.entry x y (is_own_place r at)
@@ -27,7 +27,7 @@ abbrev pub first_or : Items → Option Data → Option Data
 first_or xs (Some t) = Some t
 first_or xs None = get_item 0 xs
 
--- the item at an index, or else the first, where there is one
+-- the item at an index, or else the first, if there is one
 abbrev pub example : Items → ℕ → Option Data
 example xs i = first_or xs (get_item i xs)
 

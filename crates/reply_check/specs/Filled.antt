@@ -1,4 +1,4 @@
--- For private clauses: what is kept beside a reply is what its definitions give.
+-- For private clauses: what is kept with a reply is what its definitions give.
 use Rattle.std.specs.Prelude.{◌≡◌, ℕ, List, Some}
 use Rattle.serde_json.specs.Written.{compact_text}
 use Rattle.pact_file.specs.Headers.{HasHeaders}

@@ -10,12 +10,12 @@ use Rattle.pact_rules.specs.Choice.{IsChoice}
 use Rattle.pact_rules.specs.Matching.{are_alike, entry_holds}
 use Rattle.serde_json.specs.Find.{get_member, get_item}
 
--- the rule that is chosen at a location, or none where none is chosen
+-- the rule that is chosen at a location, or none if none is chosen
 abbrev pub IsRuleFor : Rules → Location → Option BodyRule → Type 0
 IsRuleFor rules at rule =
     (choice : Option ℕ) × IsChoice rules.body at choice × (rule ≡ option_and_then (slice_get rules.body) choice)
 
--- the location is the chosen path's own place where the path has as many tokens as the location has steps
+-- the location is the chosen path's own place if the path has as many tokens as the location has steps
 abbrev pub is_own_place : BodyRule → Location → Bool
 is_own_place rule at = length rule.path == length at
 
@@ -51,12 +51,12 @@ abbrev pub IsObject : Data → Type 0
 IsObject (object fs) = Unit {0}
 IsObject _ = ⊥
 
--- what an item at this index is compared with: the example's item there, or its first where the example is shorter
+-- what an item at this index is compared with: the example's item there, or its first if the example is shorter
 abbrev pub IsExample : Data → ℕ → Data → Type 0
 IsExample x i e = HasItem x i e ⊎ (((t : Data) → ¬ (HasItem x i t)) × HasItem x 0 e)
 
--- the two meet here; where both are lists, each actual item fits its example; where both are objects, each expected
--- key is there, and what stands there fits
+-- the two meet here; if both are lists, each actual item fits its example; if both are objects, each expected
+-- key is there, and its value fits
 pub data Fits (rules : Rules) : Location → Data → Data → Type 0 where
   fitting : (at : Location) (x y : Data) → MeetsHere rules at x y
       → ((i : ℕ) (e t : Data) → IsExample x i e → HasItem y i t → Fits rules (at ++ paths.item i ∷ []) e t)

@@ -1,5 +1,5 @@
--- When a reply's header has the value that is expected where no rule speaks of it (this project's own choice): spaces
--- and tabs at both ends and behind commas don't count; and where a media type is expected without parameters, those
+-- When a reply's header has the expected value, if no rule is for that header (this project's own choice): spaces
+-- and tabs at both ends and after commas don't count; and if a media type is expected without parameters, those
 -- of the reply and the case of letters don't count either.
 use Rattle.std.specs.Prelude.{◌≡◌, ◌==◌, ◌||◌, ◌&&◌, ℕ, Bool, not, List, [], ◌∷◌, map, if◌then◌else◌, bytes_eq, codes}
 use Rattle.std.specs.List.{list_any}
@@ -33,7 +33,7 @@ parts_between (b ∷ bs) = if b == 44 then [] ∷ parts_between bs else in_front
 abbrev pub counting_parts : List ℕ → List (List ℕ)
 counting_parts value = map without_front (parts_between (without_end value))
 
--- what stands before the first semicolon
+-- what is before the first semicolon
 abbrev pub before_semicolon : List ℕ → List ℕ
 before_semicolon [] = []
 before_semicolon (b ∷ bs) = if b == 59 then [] else b ∷ before_semicolon bs
@@ -42,7 +42,7 @@ before_semicolon (b ∷ bs) = if b == 59 then [] else b ∷ before_semicolon bs
 abbrev pub is_plain_type : List ℕ → List ℕ → Bool
 is_plain_type name expected = bytes_eq name (codes "content-type") && not (list_any (λ b. b == 59) expected)
 
--- what counts of a value under the name, which is in lower case, where this one is expected
+-- what counts of a value under the name, which is in lower case, if this one is expected
 abbrev pub counted : List ℕ → List ℕ → List ℕ → List (List ℕ)
 counted name expected value =
     counting_parts (if is_plain_type name expected then before_semicolon (str_to_ascii_lowercase value) else value)

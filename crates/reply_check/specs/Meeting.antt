@@ -1,5 +1,5 @@
 -- When a recorded reply meets an interaction (this project's own choice): the status is equal, each expected header
--- was sent with a value that fits, and the body meets the expected one. Further headers are allowed.
+-- was sent with a value that fits, and the body meets the expected one. Other headers are allowed.
 use Rattle.std.specs.Prelude.{◌≡◌, ℕ, true, false, List, Option, Some, None, IsTrue}
 use Rattle.serde_json.specs.Data.{Data, string}
 use Rattle.pact_rules.specs.Rules.{Rules, Entry, has_regex}

@@ -7,7 +7,7 @@ use Rattle.pact_file.specs.DataCode.{data_code}
 use Rattle.pact_file.specs.Pact.{State, state_code}
 use Rattle.pact_file.specs.Parts.{status_at}
 
--- for the interaction of this description and these states; the response is the data as it stands in the file
+-- for the interaction of this description and these states; the response is the data as it is in the file
 pub record Reply : Type 0 where
   pub description : List ℕ
   pub states : List State

@@ -22,7 +22,7 @@ ReplyRead i d = do
 abbrev pub AreRivals : Recorded → Recorded → Type 0
 AreRivals r s = (r.description ≡ s.description) × (r.states ≡ s.states)
 
--- one of them has a rival behind it
+-- one of them has a rival after it
 abbrev pub HasRivals : List Recorded → Type 0
 HasRivals [] = ⊥
 HasRivals (r ∷ rs) = OneOf (λ s. AreRivals r s) rs ⊎ HasRivals rs

@@ -26,7 +26,7 @@ as_file_fault file_fault.Memory = Memory
 abbrev pub file_of : List ℕ → Result Data RepliesFault
 file_of bytes = with_fault as_file_fault (object_of bytes)
 
--- the values that stand as replies
+-- the values that are to be replies
 unfoldable pub items_of : Data → Result (List Data) RepliesFault
 items_of file = do
   items ← ok_or (list_at (codes "replies") file) (Shape Replies)

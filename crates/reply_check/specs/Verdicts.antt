@@ -1,4 +1,4 @@
--- Which interactions of a pact fail by the replies that were recorded (this project's own choice). Replies stand in
+-- Which interactions of a pact fail by the replies that were recorded (this project's own choice). Replies are in
 -- the order of their file, interactions in that of the normal pact; indices are counted from 0.
 use Rattle.std.specs.Prelude.{◌≡◌, ◌↔◌, ◌<◌, ℕ, List, [], ◌∷◌, Some, slice_get, ⊤}
 use Rattle.std.specs.List.{AllByRecursion}
@@ -25,7 +25,7 @@ pub record IsFirstUnknown (interactions : List Interaction) (replies : List Repl
   pub unknown : ¬ IsKnown interactions reply
   pub first : (j : ℕ) (r : Reply) → j < i → slice_get replies j ≡ Some r → IsKnown interactions r
 
--- an interaction passes where it has a reply that meets it (it has one reply at most)
+-- an interaction passes if it has a reply that meets it (it has one reply at most)
 abbrev pub Passes : List Reply → Interaction → Type 0
 Passes replies x = OneOf (λ r. BelongsTo x r × Meets x r) replies
 
@@ -37,7 +37,7 @@ abbrev pub IsAscending : List ℕ → Type 0
 IsAscending [] = ⊤
 IsAscending (i ∷ is) = AllByRecursion (λ j. i < j) is × IsAscending is
 
--- just the indices of the failing interactions, ascending
+-- exactly the indices of the failing interactions, ascending
 pub record AreFailing (interactions : List Interaction) (replies : List Reply) (indices : List ℕ) : Type 0 where
   pub ascending : IsAscending indices
   pub failing : (i : ℕ) → IsIn i indices ↔ InteractionFails interactions replies i

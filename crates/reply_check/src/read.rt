@@ -79,8 +79,8 @@ fn have_rivals(alloc: Global, replies: &[Reply]) -> Result<bool, AllocError>
 /// Reads recorded replies: an object whose `replies` is a list, each with a text `description`, provider states as in
 /// a pact file, and an object `response` with a `status` from 100 to 999, headers as in a pact file and an optional
 /// `body`. No two have one description and one list of states. The bytes are any. Each fault is the first one in the
-/// order of `RepliesFault`'s documentation. Memory may run out in its place, though not where the bytes aren't UTF-8 or
-/// there are none. (This project's own choice.)
+/// order of `RepliesFault`'s documentation. Memory may run out instead, but only if the bytes are UTF-8 and not empty.
+/// (This project's own choice.)
 pub fn read_replies(alloc: Global, bytes: &[u8]) -> Result<Replies, RepliesFault>
     ensures reading { GivesOne Memory (λ r. r) result (RepliesRead bytes.now) }
     ensures memory { result ≡ Err Memory → IsSomeText bytes.now }

@@ -31,7 +31,7 @@ is_ungrouped (Some g) = false
 abbrev pub sums_nothing : Query → Bool
 sums_nothing q = is_ungrouped q.group && has_no_fold q.from
 
--- The query can be run with these parameters: `refl` finds each field, under `unfolding understood everything`, also where
+-- The query can be run with these parameters: `refl` finds each field, under `unfolding understood everything`, even if
 -- the parameters are variables, as only their kinds count.
 pub record Runs (schema : Schema) (sql : List ℕ) (params : Row) (q : Query) : Type 0 where
   pub whole : is_whole sql (length params) (understood schema sql) ≡ true
@@ -73,7 +73,7 @@ never_refused params db q typed sumless limit unlimited e (inl kind) = let clash
 never_refused params db q typed sumless limit unlimited e (inr (inl sum)) = no_sum _ params q sumless sum.1
 never_refused params db q typed sumless limit unlimited e (inr (inr stopped)) = let some = rw unlimited at stopped.1 in cc
 
--- nor stopped
+-- nor is it stopped
 pub never_stopped : (params : Row) (db : Database) (q : Query) → accepts_program db.schema [] q params ≡ true → sums_nothing q ≡ true → (limit : Option ℕ) → limit ≡ None → (stop : Option Error) → ¬ Queried limit db (record { lets = []; body = q }) params (Err stop)
 never_stopped params db q typed sumless limit unlimited None h = h
 never_stopped params db q typed sumless limit unlimited (Some e) h = never_refused params db q typed sumless limit unlimited e h
@@ -95,17 +95,17 @@ module _ (sql : List ℕ) (params : Row) (old new : State) (q : Query) (names : 
   pub refusal_ends : (fault : StoreFault) → IsRefusedAs sql params old new fault → HasFailed old new fault
   refusal_ends fault (e, is, h) = let it = fails e h in record { cause = it.0; fault_is = is ∙ ap fault_of it.1; has = it.2; over = it.3.autocommit; blamed = it.4 }
 
-  -- where the first row has a text, a text isn't read only where the store failed, or where there was no room for it
+  -- if the first row has a text and reading it fails, then the store failed or there was no room for the text
   pub text_ends : ((rows : List Row) (row : Row) → Shown sql params old new rows → slice_get rows 0 ≡ Some row → IsTextAt 0 row) → (fault : StoreFault) → FailsToTake TellsText sql params old new fault → HasFailed old new fault ⊎ (fault ≡ Memory)
   text_ends stands fault (inl refused) = inl (refusal_ends fault refused)
   text_ends stands fault (inr (rows, shown, row, head, tells)) = elim tells [ inl none ↦ absurd (none.1 (stands rows row shown head)) | inr room ↦ inr room.0 ]
 
-  -- where the first row has a number, a number isn't read only where the store failed
+  -- if the first row has a number and reading it fails, then the store failed
   pub number_ends : ((rows : List Row) (row : Row) → Shown sql params old new rows → slice_get rows 0 ≡ Some row → IsNumberRow row) → (fault : StoreFault) → FailsToTake TellsNumber sql params old new fault → HasFailed old new fault
   number_ends stands fault (inl refused) = refusal_ends fault refused
   number_ends stands fault (inr (rows, shown, row, head, tells)) = absurd (tells.1 (stands rows row shown head))
 
-  -- where no row fails for another cause than want of memory, a list isn't read only where the store failed, or for that
+  -- if a row fails only for lack of memory and reading the list fails, then the store failed or memory ran out
   pub list_ends : {A : Type 0} (Reads : Row → A → Type 0) (Fails : Row → StoreFault → Type 0) → ((rows : List Row) (row : Row) → Shown sql params old new rows → Has rows row → (fault : StoreFault) → Fails row fault → fault ≡ Memory) → (fault : StoreFault)
       → FailsToRead Reads Fails sql params old new fault → HasFailed old new fault ⊎ (fault ≡ Memory)
   list_ends Reads Fails reads fault (inl refused) = inl (refusal_ends fault refused)

@@ -11,7 +11,7 @@ use Rattle.table_access.specs.{Unit.{IsLeft}, declared.StoreFault.{StoreFault}, 
 use Rattle.table_access.specs.Calls.{KeepsLastCommit, CallsBetween, CallsTablesBetween, CallsStoreBetween, GoesOn, EndsBy, IsEnded, FailsAs, TellsMemoryUnless, fault_of}
 use Rattle.table_access.proofs.{StatementRefusals.{read_told}, Texts.{IsRefused, caused_more, no_statement_told, command_told}}
 
--- where nothing changed, or the transaction was rolled back, nothing is committed
+-- if nothing changed, or the transaction was rolled back, nothing is committed
 pub left_commit : (a b : State) → IsLeft a b → KeepsLastCommit a b
 left_commit a b (inl same) = record { was_open = λ _. same.0.was_open; committed = λ _. same.0.committed_is }
 left_commit a b (inr back) = record { was_open = back.was_open; committed = λ now. (back.undone now).1 }
@@ -32,7 +32,7 @@ fails_by old new sql c params e None h = inl (h.3, read_told old.step_limit c.co
 fails_by old new sql c params e (Some what) (inl same) = inl (same.1, command_told old c _ params e same.0)
 fails_by old new sql c params e (Some what) (inr fails) = inr (fails.0, fails.1, caused_more old new fails.0 (λ big. tt) fails.2, fails.3, fails.4)
 
--- a query that fails is refused: it changed nothing and is told as Store, or the store failed
+-- a query that fails is refused: it changed nothing and its error is Store, or the store failed
 pub query_by : (sql : List ℕ) (params : Row) (old new : State) (e : Error) → FailsToQuery sql params old new e → IsRefused old new e
 unfolding FailsToQuery IsNotRun
 query_by sql params old new e (inl (inl h)) = inl (h.1, no_statement_told old sql params e h.0)
@@ -44,7 +44,7 @@ refused_fails : (old new : State) (e : Error) (fault : StoreFault) → fault ≡
 refused_fails old new e fault is (inl same) inside = inl (same.0.0.mode ∙ inside, λ _. same.0.0.is_open)
 refused_fails old new e fault is (inr fails) inside = inr (record { cause = fails.0; fault_is = is ∙ ap fault_of fails.1; has = fails.2; over = fails.3.autocommit; blamed = fails.4 })
 
--- where the store was out of memory, the transaction is ended
+-- if the store was out of memory, the transaction is ended
 pub refused_memory : (old new : State) (e : Error) (fault : StoreFault) → fault ≡ fault_of e → IsRefused old new e → fault ≡ Memory → IsEnded old new Memory
 refused_memory old new e fault is (inl same) short = absurd (let clash : Memory ≡ Store = sym short ∙ is ∙ same.1 in cc)
 refused_memory old new e fault is (inr fails) short = record { cause = fails.0; fault_is = sym short ∙ is ∙ ap fault_of fails.1; has = fails.2; over = fails.3.autocommit; blamed = fails.4 }
@@ -53,26 +53,26 @@ pub shows_outside : (sql : List ℕ) (params : Row) (old : State) (db : Trees) �
 unfolding CommitsShowing
 shows_outside sql params old db h = h.3.0
 
--- ---- where memory is told
+-- ---- where Memory is returned
 
--- a call that gives an answer never tells Memory
+-- a call that succeeds doesn't return Memory
 pub memory_ok : {A : Type 0} (takes : Bool) (old new : State) (a : A) → TellsMemoryUnless takes old new (Ok a)
 memory_ok true old new a = tt
 memory_ok false old new a = λ clean inside is. absurd (cc)
 
--- that of a call, handed on
+-- the same failure, of a call with another kind of answer
 memory_err : (A B : Type 0) (takes : Bool) (old new : State) (e : StoreFault) → TellsMemoryUnless {A = A} takes old new (Err e) → TellsMemoryUnless {A = B} takes old new (Err e)
 memory_err A B true old new e short = tt
 memory_err A B false old new e short = λ clean inside is. short clean inside (let same : e ≡ Memory = (let h = is in cc) in ap Err same)
 
--- nor does one whose failure is told as Store
+-- nor does a call that fails with Store
 pub memory_store : (A : Type 0) (takes : Bool) (old new : State) (e : StoreFault) → (takes ≡ false → e ≡ Store) → TellsMemoryUnless {A = A} takes old new (Err e)
 memory_store A true old new e store = tt
 memory_store A false old new e store = λ clean inside is. absurd (let clash : Store ≡ Memory = (let same : e ≡ Memory = (let h = is in cc) in sym (store refl) ∙ same) in cc)
 
 -- ---- calls: `takes` says whether the last one may take memory, and nothing depends on it of one that gave an answer
 
--- a computation that may fail, after a call: only where a row breaks the rules, if it takes no memory
+-- a computation that may fail, after a call: if it takes no memory, it fails only if a row breaks the rules
 pub then_result : {A B : Type 0} {any takes : Bool} (old new : State) (a : A) (r : Result B StoreFault) (P : A → Type 0) (Q : B → Type 0) → IfOk r (λ b. P a → Q b) → (takes ≡ false → IfErr r (λ e. e ≡ Store)) → CallsBetween any old new (Ok a) P → CallsBetween takes old new r Q
 then_result {takes} old new a (Ok b) P Q more store it = record { ok = λ clean. more (it.ok clean); goes_on = it.goes_on; fails = it.fails; commits = it.commits; survives = it.survives; memory = memory_ok takes old new b }
 then_result {B} {takes} old new a (Err e) P Q more store it = record { ok = λ _. tt; goes_on = λ _ _. tt; fails = λ clean inside. inl (it.goes_on clean inside); commits = it.commits; survives = it.survives; memory = memory_store B takes old new e store }
@@ -81,15 +81,15 @@ then_result {B} {takes} old new a (Err e) P Q more store it = record { ok = λ _
 pub then_ok : {A B : Type 0} {any takes : Bool} (old new : State) (a : A) (b : B) (P : A → Type 0) (Q : B → Type 0) → (P a → Q b) → CallsBetween any old new (Ok a) P → CallsBetween takes old new (Ok b) Q
 then_ok old new a b P Q more it = then_result old new a (Ok b) P Q more (λ none. tt) it
 
--- a row that breaks the rules, or a growth that is refused, after a call
+-- a row that breaks the rules, or an allocation that fails, after a call
 pub then_stop : {A B : Type 0} {any : Bool} (old new : State) (a : A) (e : StoreFault) (P : A → Type 0) (Q : B → Type 0) → CallsBetween any old new (Ok a) P → CallsTablesBetween old new (Err e) Q
 then_stop old new a e P Q it = then_result old new a (Err e) P Q tt (λ none. absurd (cc)) it
 
--- the failure of a call, handed on
+-- the same failure, of a call with another kind of answer and any claim of it
 pub then_err : {A B : Type 0} {takes : Bool} (old new : State) (e : StoreFault) (P : A → Type 0) (Q : B → Type 0) → CallsBetween takes old new (Err e) P → CallsBetween takes old new (Err e) Q
 then_err {A} {B} {takes} old new e P Q it = record { ok = it.ok; goes_on = it.goes_on; fails = it.fails; commits = it.commits; survives = it.survives; memory = memory_err A B takes old new e it.memory }
 
--- a call whose answer has P is one whose answer has Q, where P of an answer gives Q
+-- a call whose answer has P is one whose answer has Q, if P of an answer gives Q
 pub call_with : {A : Type 0} {takes : Bool} (old new : State) (r : Result A StoreFault) (P Q : A → Type 0) → ((a : A) → P a → Q a) → CallsBetween takes old new r P → CallsBetween takes old new r Q
 call_with old new (Ok a) P Q more it = then_ok old new a a P Q (more a) it
 call_with old new (Err e) P Q more it = then_err old new e P Q it

@@ -8,7 +8,7 @@ use Rattle.sqlite_schema.specs.declared.schema.Index.{Index}
 use Rattle.table_access.{specs.Statements.{IsAdded}, proofs.{SoundLemmas.{at_has, all_of}, Removal.{same_filter}}}
 use Rattle.table_access.proofs.Maps.{entries, AreKeys, puts_at, find_without}
 
--- two items of a list are one, or one of them stands before the other
+-- two items of a list are one, or one of them is before the other
 pub apart_or_same : {X : Type 0} (P : X → X → Type 0) (xs : List X) (x y : X) → IsAscending P xs → Has xs x → Has xs y → (x ≡ y) ⊎ (P x y ⊎ P y x)
 apart_or_same P [] x y up hx hy = absurd hx
 apart_or_same P (z ∷ zs) x y up (inl ex) (inl ey) = inl (ex ∙ sym ey)
@@ -25,7 +25,7 @@ module _ {K V : Type 0} {R : K → K → Ordering} (o : IsTotalOrder R) (exact :
   other_key k a b hit (inl apart) = (eq_by_cmp_equiv o).congr k b a hit ∙ (eq_by_cmp_equiv o).symm b a ∙ apart
   other_key k a b hit (inr apart) = (eq_by_cmp_equiv o).congr k b a hit ∙ apart
 
-  -- where a row has the key, it is the only one that has it, as it is the only one with its number
+  -- if a row has the key, it is the only one that has it, as it is the only one with its number
   one_row : (k : K) (rows : List Row) (r : Row) → AreKeys o exact key value rows → IsTable rows → Has rows r → eq_by_cmp R k (key r) ≡ true → (x : Row) → Has rows x → is_eq (value_cmp (rowid x) (rowid r)) ≡ eq_by_cmp R k (key x)
   one_row k rows r keys numbers has hit x there =
       elim (apart_or_same _ rows x r numbers there has) [

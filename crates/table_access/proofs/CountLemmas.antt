@@ -3,7 +3,7 @@ use Rattle.std.{specs.List.{list_any}, proofs.Common.{◌≡◌, inl, inr, List,
 use Rattle.std.proofs.lemmas.Bool.Decides.{nat_tests}
 use Rattle.sqlite_rules.specs.Lists.{Has}
 
--- more than none pass a test just where one does
+-- the number of elements that pass a test is more than 0 if and only if some element passes it
 pub some_counted : {X : Type 0} (p : X → Bool) (xs : List X) → nat_lt 0 (length (filter p xs)) ≡ list_any p xs
 some_counted p [] = refl
 some_counted p (x ∷ xs) = elim (p x) as (λ b. nat_lt 0 (length (cond b (x ∷ filter p xs) (filter p xs))) ≡ (b || list_any p xs)) [

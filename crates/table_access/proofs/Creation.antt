@@ -51,11 +51,11 @@ pub each_schema : {X : Type 0} (One : Database → Database → X → Type 0) (n
 each_schema One next law [] old new h = ap (λ (db : Database). db.schema) h
 each_schema One next law (x ∷ xs) old new h = each_schema One next law xs h.0 new h.2 ∙ ap (λ schema. fold next schema xs) (law old h.0 x h.1)
 
--- where tables are made, the new schema is the old one with each of them created in turn
+-- if tables are made, the new schema is the old one with each of them created, one after another
 pub made_schema : (tables : List Table) (old new : Database) → Makes tables old new → new.schema ≡ fold created old.schema tables
 made_schema = each_schema Creates created (λ old new table made. made.schema)
 
--- the tables that were there keep their rows, where each change keeps them, and none takes a table away
+-- the tables that were there keep their rows, if each change keeps them and none takes a table away
 pub each_keeps : {X : Type 0} (One : Database → Database → X → Type 0) → ((old new : Database) (x : X) → One old new x → KeepsRows old.schema.tables old.trees new.trees)
     → ((old new : Database) (x : X) → One old new x → (later : Trees) → KeepsRows new.schema.tables new.trees later → KeepsRows old.schema.tables new.trees later)
     → (xs : List X) (old new : Database) → MakesEach One xs old new → KeepsRows old.schema.tables old.trees new.trees

@@ -35,7 +35,7 @@ IsAlone schema tree = list_all (λ t. list_all (λ ref. leads_elsewhere tree (pa
 
 module _ (TooBig : Type 0) (schema : Schema) (keys : Keys) (db : Trees) (edit : Edit) where
   -- The database obeys its schema, in which no foreign key acts. The new rows fit the columns, the CHECKs and the keys of
-  -- the table, and what they refer to is there. None is taken out to which a row may refer. TooBig is what is so where a
+  -- the table, and what they refer to is there. None is taken out to which a row may refer. TooBig is what is so if a
   -- new row can't be stored.
   pub record Suits : Type 0 where
     pub apart : IsAscending (λ a b. a.tree ≡ b.tree → ⊥) schema.tables
@@ -140,7 +140,7 @@ pub differ_is : (a b : ℤ) → differ (Int a) (Int b) ≡ not (is_eq (value_cmp
 unfolding binary
 differ_is a b = told (value_cmp (Int a) (Int b))
 
--- its keys stand once if no row that stays has one of them
+-- its keys are unique if no row that stays has one of them
 pub one_unique : (schema : Schema) (db : Trees) (t : Table) (left : List Row) (made : Row) → is_int (rowid made) ≡ true → ((i : Index) → Has schema.indexes i → guards i t ≡ true → (r : Row) → Has left r → agree i.order i.columns r i.columns made ≡ false)
     → are_unique schema.indexes (with_tree db t.tree (put_row made left)) t (made ∷ []) ≡ true
 one_unique schema db t left made keyed free = test_from _ schema.indexes (λ i known. one i known (guards i t) refl)

@@ -52,6 +52,6 @@ module _ {A : Type 0} (P : Database → Type 0) (old mid done : State) (r : Resu
         ];
       }
 
--- where P is held durably, the connection is as a refused commit from P to any Q leaves it
+-- if P is held durably, the connection is as a refused commit from P to any Q leaves it
 pub keeps_unsure : (P Q : Database → Type 0) (c : State) → HoldsDurably P c → HoldsEither P Q c
 keeps_unsure P Q c keeps = record { committed = λ now. (keeps.held now).has; left_open = λ _. keeps.left; left = λ trees may. inl (keeps.left trees may) }

@@ -42,7 +42,7 @@ indexes_one sql schema at table index means whole there defined old new count is
 pub indexes_then : (front back : List (Table × Index)) (old mid new : Database) → MakesIndexes front old mid → MakesIndexes back mid new → MakesIndexes (front ++ back) old new
 indexes_then = each_then IndexesTable
 
--- the schema that they leave is the old one with each index added in turn
+-- the schema that they leave is the old one with the indexes added one after another
 pub indexes_schema : (more : List (Table × Index)) (old new : Database) → MakesIndexes more old new → new.schema ≡ indexed_by old.schema more
 indexes_schema = each_schema IndexesTable with_index (λ old new one made. made.schema)
 

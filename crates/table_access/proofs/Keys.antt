@@ -29,7 +29,7 @@ apart_by db kept t listed i known guard =
     (λ r has. not_both _ _ (at_has _ db.schema.indexes i (all_from_test _ db.schema.indexes (keeps_at Unique db.schema db.trees t r (kept.sound.obeys.rules Unique) listed has)) known) guard)
     (db.trees t.tree) numbered.0 (λ r has. has)
 
--- the number of a row stands once
+-- no two rows have one number
 pub numbers_once : (rows : List Row) → IsNumbered rows → IsAscending (λ a b. eq_by_cmp int_cmp (whole_at 0 a) (whole_at 0 b) ≡ false) rows
 numbers_once rows numbered = ascending_on _ _ rows (λ a b ha hb less.
     let one = int_is (rowid a) (at_has _ rows a numbered.1 ha) in
@@ -73,8 +73,8 @@ cells_kept (place ∷ places) from params r = ap (λ c. equal Binary (column r p
 
 -- ---- keys
 
--- A key of the columns at these places: the values that it stands for, which SQL takes for equal just where the keys tie
--- in their order. Keys that tie are one.
+-- A key of the columns at these places: the values that it is kept as, which SQL takes for equal if and only if the
+-- keys tie in their order. Keys that tie are one.
 pub record Key {K : Type 0} (R : K → K → Ordering) (places : List ℕ) (key : Row → K) : Type 0 where
   pub cells : K → Row
   pub total : IsTotalOrder R
@@ -85,7 +85,7 @@ pub record Key {K : Type 0} (R : K → K → Ordering) (places : List ℕ) (key 
 pub exact_texts : IsAntisymmetric text_cmp
 exact_texts = slice_cmp-IsAntisymmetric nat_cmp-IsAntisymmetric
 
--- two total orders give one of pairs, by the first parts and, where these tie, by the second
+-- two total orders give one of pairs, by the first parts and, if these tie, by the second
 pub both_total : {A B : Type 0} {R : A → A → Ordering} {S : B → B → Ordering} → IsTotalOrder R → IsTotalOrder S → IsTotalOrder (by_both R S)
 both_total {A} {B} o p = then_total (on_total (λ (x : A × B). x.0) o) (on_total (λ (x : A × B). x.1) p)
 
@@ -119,14 +119,14 @@ module _ {K : Type 0} {R : K → K → Ordering} {places : List ℕ} {key : Row 
   abbrev pub HasCells : Row → Type 0
   HasCells r = cells_at places r ≡ of.cells (key r)
 
-  -- UNIQUE takes such rows for equal just where their keys tie
+  -- UNIQUE takes such rows for equal if and only if their keys tie
   pub agrees : (a b : Row) → HasCells a → HasCells b → agree plain places a places b ≡ eq_by_cmp R (key a) (key b)
   agrees a b one two = cells_agree places a b ∙ (λ i. all_equal (one i) (two i)) ∙ of.ties (key a) (key b)
 
-  -- WHERE keeps such a row just where its key is the one that is given
+  -- WHERE keeps such a row if and only if its key is the one that is given
   pub keeps_key : (from : ℕ) (params : Row) (k : K) → params_for places from params ≡ of.cells k → (r : Row) → HasCells r → keeps (are_params places from) params r ≡ eq_by_cmp R k (key r)
   keeps_key from params k given r has = cells_kept places from params r ∙ (λ i. all_equal (has i) (given i)) ∙ of.ties (key r) k ∙ (eq_by_cmp_equiv of.total).symm (key r) k
 
-  -- so the key stands once: from `apart_by` of the index
+  -- so no two rows have one key: from `apart_by` of the index
   pub once : (rows : List Row) → ((r : Row) → Has rows r → HasCells r) → IsAscending (λ a b. agree plain places a places b ≡ false) rows → IsAscending (λ a b. eq_by_cmp R (key a) (key b) ≡ false) rows
   once rows typed = ascending_on _ _ rows (λ a b ha hb h. sym (agrees a b (typed a ha) (typed b hb)) ∙ h)

@@ -42,7 +42,7 @@ module _ {K V : Type 0} {R : K → K → Ordering} (o : IsTotalOrder R) (exact :
       go false ea h true eb false ec later = refl
       go false ea h false eb c ec later = later h ∙ ap (λ t. cond t (Some v) (find R q (front ++ back))) ec
 
-  -- keys that stand once
+  -- no two rows have one key
   abbrev pub AreKeys : List Row → Type 0
   AreKeys = IsAscending (λ a b. eq_by_cmp R (key a) (key b) ≡ false)
 
@@ -77,7 +77,7 @@ module _ {K V : Type 0} {R : K → K → Ordering} (o : IsTotalOrder R) (exact :
 
   -- ---- a table as the function that finds the value of a key
 
-  -- where the query is by the whole key, the first row of the answer reads as the value that the key has
+  -- if the query is by the whole key, the first row of the answer reads as the value that the key has
   pub looks_up_at : {S : Type 0} (show : Row → S) (read : S → V) → ((r : Row) → read (show r) ≡ value r) → (k : K) (p : Row → Bool) (rows : List Row) (out : List S) → AllByRecursion (λ r. p r ≡ eq_by_cmp R k (key r)) rows → AreKeys rows → IsPermutation (map show (filter p rows)) out
       → option_map read (slice_get out 0) ≡ find R k (entries rows)
   looks_up_at show read reads k p rows out same apart some =
@@ -95,7 +95,7 @@ module _ {K V : Type 0} {R : K → K → Ordering} (o : IsTotalOrder R) (exact :
       ap (find R q) (ap entries it.is ∙ map-append _ it.front (row ∷ it.back)) ∙ find-middle (entries it.front) (entries it.back) (key row) (value row) q (sym (ap (find R (key row)) was) ∙ none)
       ∙ ap (cond (eq_by_cmp R q (key row)) (Some (value row))) (sym (ap (find R q) was))
 
-  -- what is found stands in a row
+  -- what is found is in a row
   pub find_has : (k : K) (v : V) (rows : List Row) → find R k (entries rows) ≡ Some v → (r : Row) × Has rows r × (k ≡ key r) × (value r ≡ v)
   find_has k v [] h = absurd cc
   find_has k v (r ∷ rows) h = go (eq_by_cmp R k (key r)) refl h (λ later. find_has k v rows later)
@@ -126,7 +126,7 @@ module _ {K V : Type 0} {R : K → K → Ordering} (o : IsTotalOrder R) (exact :
 -- ---- a table with two keys
 
 module _ {K V : Type 0} {R : K → K → Ordering} {S : V → V → Ordering} (o : IsTotalOrder R) (exact : IsAntisymmetric R) (p : IsTotalOrder S) (exact_too : IsAntisymmetric S) (key : Row → K) (value : Row → V) (rows : List Row) where
-  -- where no key stands twice, the key that a value finds finds that value
+  -- if no two rows have one key, the key that a value finds finds that value
   pub other_way : (k : K) (v : V) → AreKeys o exact key value rows → find S v (map (λ r. (value r, key r)) rows) ≡ Some k → find R k (map (λ r. (key r, value r)) rows) ≡ Some v
   other_way k v keys h =
       let it = find_has p exact_too value key v k rows h in

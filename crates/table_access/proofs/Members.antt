@@ -1,17 +1,17 @@
--- What stands in a list, and the pairs of rows that a JOIN keeps.
+-- What is in a list, and the pairs of rows that a JOIN keeps.
 use Rattle.std.{specs.List.{flat_map}, proofs.Common.{◌≡◌, inl, inr, List, [], ◌∷◌, map, filter, Bool, true, refl, sym, ap, subst, ◌∙◌}}
 use Rattle.sqlite.specs.Tree.{IsAscending}
 use Rattle.sqlite_rules.specs.Lists.{Has}
 use Rattle.sqlite_keyed.proofs.ListLemmas.{ascending-append, ascending-filter, ascending-map}
 use Rattle.table_access.proofs.SoundLemmas.{at_has, all_of}
--- the two words for an element of a list, what stands in lists that are made of others, and a test that some element passes
+-- the two words for an element of a list, what is in lists that are made of others, and a test that some element passes
 pub use Rattle.sqlite_rules.proofs.ListLemmas.{has_contained as contains_has, contains_had as has_contains, has_left, has_right, has_either}
 pub use Rattle.sqlite_rules.proofs.ListLemmas.{has_kept as has_filter, has_filtered as filter_has, some_has as any_has}
 pub use Rattle.sqlite_rules.proofs.ProbeLemmas.{mapped_has as has_map, has_mapped as map_has}
 
 -- ---- elements of lists that are made of others
 
--- where R gives S on the elements, a list that has R of each element and every later one has S of them too
+-- a list that has R of each element and every later one has S of them too, if R gives S on its elements
 pub ascending_on : {X : Type 0} (R S : X → X → Type 0) (rows : List X) → ((a b : X) → Has rows a → Has rows b → R a b → S a b) → IsAscending R rows → IsAscending S rows
 ascending_on R S [] each up = tt
 ascending_on R S (a ∷ rows) each up =
@@ -24,7 +24,7 @@ module _ {X Y : Type 0} (p : X → Y → Bool) (ys : List Y) where
   abbrev pub pairs : List X → List (X × Y)
   pairs xs = flat_map (λ x. map (λ y. (x, y)) (filter (p x) ys)) xs
 
-  -- an element of each list, where the test keeps them together, are one of the pairs
+  -- an element of each list, if the test keeps them together, are one of the pairs
   pub has_pair : (xs : List X) (x : X) (y : Y) → Has xs x → Has ys y → p x y ≡ true → Has (pairs xs) (x, y)
   has_pair [] x y hx hy kept = absurd hx
   has_pair (z ∷ xs) x y (inl same) hy kept = subst (λ w. Has (pairs (w ∷ xs)) (x, y)) same (has_left (map (λ y. (x, y)) (filter (p x) ys)) (pairs xs) (x, y) (has_map (λ y. (x, y)) (filter (p x) ys) y (has_filter (p x) ys y hy kept)))

@@ -38,7 +38,7 @@ module _ {X : Type 0} (cmp : X → X → Rattle.std.specs.declared.cmp.Ordering.
   goes_last x [] all = refl
   goes_last x (y ∷ ys) all = ap (λ o. cond (is_gt o) (y ∷ insert_sorted cmp x ys) (x ∷ y ∷ ys)) all.0 ∙ ap (λ l. y ∷ l) (goes_last x ys all.1)
 
-  -- each element stands after all that follow it
+  -- sorting a list whose elements fall turns it round
   pub turns : (xs : List X) → IsAscending (λ a b. cmp a b ≡ Greater) xs → sort_by cmp xs ≡ reverse xs
   turns [] down = refl
   turns (x ∷ xs) down = ap (insert_sorted cmp x) (turns xs down.1) ∙ goes_last x (reverse xs) (all-permutation _ xs (reverse xs) (IsPermutation-reverse xs) down.0) ∙ sym (reverse_onto xs x [])

@@ -1,4 +1,4 @@
--- ORDER BY: where no two rows tie, the answer is the list of what WHERE keeps, sorted.
+-- ORDER BY: if no two rows tie, the answer is the list of what WHERE keeps, sorted.
 use Rattle.std.specs.{List.{AllByRecursion, flat_map}, List.Sorted.{IsPermutation, IsSorted, IsStrictlySortedBy}, Prelude.{Contains}, Cmp.{IsTotalOrder}}
 use Rattle.std.specs.Ordering.{ordering_reverse}
 use Rattle.std.proofs.Common.{◌≡◌, ℕ, List, [], ◌∷◌, map, filter, true, false, cond, refl, sym, ap, subst, ◌∙◌, Ordering, Less, Equal, Greater, is_gt, is_eq, true≢false}

@@ -11,7 +11,7 @@ read_push reads [] [] row item all here = (here, tt)
 read_push reads (r ∷ rows) (x ∷ items) row item all here = (all.0, read_push reads rows items row item all.1 here)
 read_push reads _ _ row item all here = absurd all
 
--- an item at a place of a list stands in it
+-- an item at a place of a list is in it
 pub has_get : {X : Type 0} (xs : List X) (at : ℕ) (d : X) → at < length xs → Has xs (get_or xs at d)
 has_get [] at d low = absurd (omega arith)
 has_get (x ∷ xs) zero d low = inl refl
@@ -31,7 +31,7 @@ pub whole_pos : (o : Option ℕ) → option_map whole (option_map pos o) ≡ o
 whole_pos None = refl
 whole_pos (Some n) = refl
 
--- numbers are the same where they are the same whole numbers
+-- numbers that are the same whole numbers are the same
 pub same_numbers : (a b : Option ℕ) → option_map pos a ≡ option_map pos b → a ≡ b
 same_numbers a b e = sym (whole_pos a) ∙ ap (option_map whole) e ∙ whole_pos b
 

@@ -17,7 +17,7 @@ use Rattle.table_access.{specs.Statements.{plain_table}, proofs.{Answered.{is_wh
 
 -- ---- a statement that changes rows
 
--- what is so where a row is too big is so of more
+-- what is so if a row is too big may be weakened
 pub caused_by : {A B : Type 0} (old new : State) (e : Error) → (A → B) → Fails old new A e → Fails old new B e
 caused_by old new e more fails = (fails.0, fails.1, caused_more old new fails.0 more fails.2, fails.3, fails.4)
 
@@ -35,7 +35,7 @@ is_anywhere CreateTable = true
 is_anywhere (CreateIndex at) = true
 is_anywhere _ = false
 
--- such a one is never out of place
+-- such a command is never out of place
 pub in_place : (old : State) (command : Command) → is_anywhere command ≡ true → (e : Error) → ¬ IsMisplaced old command e
 in_place old command rows e (inl (is, inl begins)) = let clash = sym rows ∙ ap is_anywhere begins.0 in cc
 in_place old command rows e (inl (is, inr (inl commits, outside))) = let clash = sym rows ∙ ap is_anywhere commits in cc
@@ -53,7 +53,7 @@ module _ (sql : List ℕ) (params : Row) (old new : State) (command : Command) (
   changes c known bare (inl writes) = subst IsWrite known writes
   changes c known bare (inr shows) = absurd (let shown = subst IsSome bare shows in cc)
 
-  -- A statement that is whole fails as the store fails, where a value was too big among it, or as its command does, or
+  -- A statement that is whole fails as the store fails, perhaps since a value was too big, or as its command does, or
   -- since it is out of place.
   pub change_fails : Means old.now.schema sql command → is_whole sql (length params) (understood old.now.schema sql) ≡ true → is_query command ≡ false → is_pragma command ≡ false → ((e : Error) → IsMisplaced old command e → IsUnchanged old new → Unfit e)
       → ((e : Error) → IsWrite command → Ends (Some e) → Unfit e) → (e : Error) → Executes sql params old new (Err e) → Fails old new (Ends None) e ⊎ Unfit e
@@ -93,7 +93,7 @@ module _ (name : List ℕ) (tree : ℕ) (columns : List Column) (key : Option �
   abbrev here : Table
   here = plain_table name tree columns key primary uniques orders checks references
 
-  -- values of the right kinds are taken, where there is no limit of steps
+  -- values of the right kinds are taken, if there is no limit of steps
   pub sourced : (db : Database) (params : Row) (terms : List Term) (width : ℕ) → accepts_terms terms params ≡ true → (limit : Option ℕ) → limit ≡ None → (stop : Option Error) → Sourced limit db (stamped here params) (Values terms width) (Err stop) → ⊥
   sourced db params terms width typed limit unlimited None h = h
   sourced db params terms width typed limit unlimited (Some e) (inl kind) = let clash = subst (λ ps. accepts_terms terms ps ≡ false) (append-nil params) kind.1 in let e2 : true ≡ false = sym typed ∙ clash in cc

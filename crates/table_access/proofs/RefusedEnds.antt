@@ -68,7 +68,7 @@ has_before a b c Broken up h = h
 has_before a b c Unstorable up h = h
 has_before a b c _ up h = omega (arith, up, h)
 
--- a failure that ended the transaction is still one where nothing was left to end
+-- a failure that ended the transaction is still one after a call that had nothing left to end
 pub failed_idle : (a b c : State) (f : StoreFault) → HasFailed a b f → b.faults ≤ c.faults → IsIdle b c → HasFailed a c f
 failed_idle a b c f failed up idle = record {
   cause = failed.cause;

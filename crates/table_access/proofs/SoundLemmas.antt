@@ -86,7 +86,7 @@ module _ (db : Database) (sound : IsDatabase db) (t : Table) (listed : Has db.sc
 pub checks_hold : (db : Database) → IsDatabase db → (t : Table) → Has db.schema.tables t → (row : Row) → Has (db.trees t.tree) row → passes_checks t row ≡ true
 checks_hold db sound t listed row has = keeps_at Check db.schema db.trees t row (sound.obeys.rules Check) listed has
 
--- ---- a UNIQUE key stands once
+-- ---- no two rows have one UNIQUE key
 
 differs : (a b : Row) → is_int (rowid a) ≡ true → is_int (rowid b) ≡ true → value_cmp (rowid a) (rowid b) ≡ Less → differ (rowid a) (rowid b) ≡ true
 unfolding binary

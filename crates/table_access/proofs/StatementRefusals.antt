@@ -1,4 +1,4 @@
--- A statement that the database refuses, and that leaves the transaction open, is never told as want of memory.
+-- A statement that the database refuses, and that leaves the transaction open, is never out of memory.
 use Rattle.std.specs.{Prelude.{MatchBool, slice_get, is_some}, Option.{option_to_list}}
 use Rattle.std.proofs.Common.{inl, inr, ◌≡◌, ◌⊎◌, ℕ, ℤ, Bool, true, false, List, [], ◌∷◌, Option, Some, None, option_map, Err, refl, ap, subst, ◌∙◌}
 use Rattle.sqlite_value.specs.Order.{Row}
@@ -22,7 +22,7 @@ use Rattle.sqlite_catalog.specs.declared.error.Refusal as alter
 use Rattle.sqlite_catalog.specs.declared.error.Refusal.TheVariants as why
 use Rattle.sqlite.specs.declared.error.ErrorCode.TheVariants as code
 
--- each refusal of this part is told as Store
+-- each refusal of this part has the fault Store
 record Calm {A : Type 0} (P : Part A) : Type 0 where
   told : (e : Error) → P (Err (Some e)) → fault_of e ≡ Store
 

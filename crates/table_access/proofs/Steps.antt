@@ -24,7 +24,7 @@ pub record Means (schema : Schema) (sql : List ℕ) (command : Command) : Type 0
   pub plain : IsPlain (understood schema sql)
   pub unlisted : reads_listing schema sql ≡ false
 
--- a plain text, which has no RETURNING, leaves all as it was where it shows rows
+-- a plain text, which has no RETURNING, leaves all as it was if it shows rows
 pub shown_unchanged : (sql : List ℕ) (params : Row) (old new : State) (rows : List Row) → IsPlain (understood old.now.schema sql) → Shown sql params old new rows → IsUnchanged old new
 unfolding Shown
 shown_unchanged sql params old new rows plain h =
@@ -58,7 +58,7 @@ module _ (db : Database) (params : Row) (t : ℕ) (terms project : List Term) (o
       let kept = ap (map (λ (o : Output). o.1)) outputs ∙ map-map _ _ _ in
       subst₂ IsPermutation kept (sym answer.shown) (IsPermutation-map (λ (o : Output). o.1) answer.kept answer.ordered answer.same)
 
-  -- where it keeps one, that is shown alone
+  -- if it keeps one, only that is shown
   pub shown_one : (r : Row) → filter (keeps terms params) (db.trees t) ≡ r ∷ [] → rows ≡ shows project params r ∷ []
   shown_one r found = one_permutation _ rows (subst (λ xs. IsPermutation xs rows) (ap (map (shows project params)) found) answered)
 
@@ -106,7 +106,7 @@ concludes task mode command db tally after h =
     let told = same_value (went (went done.2).2).2 in
     (done.0, done.1, ap (λ (p : Tally × Database). p.1) told, ap (λ (p : Tally × Database). p.0.rows) told)
 
--- the rows of each table are numbered, where those of one are that changed
+-- the rows of each table are numbered, if those of the changed one are
 still_numbered : (schema : Schema) (tree : ℕ) (db next : Trees) → (IsNumbered (db tree) → IsNumbered (next tree)) → AllByRecursion (λ t. t.tree ≢ tree → next t.tree ≡ db t.tree) schema.tables
     → AllByRecursion (λ t. IsNumbered (db t.tree)) schema.tables → AllByRecursion (λ t. IsNumbered (next t.tree)) schema.tables
 still_numbered schema tree db next here others all = go schema.tables others all
@@ -203,7 +203,7 @@ module _ (name : List ℕ) (tree : ℕ) (columns : List Column) (key : Option �
         let edit = subst (Added tree (old.now.trees tree) made old.now.schema old.now.trees) now (put_one Chosen old.now.schema (mode_of old).keys old.now.trees done.0.trees row made cast (subst (λ rows. Edited old.now.schema (mode_of old).keys old.now.trees (edit_of old.now.trees here [] Chosen 0 rows) (Ok done.0.trees)) one put)) in
         (changes_only old new tree command (statement_of sql (understood old.now.schema sql)) params count w (ap (λ (d : Database). d.schema) done.2) edit.1 edit.2, edit.0)
 
-    -- where no foreign key acts, a DELETE takes out the rows that WHERE keeps and counts them, and changes no other table
+    -- if no foreign key acts, a DELETE takes out the rows that WHERE keeps and counts them, and changes no other table
     pub deletes : (terms : List Term) → Means old.now.schema sql (Delete at (record { lets = []; body = from_table tree terms (col 1 0 ∷ []) [] })) → IsCalm old.now.schema.tables → IsNumbered (old.now.trees tree) → (count : ℕ) → Executes sql params old new (Ok count)
         → ChangesOnly tree old new × (new.now.trees tree ≡ filter (λ r. not (keeps terms params r)) (old.now.trees tree))
         × (count ≡ length (filter (keeps terms params) (old.now.trees tree)))

@@ -51,12 +51,12 @@ entry : (columns : List ℕ) (row : Row) → AllByRecursion IsShortValue row →
 entry [] row h = (at_column row h 0, tt)
 entry (c ∷ columns) row h = (at_column row h c, entry columns row h)
 
--- no column of an index is REAL, where none of the table is
+-- no column of an index is REAL, if none of the table is
 pub no_reals : (columns : List ℕ) → index_reals 0 columns ≡ 0
 no_reals [] = refl
 no_reals (c ∷ columns) = omega (arith, bit_at-zero c, no_reals columns)
 
--- an entry of an index with a few columns, whatever else the row has
+-- an entry of an index with a few columns can be stored, for any other columns of the row
 pub entry_fits : (t : Table) (columns : List ℕ) (row : Row) → table_reals t ≡ 0 → length columns < 12 → AllByRecursion IsShortValue (entry_of columns row)
     → IsStorable (index_reals (table_reals t) columns) (entry_of columns row)
 entry_fits t columns row whole few short =

@@ -23,7 +23,7 @@ pub rollback_is : (schema : Schema) → Means schema (codes "ROLLBACK") Rollback
 unfolding understood everything
 rollback_is schema = (record { is = refl; plain = (refl, refl); unlisted = refl }, refl)
 
--- a statement that was refused changed nothing and is told as Store, or the store failed
+-- a statement that was refused changed nothing and its fault is Store, or the store failed
 abbrev pub IsRefused : State → State → Error → Type 0
 IsRefused old new e = (IsUnchanged old new × (fault_of e ≡ Store)) ⊎ Fails old new ⊤ e
 
@@ -36,7 +36,7 @@ command_told old c text params e (inl (inl h)) = ap fault_of h.0
 command_told old c text params e (inl (inr h)) = ap fault_of h.0
 command_told old c text params e (inr h) = does_told old.step_limit (mode_of old) params old.now text c.returning c.command e h.1
 
--- what is so where a row was too big is so of more
+-- what is so if a row was too big may be weakened
 pub caused_more : {A B : Type 0} (a b : State) (cause : StoreError) → (A → B) → HasCause a b A cause → HasCause a b B cause
 caused_more a b Unstorable more h = more h
 caused_more a b _ more h = h

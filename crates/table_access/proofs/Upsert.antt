@@ -17,7 +17,7 @@ use Rattle.table_access.proofs.{Removal.{same_filter}, Values.{same_ints}, Sound
 use Rattle.table_access.proofs.Steps.{Means, Added, concludes, changes_only, went, same_value, put_one, updated}
 use Rattle.sqlite_sql.specs.{declared.ops.BinaryOp.TheVariants.{Compare}, declared.ops.CompareOp.TheVariants.{Eq}, Ops.{binary, is_true}}
 
--- WHERE the rowid is this parameter
+-- the terms of: WHERE rowid = this parameter
 abbrev pub by_rowid : ℕ → List Term
 by_rowid n = op2 (Compare Eq Binary) (col 1 0) (col 0 n) ∷ []
 
@@ -68,7 +68,7 @@ module _ (name : List ℕ) (tree : ℕ) (columns : List Column) (key : Option �
         subst (Added tree (db tree) made schema db) (sym (ap (λ (it : Written). it.trees) (same_value edit.2)))
         (put_one name tree columns key primary uniques orders checks references Given schema keys db edit.0 new made cast edit.1)
 
--- WHERE the rowid is that of a row that is there
+-- a WHERE by the rowid of a row of the table keeps exactly this row
 filter_one : (rows : List Row) → IsTable rows → (r : Row) → Has rows r → filter (λ x. is_eq (value_cmp (rowid x) (rowid r))) rows ≡ r ∷ []
 filter_one [] up r has = absurd has
 filter_one (y ∷ ys) up r (inl same) =
@@ -91,7 +91,7 @@ module _ (name : List ℕ) (tree : ℕ) (columns : List Column) (key : Option �
   abbrev update : Program
   update = record { lets = []; body = setting tree n project }
 
-  -- the row is put in where no row has its key, and else the row that has it is taken out, and what SET makes of it put in
+  -- if no row has its key, the row is put in; else the row that has it is taken out, and what SET makes of it put in
   abbrev pub Upserted : Row → Type 0
   Upserted it =
       (AreConflicts (Some target) old.now.schema.indexes row_table (old.now.trees tree) it [] × IsAdded (old.now.trees tree) (new.now.trees tree) (cast_row row_table it))
@@ -113,7 +113,7 @@ module _ (name : List ℕ) (tree : ℕ) (columns : List Column) (key : Option �
       ∙ same_rowids x hit.0 (at_has _ rows x numbered.1 has) (at_has _ rows hit.0 numbered.1 hit.1) in
       (hit.0, hit.1, hit.2, same, same_filter _ _ rows where_row ∙ filter_one rows numbered.0 hit.0 hit.1, where_row)
 
-  -- where no foreign key acts, INSERT .. ON CONFLICT DO UPDATE puts one row in or updates the one in its way
+  -- if no foreign key acts, INSERT .. ON CONFLICT DO UPDATE puts one row in or updates the one in its way
   pub upsert_leaves : (terms : List Term) (width : ℕ) (row : Row) → slice_get old.now.schema.tables at ≡ Some row_table → value_rows params width (length terms / width) terms ≡ row ∷ []
       → ((v : Value) (more : Row) → column (params ++ v ∷ more) n ≡ v) → Means old.now.schema sql (InsertOr at Abort (Values terms width) (record { target = Some target; update = Some update } ∷ []))
       → IsCalm old.now.schema.tables → IsNumbered (old.now.trees tree) → (count : ℕ) → Executes sql params old new (Ok count)

@@ -27,7 +27,7 @@ use Rattle.table_access.proofs.{Edits.{Suits, IsAlone, goes, refers, one_unique,
 use Rattle.table_access.proofs.{Refused.{stopped, sourced, on_rows, change_fails, caused_by, in_place}, SoundLemmas.{at_has}}
 use Rattle.table_access.proofs.{Steps.{Means, went, same_value, shown_one}, Upsert.{by_rowid, setting, Either, upserts, meets}, Values.{cast_null, cast_kept}}
 
--- what fits where rows are put in and taken out fits also where none is taken out
+-- what fits if rows are put in and taken out fits too if none is taken out
 either_way : (a b removes : Bool) → (a && (not true || b)) ≡ true → (a && (not removes || b)) ≡ true
 either_way a b true h = h
 either_way a b false h = and_from _ _ (and_parts _ _ h).0 refl
@@ -57,7 +57,7 @@ module _ (name : List ℕ) (tree : ℕ) (columns : List Column) (key : Option �
 
   -- The database obeys its schema, no reference leads to the table, the target is its one key, and it has a number for the
   -- row. The row has the same columns whether it is put in or is what a row with its key becomes, fits the table, and what
-  -- it refers to is there. TooBig is what is so where it can't be stored.
+  -- it refers to is there. TooBig is what is so if it can't be stored.
   pub record Takes : Type 0 where
     pub found : slice_get old.now.schema.tables at ≡ Some here
     pub listed : Has old.now.schema.tables here
@@ -103,7 +103,7 @@ module _ (name : List ℕ) (tree : ℕ) (columns : List Column) (key : Option �
         let is = has_filtered (λ j. guards j here) old.now.schema.indexes it.0 it.1 in
         (it.0, is.0, is.1)
 
-    -- a row is met just where it has the key
+    -- a row is met if and only if it has the key
     met : (r : Row) → conflicts (Some target) old.now.schema.indexes here it r ≡ true → agree plain target r target it ≡ true
     met r hit = elim (or_cases _ _ hit) [
       | inl number ↦ absurd (both_ways _ takes.no_rowid (and_parts _ _ number).0)

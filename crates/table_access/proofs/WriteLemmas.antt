@@ -1,4 +1,4 @@
--- A text that writes rows or makes a table or an index commits nothing inside a transaction, whatever the schema is.
+-- With any schema, a text that writes rows or makes a table or an index commits nothing inside a transaction.
 use Rattle.std.specs.Option.{option_or}
 use Rattle.std.proofs.Common.{inl, inr, ◌≡◌, ◌∙◌, ◌==◌, ◌+◌, Option, ℕ, length, Bool, true, false, cond, List, [], Ok, Err, IsTrue, refl, subst, not, ◌&&◌}
 use Rattle.std.proofs.lemmas.Bool.{cases_Bool}
@@ -150,7 +150,8 @@ understood_ends schema sql w = elim (cases_Bool (reads_listing schema sql)) [
   | inr plain ↦ rw plain (text_ends schema sql _ refl w)
 ]
 
--- So it commits only where no transaction is open. `refl` finds the premise of a text that is written out, under `unfolding everything`.
+-- So it commits only if no transaction is open. `refl` finds the premise of a text that is written out, by
+-- `unfolding everything`.
 pub commits_outside : (sql : List ℕ) (params : Row) (old : State) (db : Trees) → IsWriteText (first sql) → CommitsBy sql params old db → old.in_transaction ≡ false
 unfolding CommitsBy
 commits_outside sql params old db w h =

@@ -12,12 +12,12 @@ use Rattle.sqlite_trees.specs.View.{Tells}
 use Rattle.table_access.specs.declared.StoreFault.{StoreFault}
 use Rattle.table_access.specs.declared.StoreFault.TheVariants.{Memory, Store}
 
--- an error of the database, as it is told
+-- the fault that a caller sees of an error of the database
 abbrev pub fault_of : Error → StoreFault
 fault_of (SqliteFailure code.OutOfMemory) = Memory
 fault_of _ = Store
 
--- the statement was refused, and the fault stands for its error
+-- the statement was refused, and the fault is that of its error
 abbrev pub FailsToRun : List ℕ → Row → State → State → StoreFault → Type 0
 FailsToRun sql params old new fault = (e : Error) × (fault ≡ fault_of e) × Executes sql params old new (Err e)
 
@@ -30,9 +30,9 @@ pub record KeepsLastCommit (old new : State) : Type 0 where
 abbrev pub GoesOn : State → State → Type 0
 GoesOn old new = IsTrue new.in_transaction × (IsTrue old.is_open → IsTrue new.is_open)
 
--- The store failed, which ended the transaction, and the fault stands for its cause: of a fault of the disk there is
--- one more, and of a connection that was shut before it was. Of want of memory nothing is seen. TooBig is what is so
--- where a row was too big to be stored.
+-- The store failed, which ended the transaction, and the fault is that of its cause: after a fault of the disk there is
+-- one more of them, and after a connection that was shut, it was shut before. If memory ran out, nothing is seen of it.
+-- TooBig is what is so if a row was too big to be stored.
 pub record EndsBy (TooBig : Type 0) (old new : State) (fault : StoreFault) : Type 0 where
   pub cause : StoreError
   pub fault_is : fault ≡ fault_of (store_error cause)
@@ -44,7 +44,7 @@ pub record EndsBy (TooBig : Type 0) (old new : State) (fault : StoreFault) : Typ
 abbrev pub IsEnded : State → State → StoreFault → Type 0
 IsEnded = EndsBy ⊤
 
--- of a query, which stores none: Store stands for a fault of the disk or a connection that was shut
+-- of a query, which stores none: Store is a fault of the disk or a connection that was shut
 abbrev pub HasFailed : State → State → StoreFault → Type 0
 HasFailed = EndsBy ⊥
 
@@ -53,7 +53,7 @@ HasFailed = EndsBy ⊥
 abbrev pub FailsAs : State → State → StoreFault → Type 0
 FailsAs old new fault = GoesOn old new ⊎ IsEnded old new fault
 
--- Memory is told only where the store had none, which ended the transaction.
+-- a call returns Memory only if the store had none, which ended the transaction
 abbrev pub TellsMemory : {A : Type 0} → State → State → Result A StoreFault → Type 0
 TellsMemory old new r = HasCleanDisk new → IsTrue old.in_transaction → r ≡ Err Memory → IsEnded old new Memory
 

@@ -16,7 +16,7 @@ AreRead reads [] (x ∷ items) = ⊥
 AreRead reads (r ∷ rows) [] = ⊥
 AreRead reads (r ∷ rows) (x ∷ items) = reads r x × AreRead reads rows items
 
--- the query was refused, and that is told
+-- the query was refused, and the fault is that of its error
 abbrev pub IsRefusedAs : List ℕ → Row → State → State → StoreFault → Type 0
 IsRefusedAs sql params old new fault = (e : Error) × (fault ≡ fault_of e) × FailsToQuery sql params old new e
 
@@ -32,7 +32,7 @@ FailsToRead Reads Fails sql params old new fault =
     ⊎ ((rows : List Row) × Shown sql params old new rows × (row : Row) × Has rows row
     × FailsToReadRow Reads Fails row fault)
 
--- Why the first row isn't read: the query was refused, or this is told of that row.
+-- Why the first row isn't read: the query was refused, or the first argument holds of that row and the fault.
 abbrev pub FailsToTake : (Row → StoreFault → Type 0) → List ℕ → Row → State → State → StoreFault → Type 0
 FailsToTake Tells sql params old new fault =
     IsRefusedAs sql params old new fault
@@ -51,7 +51,7 @@ BeginsWithText rows = (row : Row) → slice_get rows 0 ≡ Some row → IsTextAt
 abbrev pub IsNumberAt : ℕ → Row → Type 0
 IsNumberAt at row = (at < length row) × ((n : ℕ) × (column row at ≡ Int (pos n)) × (n < 2 ^ 32))
 
--- Store where this doesn't stand in the row, and Memory where it does, and there is no room for it
+-- Store if this isn't in the row, and Memory if it is and there is no room for it
 abbrev pub TellsWhether : Type 0 → StoreFault → Type 0
 TellsWhether Stands fault = ((fault ≡ Store) × (¬ Stands)) ⊎ ((fault ≡ Memory) × Stands)
 
@@ -62,7 +62,7 @@ TellsText row = TellsWhether (IsTextAt 0 row)
 abbrev pub IsNumberRow : Row → Type 0
 IsNumberRow row = IsNumberAt 0 row
 
--- Store, where there is no number in this column; in the first
+-- Store, if there is no number in this column; in the first
 abbrev pub TellsNumberAt : ℕ → Row → StoreFault → Type 0
 TellsNumberAt at row fault = (fault ≡ Store) × (¬ IsNumberAt at row)
 

@@ -73,7 +73,7 @@ keeps terms params row = list_all (holds (params ∷ row ∷ [])) terms
 abbrev pub shows : List Term → Row → Row → Row
 shows project params row = eval_all project (params ∷ row ∷ [])
 
--- one row more, wherever it stands
+-- one row more, anywhere in the list
 pub record IsAdded (old new : List Row) (row : Row) : Type 0 where
   pub front : List Row
   pub back : List Row

@@ -9,9 +9,8 @@ use crate::{StoreFault, fault_of};
 use sqlite::{Alter, Connection};
 use std::marker::Model;
 
-/// A COMMIT that the database refused. Nothing makes one but the call that runs COMMIT, and only where the database
-/// answers it with an error: so who has one in hand has had COMMIT tried. A contract sees the fault by which it was
-/// refused.
+/// A COMMIT that the database refused. Only the call that runs COMMIT makes one, and only if the database answers it
+/// with an error: so who has one in hand has had COMMIT tried. A contract sees the fault by which it was refused.
 #[derive(Drop)]
 pub struct CommitRefused {
     fault: StoreFault,

@@ -1,4 +1,4 @@
--- What is answered after a query, and what is told by a list without items.
+-- A query's promise for another form of its answer, and what an empty list says.
 use Rattle.std.specs.{Prelude.{Contains, ◌↔◌}, declared.cmp.Ordering.{Ordering}}
 use Rattle.std.proofs.Common.{◌≡◌, ◌==◌, Bool, true, false, List, [], ◌∷◌, length, Option, Some, None, Ok, IsTrue, refl, sym, ◌∙◌, arith}
 use Rattle.std.proofs.lemmas.Bool.{eqb-true}
@@ -30,7 +30,7 @@ empty_is : {X : Type 0} (xs : List X) → (length xs == 0) ≡ true → xs ≡ [
 empty_is [] is = refl
 empty_is (x ∷ xs) is = absurd (omega (arith, eqb-true (length (x ∷ xs)) 0 is))
 
--- the list of what is such is empty where nothing is
+-- the list of what is such is empty if and only if nothing is
 pub nothing_is : {X : Type 0} {cmp : X → X → Ordering} {Is : X → Type 0} (xs : List X) (empty : Bool) → empty ≡ (length xs == 0) → Lists cmp Is xs → IsTrue empty ↔ ((x : X) → ¬ (Is x))
 nothing_is {X} {cmp} {Is} xs empty tells listed = (λ yes x is. none xs (empty_is xs (sym tells ∙ yes)) x ((listed.exactly x).1 is), λ never. tells ∙ go xs (λ x there. never x ((listed.exactly x).0 there)))
   where
@@ -44,7 +44,7 @@ nothing_is {X} {cmp} {Is} xs empty tells listed = (λ yes x is. none xs (empty_i
 
 -- ---- needs
 
--- a need is good where it has no fault
+-- a need is good if and only if it has no fault
 good_is : (strict : Bool) (need : Need) → ((fault : PairFault) → ¬ (fault_of strict need ≡ Some fault)) ↔ IsGood strict need
 good_is strict need = go need.provider_version need.latest
   where

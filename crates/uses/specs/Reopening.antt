@@ -28,7 +28,7 @@ use Rattle.uses.specs.declared.reopening.NotReopened.TheVariants.{Unclosed, Unop
 abbrev pub IsOfDatabase : OpenFault → Type 0
 IsOfDatabase why = (why ≡ fault.Memory) ⊎ (why ≡ fault.Store)
 
--- whatever a crash leaves keeps the state
+-- any trees that a crash may leave keep the state
 abbrev pub KeepsOverCrash : Broker → (Trees → Type 0) → Type 0
 KeepsOverCrash s may_leave = (trees : Trees) → may_leave trees → AreTreesOf (OfToday s) trees
 
@@ -49,7 +49,7 @@ module _ {D : Type 0} {g : Ghosts D} where
     -- it holds each state that the old one held
     pub holds : HasCleanDisk (file_state new.connection)
         → (s : Broker) → HoldsState s (file_state old.connection) → HoldsState s (file_state new.connection)
-    -- whatever the database is, as after a command that was answered Store: the last commit is the old one
+    -- for any database, also one that holds no state, as after a command answered Store: the last commit is the old one
     pub commit : HasCleanDisk (file_state new.connection) → IsTrue (file_state new.connection).is_open
         → (file_state new.connection).committed.trees ≡ (file_state old.connection).committed.trees
 

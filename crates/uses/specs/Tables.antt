@@ -1,4 +1,4 @@
--- What a program of its own is told by the broker's tables (this project's own).
+-- What the broker's tables say to a program that asks them without the broker (this project's own).
 use Rattle.std.specs.Prelude.{◌≡◌, ◌↔◌, ℕ, Bool, IsTrue, Some}
 use Rattle.broker_core.specs.Gate.{IsNeed, IsGood}
 use Rattle.broker_core.specs.Machine.{IsMatrixRow}
@@ -14,7 +14,7 @@ abbrev pub IsAlone : State → ℕ → Bool → Type 0
 IsAlone s number alone = (v : Version) → number_of s.versions v ≡ Some number
     → IsTrue alone ↔ ((row : MatrixRow) → ¬ (IsMatrixRow s v row))
 
--- whether each need in e of the version of this number is good, where e is strict or not
+-- whether each need in e of the version of this number is good, e being strict or not
 abbrev pub IsVerified : State → ℕ → Text → Bool → Bool → Type 0
 IsVerified s number e strict verified = (v : Version) → number_of s.versions v ≡ Some number
     → IsTrue verified ↔ ((need : Need) → IsNeed s v e need → IsGood strict need)

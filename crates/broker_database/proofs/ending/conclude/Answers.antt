@@ -4,12 +4,12 @@ use Rattle.table_access.specs.{declared.StoreFault.{StoreFault}, declared.StoreF
 use Rattle.broker_database.{specs.Transaction.{EndsFor, Finishes, called, conclusion, told}, proofs.Transaction.{outlives_as}}
 use Rattle.broker_database.proofs.ending.conclude.Goals as goal
 
--- what a work came to is told as it is
+-- the result of a work is reported unchanged
 told_called : {A : Type 0} (r : Result A StoreFault) → told (called r) ≡ r
 told_called (Ok a) = refl
 told_called (Err fault) = refl
 
--- a refused COMMIT is Store, whatever the work came to
+-- a refused COMMIT is reported as Store, for any result of the work
 store_at_worst : {A : Type 0} (r : Result A StoreFault) → Err Store ≡ conclusion r (Err Store)
 store_at_worst (Ok a) = refl
 store_at_worst (Err Memory) = refl

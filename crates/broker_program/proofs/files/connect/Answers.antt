@@ -6,7 +6,7 @@ use Rattle.broker_program.proofs.files.connect.Goals as goal
 abbrev image : List ℕ → List ℕ → Image
 image log db = record { log = log; db = db }
 
--- what a file shows that was just taken, and what a crash leaves of it
+-- what a file shows after these events since it was taken, and what a crash leaves of it
 abbrev seen : List ℕ → List ℕ → Bool → List Event → List ℕ
 seen log db is_log history = (replay (cond is_log log db) history).seen
 

@@ -3,7 +3,7 @@ use Rattle.program_io.specs.Faults.{fault_text}
 use Rattle.broker_program.specs.Running.{unread_text}
 use Rattle.program_io.specs.declared.fault.RunFault.TheVariants as run_fault
 
--- an error that isn't of a word in another code is told as one of memory
+-- an error other than InvalidData is reported as one of memory
 else_memory : (kind : ErrorKind) → kind ≢ InvalidData → unread_text kind ≡ fault_text run_fault.Memory
 else_memory InvalidData other = absurd (other refl)
 else_memory _ other = refl

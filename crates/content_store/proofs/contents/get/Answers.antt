@@ -29,7 +29,7 @@ returns-in-Ok-clause-calm g c =
     (why_text (stored _) old new (λ s held readable rows h row head. stored_reads _ _ s held readable rows h row (first_has rows row head)))
     (rw c.params-to_sql.ensures at c.find_text.ensures.cause)
 
--- where there is no such text, no row is shown
+-- if there is no such text, no row is shown
 pub returns-in-Ok-clause-missing : goal.returns-in-Ok-clause-missing
 returns-in-Ok-clause-missing g c clean s at none =
     let is = c.in-Ok.ensures.1 in

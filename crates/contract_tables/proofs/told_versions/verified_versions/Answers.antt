@@ -4,7 +4,7 @@ use Rattle.broker_tables.proofs.QueryLemmas.{query_failed, both_told}
 use Rattle.contract_tables.{specs.ToldVersions.{IsTold}, proofs.{QueryLemmas.{computed}, ToldResults.{versions_told, none_untold}}}
 use Rattle.contract_tables.proofs.told_versions.verified_versions.Goals as goal
 
--- each result that is named is told of, so only a growth is refused
+-- the passes say something of each result that is named, so only an allocation fails
 pub returns : goal.returns
 returns g c =
     let p = c.args.provider.now in

@@ -11,7 +11,7 @@ use Rattle.environment_commands.proofs.deploy.record_deployment.Goals as goal
 abbrev next : State → Text → Version → Text → State
 next s e v instance = record s { deployed = put_at same_place s.deployed (e, v.pacticipant, instance) (Some v.name) }
 
--- where it was found nothing is done, and otherwise it is deployed
+-- if it was found nothing is done, and otherwise it is deployed
 deploys : (s : State) (e instance : Text) (v : Version) (number : ℕ) (stood b : Bool) (f q : Text) → f ≡ e → q ≡ v.pacticipant → number_of s.versions v ≡ Some number → FindsDeployed f q instance number stood s → stood ≡ b
     → (if b then already s else done (next s e v instance)) ≡ deployment s e v instance
 deploys s e instance v number stood b f q env owner is found was =

@@ -19,7 +19,7 @@ put_again table key none = λ i k. go k i
       | false ↦ λ _. refl
     ] refl
 
--- what is told is whether it was released there
+-- the answer says whether it was released there
 ended : (s t : State) (e f : Text) (v : Version) (number : ℕ) (stood b : Bool) → f ≡ e → number_of s.versions v ≡ Some number → EndsSupport f number s t → ((w : Version) → number_of s.versions w ≡ Some number → stood ≡ s.released (f, w)) → stood ≡ b
     → record { answer = (if b then Done Plain else Unknown missing.Released); state = t } ≡ unsupported s e v
 ended s t e f v number stood b env is ends told was =

@@ -15,7 +15,7 @@ next s e v = record s { released = put_at (same_pair same_text same_version) s.r
 stands : (s : State) (e : Text) (v : Version) (number : ℕ) (stood b : Bool) (f : Text) → f ≡ e → number_of s.versions v ≡ Some number → FindsReleased f number stood s → stood ≡ b → s.released (e, v) ≡ b
 stands s e v number stood b f env is found was = sym (found.0 v is ∙ (λ i. s.released (env i, v))) ∙ was
 
--- and where it isn't it is released
+-- and if it isn't released there yet, it is now
 releases : (s : State) (e : Text) (v : Version) (b : Bool) → s.released (e, v) ≡ b → (if b then already s else done (next s e v)) ≡ released s e v
 releases s e v b is = sym (ap (λ (b : Bool). if b then already s else done (next s e v)) is)
 

@@ -9,7 +9,7 @@ use Rattle.command_facts.proofs.PerformLemmas.{where_told}
 use Rattle.broker_core.specs.declared.answer.Missing.TheVariants as missing
 use Rattle.environment_commands.proofs.undeploy.remove_deployment.Goals as goal
 
--- what is told is whether it was deployed there
+-- the answer says whether it was deployed there
 taken : (s t : State) (e f q i : Text) (v : Version) (number : ℕ) (stood b : Bool) → f ≡ e → q ≡ v.pacticipant → number_of s.versions v ≡ Some number → TakesOutAndTells f q i number stood s t → stood ≡ b
     → record { answer = (if b then Done Plain else Unknown missing.Deployed); state = t } ≡ undeployment s e v i
 taken s t e f q i v number stood b env owner is took was =

@@ -2,7 +2,7 @@ use Rattle.std.proofs.Common.{◌≡◌, ◌-◌, ◌≤◌, length, reverse, sl
 use Rattle.httparse.specs.Grammar.{skip_ows, trim_ows}
 use Rattle.http_messages.proofs.options.trimmed.Given as goal
 
--- what is left has the same bytes behind its blanks
+-- what is left has the same bytes after its blanks as the whole
 abbrev pub invariant-loop-start : goal.invariant-loop-start
 invariant-loop-start l =
     (l.start ≤ l.end) × (l.end ≡ length l.bytes)

@@ -2,7 +2,7 @@ use Rattle.std.proofs.Common.{◌≡◌, ℕ, List, ◌++◌, append_assoc, ap, 
 use Rattle.http_responses.specs.Head.{content_fields, line_end}
 use Rattle.http_responses.proofs.head.append_content.Goals as goal
 
--- three parts, one behind another
+-- three parts, one after another
 in_turn : (text t0 t1 t2 first digits last : List ℕ) → t0 ≡ text ++ first → t1 ≡ t0 ++ digits → t2 ≡ t1 ++ last
     → t2 ≡ text ++ (first ++ (digits ++ last))
 in_turn text t0 t1 t2 first digits last e0 e1 e2 =

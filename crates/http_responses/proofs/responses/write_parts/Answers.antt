@@ -3,7 +3,7 @@ use Rattle.std.proofs.Common.{ℕ, ◌+◌, ◌<◌, List, ◌++◌, Option, Res
 use Rattle.std.proofs.{KnownBytes.{Appends-trans}, Math.Seq.{take-append-add}}
 use Rattle.http_responses.proofs.responses.write_parts.Goals as goal
 
--- a beginning of the rest, behind the front
+-- the whole front and a beginning of the rest are a beginning of both
 behind : {A E : Type 0} (result : Result A E) (a b c : Option (List ℕ)) (front rest : List ℕ) → Appends a b front
     → OnErr result ((n : ℕ) × (n < length rest) × Appends b c (take n rest))
     → OnErr result ((n : ℕ) × (n < length (front ++ rest)) × Appends a c (take n (front ++ rest)))

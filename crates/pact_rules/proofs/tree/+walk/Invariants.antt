@@ -2,8 +2,8 @@ use Rattle.std.proofs.Common.{◌≡◌, ◌||◌, nat_le, drop}
 use Rattle.serde_json.specs.{Data.{items_depth, members_depth}, Written.{items_have_float, members_have_float}, View.{items_view, members_view}}
 use Rattle.pact_rules.proofs.tree.+walk.Given as goal
 
--- all of them are shallow enough just where those that are left are; and one of them has a fraction just where one that
--- was seen has, or one of those that are left
+-- All are within the limit of depth if and only if the ones that are left are; and one has a fraction if and only if
+-- one that was seen has, or one of those that are left.
 abbrev pub invariant-items_fraction-loop-item : goal.invariant-items_fraction-loop-item
 invariant-items_fraction-loop-item l =
     let left = items_view (drop l.item-index l.item-items) in

@@ -5,7 +5,7 @@ use Rattle.pact_rules.specs.Walks.{HasReached}
 use Rattle.serde_json.specs.View.{items_view, members_view}
 use Rattle.reply_check.proofs.fit.+fitting.Given as goal
 
--- all fit just where those that are left do
+-- all fit if and only if those that are left do
 abbrev pub invariant-items_fit-loop-index : goal.invariant-items_fit-loop-index
 invariant-items_fit-loop-index l =
     let xs = items_view l.expected.items in

@@ -3,7 +3,7 @@ use Rattle.pact_rules.specs.{Matching.{entry_holds}, RuleViews.{matcher_view}}
 use Rattle.serde_json.specs.View.{view}
 use Rattle.pact_rules.proofs.entry.Entry.each_holds.Given as goal
 
--- it holds just where those that are left say so
+-- the entry holds if and only if the entry of the matchers that are left holds
 abbrev pub invariant-loop-matcher : goal.invariant-loop-matcher
 invariant-loop-matcher l =
     let ms = l.self.matchers.items in
