@@ -10,7 +10,8 @@ use Rattle.pact_file.specs.{Objects.{json_of, object_of, tree_or_fault, with_fau
 use Rattle.pact_file.specs.{Parts.{states_in, all_of, status_in, headers_found}, Headers.{HasHeaders}, Rules.{RulesRead}, Pact.{Pact, Interaction, normal_text}}
 use Rattle.pact_file.specs.{Normal.{Normal, InteractionRead, InteractionsRead, InOrder, if_short}, declared.fault.PactFault.TheVariants.{TooLong}}
 use Rattle.pact_file.specs.{declared.object.FileFault.{FileFault}, declared.object.FileFault.TheVariants.{NotJson, NotObject}}
-use Rattle.pact_rules.specs.{Outcome.{◌>>=◌, guard}, Reading.{EachRead}, Rules.{no_rules}, Trees.{checked_tree}}
+use Rattle.pact_rules.specs.{Outcome.{◌>>=◌, guard}, Reading.{EachRead}, Rules.{no_rules}}
+use Rattle.pact_trees.specs.Checked.{checked_tree}
 use Rattle.command_facts.specs.Primitives.{broker_primitives}
 use Rattle.broker_http.proofs.PlainRequests.{in_ascii}
 

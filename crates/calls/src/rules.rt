@@ -1,31 +1,27 @@
 //! Trees of values, weights, the rule that is chosen, and what matchers hold of.
-use pact_rules::{Path, RuleTable, Step, holds, weight};
+use pact_rules::{Path, RuleFault, RuleTable, Step, holds, weight};
 use pact_trees::{Tree, TreeFault, tree_of};
 use serde_json::Value;
 use std::alloc::Global;
 use std::collections::BTreeMap;
 use std::test::Fail;
 
-/// A step by its word: a number is an index, any other word a key.
-fn step_of(alloc: Global, word: &str) -> Result<Step, Fail> {
-    match word.parse::<u64>() {
-        Ok(index) => Ok(Step::Index(index)),
-        Err(_) => Ok(Step::Key(String::from_str(alloc, word)?)),
-    }
-}
-
-/// A location by the words of its steps.
+/// A location by the words of its steps: a number is an index, any other word a key.
 fn location(alloc: Global, words: &[&str]) -> Result<Vec<Step>, Fail> {
     let mut steps = Vec::new(alloc);
     for word in words {
-        steps.push(step_of(alloc, word)?)?;
+        let step = match word.parse::<u64>() {
+            Ok(index) => Step::Index(index),
+            Err(_) => Step::Key(String::from_str(alloc, word)?),
+        };
+        steps.push(step)?;
     }
     Ok(steps)
 }
 
 fn table(alloc: Global, rules: &str) -> Result<RuleTable, Fail> {
-    let value = Value::from_str(alloc, rules)?;
-    Ok(RuleTable::read(alloc, &value)?)
+    let tree = tree_in(alloc, rules)??;
+    Ok(RuleTable::read(alloc, &tree)?)
 }
 
 /// The tree of a JSON text's value, or the first fault.
@@ -34,13 +30,7 @@ fn tree_in(alloc: Global, text: &str) -> Result<Result<Tree, TreeFault>, Fail> {
     Ok(tree_of(alloc, &value))
 }
 
-/// So many lists, one in another, with a text in the innermost one.
-fn lists(alloc: Global, depth: usize, innermost: &str) -> Result<String, Fail> {
-    let (begin, end) = ("[".repeat(alloc, depth)?, "]".repeat(alloc, depth)?);
-    Ok(format!(in alloc; "{begin}{innermost}{end}")?)
-}
-
-/// How many lists there are, what is in the innermost, and why no tree is made of it.
+/// How many lists there are, one in another, what is in the innermost, and why no tree is made of it.
 const DEPTHS: [(usize, &str, Option<TreeFault>); 5] = [
     (100, "", None),
     (101, "", Some(TreeFault::TooDeep)),
@@ -52,8 +42,10 @@ const DEPTHS: [(usize, &str, Option<TreeFault>); 5] = [
 #[test]
 fn depths(rt: HostRuntime) -> Result<(), Fail> {
     for (depth, innermost, wanted) in DEPTHS {
-        let text = lists(rt.alloc(), depth, innermost)?;
-        let tree = tree_in(rt.alloc(), text.as_str())?;
+        let alloc = rt.alloc();
+        let (begin, end) = ("[".repeat(alloc, depth)?, "]".repeat(alloc, depth)?);
+        let text = format!(in alloc; "{begin}{innermost}{end}")?;
+        let tree = tree_in(alloc, text.as_str())?;
         assert_eq!(rt;
             tree.err(),
             wanted,
@@ -175,6 +167,14 @@ fn choices(rt: HostRuntime) -> Result<(), Fail> {
     Ok(())
 }
 
+/// The tree of a JSON text. A whole number may be beyond those that a JSON value of `serde_json` has.
+fn tree_or_number(alloc: Global, text: &str) -> Result<Tree, Fail> {
+    match text.parse::<i128>() {
+        Ok(number) => Ok(Tree::Whole(number)),
+        Err(_) => Ok(tree_in(alloc, text)??),
+    }
+}
+
 /// Whether the matcher of the whole value in these rules holds; `None` if there is none.
 fn is_held(
     alloc: Global,
@@ -190,8 +190,8 @@ fn is_held(
     let Some(matcher) = table.entry(index).matchers.first() else {
         return Ok(None);
     };
-    let example = Value::from_str(alloc, expected)?;
-    let sent = Value::from_str(alloc, actual)?;
+    let example = tree_or_number(alloc, expected)?;
+    let sent = tree_or_number(alloc, actual)?;
     Ok(Some(holds(alloc, matcher, &example, &sent, own_place)?))
 }
 
@@ -205,12 +205,15 @@ const DIGITS: &str =
 
 const PART: &str = "{\"body\":{\"$\":{\"matchers\":[{\"match\":\"include\",\"value\":\"ru\"}]}}}";
 
+const DIGIT_PART: &str =
+    "{\"body\":{\"$\":{\"matchers\":[{\"match\":\"include\",\"value\":\"9551616\"}]}}}";
+
 const INTEGER: &str = "{\"body\":{\"$\":{\"matchers\":[{\"match\":\"integer\"}]}}}";
 
 const IS_NULL: &str = "{\"body\":{\"$\":{\"matchers\":[{\"match\":\"null\"}]}}}";
 
 /// The rules, the expected and the actual value, whether the place is the matcher's own, and whether it holds.
-const MATCHERS: [(&str, &str, &str, bool, bool); 21] = [
+const MATCHERS: [(&str, &str, &str, bool, bool); 31] = [
     (EQUALITY, "1", "1", true, true),
     (EQUALITY, "1", "2", true, false),
     (EQUALITY, "[1]", "[2]", true, true),
@@ -232,6 +235,28 @@ const MATCHERS: [(&str, &str, &str, bool, bool); 21] = [
     (INTEGER, "1", "\"7\"", true, false),
     (IS_NULL, "1", "null", true, true),
     (IS_NULL, "1", "0", true, false),
+    (
+        EQUALITY,
+        "18446744073709551616",
+        "18446744073709551616",
+        true,
+        true,
+    ),
+    (
+        EQUALITY,
+        "18446744073709551616",
+        "18446744073709551617",
+        true,
+        false,
+    ),
+    (BOUNDED, "1", "18446744073709551616", true, true),
+    (BOUNDED, "[1]", "18446744073709551616", true, false),
+    (DIGITS, "1", "18446744073709551616", true, true),
+    (DIGITS, "1", "-18446744073709551616", true, false),
+    (DIGIT_PART, "1", "18446744073709551616", true, true),
+    (DIGIT_PART, "18446744073709551616", "1", true, false),
+    (INTEGER, "1", "-18446744073709551616", true, true),
+    (IS_NULL, "1", "18446744073709551616", true, false),
 ];
 
 #[test]
@@ -239,6 +264,51 @@ fn matchers(rt: HostRuntime) -> Result<(), Fail> {
     for (rules, expected, actual, own_place, wanted) in MATCHERS {
         let held = is_held(rt.alloc(), rules, expected, actual, own_place)?;
         assert!(rt; held == Some(wanted), "{expected} {actual}");
+    }
+    Ok(())
+}
+
+/// The keys from a least length out to the table, without a key where there is a list.
+const LEAST: [&str; 5] = ["min", "", "matchers", "$", "body"];
+
+/// The rules that have a number within these keys, the innermost first.
+fn rules_around(alloc: Global, number: i128, keys: &[&str]) -> Result<Tree, Fail> {
+    let mut rules = Tree::Whole(number);
+    for key in keys {
+        if key.is_empty() {
+            rules = Tree::List(vec![in alloc; rules]?);
+        } else {
+            let mut members = BTreeMap::new(alloc);
+            drop(members.insert(String::from_str(alloc, key)?, rules)?);
+            rules = Tree::Object(members);
+        }
+    }
+    Ok(rules)
+}
+
+/// Numbers, the keys around them, and why there is no table: a bound is from 0 to 2^64 - 1, and where none is asked
+/// for a number of any size is no matter.
+const BOUNDS: [(i128, &[&str], &str); 7] = [
+    (0, &LEAST, ""),
+    (18446744073709551615, &LEAST, ""),
+    (18446744073709551616, &LEAST, "bound"),
+    (36893488147419103232, &LEAST, "bound"),
+    (-9223372036854775809, &LEAST, "bound"),
+    (18446744073709551616, &["query"], ""),
+    (18446744073709551616, &["body"], "form"),
+];
+
+#[test]
+fn bounds(rt: HostRuntime) -> Result<(), Fail> {
+    for (number, keys, wanted) in BOUNDS {
+        let rules = rules_around(rt.alloc(), number, keys)?;
+        let fault = match RuleTable::read(rt.alloc(), &rules) {
+            Ok(_) => "",
+            Err(RuleFault::BadBound) => "bound",
+            Err(RuleFault::Form) => "form",
+            Err(_) => "another",
+        };
+        assert_eq!(rt; fault, wanted, "{number}");
     }
     Ok(())
 }

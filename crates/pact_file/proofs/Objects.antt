@@ -4,7 +4,8 @@ use Rattle.std.proofs.Common.{◌≡◌, arith, Bool, true, false, cond, is_some
 use Rattle.std.proofs.lemmas.Str.{is_utf8-from_IsUtf8, IsUtf8-from_is_utf8}
 use Rattle.serde_json.specs.{Data.{Data, depth}, Read.{read}, Find.{as_object}, Written.{has_float}, View.{view}, declared.value.Value.{Value}}
 use Rattle.serde_json.proofs.OnLiterals.{serde_json_on_literals}
-use Rattle.pact_rules.specs.{declared.tree.TreeFault.TheVariants.{NotWhole, TooDeep}, Outcome.{guard, Gives}, Trees.{checked_tree}}
+use Rattle.pact_trees.specs.{declared.check.NoTree.TheVariants.{NotWhole, TooDeep}, Checked.{checked_tree}}
+use Rattle.pact_rules.specs.Outcome.{guard, Gives}
 use Rattle.pact_file.specs.{File.{as_file_fault}, Objects.{IsSomeText, json_of, tree_or_fault, object_of, with_fault}, Sound.{IsSound}}
 use Rattle.pact_file.specs.{declared.fault.PactFault.{PactFault}, declared.fault.PactFault.TheVariants.{Memory as PactMemory}}
 use Rattle.pact_file.specs.{declared.object.FileFault.{FileFault}, declared.object.FileFault.TheVariants.{NotJson, NotObject, Memory}}

@@ -5,8 +5,8 @@ use Rattle.std.specs.Str.{IsUtf8, is_utf8}
 use Rattle.serde_json.specs.Data.{Data}
 use Rattle.serde_json.specs.Find.{as_object}
 use Rattle.serde_json.specs.Read.{read}
-use Rattle.pact_rules.specs.Trees.{checked_tree}
-use Rattle.pact_rules.specs.declared.tree.TreeFault.{TreeFault}
+use Rattle.pact_trees.specs.Checked.{checked_tree}
+use Rattle.pact_trees.specs.declared.check.NoTree.{NoTree}
 use Rattle.pact_rules.specs.Outcome.{◌>>=◌, guard}
 use Rattle.pact_file.specs.declared.object.FileFault.{FileFault}
 use Rattle.pact_file.specs.declared.object.FileFault.TheVariants.{NotJson, Tree, NotObject}
@@ -24,7 +24,7 @@ IsSomeText bytes = IsUtf8 bytes × (0 < length bytes)
 unfoldable pub json_of : List ℕ → Result Data FileFault
 json_of bytes = if is_utf8 bytes then ok_or (read bytes) NotJson else Err NotJson
 
-abbrev pub tree_or_fault : Result ⊤ TreeFault → Result ⊤ FileFault
+abbrev pub tree_or_fault : Result ⊤ NoTree → Result ⊤ FileFault
 tree_or_fault r = with_fault (λ fault. Tree fault) r
 
 -- an object without fractions that nests not too deep

@@ -2,8 +2,8 @@
 use Rattle.std.specs.Prelude.{ℕ, List, [], ◌++◌, codes, decimal}
 use Rattle.pact_rules.specs.declared.rule_fault.RuleFault.{RuleFault}
 use Rattle.pact_rules.specs.declared.rule_fault.RuleFault.TheVariants as rule_fault
-use Rattle.pact_rules.specs.declared.tree.TreeFault.{TreeFault}
-use Rattle.pact_rules.specs.declared.tree.TreeFault.TheVariants as tree_fault
+use Rattle.pact_trees.specs.declared.check.NoTree.{NoTree}
+use Rattle.pact_trees.specs.declared.check.NoTree.TheVariants as no_tree
 use Rattle.pact_file.specs.declared.fault.PactFault.{PactFault}
 use Rattle.pact_file.specs.declared.fault.PactFault.TheVariants.{TooLong, NotJson, Shape, Version, Messages, Tree, Rules, SameInteraction, TooMany, SelfContract, Memory}
 use Rattle.pact_file.specs.declared.fault.Place.{Place}
@@ -36,9 +36,9 @@ place_text ProviderName = codes "provider.name"
 place_text Interactions = codes "interactions"
 place_text (Interaction i part) = codes "interactions[" ++ (decimal i ++ (codes "]" ++ part_text part))
 
-abbrev pub tree_text : TreeFault → List ℕ
-tree_text tree_fault.NotWhole = codes "6.1"
-tree_text tree_fault.TooDeep = codes "6.2"
+abbrev pub tree_text : NoTree → List ℕ
+tree_text no_tree.NotWhole = codes "6.1"
+tree_text no_tree.TooDeep = codes "6.2"
 
 abbrev pub rule_number : RuleFault → List ℕ
 rule_number rule_fault.Form = codes "1"

@@ -3,7 +3,8 @@
 ghost use Rattle.std.specs.Prelude.{◌≡◌, ◌++◌, codes, string_bytes, IfOk};
 ghost use Rattle.pact_file.specs.Words.{number_text, part_text, parts_text, place_text};
 
-use pact_rules::{RuleFault, TreeFault};
+use pact_rules::RuleFault;
+use pact_trees::NoTree;
 use std::alloc::{AllocError, AllocFailed, Global};
 use std::fmt;
 use thiserror::Error;
@@ -104,7 +105,7 @@ pub enum PactFault {
     /// The file has messages.
     Messages,
     /// A number isn't whole, or lists and objects nest over 100 deep.
-    Tree(TreeFault),
+    Tree(NoTree),
     /// The matching rules of the interaction at a place in the file, from 0, have a fault.
     Rules(usize, RuleFault),
     /// Two interactions of one description and one list of states differ in their normal form.
@@ -179,8 +180,8 @@ impl PactFault {
             PactFault::Shape(place) => place_parts(*place),
             PactFault::Version => TextParts::Plain("4"),
             PactFault::Messages => TextParts::Plain("5"),
-            PactFault::Tree(TreeFault::NotWhole) => TextParts::Plain("6.1"),
-            PactFault::Tree(TreeFault::TooDeep) => TextParts::Plain("6.2"),
+            PactFault::Tree(NoTree::NotWhole) => TextParts::Plain("6.1"),
+            PactFault::Tree(NoTree::TooDeep) => TextParts::Plain("6.2"),
             PactFault::Rules(index, fault) => rules_parts(*index, fault),
             PactFault::SameInteraction => TextParts::Plain("8"),
             PactFault::TooMany => TextParts::Plain("9"),

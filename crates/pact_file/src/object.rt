@@ -5,11 +5,11 @@ ghost use Rattle.std.specs.Option.{ok_or};
 ghost use Rattle.pact_file.specs.Objects.{json_of, tree_or_fault, object_of, IsSomeText};
 ghost use Rattle.pact_file.specs.declared.object.FileFault.TheVariants.{Memory, NotJson};
 ghost use Rattle.pact_rules.specs.Outcome.{Gives};
-ghost use Rattle.pact_rules.specs.Trees.{checked_tree};
+ghost use Rattle.pact_trees.specs.Checked.{checked_tree};
 ghost use Rattle.serde_json.specs.Read.{read};
 ghost use Rattle.serde_json.specs.View.{view};
 
-use pact_rules::{TreeFault, check_tree};
+use pact_trees::{NoTree, check_tree};
 use serde_json::Value;
 use std::alloc::Global;
 use thiserror::Error;
@@ -22,7 +22,7 @@ pub enum FileFault {
     NotJson,
     /// A number isn't whole, or lists and objects nest over 100 deep.
     #[error("{0}")]
-    Tree(TreeFault),
+    Tree(NoTree),
     /// The value isn't an object.
     #[error("not an object")]
     NotObject,

@@ -1,6 +1,8 @@
 pub mod Each
 pub mod ChoiceLemmas
 pub mod MatchingLemmas
+mod TreeLemmas
+mod AsReadLemmas
 pub mod GatheredLemmas
 pub mod PartLemmas
 pub mod PatternLemmas

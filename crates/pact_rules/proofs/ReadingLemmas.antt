@@ -1,11 +1,13 @@
 -- What reading gives: a table, or a fault; and what two readings of one tree have to do with each other.
-use Rattle.std.{specs.List.{filter}, proofs.Common.{◌≡◌, ◌⊎◌, ℕ, List, Bool, true, Result, Ok, Err, refl, sym, ap, ◌∙◌, inl, inr, ⊎_elim}}
-use Rattle.pact_rules.specs.{declared.rule_fault.RuleFault.TheVariants.{Pattern, Memory}, RuleReading.{FailsAs, found_in, table_in, no_pattern, IsReading}}
-use Rattle.pact_rules.specs.{Outcome.{◌>>=◌}, declared.rule_fault.RuleFault.{RuleFault}, Matching.{is_pattern}}
-use Rattle.pact_rules.specs.{Rules.{BodyRule, HeaderRule, Rules, has_effect, has_regex}, Tables.{IsTable, effective}}
+use Rattle.std.specs.{List.{filter}, Option.{ok_or}}
+use Rattle.std.proofs.Common.{◌≡◌, ◌⊎◌, ℕ, List, Bool, true, false, not, Option, None, Some, Result, Ok, Err, refl, sym, ap, ◌∙◌, inl, inr, ⊎_elim}
+use Rattle.pact_rules.specs.declared.rule_fault.RuleFault.TheVariants.{Form, OldRules, Pattern, Memory}
+use Rattle.pact_rules.specs.{RuleReading.{FailsAs, has_old_key, categories_at, found_in, table_in, members_in, no_pattern, IsReading}, Outcome.{◌>>=◌, guard}}
+use Rattle.pact_rules.specs.{declared.rule_fault.RuleFault.{RuleFault}, Matching.{is_pattern}}
+use Rattle.pact_rules.specs.{Rules.{BodyRule, HeaderRule, Rules, no_rules, has_effect, has_regex}, Tables.{IsTable, effective}}
 use Rattle.pact_rules.proofs.PatternLemmas.{Goes, HasRegex, table_goes, none_accepted, answer_apart}
-use Rattle.pact_paths.{specs.PathReading.{computed_path}, proofs.ReadingLemmas.{computed_reads, one_reader}}
-use Rattle.serde_json.specs.Data.{Data}
+use Rattle.pact_paths.{specs.PathReading.{computed_path}, proofs.{ReadingLemmas.{computed_reads, one_reader}, Checked.{same_Err}}}
+use Rattle.serde_json.specs.{Data.{Data, Members}, Find.{as_object}}
 
 -- what is found is a table's, or it fails, by all patterns of the grammar or by none
 by_all : (tree : Data) (r : Result Rules RuleFault) → table_in computed_path is_pattern tree ≡ r → IsReading tree r
@@ -28,6 +30,18 @@ pub is_fault : (tree : Data) (e : RuleFault) → FailsAs e (λ accepts. found_in
 is_fault tree Memory h ne = absurd (ne refl)
 is_fault tree Pattern h ne = (computed_path, no_pattern, computed_reads, none_accepted, fault_stays no_pattern tree Pattern h)
 is_fault tree e h ne = all_fail tree e h
+
+-- what is no object, or has rules of version 2, is read with the same fault
+pub is_form_fault : (tree : Data) (e : RuleFault) → members_in tree ≡ Err e → IsReading tree (Err e)
+is_form_fault tree e h = all_fail tree e (by (as_object tree) h) where
+  old : (b : Bool) (fs : Members) → (guard (not b) OldRules >>= (λ (u : Unit {0}). Ok fs)) ≡ Err e → (guard (not b) OldRules >>= (λ (u : Unit {0}). categories_at computed_path is_pattern no_rules fs)) ≡ Err e
+  old true fs h = ap Err (same_Err h)
+  old false fs h = cc
+
+  by : (o : Option Members) → (ok_or o Form >>= (λ fs. guard (not (has_old_key fs)) OldRules >>= (λ (u : Unit {0}). Ok fs))) ≡ Err e
+      → (ok_or o Form >>= (λ fs. guard (not (has_old_key fs)) OldRules >>= (λ (u : Unit {0}). categories_at computed_path is_pattern no_rules fs))) ≡ Err e
+  by None h = ap Err (same_Err h)
+  by (Some fs) h = old (has_old_key fs) fs h
 
 -- ---- two readings of one tree
 

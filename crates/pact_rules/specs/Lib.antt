@@ -1,7 +1,6 @@
 pub mod Outcome
 pub mod Reading
 pub mod Lists
-pub mod Trees
 pub mod Kept
 pub mod Rules
 pub mod MatcherView
@@ -11,6 +10,7 @@ pub mod Matching
 pub mod Tables
 pub mod Gathered
 pub mod RuleReading
+pub mod AsRead
 pub mod RegexRefusals
 pub mod Walks
 pub mod Survivors

@@ -3,7 +3,7 @@
 -- matchers; of a matcher its form, name, bounds and pattern. A table is the entries with an effect: those of
 -- the body in the order of their paths' canonical text, those of headers in the order of their names without ASCII
 -- case. The names are those of the Pact Specification, version 3.
-use Rattle.std.specs.Prelude.{◌≡◌, ℕ, Bool, true, false, ◌&&◌, ◌||◌, not, List, [], ◌∷◌, codes, Option, Some, None, option_map, option_and_then, Result, Ok, Err, bytes_eq, is_some, nat_le, nat_eq, if◌then◌else◌}
+use Rattle.std.specs.Prelude.{◌≡◌, ℕ, Bool, true, false, ◌&&◌, ◌||◌, not, List, [], ◌∷◌, codes, Option, Some, None, option_map, option_and_then, Result, Ok, Err, bytes_eq, is_some, nat_le, nat_lt, nat_eq, ◌^◌, if◌then◌else◌}
 use Rattle.std.specs.List.{list_any}
 use Rattle.std.specs.Option.{ok_or}
 use Rattle.std.specs.Str.{str_eq_ignore_ascii_case}
@@ -14,13 +14,13 @@ use Rattle.pact_paths.specs.declared.path_reader.PathFault.{PathFault}
 use Rattle.pact_paths.specs.declared.path_reader.PathFault.TheVariants as read_fault
 use Rattle.pact_paths.specs.Readings.{ReadsPaths}
 use Rattle.pact_rules.specs.Outcome.{◌>>=◌, guard}
-use Rattle.serde_json.specs.Data.{Data, null, Items, no_items, item, Members, no_members, member}
+use Rattle.serde_json.specs.Data.{Num, unsigned, Data, null, Items, no_items, item, Members, no_members, member}
 use Rattle.pact_rules.specs.Matching.{kind, begins, is_pattern}
 use Rattle.pact_rules.specs.declared.rule_fault.RuleFault.{RuleFault}
 use Rattle.pact_rules.specs.declared.rule_fault.RuleFault.TheVariants.{Form, OldRules, BadPath, SamePathTwice, Unsupported, BadBound, Pattern, BadCombine, Memory}
 use Rattle.pact_rules.specs.Rules.{Matcher, equality, same_type, regex, include, integer, is_null, Entry, BodyRule, HeaderRule, Rules, no_rules, put, rule_text, name_key}
 use Rattle.pact_rules.specs.Tables.{effective}
-use Rattle.serde_json.specs.Find.{get_member, as_str, as_array, as_object, as_number, as_u64}
+use Rattle.serde_json.specs.Find.{get_member, as_str, as_array, as_object, as_number}
 
 -- an optional member: null counts as absent
 abbrev pub unless_null : Data → Option Data
@@ -36,10 +36,15 @@ as_text o = option_and_then as_str o
 abbrev pub as_list : Option Data → Option Items
 as_list o = option_and_then as_array o
 
--- a bound is absent, or a whole number of at least 0
+-- the whole number of at least 0 and under 2^64 that a number is
+abbrev pub as_bound : Num → Option ℕ
+as_bound (unsigned n) = if nat_lt n (2 ^ 64) then Some n else None
+as_bound n = None
+
+-- a bound is absent, or such a number
 abbrev pub bound : Option Data → Result (Option ℕ) RuleFault
 bound None = Ok None
-bound (Some d) = ok_or (option_map (λ n. Some n) (option_and_then as_u64 (as_number d))) BadBound
+bound (Some d) = ok_or (option_map (λ n. Some n) (option_and_then as_bound (as_number d))) BadBound
 
 abbrev pub in_order : Option ℕ → Option ℕ → Bool
 in_order (Some min) (Some max) = nat_le min max

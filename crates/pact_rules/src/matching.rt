@@ -13,7 +13,7 @@ ghost use Rattle.pact_rules.specs.RegexRefusals.{CanFail};
 ghost use Rattle.pact_rules.specs.declared.matching.MatchFault.TheVariants.{Memory, Pattern};
 
 use crate::table::Matcher;
-use pact_patterns::{BuiltPatterns, Searches};
+use pact_patterns::Searches;
 use serde_json::{Map, Value};
 use std::alloc::{AllocError, AllocFailed, Global};
 use thiserror::Error;
@@ -59,27 +59,8 @@ impl From<regex::Error> for MatchFault {
     }
 }
 
-/// Whether a matcher holds of the expected and the actual value; at its own place, if the path of its entry has as many
-/// tokens as the location has steps, the bounds of `SameType` count. Only a `Regex` or an `Include` matcher takes
-/// memory, which may run out, and only a `Regex` matcher answers `Pattern`, if `regex` refuses the pattern.
-pub fn holds(
-    alloc: Global,
-    matcher: &Matcher,
-    expected: &Value,
-    actual: &Value,
-    own_place: bool,
-) -> Result<bool, MatchFault>
-    ensures value { IfOk result (λ b. b ≡ holds_of (matcher_view matcher.now)
-        (view expected.now) (view actual.now) own_place) }
-    ensures pattern { IfErr result (λ e. e ≡ Pattern → IsRegex (matcher_view matcher.now)) }
-    ensures fails { IfErr result (CanFail (matcher_view matcher.now)) }
-{
-    let patterns = BuiltPatterns::new(alloc);
-    let mut searches = Searches::new(alloc, &patterns);
-    holds_with(alloc, &mut searches, matcher, expected, actual, own_place)
-}
-
-/// The same by searches that are kept from one value to the next, so that a pattern that was built isn't built again.
+/// What `holds` says of trees, of the values that `serde_json` read. The searches are kept from one value to the next,
+/// so that a pattern that was built isn't built again.
 pub(crate) fn holds_with(
     alloc: Global,
     searches: &mut Searches<'_>,
@@ -209,7 +190,7 @@ pub(crate) fn is_within(
     }
 }
 
-fn is_at_least(count: u64, min: Option<u64>) -> bool
+pub(crate) fn is_at_least(count: u64, min: Option<u64>) -> bool
     ensures { result ≡ at_least min count }
 {
     match min {
@@ -218,7 +199,7 @@ fn is_at_least(count: u64, min: Option<u64>) -> bool
     }
 }
 
-fn is_at_most(count: u64, max: Option<u64>) -> bool
+pub(crate) fn is_at_most(count: u64, max: Option<u64>) -> bool
     ensures { result ≡ at_most max count }
 {
     match max {

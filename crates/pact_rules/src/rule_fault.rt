@@ -67,7 +67,7 @@ pub enum RuleFault {
     /// `max`.
     #[error("{0} isn't supported")]
     Unsupported(Word),
-    /// A bound isn't a whole number of at least 0, or the least is over the greatest.
+    /// A bound isn't a whole number from 0 to 2^64 - 1, or the least is over the greatest.
     #[error("a bound is out of range")]
     BadBound,
     /// `regex` isn't a text, or the pattern is refused for another cause than memory.

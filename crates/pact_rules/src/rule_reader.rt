@@ -60,7 +60,7 @@ fn text_of(value: Option<&Value>) -> Option<&str>
     value?.as_str()
 }
 
-/// A bound is absent, or a whole number of at least 0.
+/// A bound is absent, or a whole number from 0 to 2^64 - 1.
 fn bound(value: Option<&Value>) -> Result<Option<u64>, RuleFault>
     ensures reading { Reads (λ n. n) result (λ accepts. bound_of (option_map (λ v. view v.now) value.entry)) }
     ensures never { IfErr result (λ e. e ≢ Memory) }

@@ -320,23 +320,8 @@ fn effective_headers(
 }
 
 impl RuleTable {
-    /// Reads the object `matchingRules` of a response: the categories `body`, whose keys are path expressions, and
-    /// `header`, whose keys are header names (Pact Specification, version 3); `path` and `query` are kept as data by
-    /// the caller. The fault is the first one: the table's form, rules of version 2, then categories and entries in
-    /// order of their keys, of an entry its path, the same path twice, its form, `combine`, and its matchers one after
-    /// another. Memory may run out in its place, but not in that of the first two, and `Pattern` comes also if the
-    /// crate `regex` refuses a pattern that its grammar reads.
-    pub fn read(alloc: Global, value: &Value) -> Result<RuleTable, RuleFault>
-        ensures reading { MatchResult result
-            (λ t. IsReading (view value.now) (Ok t))
-            (λ e. ¬ (e ≡ Memory) → IsReading (view value.now) (Err e)) }
-        ensures first { (e : RuleFaultModel) → members_in (view value.now) ≡ Err e → result ≡ Err e }
-    {
-        let mut patterns = Patterns::new(alloc);
-        RuleTable::read_with(alloc, &mut patterns, value)
-    }
-
-    /// The same for one of the tables of a file: a pattern that was built for an earlier one isn't built again.
+    /// What `read` makes of a tree, of the value that `serde_json` read, for one of the tables of a file: a pattern that
+    /// was read for an earlier one isn't read again, and one for which the file has no room is refused.
     pub fn read_with(
         alloc: Global,
         patterns: &mut Patterns,

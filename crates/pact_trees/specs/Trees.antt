@@ -4,8 +4,8 @@ use Rattle.std.specs.declared.alloc.Global.{Global}
 use Rattle.serde_json.specs.Data.{Data, null, boolean, number, string, array, object, Items, no_items, item, Members, no_members, member}
 use Rattle.serde_json.specs.Find.{of_integer}
 use Rattle.serde_json.specs.View.{items_of, members_of}
-use Rattle.pact_rules.specs.declared.tree.TreeFault.{TreeFault as Refused}
-use Rattle.pact_rules.specs.declared.tree.TreeFault.TheVariants as refused
+use Rattle.pact_trees.specs.declared.check.NoTree.{NoTree}
+use Rattle.pact_trees.specs.declared.check.NoTree.TheVariants as no_tree
 use Rattle.pact_trees.specs.declared.tree.Tree.{Tree, fold-Tree}
 use Rattle.pact_trees.specs.declared.tree.Tree.TheOpen.{Tree-F}
 use Rattle.pact_trees.specs.declared.tree.TreeFault.{TreeFault}
@@ -31,9 +31,9 @@ abbrev pub members_data : List (String Global × Tree) → Members
 members_data ms = members_of (map (λ m. (m.0, data_of m.1)) ms)
 
 -- why a value is no tree, as a fault of making one
-abbrev pub fault_of : Refused → TreeFault
-fault_of refused.NotWhole = NotWhole
-fault_of refused.TooDeep = TooDeep
+abbrev pub fault_of : NoTree → TreeFault
+fault_of no_tree.NotWhole = NotWhole
+fault_of no_tree.TooDeep = TooDeep
 
 -- there is something to copy: a text, an item, a member
 abbrev pub has_parts : Data → Bool

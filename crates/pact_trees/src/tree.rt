@@ -5,11 +5,11 @@ ghost use Rattle.serde_json.specs.Data.{array, object};
 ghost use Rattle.serde_json.specs.Find.{is_float, of_integer};
 ghost use Rattle.serde_json.specs.View.{view, items_view, members_view, number_view};
 ghost use Rattle.serde_json.specs.Written.{has_float, items_have_float, members_have_float};
-ghost use Rattle.pact_rules.specs.Trees.{checked_tree};
+ghost use Rattle.pact_trees.specs.Checked.{checked_tree};
 ghost use Rattle.pact_trees.specs.Trees.{data_of, items_data, members_data, fault_of, has_parts};
 ghost use Rattle.pact_trees.specs.declared.tree.TreeFault.TheVariants.{Memory};
 
-use pact_rules::check_tree;
+use crate::check::{NoTree, check_tree};
 use serde_json::{Map, Number, Value};
 use std::alloc::{AllocError, AllocFailed, Global};
 use std::collections::BTreeMap;
@@ -46,13 +46,13 @@ pub enum TreeFault {
     Memory,
 }
 
-impl From<pact_rules::TreeFault> for TreeFault {
+impl From<NoTree> for TreeFault {
     ghost from_gives = { λ fault given. given ≡ fault_of fault };
 
-    fn from(fault: pact_rules::TreeFault) -> TreeFault {
+    fn from(fault: NoTree) -> TreeFault {
         match fault {
-            pact_rules::TreeFault::NotWhole => TreeFault::NotWhole,
-            pact_rules::TreeFault::TooDeep => TreeFault::TooDeep,
+            NoTree::NotWhole => TreeFault::NotWhole,
+            NoTree::TooDeep => TreeFault::TooDeep,
         }
     }
 }
@@ -66,7 +66,7 @@ impl From<AllocError> for TreeFault {
 }
 
 /// The tree of a value, or the first fault. `TooDeep` is looked at first, for the whole value, then `NotWhole`, both
-/// without memory, as `pact_rules::check_tree` does. `Memory` comes last, and only if there is something to copy: a
+/// without memory, as `check_tree` does. `Memory` comes last, and only if there is something to copy: a
 /// text, or a list or an object that isn't empty. The value stays as it is.
 pub fn tree_of(alloc: Global, value: &Value) -> Result<Tree, TreeFault>
     ensures tree { IfOk result (λ tree. data_of tree ≡ view value.now) }

@@ -1,8 +1,8 @@
 -- The texts of faults: a number, and where it helps a place (this project's own choice).
 use Rattle.std.specs.Prelude.{ℕ, List, ◌++◌, codes, decimal}
 use Rattle.pact_file.specs.Words.{part_text}
-use Rattle.pact_rules.specs.declared.tree.TreeFault.{TreeFault}
-use Rattle.pact_rules.specs.declared.tree.TreeFault.TheVariants as tree_fault
+use Rattle.pact_trees.specs.declared.check.NoTree.{NoTree}
+use Rattle.pact_trees.specs.declared.check.NoTree.TheVariants as no_tree
 use Rattle.reply_check.specs.declared.fault.RepliesFault.{RepliesFault}
 use Rattle.reply_check.specs.declared.fault.RepliesFault.TheVariants as replies_fault
 use Rattle.reply_check.specs.declared.fault.CheckFault.{CheckFault}
@@ -15,9 +15,9 @@ place_text File = codes "file"
 place_text Replies = codes "replies"
 place_text (Reply i part) = codes "replies[" ++ (decimal i ++ (codes "]" ++ part_text part))
 
-abbrev pub tree_text : TreeFault → List ℕ
-tree_text tree_fault.NotWhole = codes "3.1"
-tree_text tree_fault.TooDeep = codes "3.2"
+abbrev pub tree_text : NoTree → List ℕ
+tree_text no_tree.NotWhole = codes "3.1"
+tree_text no_tree.TooDeep = codes "3.2"
 
 -- the fault's number, and what follows it
 abbrev pub number_text : RepliesFault → List ℕ

@@ -5,7 +5,8 @@ ghost use Rattle.pact_file.specs.Words.{parts_text};
 ghost use Rattle.reply_check.specs.Words.{check_text, number_text};
 
 use pact_file::{Part, TextParts};
-use pact_rules::{MatchFault, TreeFault};
+use pact_rules::MatchFault;
+use pact_trees::NoTree;
 use std::alloc::{AllocError, AllocFailed, Global};
 use std::fmt;
 use thiserror::Error;
@@ -30,7 +31,7 @@ pub enum RepliesFault {
     /// A part is absent or has another form.
     Shape(Place),
     /// A number isn't whole, or lists and objects nest over 100 deep.
-    Tree(TreeFault),
+    Tree(NoTree),
     /// Two replies have one description and one list of states.
     SameReplyTwice,
     /// No memory was left.
@@ -63,8 +64,8 @@ impl RepliesFault {
             RepliesFault::Shape(Place::Reply(index, part)) => {
                 TextParts::Numbered("2 replies[", *index, "]", part.text())
             }
-            RepliesFault::Tree(TreeFault::NotWhole) => TextParts::Plain("3.1"),
-            RepliesFault::Tree(TreeFault::TooDeep) => TextParts::Plain("3.2"),
+            RepliesFault::Tree(NoTree::NotWhole) => TextParts::Plain("3.1"),
+            RepliesFault::Tree(NoTree::TooDeep) => TextParts::Plain("3.2"),
             RepliesFault::SameReplyTwice => TextParts::Plain("4"),
             RepliesFault::Memory => TextParts::Plain("5"),
         }

@@ -4,14 +4,14 @@ ghost use Rattle.std.specs.Prelude.{◌≡◌, nat_le, is_some, IfSome};
 ghost use Rattle.serde_json.specs.Data.{depth, items_depth, members_depth};
 ghost use Rattle.serde_json.specs.Written.{has_float, items_have_float, members_have_float};
 ghost use Rattle.serde_json.specs.View.{view, items_view, members_view};
-ghost use Rattle.pact_rules.specs.Trees.{checked_tree};
+ghost use Rattle.pact_trees.specs.Checked.{checked_tree};
 
 use serde_json::{Map, Value};
 use thiserror::Error;
 
 /// Why a JSON value is no tree.
 #[derive(Clone, Copy, Debug, PartialEq, Eq, Error)]
-pub enum TreeFault {
+pub enum NoTree {
     /// A number has a fraction or an exponent, or is out of range.
     #[error("a number that isn't whole")]
     NotWhole,
@@ -26,12 +26,12 @@ const MAX_DEPTH: usize = 100;
 /// Whether a value is a tree, that is, nests at most 100 deep and has only whole numbers, or the first fault. `TooDeep`
 /// is looked at first, for the whole value, and then `NotWhole`; a scalar has depth 0, a list or object one more than
 /// its deepest member, 1 if empty. Takes no memory.
-pub fn check_tree(value: &Value) -> Result<(), TreeFault>
+pub fn check_tree(value: &Value) -> Result<(), NoTree>
     ensures { result ≡ checked_tree (view value.now) }
 {
     match fraction_within(value, MAX_DEPTH) {
-        None => Err(TreeFault::TooDeep),
-        Some(true) => Err(TreeFault::NotWhole),
+        None => Err(NoTree::TooDeep),
+        Some(true) => Err(NoTree::NotWhole),
         Some(false) => Ok(()),
     }
 }

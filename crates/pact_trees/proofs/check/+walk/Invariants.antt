@@ -1,6 +1,6 @@
 use Rattle.std.proofs.Common.{◌≡◌, ◌||◌, nat_le, drop}
 use Rattle.serde_json.specs.{Data.{items_depth, members_depth}, Written.{items_have_float, members_have_float}, View.{items_view, members_view}}
-use Rattle.pact_rules.proofs.tree.+walk.Given as goal
+use Rattle.pact_trees.proofs.check.+walk.Given as goal
 
 -- All are within the limit of depth if and only if the ones that are left are; and one has a fraction if and only if
 -- one that was seen has, or one of those that are left.
