@@ -1,21 +1,23 @@
 -- What the statements for an environment ask and show in any schema that has the broker's tables, with any CHECKs, keys
 -- and references, STRICT or not.
-use Rattle.std.specs.{Prelude.{if◌then◌else◌}, List.{AllZip}}
-use Rattle.std.proofs.Common.{◌≡◌, ◌==◌, ◌∙◌, ℕ, pos, codes, List, [], ◌∷◌, Bool, true, false, Option, Some, None, refl, sym, ap, subst, ◌&&◌}
+use Rattle.std.specs.{Prelude.{if◌then◌else◌, ◌↔◌}, List.{AllZip}}
+use Rattle.std.proofs.Common.{◌≡◌, ◌==◌, ◌∙◌, ℕ, pos, codes, List, [], ◌∷◌, Bool, true, false, Option, Some, None, refl, sym, ap, subst, length, ◌<◌, arith, ◌&&◌}
 use Rattle.sqlite.specs.{declared.types.Value.TheVariants.{Null, Int, Text}, Order.{Row, column}, Term.{eval_all}, Query.{Query}, Table.{Table}}
 use Rattle.sqlite.specs.{Schema.{Schema}, Collation.TheVariants.{Binary}, State.{State, Shown}, Listing.{understood}}
 use Rattle.sqlite_sql.specs.{declared.ops.BinaryOp.TheVariants.{Compare}, declared.ops.CompareOp.TheVariants.{Eq}, Ops.{binary, is_true}}
 use Rattle.sqlite_schema.specs.declared.schema.Column.{Column}
 use Rattle.sqlite_tied.specs.Compute.{everything}
-use Rattle.table_access.specs.Reading.{AreRead}
+use Rattle.table_access.specs.{Reading.{AreRead}, Statements.{from_table}}
 use Rattle.broker_core.specs.{declared.answer.DeployedItem.{DeployedItem}, declared.command.Version.{Version}}
 use Rattle.broker_tables.specs.Schema.{broker_schema, texts, numbers, versions, contracts, deployed, released, in_versions, in_contracts, in_deployed, in_released}
-use Rattle.broker_tables.{specs.Asking.{HasColumns, HasBrokerTables}, proofs.AnyTables.{laid_out, lays, named_as, set_out, sets_out, AsksOf, is_answer_of}}
-use Rattle.broker_tables.proofs.{Listed.{has_read}, VersionRows.{text_test}}
-use Rattle.deploy_tables.specs.{Listings.{IsDeployedRow, IsReleasedRow}, AnyThere.{HasNull, EachDeployedIsThere, EachReleasedIsThere}}
+use Rattle.broker_tables.specs.Asking.{HasColumns, HasBrokerTables}
+use Rattle.broker_tables.proofs.{AnyTables.{laid_out, lays, named_as, set_out, sets_out, AsksOf, is_answer_of, first_kept, none_kept}, Listed.{has_read}}
+use Rattle.broker_tables.proofs.VersionRows.{text_test}
+use Rattle.contract_tables.{specs.{Listings.{IsNumberedName}, declared.listings.NumberedName.{NumberedName}}, proofs.ItemLists.{last_test}}
+use Rattle.deploy_tables.specs.{Listings.{IsDeployedRow, IsReleasedRow}, AnyThere.{HasNull, IsOfAVersion, EachDeployedIsThere, EachReleasedIsThere}}
 use Rattle.deploy_tables.specs.{ContractsThere.{IsContractIfAny}, declared.contracts_there.NumberedContract.{NumberedContract}}
 use Rattle.deploy_tables.proofs.{LeftRows.{from_left, goes_with, some_shown}, VersionRows.{on_number, in_environment}}
-use Rattle.deploy_tables.proofs.ContractsThere.{if_any_sql, if_any_query, ons, if_any, first_number}
+use Rattle.deploy_tables.proofs.{ContractsThere.{if_any_sql, if_any_query, ons, if_any, first_number}, VersionNames.{by_number, name_project}}
 use Rattle.deploy_tables.proofs.DeployedState as deployed_list
 use Rattle.deploy_tables.proofs.ReleasedRows as released_list
 
@@ -84,6 +86,18 @@ released_sql = codes "SELECT v.pacticipant, v.version FROM released r LEFT JOIN 
 abbrev pub released_query : Query
 released_query = from_left in_released.tree in_versions.tree (on_number in_released.version_number) in_environment released_list.list_project released_list.list_order
 
+abbrev numbers_sql : List ℕ
+numbers_sql = codes "SELECT r.version_number, v.pacticipant FROM released r LEFT JOIN versions v ON v.number = r.version_number WHERE r.environment = ?1"
+
+abbrev numbers_query : Query
+numbers_query = from_left in_released.tree in_versions.tree (on_number in_released.version_number) in_environment released_list.number_project []
+
+abbrev names_sql : List ℕ
+names_sql = codes "SELECT pacticipant, version FROM versions WHERE number = ?1"
+
+abbrev names_query : Query
+names_query = from_table in_versions.tree by_number name_project []
+
 module _ (s : Schema) (given : ℕ → Table) (vs cs ds rs : ℕ → Column) where
   if_any_declared : (a b x y z w : Bool) (e p : List ℕ) → AsksOf (declared s given vs cs ds rs a b x y z w) if_any_sql (Text e ∷ Text p ∷ []) if_any_query
   unfolding understood everything
@@ -118,6 +132,17 @@ module _ (s : Schema) (given : ℕ → Table) (vs cs ds rs : ℕ → Column) whe
   released_declared a b x y false true e = record { names = _; means = record { is = refl; plain = (refl, refl); unlisted = refl }; runs = record { whole = refl; typed = refl; sumless = refl } }
   released_declared a b x y false false e = record { names = _; means = record { is = refl; plain = (refl, refl); unlisted = refl }; runs = record { whole = refl; typed = refl; sumless = refl } }
 
+  numbers_declared : (a b x y z w : Bool) (e : List ℕ) → AsksOf (declared s given vs cs ds rs a b x y z w) numbers_sql (Text e ∷ []) numbers_query
+  unfolding understood everything
+  numbers_declared a b x y true true e = record { names = _; means = record { is = refl; plain = (refl, refl); unlisted = refl }; runs = record { whole = refl; typed = refl; sumless = refl } }
+  numbers_declared a b x y true false e = record { names = _; means = record { is = refl; plain = (refl, refl); unlisted = refl }; runs = record { whole = refl; typed = refl; sumless = refl } }
+  numbers_declared a b x y false true e = record { names = _; means = record { is = refl; plain = (refl, refl); unlisted = refl }; runs = record { whole = refl; typed = refl; sumless = refl } }
+  numbers_declared a b x y false false e = record { names = _; means = record { is = refl; plain = (refl, refl); unlisted = refl }; runs = record { whole = refl; typed = refl; sumless = refl } }
+
+  names_declared : (a b x y z w : Bool) (n : ℕ) → AsksOf (declared s given vs cs ds rs a b x y z w) names_sql (Int (pos n) ∷ []) names_query
+  unfolding understood everything
+  names_declared a b x y z w n = record { names = _; means = record { is = refl; plain = (refl, refl); unlisted = refl }; runs = record { whole = refl; typed = refl; sumless = refl } }
+
 module _ (s : Schema) (h : HasBrokerTables s) (e : List ℕ) where
   pub if_any_asks : (p : List ℕ) → AsksOf s if_any_sql (Text e ∷ Text p ∷ []) if_any_query
   if_any_asks p = let it = is_declared s h in subst (λ t. AsksOf t if_any_sql (Text e ∷ Text p ∷ []) if_any_query) (sym it.5) (if_any_declared s it.0 it.1 it.2 it.3 it.4 _ _ _ _ _ _ e p)
@@ -128,7 +153,23 @@ module _ (s : Schema) (h : HasBrokerTables s) (e : List ℕ) where
   pub released_asks : AsksOf s released_sql (Text e ∷ []) released_query
   released_asks = let it = is_declared s h in subst (λ t. AsksOf t released_sql (Text e ∷ []) released_query) (sym it.5) (released_declared s it.0 it.1 it.2 it.3 it.4 _ _ _ _ _ _ e)
 
+  pub numbers_asks : AsksOf s numbers_sql (Text e ∷ []) numbers_query
+  numbers_asks = let it = is_declared s h in subst (λ t. AsksOf t numbers_sql (Text e ∷ []) numbers_query) (sym it.5) (numbers_declared s it.0 it.1 it.2 it.3 it.4 _ _ _ _ _ _ e)
+
+pub names_asks : (s : Schema) → HasBrokerTables s → (n : ℕ) → AsksOf s names_sql (Int (pos n) ∷ []) names_query
+names_asks s h n = let it = is_declared s h in subst (λ t. AsksOf t names_sql (Int (pos n) ∷ []) names_query) (sym it.5) (names_declared s it.0 it.1 it.2 it.3 it.4 _ _ _ _ _ _ n)
+
 -- ---- the rows
+
+-- versions are listed if and only if a row of the versions has the number
+pub version_there : (n : ℕ) (old new : State) (h : HasBrokerTables old.now.schema) (rows : List Row) → Shown names_sql (Int (pos n) ∷ []) old new rows → (items : List Version) → AreRead IsReleasedRow rows items
+    → (0 < length items) ↔ IsOfAVersion old.now (Int (pos n))
+version_there n old new h [] shown [] read = (λ low. absurd (omega (arith, low)), λ it. absurd (none_kept old new (names_asks old.now.schema h n) [] shown refl it.0 it.1 ((last_test (λ t. t, λ t. t)).1 it.2)))
+version_there n old new h (r ∷ rows) shown (x ∷ items) read = (
+  λ low. let it = first_kept old new (names_asks old.now.schema h n) (r ∷ rows) shown r refl in (it.0, it.1, (last_test (λ t. t, λ t. t)).0 it.2),
+  λ it. omega arith,
+)
+version_there n old new h _ shown _ read = absurd read
 
 module _ (e : List ℕ) (old new : State) (h : HasBrokerTables old.now.schema) (rows : List Row) where
   in_there : (r : Row) → column r in_deployed.environment ≡ Text e → is_true (binary (Compare Eq Binary) (column r in_deployed.environment) (Text e)) ≡ true
@@ -146,6 +187,13 @@ module _ (e : List ℕ) (old new : State) (h : HasBrokerTables old.now.schema) (
       goes_with old.now (Text e ∷ []) in_released.tree in_versions.tree (on_number in_released.version_number) in_environment released_list.list_project released_list.list_order rows
       (is_answer_of old new (released_asks old.now.schema h e) rows shown) r is.0 (ap (λ b. b && true) (in_there r is.1))
       (λ has. let it = has_read IsReleasedRow rows items _ read has in let clash : Null ≡ Text it.0.name = it.2.1 in cc)
+
+  -- the numbers of what is released are read only if each names a version
+  pub numbers_there : (items : List NumberedName) → Shown numbers_sql (Text e ∷ []) old new rows → AreRead IsNumberedName rows items → EachReleasedIsThere e old.now
+  numbers_there items shown read r is =
+      goes_with old.now (Text e ∷ []) in_released.tree in_versions.tree (on_number in_released.version_number) in_environment released_list.number_project [] rows
+      (is_answer_of old new (numbers_asks old.now.schema h e) rows shown) r is.0 (ap (λ b. b && true) (in_there r is.1))
+      (λ has. let it = has_read IsNumberedName rows items _ read has in let clash : Null ≡ Text it.0.name = it.2.1 in cc)
 
   -- what each deployed version has as a contract is read only if none of them is NULL
   pub none_null : (p : List ℕ) (items : List (Option NumberedContract)) → Shown if_any_sql (Text e ∷ Text p ∷ []) old new rows → AreRead IsContractIfAny rows items → ¬ (HasNull e old.now)

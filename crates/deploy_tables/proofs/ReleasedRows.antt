@@ -42,7 +42,7 @@ releases e = record { names = _; means = record { is = refl; plain = (refl, refl
 
 -- ---- the same rows, with the versions' numbers and without their names
 
-abbrev number_project : List Term
+abbrev pub number_project : List Term
 number_project = col 1 in_released.version_number ∷ col 2 in_versions.pacticipant ∷ []
 
 pub release_numbers : (e : List ℕ)

@@ -12,7 +12,7 @@ use Rattle.sqlite.specs.Listing.{understood}
 use Rattle.sqlite_sql.specs.{declared.ops.BinaryOp.TheVariants.{Compare}, declared.ops.CompareOp.TheVariants.{Eq}}
 use Rattle.table_access.specs.{Columns.{whole_at}, Sound.{text_in}, Statements.{from_table, keeps}, Reading.{AreRead}}
 
-abbrev by_number : List Term
+abbrev pub by_number : List Term
 by_number = op2 (Compare Eq Binary) (col 1 0) (col 0 0) ∷ []
 
 abbrev pub name_project : List Term

@@ -1,6 +1,6 @@
 -- What is said of an environment in any database with the broker's tables, with any CHECKs, keys and references: a
 -- row of it may have no version, or one that isn't there.
-use Rattle.std.specs.Prelude.{◌≡◌, codes, Result, IfOk}
+use Rattle.std.specs.Prelude.{◌≡◌, ◌⊎◌, ℕ, pos, codes, Result, IfOk}
 use Rattle.sqlite.specs.declared.types.Value.{Value}
 use Rattle.sqlite.specs.declared.types.Value.TheVariants as value
 use Rattle.sqlite.specs.Order.{Row, column}
@@ -35,12 +35,20 @@ EachDeployedIsThere e db = (d : Row) → IsDeployedRowIn e db d → IsOfAVersion
 abbrev pub EachReleasedIsThere : Text → Database → Type 0
 EachReleasedIsThere e db = (r : Row) → IsReleasedRowIn e db r → IsOfAVersion db (column r in_released.version_number)
 
+-- the number is a version's, unless this is so
+abbrev pub IsOfAVersionUnless : Type 0 → ℕ → Database → Type 0
+IsOfAVersionUnless Other number db = Other ⊎ IsOfAVersion db (value.Int (pos number))
+
 -- a row of what is deployed there has NULL in place of a version
 abbrev pub HasNull : Text → Database → Type 0
 HasNull e db = (d : Row) × IsDeployedRowIn e db d × (column d in_deployed.version_number ≡ value.Null)
 
--- if the tables can be asked, there is an answer only if this is so of what the database held
+-- if the tables can be asked, the answer is so by what the database held
 module _ {X A : Type 0} (store : Ghosts X) (old new : Held X) (r : Result A StoreFault) where
+  abbrev pub AnswersAsIn : (A → Database → Type 0) → Type 0
+  AnswersAsIn P =
+      HasCleanDisk (state store new) → CanBeAsked (state store old) → IfOk r (λ a. P a (state store old).now)
+
+  -- and there is one only if this is so of that
   abbrev pub AnswersOnlyIf : (Database → Type 0) → Type 0
-  AnswersOnlyIf P =
-      HasCleanDisk (state store new) → CanBeAsked (state store old) → IfOk r (λ _. P (state store old).now)
+  AnswersOnlyIf P = AnswersAsIn (λ _. P)

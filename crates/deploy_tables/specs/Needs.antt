@@ -54,6 +54,10 @@ IsOwnContract s v c = s.contracts (v, c.provider) ≡ Some c.content
 abbrev pub AreLatestOf : State → Version → List LatestResult → Type 0
 AreLatestOf s v results = Lists latest_cmp (IsLatestOf s v) results
 
+-- the latest result for the contract c and the version of this number says so
+abbrev pub IsSaidOf : State → Contract → ℕ → Option Latest → Type 0
+IsSaidOf s c n said = (w : Version) → number_of s.versions w ≡ Some n → said ≡ latest s c.content w
+
 -- each of these contracts is of a version
 abbrev pub AreOfVersions : State → List NumberedContract → Type 0
 AreOfVersions s contracts = (c : NumberedContract) → Contains contracts c → IsVersion c.number s
@@ -76,6 +80,11 @@ is_good strict said = option_map_or (λ l. l.pass && (l.checked || not strict)) 
 abbrev pub is_left_out : Wanted → Option Latest → Bool
 is_left_out All said = false
 is_left_out (Open strict) said = is_good strict said
+
+-- so it is by one of these results, which is for this content
+abbrev pub IsLeftOutBy : List LatestResult → Wanted → ℕ → Type 0
+IsLeftOutBy results wanted content = (x : LatestResult) × Contains results x × (x.content ≡ content)
+    × IsTrue (is_left_out wanted (Some x.latest))
 
 -- the need of a contract of v with this version of the provider
 abbrev pub need_with : Version → Text → Option Text → Option Latest → Need

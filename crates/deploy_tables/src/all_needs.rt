@@ -1,5 +1,6 @@
 //! All needs of a version in an environment.
-ghost use Rattle.std.specs.Prelude.{◌≡◌, ◌↔◌, Some, Contains};
+ghost use Rattle.std.specs.Prelude.{◌≡◌, ◌↔◌, Some, Contains, pos};
+ghost use Rattle.sqlite.specs.declared.types.Value.TheVariants.{Int};
 ghost use Rattle.broker_core.specs.declared.command.Version.{Version as VersionModel};
 ghost use Rattle.broker_core.specs.declared.need.Need.{Need as NeedModel};
 ghost use Rattle.broker_core.specs.Gate.{IsNeed};
@@ -8,6 +9,7 @@ ghost use Rattle.broker_core.specs.State.{State as Broker};
 ghost use Rattle.broker_core.specs.Text.{Text};
 ghost use Rattle.broker_tables.specs.Numbers.{number_of};
 ghost use Rattle.broker_tables.specs.Calm.{CalmQueries};
+ghost use Rattle.deploy_tables.specs.AnyThere.{AnswersOnlyIf, IsOfAVersion, EachReleasedIsThere};
 ghost use Rattle.deploy_tables.specs.Needs.{need_cmp, ListsNeeds};
 
 use crate::version_names::find_version;
@@ -44,7 +46,8 @@ fn each_need_once(needs: Vec<Need>) -> Vec<Need>
     needs
 }
 
-/// The needs of the version of this number.
+/// The needs of the version of this number. An answer comes only if each row of what is released in the
+/// environment names a version, also if no CHECK or reference asks for it.
 fn needs_numbered<S: Alter>(
     alloc: Global,
     conn: &mut Connection<S>,
@@ -52,9 +55,10 @@ fn needs_numbered<S: Alter>(
     version: &Version,
     environment: &str,
 ) -> Result<Vec<Need>, StoreFault>
-    ensures { CalmQueries S.Store conn.old conn.new result
+    ensures answers { CalmQueries S.Store conn.old conn.new result
         (λ found s. number_of s.versions version.now ≡ Some number →
         Lists need_cmp (IsNeed s version.now environment.now) found.items) }
+    ensures named { AnswersOnlyIf S.Store conn.old conn.new result (EachReleasedIsThere environment.now) }
 {
     let found = done!(wanted_needs(alloc, conn, number, version, environment, Wanted::All));
     Ok(each_need_once(found))
@@ -63,19 +67,22 @@ fn needs_numbered<S: Alter>(
 /// The needs in the environment of the version of this number, with what the latest result says beside each: of its
 /// contracts with each version of their providers that is there, or with none, and of the contracts that versions of
 /// other pacticipants which are there have with its pacticipant. Each need is there once, in the order of faults. The
-/// list is empty if no version has this number.
+/// list is empty if no version has this number. If one has it, an answer comes only if each row of what is
+/// released in the environment names a version, also if no CHECK or reference of the tables asks for it.
 ///
 /// # Errors
 /// `StoreFault::Memory` if the database is out of memory, or there is none for the answer; `StoreFault::Store` if it
-/// refused a query, or if a row doesn't read.
+/// refused a query, or if a row doesn't read, or names no version.
 pub fn needs<S: Alter>(
     alloc: Global,
     conn: &mut Connection<S>,
     number: u32,
     environment: &str,
 ) -> Result<Vec<Need>, StoreFault>
-    ensures { CalmQueries S.Store conn.old conn.new result
+    ensures answers { CalmQueries S.Store conn.old conn.new result
         (λ found s. ListsNeeds s number environment.now found.items) }
+    ensures named { AnswersOnlyIf S.Store conn.old conn.new result
+        (λ db. IsOfAVersion db (Int (pos number)) → EachReleasedIsThere environment.now db) }
 {
     match done!(find_version(alloc, conn, number)) {
         Some(version) => needs_numbered(alloc, conn, number, &version, environment),

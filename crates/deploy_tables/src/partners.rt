@@ -2,6 +2,7 @@
 ghost use Rattle.std.specs.Prelude.{◌≡◌, ◌++◌, ◌↔◌, IfOk, filter_map};
 ghost use Rattle.broker_core.specs.Gate.{Stands};
 ghost use Rattle.broker_tables.specs.Calm.{CalmQueries};
+ghost use Rattle.deploy_tables.specs.AnyThere.{AnswersOnlyIf, EachReleasedIsThere};
 ghost use Rattle.deploy_tables.specs.ContractsThere.{IsDeployedIn};
 ghost use Rattle.deploy_tables.specs.Partners.{ArePartners, AreReleasedThere, number_if};
 
@@ -31,14 +32,16 @@ fn deployed_partners<S: Alter>(
     )
 }
 
-/// The versions that are released in the environment, in no order: the number of each, and its pacticipant.
+/// The versions that are released in the environment, in no order: the number of each, and its pacticipant. They come only
+/// if each row of what is released there names a version, also if no CHECK or reference asks for it.
 pub(crate) fn released_numbers<S: Alter>(
     alloc: Global,
     conn: &mut Connection<S>,
     environment: &str,
 ) -> Result<Vec<NumberedName>, StoreFault>
-    ensures { CalmQueries S.Store conn.old conn.new result
+    ensures answers { CalmQueries S.Store conn.old conn.new result
         (λ found s. AreReleasedThere s environment.now found.items) }
+    ensures named { AnswersOnlyIf S.Store conn.old conn.new result (EachReleasedIsThere environment.now) }
 {
     list_of::<NumberedNameRow, S>(
         alloc,

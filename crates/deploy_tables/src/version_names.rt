@@ -1,9 +1,14 @@
 //! The names of a version, by its number.
-ghost use Rattle.std.specs.Prelude.{◌≡◌, ◌↔◌, Some, Contains};
+ghost use Rattle.std.specs.Prelude.{◌≡◌, ◌<◌, ◌↔◌, Some, IsSome, IfOk, Contains, length, pos};
+ghost use Rattle.sqlite.specs.Held.{state};
+ghost use Rattle.sqlite.specs.State.{HasCleanDisk, IsUnchanged};
+ghost use Rattle.sqlite.specs.declared.types.Value.TheVariants.{Int};
+ghost use Rattle.broker_tables.specs.Asking.{CanBeAsked};
 ghost use Rattle.broker_core.specs.declared.command.Version.{Version as VersionModel};
 ghost use Rattle.broker_tables.specs.Numbers.{number_of};
 ghost use Rattle.broker_tables.specs.Calm.{CalmQueries, IsCalmFrom};
 ghost use Rattle.broker_tables.specs.Holds.{Queries};
+ghost use Rattle.deploy_tables.specs.AnyThere.{AnswersAsIn, AnswersOnlyIf, IsOfAVersion};
 ghost use Rattle.deploy_tables.specs.Releases.{IsVersion, FindsVersion};
 
 use crate::listings::VersionRow;
@@ -18,8 +23,12 @@ fn versions_numbered<S: Alter>(
     conn: &mut Connection<S>,
     number: u32,
 ) -> Result<Vec<Version>, StoreFault>
-    ensures { CalmQueries S.Store conn.old conn.new result
+    ensures answers { CalmQueries S.Store conn.old conn.new result
         (λ found s. (w : VersionModel) → Contains found.items w ↔ (number_of s.versions w ≡ Some number)) }
+    ensures named { AnswersAsIn S.Store conn.old conn.new result
+        (λ found db. (0 < length found.items) ↔ IsOfAVersion db (Int (pos number))) }
+    ensures stays { HasCleanDisk (state S.Store conn.new) → CanBeAsked (state S.Store conn.old) →
+        IfOk result (λ _. IsUnchanged (state S.Store conn.old) (state S.Store conn.new)) }
 {
     list_of::<VersionRow, S>(
         alloc,
@@ -29,7 +38,8 @@ fn versions_numbered<S: Alter>(
     )
 }
 
-/// The version of this number, or `None` if no version has it.
+/// The version of this number, or `None` if no version has it: in any database with the broker's tables if and only if no
+/// row of the versions has the number.
 ///
 /// # Errors
 /// `StoreFault::Memory` if the database is out of memory, or there is none for the names; `StoreFault::Store` if it
@@ -39,13 +49,17 @@ pub(crate) fn find_version<S: Alter>(
     conn: &mut Connection<S>,
     number: u32,
 ) -> Result<Option<Version>, StoreFault>
-    ensures { CalmQueries S.Store conn.old conn.new result (FindsVersion number) }
+    ensures answers { CalmQueries S.Store conn.old conn.new result (FindsVersion number) }
+    ensures named { AnswersAsIn S.Store conn.old conn.new result
+        (λ found db. IsSome found ↔ IsOfAVersion db (Int (pos number))) }
+    ensures stays { HasCleanDisk (state S.Store conn.new) → CanBeAsked (state S.Store conn.old) →
+        IfOk result (λ _. IsUnchanged (state S.Store conn.old) (state S.Store conn.new)) }
 {
     let mut found = done!(versions_numbered(alloc, conn, number));
     Ok(found.pop())
 }
 
-/// The version of this number, which a row names.
+/// The version of this number, which a row names. An answer comes only if a row of the versions has this number.
 ///
 /// # Errors
 /// `StoreFault::Store` if there is none: the row names a version that isn't there.
@@ -56,6 +70,7 @@ pub(crate) fn version_numbered<S: Alter>(
 ) -> Result<Version, StoreFault>
     ensures answers { Queries S.Store conn.old conn.new result (λ found s. number_of s.versions found ≡ Some number) }
     ensures calm { IsCalmFrom S.Store conn.old conn.new result (IsVersion number) }
+    ensures named { AnswersOnlyIf S.Store conn.old conn.new result (λ db. IsOfAVersion db (Int (pos number))) }
 {
     match done!(find_version(alloc, conn, number)) {
         Some(version) => Ok(version),

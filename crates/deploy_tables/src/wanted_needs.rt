@@ -1,15 +1,16 @@
 //! The needs of a version in an environment: all of them, or those that aren't good. Each is decided on numbers; names
 //! are looked up only for those that are returned.
-ghost use Rattle.std.specs.Prelude.{◌≡◌, ◌∷◌, [], ◌↔◌, IfOk, IfErr, Some, None, Contains, option_to_list};
+ghost use Rattle.std.specs.Prelude.{◌≡◌, ◌∷◌, [], ◌↔◌, IfOk, IfErr, IsTrue, Some, None, Contains, option_to_list};
 ghost use Rattle.broker_core.specs.declared.need.Need.{Need as NeedModel};
 ghost use Rattle.broker_core.specs.Gate.{IsNeed};
 ghost use Rattle.broker_tables.specs.Numbers.{number_of};
 ghost use Rattle.broker_tables.specs.Calm.{CalmQueries, IsCalmFrom};
 ghost use Rattle.broker_tables.specs.Holds.{Queries};
+ghost use Rattle.deploy_tables.specs.AnyThere.{AnswersOnlyIf, EachReleasedIsThere, IsOfAVersionUnless};
 ghost use Rattle.deploy_tables.specs.Matrix.{IsOfSome};
 ghost use Rattle.deploy_tables.specs.Releases.{IsVersion};
 ghost use Rattle.deploy_tables.specs.Partners.{AreNumbersOfVersions, AreReleasedThere, AreNumbered};
-ghost use Rattle.deploy_tables.specs.Needs.{AreLatestOf, AreOfVersions, is_good, is_left_out, need_with, need_used, IsWanted, IsWithPartner, IsNeedOfContract, IsOwnNeed, IsUsed, IsNeedOfOthers};
+ghost use Rattle.deploy_tables.specs.Needs.{AreLatestOf, AreOfVersions, IsSaidOf, is_good, is_left_out, IsLeftOutBy, need_with, need_used, IsWanted, IsWithPartner, IsNeedOfContract, IsOwnNeed, IsUsed, IsNeedOfOthers};
 
 use crate::contracts_there::{NumberedContract, contracts_there};
 use crate::lists::add;
@@ -118,8 +119,36 @@ fn absent(alloc: Global, version: &Version, provider: &Name) -> Result<Vec<Need>
     }
 }
 
-/// The need of the contract with the version of this number, if it is wanted. `StoreFault::Store` if there is no such
-/// version, as in a database that breaks the tables' rules.
+/// The need of the contract with the version of this number, of which the latest result says this, if it is wanted.
+/// `StoreFault::Store` if it is and there is no such version, as in a database that breaks the tables' rules.
+fn with_latest<S: Alter>(
+    alloc: Global,
+    conn: &mut Connection<S>,
+    version: &Version,
+    contract: &Contract,
+    partner: u32,
+    latest: Option<Latest>,
+    wanted: Wanted,
+) -> Result<Vec<Need>, StoreFault>
+    ensures answers { Queries S.Store conn.old conn.new result
+        (λ found s. IsSaidOf s contract.now partner latest → (x : NeedModel) → Contains found.items x
+        ↔ IsWithPartner s version.now contract.now wanted partner x) }
+    ensures calm { IsCalmFrom S.Store conn.old conn.new result (IsVersion partner) }
+    ensures named { AnswersOnlyIf S.Store conn.old conn.new result
+        (IsOfAVersionUnless (IsTrue (is_left_out wanted latest)) partner) }
+{
+    if is_left_out(latest, wanted) {
+        return Ok(Vec::new(alloc));
+    }
+    let partner = name_of(done!(version_numbered(alloc, conn, partner)));
+    match named_with(alloc, version, &contract.provider, Some(partner), latest) {
+        Ok(found) => Ok(found),
+        Err(_) => Err(StoreFault::Memory),
+    }
+}
+
+/// The need of the contract with the version of this number, if it is wanted. `StoreFault::Store` if it is and there is
+/// no such version, as in a database that breaks the tables' rules.
 fn with_partner<S: Alter>(
     alloc: Global,
     conn: &mut Connection<S>,
@@ -134,14 +163,7 @@ fn with_partner<S: Alter>(
     ensures calm { IsCalmFrom S.Store conn.old conn.new result (IsVersion partner) }
 {
     let latest = done!(latest_of(conn, contract.content, partner));
-    if is_left_out(latest, wanted) {
-        return Ok(Vec::new(alloc));
-    }
-    let partner = name_of(done!(version_numbered(alloc, conn, partner)));
-    match named_with(alloc, version, &contract.provider, Some(partner), latest) {
-        Ok(found) => Ok(found),
-        Err(_) => Err(StoreFault::Memory),
-    }
+    with_latest(alloc, conn, version, contract, partner, latest, wanted)
 }
 
 /// The needs of the contract with the versions of these numbers that are wanted.
@@ -221,7 +243,8 @@ fn needs_of_contracts<S: Alter>(
     Ok(found)
 }
 
-/// The needs of the version of this number as a consumer that are wanted.
+/// The needs of the version of this number as a consumer that are wanted. An answer comes only if each row of what is
+/// released in the environment names a version, also if no CHECK or reference asks for it.
 fn own_needs<S: Alter>(
     alloc: Global,
     conn: &mut Connection<S>,
@@ -230,12 +253,13 @@ fn own_needs<S: Alter>(
     environment: &str,
     wanted: Wanted,
 ) -> Result<Vec<Need>, StoreFault>
-    ensures { CalmQueries S.Store conn.old conn.new result
+    ensures answers { CalmQueries S.Store conn.old conn.new result
         (λ found s. AreNumbered s environment.now × (number_of s.versions version.now ≡ Some number →
         (x : NeedModel) → Contains found.items x ↔ IsOwnNeed s version.now environment.now wanted x)) }
+    ensures named { AnswersOnlyIf S.Store conn.old conn.new result (EachReleasedIsThere environment.now) }
 {
-    let contracts = done!(contracts_of(alloc, conn, number));
     let released = done!(released_numbers(alloc, conn, environment));
+    let contracts = done!(contracts_of(alloc, conn, number));
     needs_of_contracts(
         alloc,
         conn,
@@ -269,7 +293,8 @@ fn named_used(
 }
 
 /// The need of this contract with the version's pacticipant, if it is wanted. These are the latest results of the
-/// version. `StoreFault::Store` if the contract is of no version, as in a database that breaks the tables' rules.
+/// version. `StoreFault::Store` if it is and the contract is of no version, as in a database that breaks the tables'
+/// rules.
 fn used_by<S: Alter>(
     alloc: Global,
     conn: &mut Connection<S>,
@@ -282,6 +307,8 @@ fn used_by<S: Alter>(
         (λ found s. AreLatestOf s version.now results.now → (x : NeedModel) →
         Contains found.items x ↔ IsUsed s version.now wanted contract x) }
     ensures calm { IsCalmFrom S.Store conn.old conn.new result (IsVersion contract.number) }
+    ensures named { AnswersOnlyIf S.Store conn.old conn.new result
+        (IsOfAVersionUnless (IsLeftOutBy results.now wanted contract.content) contract.number) }
 {
     let latest = latest_among(results, contract.content);
     if is_left_out(latest, wanted) {
@@ -335,7 +362,8 @@ fn needs_of_others<S: Alter>(
     used_by_each(alloc, conn, version, &results, &contracts, wanted)
 }
 
-/// The needs of the version of this number that are wanted, in no order.
+/// The needs of the version of this number that are wanted, in no order. An answer comes only if each row of what is
+/// released in the environment names a version, also if no CHECK or reference asks for it.
 pub(crate) fn wanted_needs<S: Alter>(
     alloc: Global,
     conn: &mut Connection<S>,
@@ -344,9 +372,10 @@ pub(crate) fn wanted_needs<S: Alter>(
     environment: &str,
     wanted: Wanted,
 ) -> Result<Vec<Need>, StoreFault>
-    ensures { CalmQueries S.Store conn.old conn.new result
+    ensures answers { CalmQueries S.Store conn.old conn.new result
         (λ found s. number_of s.versions version.now ≡ Some number → (x : NeedModel) →
         Contains found.items x ↔ (IsNeed s version.now environment.now x × IsWanted wanted x)) }
+    ensures named { AnswersOnlyIf S.Store conn.old conn.new result (EachReleasedIsThere environment.now) }
 {
     let mut found = done!(own_needs(alloc, conn, number, version, environment, wanted));
     let others = done!(needs_of_others(alloc, conn, number, version, environment, wanted));

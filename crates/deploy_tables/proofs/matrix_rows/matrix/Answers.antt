@@ -6,4 +6,4 @@ pub returns-in-Some : goal.returns-in-Some
 returns-in-Some g c =
     let v = c.in-Some.version in
     calm_then _ _ _ (Some v) c.matrix_numbered.result _ _ _ (λ s known rows listed. of_number s c.args.number v _ _ known (listed known))
-    (rw c.in-Some.is at c.in-Ok.ensures) c.matrix_numbered.ensures
+    (rw c.in-Some.is at c.in-Ok.ensures.answers) c.matrix_numbered.ensures

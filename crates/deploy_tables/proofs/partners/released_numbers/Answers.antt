@@ -1,10 +1,19 @@
+use Rattle.std.proofs.lemmas.Result.{IfOk-weaker}
+use Rattle.sqlite.specs.Held.{state}
 use Rattle.broker_tables.proofs.Asked.{lists}
 use Rattle.deploy_tables.proofs.{PartnerRows.{standing_numbered}, ReleasedRows.{release_numbers, numbers_told}, ReadableRows.{numbers_reads}}
+use Rattle.deploy_tables.proofs.AnyThere.{numbers_there}
 use Rattle.deploy_tables.proofs.partners.released_numbers.Goals as goal
 
-pub returns : goal.returns
-returns g c =
+pub returns-clause-answers : goal.returns-clause-answers
+returns-clause-answers g c =
     let said = rw c.params-to_sql.ensures at c.list_of.ensures in
     lists (release_numbers c.args.environment.now) _ _ (λ row fault why. why.0)
     (λ s held rows h list are. (numbers_told _ s held c.args.environment.now rows list.items h are, standing_numbered _ s held c.args.environment.now))
     (numbers_reads c.args.environment.now _) said.leaves said.cause
+
+pub returns-clause-named : goal.returns-clause-named
+returns-clause-named g c clean asked =
+    let old = state g.S.Store c.args.conn.now in
+    let new = state g.S.Store c.list_of.new.conn in
+    IfOk-weaker c.list_of.result _ _ (λ list told. numbers_there c.args.environment.now old new asked.1 told.0 list.items told.1 told.2) ((rw c.params-to_sql.ensures at c.list_of.ensures.leaves).ok clean)

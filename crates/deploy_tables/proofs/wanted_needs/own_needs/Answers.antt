@@ -4,17 +4,17 @@ use Rattle.deploy_tables.{specs.{Needs.{IsOwnContract, IsNeedOfContract}, Partne
 use Rattle.deploy_tables.proofs.{MatrixLemmas.{of_listed}, MatrixLoop.{query_failed, both_told}}
 use Rattle.deploy_tables.proofs.wanted_needs.own_needs.Goals as goal
 
-pub returns : goal.returns
-returns g c =
+pub returns-clause-answers : goal.returns-clause-answers
+returns-clause-answers g c =
     let v = c.args.version.now in
     let e = c.args.environment.now in
-    calm_allowed _ _ _ c.in-Ok-released_numbers.value c.needs_of_contracts.result _ _ _
-    (λ s. AreReleasedThere s e c.in-Ok-released_numbers.value.items) (λ s read. read.1) (λ s read found here. (
-      read.1.1,
-      λ number x. of_listed (λ d. IsNeedOfContract s v e c.args.wanted d x) (IsOwnContract s v) contract_cmp _ _ (read.0 v number) refl _ (here read.1 x),
-    )) (both_told _ _ _ _ _ _ _ c.in-Ok.ensures.answers c.in-Ok-released_numbers.ensures)
+    calm_allowed _ _ _ c.in-Ok-contracts_of.value c.needs_of_contracts.result _ _ _
+    (λ s. AreReleasedThere s e c.in-Ok.value.items) (λ s read. read.0) (λ s read found here. (
+      read.0.1,
+      λ number x. of_listed (λ d. IsNeedOfContract s v e c.args.wanted d x) (IsOwnContract s v) contract_cmp _ _ (read.1 v number) refl _ (here read.0 x),
+    )) (both_told _ _ _ _ _ _ _ c.in-Ok.ensures.answers c.in-Ok-contracts_of.ensures.answers)
     (rw (c.deref.ensures.value, c.deref-2.ensures.value) at c.needs_of_contracts.ensures.answers)
     (rw c.deref.ensures.value at c.needs_of_contracts.ensures.calm)
 
-pub returns-in-Err-released_numbers : goal.returns-in-Err-released_numbers
-returns-in-Err-released_numbers g c = query_failed _ _ _ _ _ _ _ _ c.in-Ok.ensures.answers c.in-Err-released_numbers.ensures
+pub returns-in-Err-contracts_of-clause-answers : goal.returns-in-Err-contracts_of-clause-answers
+returns-in-Err-contracts_of-clause-answers g c = query_failed _ _ _ _ _ _ _ _ c.in-Ok.ensures.answers c.in-Err-contracts_of.ensures.answers

@@ -13,4 +13,4 @@ returns g c =
     let faults = c.in-Ok.value.items in
     calm_answers (state g.S.Store c.args.conn.now) (state g.S.Store c.faults.new.conn) c.in-Ok.value (c.permits.result, c.in-Ok.value) _ _
     (λ s listed admitted. subst (λ (b : Bool). Judges s v c.args.environment.now b faults) (sym (rw c.deref.ensures.value at c.permits.ensures))
-    (judged s v c.args.environment.now marks faults admitted.0 (subst (λ (e : Text). AreFaults s v e marks.strict faults) c.as_str.ensures (listed admitted.1)))) c.in-Ok.ensures
+    (judged s v c.args.environment.now marks faults admitted.0 (subst (λ (e : Text). AreFaults s v e marks.strict faults) c.as_str.ensures (listed admitted.1)))) c.in-Ok.ensures.answers
