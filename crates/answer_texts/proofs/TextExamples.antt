@@ -12,6 +12,6 @@ is_claimed = record { consumer = codes "shop"; consumer_version = codes "1"; pro
 abbrev pub refused_for_a_claim : Answer
 refused_for_a_claim = NotPermitted (is_claimed ∷ [])
 
-pub the_body_of_a_refusal : answer_text refused_for_a_claim ≡ codes "{\"answer\":\"not permitted\",\"faults\":[{\"consumer\":\"shop\",\"consumerVersion\":\"1\",\"kind\":\"claimed\",\"provider\":\"stock\",\"providerVersion\":\"1\"}]}"
+pub answer_text-of_refusal : answer_text refused_for_a_claim ≡ codes "{\"answer\":\"not permitted\",\"faults\":[{\"consumer\":\"shop\",\"consumerVersion\":\"1\",\"kind\":\"claimed\",\"provider\":\"stock\",\"providerVersion\":\"1\"}]}"
 unfolding serde_json_on_literals
-the_body_of_a_refusal = refl
+answer_text-of_refusal = refl

@@ -30,45 +30,45 @@ Adds-last (Ok x) front back whole a b c same p q = Adds-more front back whole a 
 Adds-last (Err e) front back whole a b c same p q = tt
 
 -- one item more
-pub flat_map_next : {X : Type 0} (f : X → List Token) (front : List Token) (xs : List X) (i : ℕ) (x : X) → i < length xs → x ≡ get_or xs i x
+pub flat_map-take_next : {X : Type 0} (f : X → List Token) (front : List Token) (xs : List X) (i : ℕ) (x : X) → i < length xs → x ≡ get_or xs i x
     → (front ++ flat_map f (take i xs)) ++ f x ≡ front ++ flat_map f (take (i + 1) xs)
-flat_map_next f front xs i x low is =
+flat_map-take_next f front xs i x low is =
     flat_map_more f front (take i xs) x
     ∙ ap (λ ys. front ++ flat_map f ys) (sym (take_more xs i x low ∙ ap (λ y. take i xs ++ y ∷ []) (sym is)))
 
-closed_items : {X : Type 0} (each : X → Data) (xs : List X)
+items_tokens-of_each : {X : Type 0} (each : X → Data) (xs : List X)
     → flat_map (λ x. tokens_of (each x)) xs ++ end_array ∷ [] ≡ items_tokens (items_outline (items_of (map each xs)))
-closed_items each [] = refl
-closed_items each (x ∷ xs) =
+items_tokens-of_each each [] = refl
+items_tokens-of_each each (x ∷ xs) =
     append_assoc (tokens_of (each x)) (flat_map (λ y. tokens_of (each y)) xs) (end_array ∷ [])
-    ∙ ap (λ ts. tokens_of (each x) ++ ts) (closed_items each xs)
+    ∙ ap (λ ts. tokens_of (each x) ++ ts) (items_tokens-of_each each xs)
 
 -- all items, between the brackets
-pub whole_items : {X : Type 0} (each : X → Data) (xs : List X) (i : ℕ) → length xs ≤ i
+pub tokens_of-items : {X : Type 0} (each : X → Data) (xs : List X) (i : ℕ) → length xs ≤ i
     → (begin_array ∷ flat_map (λ x. tokens_of (each x)) (take i xs)) ++ end_array ∷ [] ≡ tokens_of (items each xs)
-whole_items each xs i past =
+tokens_of-items each xs i past =
     ap (λ ys. begin_array ∷ (flat_map (λ x. tokens_of (each x)) ys ++ end_array ∷ [])) (take_all i xs past)
-    ∙ ap (λ ts. begin_array ∷ ts) (closed_items each xs)
+    ∙ ap (λ ts. begin_array ∷ ts) (items_tokens-of_each each xs)
 
 -- the tokens of a member
 abbrev pub member_tokens : {X : Type 0} → (X → Data) → Bor Text × X → List Token
 member_tokens each m = key m.0.now ∷ tokens_of (each m.1)
 
-closed_members : {X : Type 0} (each : X → Data) (ms : List (Bor Text × X))
+members_tokens-of_each : {X : Type 0} (each : X → Data) (ms : List (Bor Text × X))
     → flat_map (member_tokens each) ms ++ end_object ∷ [] ≡ members_tokens (members_outline (members_of (map (λ m. (m.0.now, each m.1)) ms)))
-closed_members each [] = refl
-closed_members each (m ∷ ms) =
+members_tokens-of_each each [] = refl
+members_tokens-of_each each (m ∷ ms) =
     ap (λ ts. key m.0.now ∷ ts)
     (append_assoc (tokens_of (each m.1)) (flat_map (member_tokens each) ms) (end_object ∷ [])
-    ∙ ap (λ ts. tokens_of (each m.1) ++ ts) (closed_members each ms))
+    ∙ ap (λ ts. tokens_of (each m.1) ++ ts) (members_tokens-of_each each ms))
 
 -- all members, between the braces
-pub whole_members : {X : Type 0} (each : X → Data) (ms : List (Bor Text × X)) (i : ℕ) → length ms ≤ i
+pub tokens_of-object_of : {X : Type 0} (each : X → Data) (ms : List (Bor Text × X)) (i : ℕ) → length ms ≤ i
     → (begin_object ∷ flat_map (member_tokens each) (take i ms)) ++ end_object ∷ [] ≡ tokens_of (object_of each ms)
-whole_members each ms i past =
+tokens_of-object_of each ms i past =
     ap (λ ys. begin_object ∷ (flat_map (member_tokens each) ys ++ end_object ∷ [])) (take_all i ms past)
-    ∙ ap (λ ts. begin_object ∷ ts) (closed_members each ms)
+    ∙ ap (λ ts. begin_object ∷ ts) (members_tokens-of_each each ms)
 
 -- what a writer that began with nothing prints of a value
-pub printed : (d : Data) (old new : Written) → old.tokens ≡ [] → Adds (tokens_of d) old new → print new.tokens ≡ compact_text d
-printed d old new none adds = ap print (adds.more ∙ ap (λ ts. ts ++ tokens_of d) none) ∙ print-outline d
+pub print-tokens_of : (d : Data) (old new : Written) → old.tokens ≡ [] → Adds (tokens_of d) old new → print new.tokens ≡ compact_text d
+print-tokens_of d old new none adds = ap print (adds.more ∙ ap (λ ts. ts ++ tokens_of d) none) ∙ print-outline d

@@ -9,7 +9,7 @@ use Rattle.broker_core.specs.{declared.policy.Caller.{Caller}, declared.command.
 use Rattle.broker_core.specs.{declared.command.PactPath.{PactPath}, declared.command.Report.{Report}, declared.command.Version.{Version}}
 use Rattle.broker_core.specs.{declared.answer.Answer.{Answer}, declared.answer.Answer.TheVariants.{Denied, Unknown, Done}, declared.answer.Detail.{Detail}}
 use Rattle.broker_core.specs.{declared.answer.Missing.{Missing}, Text.{Text, same_text, same_version, same_pair, same_place, put_at, version}}
-use Rattle.broker_core.{specs.{State.{State, Verification, claimed_result, checked_result}, Limit.{has_room}}, proofs.{Lists.{some_is}, Ways.{way_of}}}
+use Rattle.broker_core.{specs.{State.{State, Verification, claimed_result, checked_result}, Limit.{has_room}}, proofs.{Lists.{Some-injective}, Ways.{Way-of_Step}}}
 use Rattle.broker_core.proofs.Ways.Way.{nobody, misformed, refused as refused_way, acting}
 
 -- ---- the tables afterwards
@@ -34,19 +34,19 @@ with_contract s v provider text = record s {
 abbrev pub with_result : State → Verification → State
 with_result s r = record s { versions = versions_with s r.version; results = s.results ++ r ∷ [] }
 
-pub named_is : (s : State) (v : Version) → named s v ≡ record s { versions = versions_with s v }
-named_is s v =
+pub named-versions_with : (s : State) (v : Version) → named s v ≡ record s { versions = versions_with s v }
+named-versions_with s v =
     let more : State = record s { versions = s.versions ++ v ∷ [] } in
     elim (is_known s v) as (λ b. (if b then s else more) ≡ record s { versions = if b then s.versions else more.versions }) [ true ↦ refl | false ↦ refl ]
 
-pub stored_is : (s : State) (text : Text) → stored s text ≡ record s { contents = contents_with s.contents text }
-stored_is s text =
+pub stored-contents_with : (s : State) (text : Text) → stored s text ≡ record s { contents = contents_with s.contents text }
+stored-contents_with s text =
     let more : State = record s { contents = s.contents ++ text ∷ [] } in
     elim (is_stored s text) as (λ b. (if b then s else more) ≡ record s { contents = if b then s.contents else more.contents }) [ true ↦ refl | false ↦ refl ]
 
-joined_is : (s : State) (v : Version) (branch : Option Text) → joined s v branch ≡ record s { branches = branches_with s v branch }
-joined_is s v None = refl
-joined_is s v (Some branch) = refl
+joined-branches_with : (s : State) (v : Version) (branch : Option Text) → joined s v branch ≡ record s { branches = branches_with s v branch }
+joined-branches_with s v None = refl
+joined-branches_with s v (Some branch) = refl
 
 -- ---- the changes
 
@@ -89,116 +89,116 @@ pub data Effect (parts : Primitives) (s : State) (c : Command) : Transition → 
 
 -- ---- each step is one
 
-nobody_has : (s : State) (digest : Text) (holder : Option Caller) → is_some holder ≡ false → IsCallerOfDigest s digest holder → (c : Caller)
+HasDigest-nobody : (s : State) (digest : Text) (holder : Option Caller) → is_some holder ≡ false → IsCallerOfDigest s digest holder → (c : Caller)
     → ¬ (HasDigest s digest c)
-nobody_has s digest None none free = free
-nobody_has s digest (Some c) none has = absurd (cc)
+HasDigest-nobody s digest None none free = free
+HasDigest-nobody s digest (Some c) none has = absurd (cc)
 
 module _ (parts : Primitives) (s : State) (c : Command) where
-  equal : {out x : Transition} → out ≡ x → Effect parts s c x → Effect parts s c out
-  equal is = subst (λ (o : Transition). Effect parts s c o) (sym is)
+  Effect-of_equal : {out x : Transition} → out ≡ x → Effect parts s c x → Effect parts s c out
+  Effect-of_equal is = subst (λ (o : Transition). Effect parts s c o) (sym is)
 
-  look_up : {X : Type 0} (f : X → Transition) (other : Transition) (o : Option X) → ((x : X) → Effect parts s c (f x)) → (o ≡ None → Effect parts s c other)
+  Effect-option_map_or : {X : Type 0} (f : X → Transition) (other : Transition) (o : Option X) → ((x : X) → Effect parts s c (f x)) → (o ≡ None → Effect parts s c other)
       → Effect parts s c (option_map_or f o other)
-  look_up f other None each rest = rest refl
-  look_up f other (Some x) each rest = each x
+  Effect-option_map_or f other None each rest = rest refl
+  Effect-option_map_or f other (Some x) each rest = each x
 
-  test : (b : Bool) (x y : Transition) → (b ≡ true → Effect parts s c x) → (b ≡ false → Effect parts s c y) → Effect parts s c (if b then x else y)
-  test true x y h k = h refl
-  test false x y h k = k refl
+  Effect-cond : (b : Bool) (x y : Transition) → (b ≡ true → Effect parts s c x) → (b ≡ false → Effect parts s c y) → Effect parts s c (if b then x else y)
+  Effect-cond true x y h k = h refl
+  Effect-cond false x y h k = k refl
 
-  repeats : (b : Bool) → Effect parts s c (repeated s b)
-  repeats true = told _ refl
-  repeats false = told _ refl
+  Effect-repeated : (b : Bool) → Effect parts s c (repeated s b)
+  Effect-repeated true = told _ refl
+  Effect-repeated false = told _ refl
 
-  either : (b : Bool) (x y : Answer) → is_step x ≡ true → is_step y ≡ true → Effect parts s c (unchanged_with s (if b then x else y))
-  either true x y h k = told x h
-  either false x y h k = told y k
+  Effect-cond_answer : (b : Bool) (x y : Answer) → is_step x ≡ true → is_step y ≡ true → Effect parts s c (unchanged_with s (if b then x else y))
+  Effect-cond_answer true x y h k = told x h
+  Effect-cond_answer false x y h k = told y k
 
-  done_with : (t u : State) (detail : Detail) → t ≡ u → Change parts s c u → Effect parts s c (record { answer = Done detail; state = t })
-  done_with t u detail is change = subst (λ (x : State). Effect parts s c (record { answer = Done detail; state = x })) (sym is) (changed u detail change)
+  Effect-done : (t u : State) (detail : Detail) → t ≡ u → Change parts s c u → Effect parts s c (record { answer = Done detail; state = t })
+  Effect-done t u detail is change = subst (λ (x : State). Effect parts s c (record { answer = Done detail; state = x })) (sym is) (changed u detail change)
 
-  reports : (r : Verification) (detail : ℕ → Detail)
+  Effect-report : (r : Verification) (detail : ℕ → Detail)
       → (result_of_run s r.version.pacticipant r.run ≡ None → Change parts s c (with_result s r)) → Effect parts s c (report s r detail)
-  reports r detail change =
-      let added = ap (λ (t : State). record t { results = s.results ++ r ∷ [] }) (named_is s r.version) in
-      look_up _ _ (result_of_run s r.version.pacticipant r.run) (λ e. either (says_same e.1 r) _ _ refl refl)
-      (λ free. test (can_name s r.version && has_room s.results) _ _ (λ _. done_with _ (with_result s r) _ added (change free)) (λ _. told _ refl))
+  Effect-report r detail change =
+      let added = ap (λ (t : State). record t { results = s.results ++ r ∷ [] }) (named-versions_with s r.version) in
+      Effect-option_map_or _ _ (result_of_run s r.version.pacticipant r.run) (λ e. Effect-cond_answer (says_same e.1 r) _ _ refl refl)
+      (λ free. Effect-cond (can_name s r.version && has_room s.results) _ _ (λ _. Effect-done _ (with_result s r) _ added (change free)) (λ _. told _ refl))
 
 module _ (parts : Primitives) (s : State) where
-  acts : (c : Command) (out : Transition) → TakesEffect parts s c out → Effect parts s c out
-  acts (PutTeam name token) out x = equal parts s _ x.2 (look_up parts s _ _ _ (s.teams name) (λ old. repeats parts s _ _)
-      (λ free. test parts s _ (is_some x.0) _ _ (λ _. told _ refl) (λ none. changed _ _ (team name token free (nobody_has s _ x.0 none x.1)))))
-  acts (PutPacticipant p owner) out x =
-      equal parts s _ x (look_up parts s _ _ _ (s.pacticipants p) (λ old. repeats parts s _ _) (λ free. changed _ _ (pacticipant p owner free)))
-  acts (PutEnvironment e marks) out x =
-      equal parts s _ x (look_up parts s _ _ _ (s.environments e) (λ old. repeats parts s _ _) (λ free. changed _ _ (environment e marks free)))
-  acts (PutGrant name e) out x = equal parts s _ x (test parts s _ (s.grants (name, e)) _ _ (λ _. told _ refl) (λ none. changed _ _ (grant name e none)))
-  acts (DeleteGrant name e) out x =
-      equal parts s _ x (test parts s _ (s.grants (name, e)) _ _ (λ there. changed _ _ (end_of_grant name e there)) (λ _. told _ refl))
-  acts (PutVersion v branch) out x =
-      let put = ap (λ (t : State). joined t v branch) (named_is s v) ∙ joined_is (record s { versions = versions_with s v }) v branch in
-      equal parts s _ x (test parts s _ (is_known s v && on_branch s v branch) _ _ (λ _. told _ refl)
-      (λ new. test parts s _ (can_name s v) _ _ (λ _. done_with parts s _ _ _ _ put (named_version v branch new)) (λ _. told _ refl)))
-  acts (PutPact path file) out x =
+  Effect-of_TakesEffect : (c : Command) (out : Transition) → TakesEffect parts s c out → Effect parts s c out
+  Effect-of_TakesEffect (PutTeam name token) out x = Effect-of_equal parts s _ x.2 (Effect-option_map_or parts s _ _ _ (s.teams name) (λ old. Effect-repeated parts s _ _)
+      (λ free. Effect-cond parts s _ (is_some x.0) _ _ (λ _. told _ refl) (λ none. changed _ _ (team name token free (HasDigest-nobody s _ x.0 none x.1)))))
+  Effect-of_TakesEffect (PutPacticipant p owner) out x =
+      Effect-of_equal parts s _ x (Effect-option_map_or parts s _ _ _ (s.pacticipants p) (λ old. Effect-repeated parts s _ _) (λ free. changed _ _ (pacticipant p owner free)))
+  Effect-of_TakesEffect (PutEnvironment e marks) out x =
+      Effect-of_equal parts s _ x (Effect-option_map_or parts s _ _ _ (s.environments e) (λ old. Effect-repeated parts s _ _) (λ free. changed _ _ (environment e marks free)))
+  Effect-of_TakesEffect (PutGrant name e) out x = Effect-of_equal parts s _ x (Effect-cond parts s _ (s.grants (name, e)) _ _ (λ _. told _ refl) (λ none. changed _ _ (grant name e none)))
+  Effect-of_TakesEffect (DeleteGrant name e) out x =
+      Effect-of_equal parts s _ x (Effect-cond parts s _ (s.grants (name, e)) _ _ (λ there. changed _ _ (end_of_grant name e there)) (λ _. told _ refl))
+  Effect-of_TakesEffect (PutVersion v branch) out x =
+      let put = ap (λ (t : State). joined t v branch) (named-versions_with s v) ∙ joined-branches_with (record s { versions = versions_with s v }) v branch in
+      Effect-of_equal parts s _ x (Effect-cond parts s _ (is_known s v && on_branch s v branch) _ _ (λ _. told _ refl)
+      (λ new. Effect-cond parts s _ (can_name s v) _ _ (λ _. Effect-done parts s _ _ _ _ put (named_version v branch new)) (λ _. told _ refl)))
+  Effect-of_TakesEffect (PutPact path file) out x =
       let v = consumer_version path in
-      equal parts s _ x.2 (look_up parts s _ _ _ (s.contracts (v, path.provider)) (λ content. either parts s _ (is_text x.0 (text_of s content)) _ _ refl refl)
-      (λ free. test parts s _ (can_name s v && (is_stored s x.0 || has_room s.contents)) _ _
-      (λ _. done_with parts s _ _ _ _ (published v path.provider x.0) (contract path file x.0 free x.1)) (λ _. told _ refl)))
+      Effect-of_equal parts s _ x.2 (Effect-option_map_or parts s _ _ _ (s.contracts (v, path.provider)) (λ content. Effect-cond_answer parts s _ (is_text x.0 (text_of s content)) _ _ refl refl)
+      (λ free. Effect-cond parts s _ (can_name s v && (is_stored s x.0 || has_room s.contents)) _ _
+      (λ _. Effect-done parts s _ _ _ _ (published v path.provider x.0) (contract path file x.0 free x.1)) (λ _. told _ refl)))
     where
       published : (v : Version) (provider text : Text)
           → record (stored (named s v) text) { contracts = put_at (same_pair same_version same_text) s.contracts (v, provider) (Some (content_number s text)) }
           ≡ with_contract s v provider text
       published v provider text =
           let table = put_at (same_pair same_version same_text) s.contracts (v, provider) (Some (content_number s text)) in
-          ap (λ (t : State). record (stored t text) { contracts = table }) (named_is s v)
-          ∙ ap (λ (t : State). record t { contracts = table }) (stored_is (record s { versions = versions_with s v }) text)
-  acts (GetPact path) out x = equal parts s _ x.2 (told _ refl)
-  acts (GetBranchPact provider consumer branch) out x = equal parts s _ x.2.2 (told _ refl)
-  acts (PostResult path r success) out x = equal parts s _ x.2 (reports parts s _ _ _ (claim path r success x.0 x.1))
-  acts (PostReplies path r replies) out x = equal parts s _ x.2.2.2 (by_failing x.2.2.0)
+          ap (λ (t : State). record (stored t text) { contracts = table }) (named-versions_with s v)
+          ∙ ap (λ (t : State). record t { contracts = table }) (stored-contents_with (record s { versions = versions_with s v }) text)
+  Effect-of_TakesEffect (GetPact path) out x = Effect-of_equal parts s _ x.2 (told _ refl)
+  Effect-of_TakesEffect (GetBranchPact provider consumer branch) out x = Effect-of_equal parts s _ x.2.2 (told _ refl)
+  Effect-of_TakesEffect (PostResult path r success) out x = Effect-of_equal parts s _ x.2 (Effect-report parts s _ _ _ (claim path r success x.0 x.1))
+  Effect-of_TakesEffect (PostReplies path r replies) out x = Effect-of_equal parts s _ x.2.2.2 (by_failing x.2.2.0)
     where
       by_failing : (failing : Option (List ℕ))
           → Effect parts s (PostReplies path r replies) (report_replies s x.0 (version path.provider r.provider_version) r.run failing)
       by_failing None = told _ refl
-      by_failing (Some failing) = reports parts s _ _ _ (check path r replies x.0 failing x.1)
-  acts (Deploy e v instance) out x =
+      by_failing (Some failing) = Effect-report parts s _ _ _ (check path r replies x.0 failing x.1)
+  Effect-of_TakesEffect (Deploy e v instance) out x =
       let stands = is_text v.name (s.deployed (e, v.pacticipant, instance_of instance)) in
-      equal parts s _ x.3 (test parts s _ x.0 _ _
-      (λ _. test parts s _ stands _ _ (λ _. told _ refl) (λ new. changed _ _ (deployment e v instance new))) (λ _. told _ refl))
-  acts (Undeploy e v instance) out x =
+      Effect-of_equal parts s _ x.3 (Effect-cond parts s _ x.0 _ _
+      (λ _. Effect-cond parts s _ stands _ _ (λ _. told _ refl) (λ new. changed _ _ (deployment e v instance new))) (λ _. told _ refl))
+  Effect-of_TakesEffect (Undeploy e v instance) out x =
       let stands = is_text v.name (s.deployed (e, v.pacticipant, instance_of instance)) in
-      equal parts s _ x (test parts s _ stands _ _ (λ there. changed _ _ (end_of_deployment e v instance there)) (λ _. told _ refl))
-  acts (Release e v) out x = equal parts s _ x.3 (test parts s _ x.0 _ _
-      (λ _. test parts s _ (s.released (e, v)) _ _ (λ _. told _ refl) (λ new. changed _ _ (release e v new))) (λ _. told _ refl))
-  acts (EndSupport e v) out x = equal parts s _ x (test parts s _ (s.released (e, v)) _ _ (λ there. changed _ _ (end_of_support e v there)) (λ _. told _ refl))
-  acts (GetEnvironment e) out x = equal parts s _ x.2.2.2 (told _ refl)
-  acts (CanIDeploy v e) out x = equal parts s _ x.2.3 (told _ refl)
-  acts (GetMatrix v) out x = equal parts s _ x.2 (told _ refl)
-  acts (Malformed fault) out x = absurd x
+      Effect-of_equal parts s _ x (Effect-cond parts s _ stands _ _ (λ there. changed _ _ (end_of_deployment e v instance there)) (λ _. told _ refl))
+  Effect-of_TakesEffect (Release e v) out x = Effect-of_equal parts s _ x.3 (Effect-cond parts s _ x.0 _ _
+      (λ _. Effect-cond parts s _ (s.released (e, v)) _ _ (λ _. told _ refl) (λ new. changed _ _ (release e v new))) (λ _. told _ refl))
+  Effect-of_TakesEffect (EndSupport e v) out x = Effect-of_equal parts s _ x (Effect-cond parts s _ (s.released (e, v)) _ _ (λ there. changed _ _ (end_of_support e v there)) (λ _. told _ refl))
+  Effect-of_TakesEffect (GetEnvironment e) out x = Effect-of_equal parts s _ x.2.2.2 (told _ refl)
+  Effect-of_TakesEffect (CanIDeploy v e) out x = Effect-of_equal parts s _ x.2.3 (told _ refl)
+  Effect-of_TakesEffect (GetMatrix v) out x = Effect-of_equal parts s _ x.2 (told _ refl)
+  Effect-of_TakesEffect (Malformed fault) out x = absurd x
 
 -- ---- a step, by how far the command comes
 
-refusal_told : (c : Command) (m : Option Missing) (b : Bool) (answer : Answer) → refused c m b ≡ Some answer → is_step answer ≡ true
-refusal_told c (Some what) b answer is = ap is_step (sym (some_is (Unknown what) answer is))
-refusal_told c None true answer is = absurd (cc)
-refusal_told c None false answer is = ap is_step (sym (some_is (Denied (asks c).rule) answer is))
+refused-is_step : (c : Command) (m : Option Missing) (b : Bool) (answer : Answer) → refused c m b ≡ Some answer → is_step answer ≡ true
+refused-is_step c (Some what) b answer is = ap is_step (sym (Some-injective (Unknown what) answer is))
+refused-is_step c None true answer is = absurd (cc)
+refused-is_step c None false answer is = ap is_step (sym (Some-injective (Denied (asks c).rule) answer is))
 
 -- what is so of each answer that changes nothing, and of what a permitted command does, is so of a step
-pub by_step : (parts : Primitives) (s : State) (c : Command) (P : Transition → Type 0) → ((answer : Answer) → is_step answer ≡ true → P (unchanged_with s answer))
+pub Step-by_cases : (parts : Primitives) (s : State) (c : Command) (P : Transition → Type 0) → ((answer : Answer) → is_step answer ≡ true → P (unchanged_with s answer))
     → ((out : Transition) → TakesEffect parts s c out → P out) → (token : Option Text) (out : Transition) → Step parts s token c out → P out
-by_step parts s c P told_it acted token out step = elim (way_of parts s token c out step) as (λ o _. P o) [
+Step-by_cases parts s c P told_it acted token out step = elim (Way-of_Step parts s token c out step) as (λ o _. P o) [
   | nobody calls ↦ told_it _ refl
   | misformed caller calls f form ↦ told_it _ refl
-  | refused_way caller calls form answer is ↦ told_it answer (refusal_told c (first_missing s c) (is_allowed s caller c) answer is)
+  | refused_way caller calls form answer is ↦ told_it answer (refused-is_step c (first_missing s c) (is_allowed s caller c) answer is)
   | acting caller calls form o is it ↦ acted o it
 ]
 
 -- the one form of each step
-pub effect_of : (parts : Primitives) (s : State) (token : Option Text) (c : Command) (out : Transition) → Step parts s token c out → Effect parts s c out
-effect_of parts s token c out step = by_step parts s c (Effect parts s c) told (acts parts s c) token out step
+pub Effect-of_Step : (parts : Primitives) (s : State) (token : Option Text) (c : Command) (out : Transition) → Step parts s token c out → Effect parts s c out
+Effect-of_Step parts s token c out step = Step-by_cases parts s c (Effect parts s c) told (Effect-of_TakesEffect parts s c) token out step
 
 -- what is so of the state, and of what each change of it leaves, is so after a step
-pub after_step : (parts : Primitives) (s : State) (c : Command) (P : State → Type 0) → P s → ((t : State) → Change parts s c t → P t) → (token : Option Text) (out : Transition) → Step parts s token c out → P out.state
-after_step parts s c P here left token out step =
-    elim (effect_of parts s token c out step) as (λ o _. P o.state) [ told answer is ↦ here | changed t detail change ↦ left t change ]
+pub Step-keeps : (parts : Primitives) (s : State) (c : Command) (P : State → Type 0) → P s → ((t : State) → Change parts s c t → P t) → (token : Option Text) (out : Transition) → Step parts s token c out → P out.state
+Step-keeps parts s c P here left token out step =
+    elim (Effect-of_Step parts s token c out step) as (λ o _. P o.state) [ told answer is ↦ here | changed t detail change ↦ left t change ]

@@ -7,7 +7,7 @@ use Rattle.broker_core.specs.{declared.policy.Caller.TheVariants.{Office, Team},
 use Rattle.broker_core.specs.{declared.command.Command.TheVariants.{PutTeam, PutPacticipant, PutEnvironment, PutGrant}, declared.command.Marks.{Marks}}
 use Rattle.broker_core.specs.{declared.command.PactPath.{PactPath}, declared.need.Kind.{Kind}, declared.need.PairFault.{PairFault}}
 use Rattle.broker_core.specs.{declared.answer.Answer.{Answer}, declared.answer.Answer.TheVariants.{Done}, declared.answer.Detail.TheVariants.{Plain, Result}}
-use Rattle.broker_core.{specs.{Text.{Text, same_text, put_at, version}, State.{State, opening, claimed_result}}, proofs.{Judgement.{Rows}, Lists.{some_is}}}
+use Rattle.broker_core.{specs.{Text.{Text, same_text, put_at, version}, State.{State, opening, claimed_result}}, proofs.{Judgement.{Rows}, Lists.{Some-injective}}}
 
 abbrev pub shop : Text
 shop = codes "shop"
@@ -101,27 +101,27 @@ abbrev pub pact_rows : Rows
 pact_rows = record no_rows { contracts = ((version shop one, stock), 1) ∷ [] }
 
 -- no team's token is the office's
-pub red_is_no_office : ¬ (office_token ≡ red_token)
-red_is_no_office = other_text office_token red_token refl
+pub red_token-not_office : ¬ (office_token ≡ red_token)
+red_token-not_office = other_text office_token red_token refl
 
-pub blue_is_no_office : ¬ (office_token ≡ blue_token)
-blue_is_no_office = other_text office_token blue_token refl
+pub blue_token-not_office : ¬ (office_token ≡ blue_token)
+blue_token-not_office = other_text office_token blue_token refl
 
 -- no one has a digest that no token of the table has
-pub put_other : (table : Text → Option Text) (key value x : Text) → value ≢ x → ((q : Text) → table q ≢ Some x) → (q : Text) → put_at same_text table key (Some value) q ≢ Some x
-put_other table key value x other none q e =
-    elim (same_text q key) as (λ b. (if b then Some value else table q) ≡ Some x → ⊥) [ true ↦ λ is. other (some_is value x is) | false ↦ none q ] e
+pub put_at-other_value : (table : Text → Option Text) (key value x : Text) → value ≢ x → ((q : Text) → table q ≢ Some x) → (q : Text) → put_at same_text table key (Some value) q ≢ Some x
+put_at-other_value table key value x other none q e =
+    elim (same_text q key) as (λ b. (if b then Some value else table q) ≡ Some x → ⊥) [ true ↦ λ is. other (Some-injective value x is) | false ↦ none q ] e
 
-pub no_team : (x q : Text) → (opening office_token).teams q ≢ Some x
-no_team x q e = absurd (cc)
+pub opening-no_team : (x q : Text) → (opening office_token).teams q ≢ Some x
+opening-no_team x q e = absurd (cc)
 
-red_is_new : IsCallerOfDigest (opening office_token) red_token None
-red_is_new Office = other_text office_token red_token refl
-red_is_new (Team t) = no_team red_token t
+IsCallerOfDigest-red_is_new : IsCallerOfDigest (opening office_token) red_token None
+IsCallerOfDigest-red_is_new Office = other_text office_token red_token refl
+IsCallerOfDigest-red_is_new (Team t) = opening-no_team red_token t
 
-blue_is_new : IsCallerOfDigest (put_team (opening office_token) red red_token false).state blue_token None
-blue_is_new Office = other_text office_token blue_token refl
-blue_is_new (Team t) = put_other (opening office_token).teams red red_token blue_token (other_text red_token blue_token refl) (no_team blue_token) t
+IsCallerOfDigest-blue_is_new : IsCallerOfDigest (put_team (opening office_token) red red_token false).state blue_token None
+IsCallerOfDigest-blue_is_new Office = other_text office_token blue_token refl
+IsCallerOfDigest-blue_is_new (Team t) = put_at-other_value (opening office_token).teams red red_token blue_token (other_text red_token blue_token refl) (opening-no_team blue_token) t
 
 by_office : Command → Request
 by_office command = record { token = Some office_token; command = command }
@@ -130,17 +130,17 @@ all_done : List Answer
 all_done = Done Plain ∷ Done Plain ∷ Done Plain ∷ Done Plain ∷ Done Plain ∷ Done Plain ∷ Done Plain ∷ []
 
 -- the machine reaches this state from the opening one, and answers each command Done
-the_fixture_is_reached_by_commands_of_the_office : Run simple_parts (opening office_token)
+Run-reaches_fixture : Run simple_parts (opening office_token)
     (by_office (PutTeam red red_token) ∷ by_office (PutTeam blue blue_token) ∷ by_office (PutEnvironment live gated) ∷ by_office (PutPacticipant shop red) ∷ by_office (PutPacticipant stock blue)
     ∷ by_office (PutGrant red live) ∷ by_office (PutGrant blue live) ∷ [])
     all_done fixture
 unfolding by_office all_done
-the_fixture_is_reached_by_commands_of_the_office = (
+Run-reaches_fixture = (
   _,
-  (Some Office, refl, (None, refl, (None, red_is_new, refl))),
+  (Some Office, refl, (None, refl, (None, IsCallerOfDigest-red_is_new, refl))),
   (
     _,
-    (Some Office, refl, (None, refl, (None, blue_is_new, refl))),
+    (Some Office, refl, (None, refl, (None, IsCallerOfDigest-blue_is_new, refl))),
     (
       _,
       (Some Office, refl, (None, refl, refl)),

@@ -4,21 +4,21 @@ use Rattle.broker_core.specs.{declared.policy.Caller.TheVariants.{Team}, declare
 use Rattle.broker_core.specs.{declared.command.Marks.{Marks}, declared.need.Kind.TheVariants.{Absent, Missing, Failed}}
 use Rattle.broker_core.specs.{declared.answer.Answer.TheVariants.{Done, NotPermitted, Shown}, declared.answer.Detail.TheVariants.{Plain, Result}}
 use Rattle.broker_core.specs.{Text.{Text, version}, State.{State, claimed_result}}
-use Rattle.broker_core.{specs.Change.{put_environment, put_grant, put_version, put_pact, report, deploy, release}, proofs.Judgement.{Rows, row_keys, judges}}
-use Rattle.broker_core.proofs.Fixture.{blue_is_no_office, red_is_no_office, shop, stock, Answers, red_token, blue_token, red, blue, live, one, two, three, first_file, second_file, gated, lacks, fixture, published, named_stock, claims, no_rows, pact_rows}
+use Rattle.broker_core.{specs.Change.{put_environment, put_grant, put_version, put_pact, report, deploy, release}, proofs.Judgement.{Rows, row_keys, Judges-is_permitted}}
+use Rattle.broker_core.proofs.Fixture.{blue_token-not_office, red_token-not_office, shop, stock, Answers, red_token, blue_token, red, blue, live, one, two, three, first_file, second_file, gated, lacks, fixture, published, named_stock, claims, no_rows, pact_rows}
 use Rattle.broker_core.specs.declared.answer.Shown.TheVariants as shown
 
 abbrev pub named_shop : State
 named_shop = (put_version fixture (version shop one) None).state
 
-a_version_without_needs_is_permitted : Answers named_shop red_token (Deploy live (version shop one) None) (Done Plain)
-a_version_without_needs_is_permitted = (_, (Some (Team red), (red_is_no_office, refl), (None, refl, (true, [], judges named_shop (row_keys named_shop no_rows) (version shop one) live, refl))), refl)
+Deploy-without_needs : Answers named_shop red_token (Deploy live (version shop one) None) (Done Plain)
+Deploy-without_needs = (_, (Some (Team red), (red_token-not_office, refl), (None, refl, (true, [], Judges-is_permitted named_shop (row_keys named_shop no_rows) (version shop one) live, refl))), refl)
 
-an_absent_provider_is_a_fault : Answers published red_token (Deploy live (version shop one) None) (NotPermitted (lacks one None Absent ∷ []))
-an_absent_provider_is_a_fault = (_, (Some (Team red), (red_is_no_office, refl), (None, refl, (false, lacks one None Absent ∷ [], judges published (row_keys published pact_rows) (version shop one) live, refl))), refl)
+Deploy-absent_provider : Answers published red_token (Deploy live (version shop one) None) (NotPermitted (lacks one None Absent ∷ []))
+Deploy-absent_provider = (_, (Some (Team red), (red_token-not_office, refl), (None, refl, (false, lacks one None Absent ∷ [], Judges-is_permitted published (row_keys published pact_rows) (version shop one) live, refl))), refl)
 
-a_provider_needs_no_consumers : Answers named_stock blue_token (Deploy live (version stock one) None) (Done Plain)
-a_provider_needs_no_consumers = (_, (Some (Team blue), (blue_is_no_office, refl), (None, refl, (true, [], judges named_stock (row_keys named_stock pact_rows) (version stock one) live, refl))), refl)
+Deploy-provider_without_consumers : Answers named_stock blue_token (Deploy live (version stock one) None) (Done Plain)
+Deploy-provider_without_consumers = (_, (Some (Team blue), (blue_token-not_office, refl), (None, refl, (true, [], Judges-is_permitted named_stock (row_keys named_stock pact_rows) (version stock one) live, refl))), refl)
 
 abbrev pub stock_deployed : State
 stock_deployed = (deploy named_stock live (version stock one) []).state
@@ -26,8 +26,8 @@ stock_deployed = (deploy named_stock live (version stock one) []).state
 abbrev pub stock_rows : Rows
 stock_rows = record pact_rows { deployed = ((live, stock, []), one) ∷ [] }
 
-a_missing_result_is_a_fault : Answers stock_deployed red_token (Deploy live (version shop one) None) (NotPermitted (lacks one (Some one) Missing ∷ []))
-a_missing_result_is_a_fault = (_, (Some (Team red), (red_is_no_office, refl), (None, refl, (false, lacks one (Some one) Missing ∷ [], judges stock_deployed (row_keys stock_deployed stock_rows) (version shop one) live, refl))), refl)
+Deploy-missing_result : Answers stock_deployed red_token (Deploy live (version shop one) None) (NotPermitted (lacks one (Some one) Missing ∷ []))
+Deploy-missing_result = (_, (Some (Team red), (red_token-not_office, refl), (None, refl, (false, lacks one (Some one) Missing ∷ [], Judges-is_permitted stock_deployed (row_keys stock_deployed stock_rows) (version shop one) live, refl))), refl)
 
 -- a pass, then a failure, then a pass
 abbrev pub passed : State
@@ -39,14 +39,14 @@ failed = claims passed one false
 abbrev pub passed_again : State
 passed_again = claims failed one true
 
-a_pass_is_good : Answers passed red_token (CanIDeploy (version shop one) live) (Shown (shown.Gate live gated true []))
-a_pass_is_good = (_, (Some (Team red), (red_is_no_office, refl), (None, refl, (gated, refl, (true, [], judges passed (row_keys passed stock_rows) (version shop one) live, refl)))), refl)
+CanIDeploy-pass : Answers passed red_token (CanIDeploy (version shop one) live) (Shown (shown.Gate live gated true []))
+CanIDeploy-pass = (_, (Some (Team red), (red_token-not_office, refl), (None, refl, (gated, refl, (true, [], Judges-is_permitted passed (row_keys passed stock_rows) (version shop one) live, refl)))), refl)
 
-a_later_failure_is_a_fault : Answers failed red_token (CanIDeploy (version shop one) live) (Shown (shown.Gate live gated false (lacks one (Some one) Failed ∷ [])))
-a_later_failure_is_a_fault = (_, (Some (Team red), (red_is_no_office, refl), (None, refl, (gated, refl, (false, lacks one (Some one) Failed ∷ [], judges failed (row_keys failed stock_rows) (version shop one) live, refl)))), refl)
+CanIDeploy-later_failure : Answers failed red_token (CanIDeploy (version shop one) live) (Shown (shown.Gate live gated false (lacks one (Some one) Failed ∷ [])))
+CanIDeploy-later_failure = (_, (Some (Team red), (red_token-not_office, refl), (None, refl, (gated, refl, (false, lacks one (Some one) Failed ∷ [], Judges-is_permitted failed (row_keys failed stock_rows) (version shop one) live, refl)))), refl)
 
-the_latest_result_counts : Answers passed_again red_token (Deploy live (version shop one) None) (Done Plain)
-the_latest_result_counts = (_, (Some (Team red), (red_is_no_office, refl), (None, refl, (true, [], judges passed_again (row_keys passed_again stock_rows) (version shop one) live, refl))), refl)
+Deploy-latest_result_counts : Answers passed_again red_token (Deploy live (version shop one) None) (Done Plain)
+Deploy-latest_result_counts = (_, (Some (Team red), (red_token-not_office, refl), (None, refl, (true, [], Judges-is_permitted passed_again (row_keys passed_again stock_rows) (version shop one) live, refl))), refl)
 
 -- shop 1 is deployed, and shop 3 has published the same content
 abbrev pub republished : State
@@ -59,8 +59,8 @@ republished_rows = record {
   released = [];
 }
 
-the_same_content_is_covered_by_old_results : Answers republished red_token (Deploy live (version shop three) None) (Done Plain)
-the_same_content_is_covered_by_old_results = (_, (Some (Team red), (red_is_no_office, refl), (None, refl, (true, [], judges republished (row_keys republished republished_rows) (version shop three) live, refl))), refl)
+Deploy-same_content : Answers republished red_token (Deploy live (version shop three) None) (Done Plain)
+Deploy-same_content = (_, (Some (Team red), (red_token-not_office, refl), (None, refl, (true, [], Judges-is_permitted republished (row_keys republished republished_rows) (version shop three) live, refl))), refl)
 
 -- two versions of the provider in two instances
 abbrev pub two_instances : State
@@ -69,14 +69,14 @@ two_instances = (deploy (deploy (put_version named_stock (version stock two) Non
 abbrev pub instance_rows : Rows
 instance_rows = record pact_rows { deployed = ((live, stock, codes "b"), two) ∷ ((live, stock, codes "a"), one) ∷ [] }
 
-each_standing_version_of_a_provider_counts : Answers two_instances red_token (Deploy live (version shop one) None) (NotPermitted (lacks one (Some one) Missing ∷ lacks one (Some two) Missing ∷ []))
-each_standing_version_of_a_provider_counts = (_, (Some (Team red), (red_is_no_office, refl), (None, refl, (false, lacks one (Some one) Missing ∷ lacks one (Some two) Missing ∷ [], judges two_instances (row_keys two_instances instance_rows) (version shop one) live, refl))), refl)
+Deploy-each_deployed_version : Answers two_instances red_token (Deploy live (version shop one) None) (NotPermitted (lacks one (Some one) Missing ∷ lacks one (Some two) Missing ∷ []))
+Deploy-each_deployed_version = (_, (Some (Team red), (red_token-not_office, refl), (None, refl, (false, lacks one (Some one) Missing ∷ lacks one (Some two) Missing ∷ [], Judges-is_permitted two_instances (row_keys two_instances instance_rows) (version shop one) live, refl))), refl)
 
 abbrev pub one_passed : State
 one_passed = claims two_instances one true
 
-one_good_version_of_a_provider_is_not_enough : Answers one_passed red_token (Deploy live (version shop one) None) (NotPermitted (lacks one (Some two) Missing ∷ []))
-one_good_version_of_a_provider_is_not_enough = (_, (Some (Team red), (red_is_no_office, refl), (None, refl, (false, lacks one (Some two) Missing ∷ [], judges one_passed (row_keys one_passed instance_rows) (version shop one) live, refl))), refl)
+Deploy-one_good_version_too_few : Answers one_passed red_token (Deploy live (version shop one) None) (NotPermitted (lacks one (Some two) Missing ∷ []))
+Deploy-one_good_version_too_few = (_, (Some (Team red), (red_token-not_office, refl), (None, refl, (false, lacks one (Some two) Missing ∷ [], Judges-is_permitted one_passed (row_keys one_passed instance_rows) (version shop one) live, refl))), refl)
 
 -- shop 1 is released and shop 2 deployed beside stock 1, which passes for both; stock 2 passes only for shop 2
 abbrev pub both_published : State
@@ -98,8 +98,8 @@ standing_rows = record {
   released = (live, version shop one) ∷ [];
 }
 
-a_consumer_that_stands_blocks_its_provider's_next_version : Answers next_version blue_token (Deploy live (version stock two) None) (NotPermitted (lacks one (Some two) Missing ∷ []))
-a_consumer_that_stands_blocks_its_provider's_next_version = (_, (Some (Team blue), (blue_is_no_office, refl), (None, refl, (false, lacks one (Some two) Missing ∷ [], judges next_version (row_keys next_version standing_rows) (version stock two) live, refl))), refl)
+Deploy-blocked_by_consumer : Answers next_version blue_token (Deploy live (version stock two) None) (NotPermitted (lacks one (Some two) Missing ∷ []))
+Deploy-blocked_by_consumer = (_, (Some (Team blue), (blue_token-not_office, refl), (None, refl, (false, lacks one (Some two) Missing ∷ [], Judges-is_permitted next_version (row_keys next_version standing_rows) (version stock two) live, refl))), refl)
 
 -- if an environment isn't gated, the faults are shown and nothing is refused
 abbrev pub dev : Text
@@ -111,8 +111,8 @@ ungated = record { gated = false; strict = false }
 abbrev pub with_dev : State
 with_dev = (put_grant (put_environment published dev ungated).state red dev).state
 
-an_environment_that_is_not_gated_shows_faults : Answers with_dev red_token (CanIDeploy (version shop one) dev) (Shown (shown.Gate dev ungated true (lacks one None Absent ∷ [])))
-an_environment_that_is_not_gated_shows_faults = (_, (Some (Team red), (red_is_no_office, refl), (None, refl, (ungated, refl, (true, lacks one None Absent ∷ [], judges with_dev (row_keys with_dev pact_rows) (version shop one) dev, refl)))), refl)
+CanIDeploy-ungated_shows_faults : Answers with_dev red_token (CanIDeploy (version shop one) dev) (Shown (shown.Gate dev ungated true (lacks one None Absent ∷ [])))
+CanIDeploy-ungated_shows_faults = (_, (Some (Team red), (red_token-not_office, refl), (None, refl, (ungated, refl, (true, lacks one None Absent ∷ [], Judges-is_permitted with_dev (row_keys with_dev pact_rows) (version shop one) dev, refl)))), refl)
 
-an_environment_that_is_not_gated_refuses_nothing : Answers with_dev red_token (Deploy dev (version shop one) None) (Done Plain)
-an_environment_that_is_not_gated_refuses_nothing = (_, (Some (Team red), (red_is_no_office, refl), (None, refl, (true, lacks one None Absent ∷ [], judges with_dev (row_keys with_dev pact_rows) (version shop one) dev, refl))), refl)
+Deploy-ungated_refuses_nothing : Answers with_dev red_token (Deploy dev (version shop one) None) (Done Plain)
+Deploy-ungated_refuses_nothing = (_, (Some (Team red), (red_token-not_office, refl), (None, refl, (true, lacks one None Absent ∷ [], Judges-is_permitted with_dev (row_keys with_dev pact_rows) (version shop one) dev, refl))), refl)

@@ -14,31 +14,31 @@ use Rattle.broker_core.specs.{declared.need.PairFault.{PairFault}, declared.answ
 use Rattle.broker_core.specs.{declared.answer.Missing.{Missing}, declared.policy.Rule.TheVariants.{A1, A7}}
 use Rattle.broker_core.specs.{Text.{Text, same_text, same_version, same_pair, same_place, put_at, version}, State.{State, latest, is_gated, is_strict}}
 use Rattle.broker_core.specs.{Policy.{allows}, Machine.{Primitives, IsCallerOfToken, FindsFault, Step, TakesEffect}, Laws.{TeamsDiffer}}
-use Rattle.broker_core.proofs.{Lists.{some_is, none_some, any_true}, Judgement.{text_is, text_refl, and_both, version_is, version_refl}, Once.{one_caller}}
-use Rattle.broker_core.proofs.{Ways.{After, Way, way_of}, Ways.Way.{nobody, misformed, refused as refused_way, acting}}
+use Rattle.broker_core.proofs.{Lists.{Some-injective, None-not_Some, list_any-of_member}, Judgement.{same_text-equal, same_text-refl, and_both, same_version-equal, same_version-refl}, Once.{IsCallerOfToken-unique}}
+use Rattle.broker_core.proofs.{Ways.{After, Way, Way-of_Step}, Ways.Way.{nobody, misformed, refused as refused_way, acting}}
 use Rattle.broker_core.proofs.Retry.{put_at-same, place-refl, mark-refl}
 use Rattle.broker_core.specs.declared.answer.Missing.TheVariants as missing
 
-text_found : (text : Text) (o : Option Text) → is_text text o ≡ true → o ≡ Some text
-text_found text None is = absurd (cc)
-text_found text (Some old) is = ap Some (text_is old text is)
+is_text-some : (text : Text) (o : Option Text) → is_text text o ≡ true → o ≡ Some text
+is_text-some text None is = absurd (cc)
+is_text-some text (Some old) is = ap Some (same_text-equal old text is)
 
 -- after a deployment that the gate permits the row is there
-deployed_stands : (s : State) (e : Text) (v : Version) (instance : Text)
+deploy-records : (s : State) (e : Text) (v : Version) (instance : Text)
     → ((deploy s e v instance).state.deployed (e, v.pacticipant, instance) ≡ Some v.name) × (((deploy s e v instance).answer ≡ Done Plain) ⊎ ((deploy s e v instance).answer ≡ Already Plain))
-deployed_stands s e v instance = by_old (is_text v.name (s.deployed (e, v.pacticipant, instance))) refl
+deploy-records s e v instance = by_old (is_text v.name (s.deployed (e, v.pacticipant, instance))) refl
   where
     by_old : (b : Bool) → is_text v.name (s.deployed (e, v.pacticipant, instance)) ≡ b
         → let next = record s { deployed = put_at same_place s.deployed (e, v.pacticipant, instance) (Some v.name) } in
         let out = if b then already s else done next in
         (out.state.deployed (e, v.pacticipant, instance) ≡ Some v.name) × ((out.answer ≡ Done Plain) ⊎ (out.answer ≡ Already Plain))
-    by_old true is = (text_found v.name _ is, inr refl)
+    by_old true is = (is_text-some v.name _ is, inr refl)
     by_old false is = (put_at-same same_place s.deployed (e, v.pacticipant, instance) (Some v.name) (place-refl (e, v.pacticipant, instance)), inl refl)
 
 -- after a release that the gate permits the row is there
-released_stands : (s : State) (e : Text) (v : Version)
+release-records : (s : State) (e : Text) (v : Version)
     → ((release s e v).state.released (e, v) ≡ true) × (((release s e v).answer ≡ Done Plain) ⊎ ((release s e v).answer ≡ Already Plain))
-released_stands s e v = by_old (s.released (e, v)) refl
+release-records s e v = by_old (s.released (e, v)) refl
   where
     by_old : (b : Bool) → s.released (e, v) ≡ b
         → let next = record s { released = put_at (same_pair same_text same_version) s.released (e, v) true } in
@@ -53,9 +53,9 @@ says_recorded (Done detail) = true
 says_recorded (Already detail) = true
 says_recorded _ = false
 
-differs : (answer : Answer) → says_recorded answer ≡ false → ¬ ((answer ≡ Done Plain) ⊎ (answer ≡ Already Plain))
-differs answer other (inl is) = let wrong : false ≡ true = sym other ∙ ap says_recorded is in cc
-differs answer other (inr is) = let wrong : false ≡ true = sym other ∙ ap says_recorded is in cc
+says_recorded-differs : (answer : Answer) → says_recorded answer ≡ false → ¬ ((answer ≡ Done Plain) ⊎ (answer ≡ Already Plain))
+says_recorded-differs answer other (inl is) = let wrong : false ≡ true = sym other ∙ ap says_recorded is in cc
+says_recorded-differs answer other (inr is) = let wrong : false ≡ true = sym other ∙ ap says_recorded is in cc
 
 -- what the owner's rule asks of the caller
 owns : State → Text → Version → Caller → Bool
@@ -68,19 +68,19 @@ module _ (parts : Primitives) (s : State) (token : Option Text) (e : Text) (v : 
       (MayBeRecorded parts s token e v × ((out.answer ≡ Done Plain) ⊎ (out.answer ≡ Already Plain)) × IsRecorded out.state)
       ⊎ ((answer : Answer) × (out ≡ unchanged_with s answer) × IsRefusal parts s token e v answer × (¬ (MayBeRecorded parts s token e v)) × ¬ ((answer ≡ Done Plain) ⊎ (answer ≡ Already Plain)))
 
-  exactly : (IsRecorded : State → Type 0) (out : Transition) → Ends IsRecorded out → IsRecordedExactly parts s token e v IsRecorded out
+  IsRecordedExactly-of_Ends : (IsRecorded : State → Type 0) (out : Transition) → Ends IsRecorded out → IsRecordedExactly parts s token e v IsRecorded out
   unfolding Ends
-  exactly IsRecorded out (inl may) = record { recorded = (λ _. may.0, λ _. (may.1, may.2)); refused = λ bars. absurd (bars may.0) }
-  exactly IsRecorded out (inr told) = record {
+  IsRecordedExactly-of_Ends IsRecorded out (inl may) = record { recorded = (λ _. may.0, λ _. (may.1, may.2)); refused = λ bars. absurd (bars may.0) }
+  IsRecordedExactly-of_Ends IsRecorded out (inr told) = record {
     recorded = (λ h. absurd (told.4 (subst (λ (o : Transition). (o.answer ≡ Done Plain) ⊎ (o.answer ≡ Already Plain)) told.1 h.0)), λ may. absurd (told.3 may));
     refused = λ _. (subst (IsRefusal parts s token e v) (sym (ap (λ o. o.answer) told.1)) told.2, ap (λ o. o.state) told.1);
   }
 
   -- a caller that the owner's rule permits is granted
-  granted_of : (caller : Caller) → IsCallerOfToken parts s token (Some caller) → owns s e v caller ≡ true → IsGranted parts s token e v
+  IsGranted-of_owns : (caller : Caller) → IsCallerOfToken parts s token (Some caller) → owns s e v caller ≡ true → IsGranted parts s token e v
   unfolding owns
-  granted_of Office called h = absurd (cc)
-  granted_of (Team team) called h = by_owner (s.pacticipants v.pacticipant) refl (and_both (list_any (same_text team) (filter_map s.pacticipants (v.pacticipant ∷ []))) (s.grants (team, e)) h)
+  IsGranted-of_owns Office called h = absurd (cc)
+  IsGranted-of_owns (Team team) called h = by_owner (s.pacticipants v.pacticipant) refl (and_both (list_any (same_text team) (filter_map s.pacticipants (v.pacticipant ∷ []))) (s.grants (team, e)) h)
     where
       or_first : (b : Bool) → (b || false) ≡ true → b ≡ true
       or_first true k = refl
@@ -90,46 +90,46 @@ module _ (parts : Primitives) (s : State) (token : Option Text) (e : Text) (v : 
       by_owner None is both = let wrong : false ≡ true = ap (λ o. list_any (same_text team) (cons_option o [])) (sym is) ∙ both.0 in absurd (cc)
       by_owner (Some owner) is both =
           let same = or_first (same_text team owner) (ap (λ o. list_any (same_text team) (cons_option o [])) (sym is) ∙ both.0) in
-          record { team = team; caller = called; owner = is ∙ ap Some (sym (text_is team owner same)); grant = both.1 }
+          record { team = team; caller = called; owner = is ∙ ap Some (sym (same_text-equal team owner same)); grant = both.1 }
 
   -- and a granted caller is permitted by it
-  lets_granted : (caller : Caller) → IsCallerOfToken parts s token (Some caller) → IsGranted parts s token e v → owns s e v caller ≡ true
+  owns-of_IsGranted : (caller : Caller) → IsCallerOfToken parts s token (Some caller) → IsGranted parts s token e v → owns s e v caller ≡ true
   unfolding owns
-  lets_granted caller called g =
-      let is = some_is caller (Team g.team) (one_caller parts s token one (Some caller) (Some (Team g.team)) called g.caller) in
+  owns-of_IsGranted caller called g =
+      let is = Some-injective caller (Team g.team) (IsCallerOfToken-unique parts s token one (Some caller) (Some (Team g.team)) called g.caller) in
       ap (owns s e v) is
       ∙ ap (λ o. list_any (same_text g.team) (cons_option o []) && s.grants (g.team, e)) g.owner
-      ∙ ap (λ b. (b || false) && s.grants (g.team, e)) (text_refl g.team) ∙ g.grant
+      ∙ ap (λ b. (b || false) && s.grants (g.team, e)) (same_text-refl g.team) ∙ g.grant
 
-  refuses : (IsRecorded : State → Type 0) (out : Transition) (answer : Answer) → out ≡ unchanged_with s answer → IsRefusal parts s token e v answer → ¬ (MayBeRecorded parts s token e v)
+  Ends-refused : (IsRecorded : State → Type 0) (out : Transition) (answer : Answer) → out ≡ unchanged_with s answer → IsRefusal parts s token e v answer → ¬ (MayBeRecorded parts s token e v)
       → ¬ ((answer ≡ Done Plain) ⊎ (answer ≡ Already Plain)) → Ends IsRecorded out
   unfolding Ends
-  refuses IsRecorded out answer is case bars other = inr (answer, is, case, bars, other)
+  Ends-refused IsRecorded out answer is case bars other = inr (answer, is, case, bars, other)
 
   -- what the gate makes of one who is granted
-  judged : (IsRecorded : State → Type 0) (next out : Transition) → IsRecorded next.state → (next.answer ≡ Done Plain) ⊎ (next.answer ≡ Already Plain)
+  Ends-judged : (IsRecorded : State → Type 0) (next out : Transition) → IsRecorded next.state → (next.answer ≡ Done Plain) ⊎ (next.answer ≡ Already Plain)
       → NamesExist s e v → IsGranted parts s token e v
       → (permitted : Bool) (faults : List PairFault) → Judges s v e permitted faults → out ≡ (if permitted then next else unchanged_with s (NotPermitted faults))
       → Ends IsRecorded out
   unfolding Ends
-  judged IsRecorded next out stands answered names granted true faults judges is =
+  Ends-judged IsRecorded next out stands answered names granted true faults judges is =
       inl (
         record { names = names; granted = granted; permitted = judges.verdict.0 refl },
         subst (λ (o : Transition). (o.answer ≡ Done Plain) ⊎ (o.answer ≡ Already Plain)) (sym is) answered,
         subst (λ (o : Transition). IsRecorded o.state) (sym is) stands,
       )
-  judged IsRecorded next out stands answered names granted false faults judges is =
+  Ends-judged IsRecorded next out stands answered names granted false faults judges is =
       let bars : ¬ (IsPermitted s v e) = λ allowed. let wrong : false ≡ true = judges.verdict.1 allowed in absurd (cc) in
-      refuses IsRecorded out (NotPermitted faults) is (names, granted, bars, judges.faults_are) (λ may. bars may.permitted) (differs _ refl)
+      Ends-refused IsRecorded out (NotPermitted faults) is (names, granted, bars, judges.faults_are) (λ may. bars may.permitted) (says_recorded-differs _ refl)
 
   -- the first name that isn't there
   abbrev absent : Option Missing
   absent = unless (is_some (s.environments e)) missing.Environment (unless (is_some (s.pacticipants v.pacticipant)) missing.Pacticipant (unless (is_known s v) missing.Version None))
 
   -- a known caller's command, name by name, then the policy, then what the gate makes of it
-  by_caller : (IsRecorded : State → Type 0) (out : Transition) (c : Command) → (asks c).rule ≡ A7 → (caller : Caller) → IsCallerOfToken parts s token (Some caller)
+  Ends-by_caller : (IsRecorded : State → Type 0) (out : Transition) (c : Command) → (asks c).rule ≡ A7 → (caller : Caller) → IsCallerOfToken parts s token (Some caller)
       → (NamesExist s e v → IsGranted parts s token e v → TakesEffect parts s c out → Ends IsRecorded out) → After parts s c out (refused c absent (owns s e v caller)) → Ends IsRecorded out
-  by_caller IsRecorded out c rule caller called acts h = by_names (is_some (s.environments e)) (is_some (s.pacticipants v.pacticipant)) (is_known s v) (owns s e v caller) refl refl refl refl h
+  Ends-by_caller IsRecorded out c rule caller called acts h = by_names (is_some (s.environments e)) (is_some (s.pacticipants v.pacticipant)) (is_known s v) (owns s e v caller) refl refl refl refl h
     where
       known : HasCaller parts s token e v
       known = (caller, called)
@@ -141,59 +141,59 @@ module _ (parts : Primitives) (s : State) (token : Option Text) (e : Text) (v : 
           → After parts s c out (refused c (unless env missing.Environment (unless pac missing.Pacticipant (unless ver missing.Version None))) own)
           → Ends IsRecorded out
       by_names false pac ver own a b k d is =
-          refuses IsRecorded out (Unknown missing.Environment) is (known, a) (λ may. clash _ a may.names.environment) (differs _ refl)
+          Ends-refused IsRecorded out (Unknown missing.Environment) is (known, a) (λ may. clash _ a may.names.environment) (says_recorded-differs _ refl)
       by_names true false ver own a b k d is =
-          refuses IsRecorded out (Unknown missing.Pacticipant) is (known, (a, b)) (λ may. clash _ b may.names.pacticipant) (differs _ refl)
+          Ends-refused IsRecorded out (Unknown missing.Pacticipant) is (known, (a, b)) (λ may. clash _ b may.names.pacticipant) (says_recorded-differs _ refl)
       by_names true true false own a b k d is =
-          let bars : ¬ (Contains s.versions v) = λ there. clash _ k (any_true (same_version v) s.versions v there (version_refl v)) in
-          refuses IsRecorded out (Unknown missing.Version) is (known, (a, b, bars)) (λ may. bars may.names.version) (differs _ refl)
+          let bars : ¬ (Contains s.versions v) = λ there. clash _ k (list_any-of_member (same_version v) s.versions v there (same_version-refl v)) in
+          Ends-refused IsRecorded out (Unknown missing.Version) is (known, (a, b, bars)) (λ may. bars may.names.version) (says_recorded-differs _ refl)
       by_names true true true own a b k d is =
-          let names : NamesExist s e v = record { environment = a; pacticipant = b; version = Contains-from_any version_is v s.versions k } in
+          let names : NamesExist s e v = record { environment = a; pacticipant = b; version = Contains-from_any same_version-equal v s.versions k } in
           by_owner own d names is
         where
           by_owner : (own : Bool) → owns s e v caller ≡ own → NamesExist s e v → After parts s c out (refused c None own) → Ends IsRecorded out
-          by_owner true d names is = acts names (granted_of caller called d) is
+          by_owner true d names is = acts names (IsGranted-of_owns caller called d) is
           by_owner false d names is =
-              let bars : ¬ (IsGranted parts s token e v) = λ g. clash _ d (lets_granted caller called g) in
-              refuses IsRecorded out (Denied A7) (is ∙ ap (λ r. unchanged_with s (Denied r)) rule) (known, names, bars) (λ may. bars may.granted) (differs _ refl)
+              let bars : ¬ (IsGranted parts s token e v) = λ g. clash _ d (owns-of_IsGranted caller called g) in
+              Ends-refused IsRecorded out (Denied A7) (is ∙ ap (λ r. unchanged_with s (Denied r)) rule) (known, names, bars) (λ may. bars may.granted) (says_recorded-differs _ refl)
 
   -- the whole step
-  by_step : (IsRecorded : State → Type 0) (out : Transition) (c : Command) → (asks c).rule ≡ A7 → ((f : Option FormFault) → FindsFault parts c f → f ≡ None)
+  Ends-by_step : (IsRecorded : State → Type 0) (out : Transition) (c : Command) → (asks c).rule ≡ A7 → ((f : Option FormFault) → FindsFault parts c f → f ≡ None)
       → ((caller : Caller) → refusal s caller c ≡ refused c absent (owns s e v caller))
       → (NamesExist s e v → IsGranted parts s token e v → TakesEffect parts s c out → Ends IsRecorded out)
       → Step parts s token c out → Ends IsRecorded out
-  by_step IsRecorded out c rule formed asked acts step = by_way out (way_of parts s token c out step) acts
+  Ends-by_step IsRecorded out c rule formed asked acts step = by_way out (Way-of_Step parts s token c out step) acts
     where
       as_asked : (caller : Caller) (r : Option Answer) (o : Transition) → refusal s caller c ≡ r → After parts s c o r → After parts s c o (refused c absent (owns s e v caller))
       as_asked caller r o is = subst (After parts s c o) (sym is ∙ asked caller)
 
       no_one : IsCallerOfToken parts s token None → ¬ (MayBeRecorded parts s token e v)
-      no_one called may = let wrong = one_caller parts s token one None (Some (Team may.granted.team)) called may.granted.caller in cc
+      no_one called may = let wrong = IsCallerOfToken-unique parts s token one None (Some (Team may.granted.team)) called may.granted.caller in cc
 
       by_way : (o : Transition) → Way parts s token c o → (NamesExist s e v → IsGranted parts s token e v → TakesEffect parts s c o → Ends IsRecorded o) → Ends IsRecorded o
-      by_way _ (nobody called) acts = refuses IsRecorded _ (Denied A1) refl called (no_one called) (differs _ refl)
-      by_way _ (misformed caller called f form) acts = absurd (none_some f (sym (formed (Some f) form)))
-      by_way _ (refused_way caller called form answer is) acts = by_caller IsRecorded _ c rule caller called acts (as_asked caller (Some answer) _ is refl)
-      by_way _ (acting caller called form o is it) acts = by_caller IsRecorded o c rule caller called acts (as_asked caller None o is it)
+      by_way _ (nobody called) acts = Ends-refused IsRecorded _ (Denied A1) refl called (no_one called) (says_recorded-differs _ refl)
+      by_way _ (misformed caller called f form) acts = absurd (None-not_Some f (sym (formed (Some f) form)))
+      by_way _ (refused_way caller called form answer is) acts = Ends-by_caller IsRecorded _ c rule caller called acts (as_asked caller (Some answer) _ is refl)
+      by_way _ (acting caller called form o is it) acts = Ends-by_caller IsRecorded o c rule caller called acts (as_asked caller None o is it)
 
-pub deploys_exactly : (parts : Primitives) → DeploysExactly parts
+pub DeploysExactly-holds : (parts : Primitives) → DeploysExactly parts
 unfolding owns
-deploys_exactly parts s token e v instance out one step =
+DeploysExactly-holds parts s token e v instance out one step =
     let IsRecorded : State → Type 0 = λ t. t.deployed (e, v.pacticipant, instance_of instance) ≡ Some v.name in
-    let stands = deployed_stands s e v (instance_of instance) in
-    exactly parts s token e v one IsRecorded out
-    (by_step parts s token e v one IsRecorded out (Deploy e v instance) refl (λ f is. is) (λ caller. refl)
-    (λ names granted acts. judged parts s token e v one IsRecorded (deploy s e v (instance_of instance)) out stands.0 stands.1 names granted acts.0 acts.1 acts.2 acts.3)
+    let stands = deploy-records s e v (instance_of instance) in
+    IsRecordedExactly-of_Ends parts s token e v one IsRecorded out
+    (Ends-by_step parts s token e v one IsRecorded out (Deploy e v instance) refl (λ f is. is) (λ caller. refl)
+    (λ names granted acts. Ends-judged parts s token e v one IsRecorded (deploy s e v (instance_of instance)) out stands.0 stands.1 names granted acts.0 acts.1 acts.2 acts.3)
     step)
 
-pub releases_exactly : (parts : Primitives) → ReleasesExactly parts
+pub ReleasesExactly-holds : (parts : Primitives) → ReleasesExactly parts
 unfolding owns
-releases_exactly parts s token e v out one step =
+ReleasesExactly-holds parts s token e v out one step =
     let IsRecorded : State → Type 0 = λ t. IsTrue (t.released (e, v)) in
-    let stands = released_stands s e v in
-    exactly parts s token e v one IsRecorded out
-    (by_step parts s token e v one IsRecorded out (Release e v) refl (λ f is. is) (λ caller. refl)
-    (λ names granted acts. judged parts s token e v one IsRecorded (release s e v) out stands.0 stands.1 names granted acts.0 acts.1 acts.2 acts.3)
+    let stands = release-records s e v in
+    IsRecordedExactly-of_Ends parts s token e v one IsRecorded out
+    (Ends-by_step parts s token e v one IsRecorded out (Release e v) refl (λ f is. is) (λ caller. refl)
+    (λ names granted acts. Ends-judged parts s token e v one IsRecorded (release s e v) out stands.0 stands.1 names granted acts.0 acts.1 acts.2 acts.3)
     step)
 
 -- ---- what is permitted in a gated environment
@@ -202,10 +202,10 @@ module _ (s : State) (v : Version) (e : Text) where
   need_of : Version → Text → Option Text → Option Latest → Need
   need_of consumer provider name latest = record { consumer = consumer.pacticipant; consumer_version = consumer.name; provider = provider; provider_version = name; latest = latest }
 
-  -- a verified pair is a good need
-  verified : ((need : Need) → IsNeed s v e need → IsGood (is_strict s e) need) → AreVerified s v e
+  -- a AreVerified-of_good_needs pair is a good need
+  AreVerified-of_good_needs : ((need : Need) → IsNeed s v e need → IsGood (is_strict s e) need) → AreVerified s v e
   unfolding need_of
-  verified good consumer provider content between =
+  AreVerified-of_good_needs good consumer provider content between =
       (good (need_of consumer provider.pacticipant (Some provider.name) (latest s content provider))
       (record { content = content; contract = between.contract; between = sides between.partner; result = refl })).1
     where
@@ -215,14 +215,14 @@ module _ (s : State) (v : Version) (e : Text) where
       sides (inl h) = inl (h.0, h.1)
       sides (inr h) = inr (inr (h.2, h.1, ap (λ (w : Version). w.pacticipant) h.0, ap (λ (w : Version). Some w.name) h.0))
 
-  present : ((need : Need) → IsNeed s v e need → IsGood (is_strict s e) need) → NoneIsAbsent s v e
+  NoneIsAbsent-of_good_needs : ((need : Need) → IsNeed s v e need → IsGood (is_strict s e) need) → NoneIsAbsent s v e
   unfolding need_of
-  present good provider content contract absent =
+  NoneIsAbsent-of_good_needs good provider content contract absent =
       let is = (good (need_of v provider None None) (record { content = content; contract = contract; between = inr (inl (refl, refl, absent)); result = refl })).0 in
       let wrong : false ≡ true = is in cc
 
-  all_good : AreVerified s v e × NoneIsAbsent s v e → (need : Need) → IsNeed s v e need → IsGood (is_strict s e) need
-  all_good both need is = by_side is.between
+  IsGood-of_verified : AreVerified s v e × NoneIsAbsent s v e → (need : Need) → IsNeed s v e need → IsGood (is_strict s e) need
+  IsGood-of_verified both need is = by_side is.between
     where
       at : (name : Text) → need.provider_version ≡ Some name → IsVerified s e (version need.provider name) is.content → IsGood (is_strict s e) need
       at name e' good = (
@@ -241,13 +241,13 @@ module _ (s : State) (v : Version) (e : Text) where
       by_side (inr (inr h)) =
           at v.name h.3 (both.0 (consumer_of need) (version need.provider v.name) is.content (record { contract = is.contract; partner = inr (ap (λ p. version p v.name) h.2, h.1, h.0) }))
 
-pub permits_verified : PermitsVerified
-permits_verified s v e = (forth, back (is_gated s e) refl)
+pub PermitsVerified-holds : PermitsVerified
+PermitsVerified-holds s v e = (forth, back (is_gated s e) refl)
   where
     forth : IsPermitted s v e → IsTrue (is_gated s e) → AreVerified s v e × NoneIsAbsent s v e
-    forth (inl good) gated = (verified s v e good, present s v e good)
+    forth (inl good) gated = (AreVerified-of_good_needs s v e good, NoneIsAbsent-of_good_needs s v e good)
     forth (inr ungated) gated = let wrong : false ≡ true = sym ungated ∙ gated in absurd (cc)
 
     back : (gated : Bool) → is_gated s e ≡ gated → (IsTrue (is_gated s e) → AreVerified s v e × NoneIsAbsent s v e) → IsPermitted s v e
-    back true gated h = inl (all_good s v e (h gated))
+    back true gated h = inl (IsGood-of_verified s v e (h gated))
     back false ungated h = inr ungated

@@ -3,41 +3,41 @@ use Rattle.std.{specs.Prelude.{codes, Option, Some, None, ◌∷◌, []}, proofs
 use Rattle.broker_core.specs.{declared.policy.Caller.TheVariants.{Team}, declared.command.Command.TheVariants.{Undeploy, EndSupport, GetEnvironment, GetMatrix}}
 use Rattle.broker_core.specs.{declared.answer.Answer.TheVariants.{Done, Shown, Unknown}, declared.answer.Detail.TheVariants.{Plain}}
 use Rattle.broker_core.{specs.{declared.answer.Verified.{Verified}, Text.{Text, version}, Change.{end_support}}, proofs.Judgement.{Rows, row_keys}}
-use Rattle.broker_core.proofs.{Listings.{deployed_listed, released_listed}, Matrix.{row, matrix_listed}}
-use Rattle.broker_core.proofs.Fixture.{blue_is_no_office, red_is_no_office, shop, stock, Answers, red_token, blue_token, red, blue, live, one, two, gated, published, pact_rows}
+use Rattle.broker_core.proofs.{Listings.{deployed_items-listed, released_items-listed}, Matrix.{row, matrix_rows-listed}}
+use Rattle.broker_core.proofs.Fixture.{blue_token-not_office, red_token-not_office, shop, stock, Answers, red_token, blue_token, red, blue, live, one, two, gated, published, pact_rows}
 use Rattle.broker_core.proofs.GateExamples.{both_standing, standing_rows, two_instances, instance_rows, passed_again, stock_rows, both_passed}
 use Rattle.broker_core.specs.declared.answer.Shown.TheVariants as shown
 use Rattle.broker_core.specs.declared.answer.Missing.TheVariants as missing
 
-an_environment_lists_what_stands : Answers both_standing blue_token (GetEnvironment live) (Shown (shown.Environment live gated
+GetEnvironment-lists_all : Answers both_standing blue_token (GetEnvironment live) (Shown (shown.Environment live gated
     (record { pacticipant = shop; instance = []; version = two } ∷ record { pacticipant = stock; instance = []; version = one } ∷ []) (version shop one ∷ [])))
-an_environment_lists_what_stands = (_, (Some (Team blue), (blue_is_no_office, refl), (None, refl, (gated, refl, (_, deployed_listed both_standing (row_keys both_standing standing_rows) live, (_, released_listed both_standing (row_keys both_standing standing_rows) live, refl))))), refl)
+GetEnvironment-lists_all = (_, (Some (Team blue), (blue_token-not_office, refl), (None, refl, (gated, refl, (_, deployed_items-listed both_standing (row_keys both_standing standing_rows) live, (_, released_items-listed both_standing (row_keys both_standing standing_rows) live, refl))))), refl)
 
-instances_are_listed_in_order : Answers two_instances red_token (GetEnvironment live) (Shown (shown.Environment live gated
+GetEnvironment-instances_in_order : Answers two_instances red_token (GetEnvironment live) (Shown (shown.Environment live gated
     (record { pacticipant = stock; instance = codes "a"; version = one } ∷ record { pacticipant = stock; instance = codes "b"; version = two } ∷ []) []))
-instances_are_listed_in_order = (_, (Some (Team red), (red_is_no_office, refl), (None, refl, (gated, refl, (_, deployed_listed two_instances (row_keys two_instances instance_rows) live, (_, released_listed two_instances (row_keys two_instances instance_rows) live, refl))))), refl)
+GetEnvironment-instances_in_order = (_, (Some (Team red), (red_token-not_office, refl), (None, refl, (gated, refl, (_, deployed_items-listed two_instances (row_keys two_instances instance_rows) live, (_, released_items-listed two_instances (row_keys two_instances instance_rows) live, refl))))), refl)
 
-a_version_is_taken_out_of_its_own_instance_alone : Answers two_instances blue_token (Undeploy live (version stock two) (Some (codes "a"))) (Unknown missing.Deployed)
-a_version_is_taken_out_of_its_own_instance_alone = (_, (Some (Team blue), (blue_is_no_office, refl), (None, refl, refl)), refl)
+Undeploy-other_instance : Answers two_instances blue_token (Undeploy live (version stock two) (Some (codes "a"))) (Unknown missing.Deployed)
+Undeploy-other_instance = (_, (Some (Team blue), (blue_token-not_office, refl), (None, refl, refl)), refl)
 
-a_deployed_version_is_taken_out : Answers two_instances blue_token (Undeploy live (version stock two) (Some (codes "b"))) (Done Plain)
-a_deployed_version_is_taken_out = (_, (Some (Team blue), (blue_is_no_office, refl), (None, refl, refl)), refl)
+Undeploy-deployed : Answers two_instances blue_token (Undeploy live (version stock two) (Some (codes "b"))) (Done Plain)
+Undeploy-deployed = (_, (Some (Team blue), (blue_token-not_office, refl), (None, refl, refl)), refl)
 
-the_support_of_a_release_ends_once : Answers (end_support both_standing live (version shop one)).state red_token (EndSupport live (version shop one)) (Unknown missing.Released)
-the_support_of_a_release_ends_once = (_, (Some (Team red), (red_is_no_office, refl), (None, refl, refl)), refl)
+EndSupport-ends_once : Answers (end_support both_standing live (version shop one)).state red_token (EndSupport live (version shop one)) (Unknown missing.Released)
+EndSupport-ends_once = (_, (Some (Team red), (red_token-not_office, refl), (None, refl, refl)), refl)
 
 abbrev pub verified_as : Text → ℕ → Bool → Option Verified
 verified_as provider_version number pass = Some (record { provider_version = provider_version; result = number; latest = record { pass = pass; checked = false } })
 
-the_matrix_shows_a_contract_without_results : Answers published red_token (GetMatrix (version shop one)) (Shown (shown.Matrix (row (version shop one) stock None ∷ [])))
-the_matrix_shows_a_contract_without_results = (_, (Some (Team red), (red_is_no_office, refl), (None, refl, (_, matrix_listed published (row_keys published pact_rows) (version shop one), refl))), refl)
+GetMatrix-without_results : Answers published red_token (GetMatrix (version shop one)) (Shown (shown.Matrix (row (version shop one) stock None ∷ [])))
+GetMatrix-without_results = (_, (Some (Team red), (red_token-not_office, refl), (None, refl, (_, matrix_rows-listed published (row_keys published pact_rows) (version shop one), refl))), refl)
 
-the_matrix_shows_the_latest_result : Answers passed_again red_token (GetMatrix (version shop one)) (Shown (shown.Matrix (row (version shop one) stock (verified_as one 3 true) ∷ [])))
-the_matrix_shows_the_latest_result = (_, (Some (Team red), (red_is_no_office, refl), (None, refl, (_, matrix_listed passed_again (row_keys passed_again stock_rows) (version shop one), refl))), refl)
+GetMatrix-latest_result : Answers passed_again red_token (GetMatrix (version shop one)) (Shown (shown.Matrix (row (version shop one) stock (verified_as one 3 true) ∷ [])))
+GetMatrix-latest_result = (_, (Some (Team red), (red_token-not_office, refl), (None, refl, (_, matrix_rows-listed passed_again (row_keys passed_again stock_rows) (version shop one), refl))), refl)
 
 abbrev pub both_contracts : Rows
 both_contracts = record standing_rows { deployed = []; released = [] }
 
-the_matrix_of_a_provider_shows_its_consumers : Answers both_passed blue_token (GetMatrix (version stock one))
+GetMatrix-of_provider : Answers both_passed blue_token (GetMatrix (version stock one))
     (Shown (shown.Matrix (row (version shop one) stock (verified_as one 1 true) ∷ row (version shop two) stock (verified_as one 2 true) ∷ [])))
-the_matrix_of_a_provider_shows_its_consumers = (_, (Some (Team blue), (blue_is_no_office, refl), (None, refl, (_, matrix_listed both_passed (row_keys both_passed both_contracts) (version stock one), refl))), refl)
+GetMatrix-of_provider = (_, (Some (Team blue), (blue_token-not_office, refl), (None, refl, (_, matrix_rows-listed both_passed (row_keys both_passed both_contracts) (version stock one), refl))), refl)

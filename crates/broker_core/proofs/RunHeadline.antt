@@ -3,14 +3,14 @@ use Rattle.std.proofs.Common.{◌++◌, List, [], ◌∷◌, refl, ap}
 use Rattle.broker_core.specs.{declared.command.Command.TheVariants.{Deploy, Release}, declared.answer.Answer.{Answer}, State.{State}, Change.{Transition}}
 use Rattle.broker_core.specs.{Machine.{Primitives, Request, Step, Run}, Laws.{TeamsDiffer}}
 use Rattle.broker_core.specs.RunHeadline.{IsTaken, RunsDeployExactly, RunsReleaseExactly, TeamsStayApart, TeamsBeginApart}
-use Rattle.broker_core.proofs.{Callers.{teams_differ_step, teams_differ_opening, teams_differ_run}, Headline.{deploys_exactly, releases_exactly}}
+use Rattle.broker_core.proofs.{Callers.{TeamsDiffer-after_step, TeamsDiffer-opening, TeamsDiffer-after_run}, Headline.{DeploysExactly-holds, ReleasesExactly-holds}}
 
 module _ (parts : Primitives) (r : Request) (IsExactly : State → Transition → Type 0)
     (each : (s : State) (out : Transition) → TeamsDiffer s → Step parts s r.token r.command out → IsExactly s out) where
-  taken : (first last : State) (before after : List Request) (answers : List Answer) → TeamsDiffer first
+  IsTaken-of_run : (first last : State) (before after : List Request) (answers : List Answer) → TeamsDiffer first
       → Run parts first (before ++ r ∷ after) answers last → IsTaken parts IsExactly first before after answers last
-  taken first last [] after [] one run = absurd run
-  taken first last [] after (a ∷ answers) one run = record {
+  IsTaken-of_run first last [] after [] one run = absurd run
+  IsTaken-of_run first last [] after (a ∷ answers) one run = record {
     earlier = [];
     found = first;
     reached = refl;
@@ -21,9 +21,9 @@ module _ (parts : Primitives) (r : Request) (IsExactly : State → Transition �
     goes_on = run.2;
     in_order = refl;
   }
-  taken first last (b ∷ before) after [] one run = absurd run
-  taken first last (b ∷ before) after (a ∷ answers) one run =
-      let rest = taken run.0 last before after answers (teams_differ_step parts first b.token b.command _ run.1 one) run.2 in
+  IsTaken-of_run first last (b ∷ before) after [] one run = absurd run
+  IsTaken-of_run first last (b ∷ before) after (a ∷ answers) one run =
+      let rest = IsTaken-of_run run.0 last before after answers (TeamsDiffer-after_step parts first b.token b.command _ run.1 one) run.2 in
       record {
         earlier = a ∷ rest.earlier;
         found = rest.found;
@@ -36,16 +36,16 @@ module _ (parts : Primitives) (r : Request) (IsExactly : State → Transition �
         in_order = ap (λ (xs : List Answer). a ∷ xs) rest.in_order;
       }
 
-pub runs_deploy_exactly : (parts : Primitives) → RunsDeployExactly parts
-runs_deploy_exactly parts first last before after answers token e v instance =
-    taken parts (record { token = token; command = Deploy e v instance }) _ (λ s out. deploys_exactly parts s token e v instance out) first last before after answers
+pub RunsDeployExactly-holds : (parts : Primitives) → RunsDeployExactly parts
+RunsDeployExactly-holds parts first last before after answers token e v instance =
+    IsTaken-of_run parts (record { token = token; command = Deploy e v instance }) _ (λ s out. DeploysExactly-holds parts s token e v instance out) first last before after answers
 
-pub runs_release_exactly : (parts : Primitives) → RunsReleaseExactly parts
-runs_release_exactly parts first last before after answers token e v =
-    taken parts (record { token = token; command = Release e v }) _ (λ s out. releases_exactly parts s token e v out) first last before after answers
+pub RunsReleaseExactly-holds : (parts : Primitives) → RunsReleaseExactly parts
+RunsReleaseExactly-holds parts first last before after answers token e v =
+    IsTaken-of_run parts (record { token = token; command = Release e v }) _ (λ s out. ReleasesExactly-holds parts s token e v out) first last before after answers
 
-pub teams_stay_apart : (parts : Primitives) → TeamsStayApart parts
-teams_stay_apart parts first last requests answers one run = teams_differ_run parts first last requests answers run one
+pub TeamsStayApart-holds : (parts : Primitives) → TeamsStayApart parts
+TeamsStayApart-holds parts first last requests answers one run = TeamsDiffer-after_run parts first last requests answers run one
 
-pub teams_begin_apart : TeamsBeginApart
-teams_begin_apart = teams_differ_opening
+pub TeamsBeginApart-holds : TeamsBeginApart
+TeamsBeginApart-holds = TeamsDiffer-opening

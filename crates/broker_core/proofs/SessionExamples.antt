@@ -5,7 +5,7 @@ use Rattle.broker_core.specs.{declared.answer.Answer.{Answer}, declared.answer.A
 use Rattle.broker_core.specs.{declared.answer.Detail.TheVariants.{Plain, Content}, Text.{version}, State.{State}, Change.{put_version}}
 use Rattle.broker_core.specs.{Machine.{Request, Run, Step}, Machine.Reading.{IsPact}, Laws.{Exit, LeavesSessions, ComeAgain, sessions_of, all_answered}}
 use Rattle.broker_core.specs.Laws.Exit.{Stepped, WasCut}
-use Rattle.broker_core.proofs.Fixture.{red_is_no_office, simple_parts, shop, stock, red_token, red, one, two, first_file, path_of, fixture, published}
+use Rattle.broker_core.proofs.Fixture.{red_token-not_office, simple_parts, shop, stock, red_token, red, one, two, first_file, path_of, fixture, published}
 
 -- red publishes the pact of shop 1, and then names shop 2
 abbrev pub publishes : Request
@@ -21,28 +21,28 @@ named_too = (put_version published (version shop two) None).state
 abbrev pub asked_again : Answer → List (List (Request × Exit))
 asked_again answer = ((publishes, Stepped (Done (Content 1))) ∷ (names, WasCut) ∷ []) ∷ ((names, Stepped answer) ∷ []) ∷ []
 
-published_first : Step simple_parts fixture publishes.token publishes.command (record { answer = Done (Content 1); state = published })
-published_first = (Some (Team red), (red_is_no_office, refl), (None, (IsPact shop stock first_file, refl, refl), (first_file, refl, refl)))
+Step-published_first : Step simple_parts fixture publishes.token publishes.command (record { answer = Done (Content 1); state = published })
+Step-published_first = (Some (Team red), (red_token-not_office, refl), (None, (IsPact shop stock first_file, refl, refl), (first_file, refl, refl)))
 
-named_then : Step simple_parts published names.token names.command (record { answer = Done Plain; state = named_too })
-named_then = (Some (Team red), (red_is_no_office, refl), (None, refl, refl))
+Step-named_then : Step simple_parts published names.token names.command (record { answer = Done Plain; state = named_too })
+Step-named_then = (Some (Team red), (red_token-not_office, refl), (None, refl, refl))
 
-named_already : Step simple_parts named_too names.token names.command (record { answer = Already Plain; state = named_too })
-named_already = (Some (Team red), (red_is_no_office, refl), (None, refl, refl))
+Step-named_already : Step simple_parts named_too names.token names.command (record { answer = Already Plain; state = named_too })
+Step-named_already = (Some (Team red), (red_token-not_office, refl), (None, refl, refl))
 
 -- either the command had taken its step as the program was stopped
-a_cut_command_may_have_been_done : LeavesSessions simple_parts fixture (asked_again (Already Plain)) named_too
-a_cut_command_may_have_been_done =
-    (named_too, tt, (published, published_first, (named_too, inr (Done Plain, named_then), refl)), (named_too, tt, (named_too, named_already, refl), refl))
+LeavesSessions-cut_was_done : LeavesSessions simple_parts fixture (asked_again (Already Plain)) named_too
+LeavesSessions-cut_was_done =
+    (named_too, tt, (published, Step-published_first, (named_too, inr (Done Plain, Step-named_then), refl)), (named_too, tt, (named_too, Step-named_already, refl), refl))
 
 -- or it had done nothing
-a_cut_command_may_have_done_nothing : LeavesSessions simple_parts fixture (asked_again (Done Plain)) named_too
-a_cut_command_may_have_done_nothing =
-    (published, tt, (published, published_first, (published, inl refl, refl)), (named_too, tt, (named_too, named_then, refl), refl))
+LeavesSessions-cut_did_nothing : LeavesSessions simple_parts fixture (asked_again (Done Plain)) named_too
+LeavesSessions-cut_did_nothing =
+    (published, tt, (published, Step-published_first, (published, inl refl, refl)), (named_too, tt, (named_too, Step-named_then, refl), refl))
 
-the_cut_command_comes_again : (answer : Answer) → ComeAgain (sessions_of (asked_again answer))
-the_cut_command_comes_again answer = ((([], refl), tt), (tt, tt))
+ComeAgain-cut_command : (answer : Answer) → ComeAgain (sessions_of (asked_again answer))
+ComeAgain-cut_command answer = ((([], refl), tt), (tt, tt))
 
 -- and both lead to the state of a run over the two commands, each once
-each_command_counts_once : (answer : Answer) → Run simple_parts fixture (all_answered (sessions_of (asked_again answer))) (Done (Content 1) ∷ Done Plain ∷ []) named_too
-each_command_counts_once answer = (published, published_first, (named_too, named_then, refl))
+Run-each_command_once : (answer : Answer) → Run simple_parts fixture (all_answered (sessions_of (asked_again answer))) (Done (Content 1) ∷ Done Plain ∷ []) named_too
+Run-each_command_once answer = (published, Step-published_first, (named_too, Step-named_then, refl))

@@ -5,8 +5,8 @@ use Rattle.std.proofs.{lemmas.Bool.{ne_eqb, both_ways}, lemmas.List.Elements.{Co
 use Rattle.broker_core.specs.{Laws.{OpeningIsSound, ContentsStay}, declared.command.Command.{Command}, declared.command.Version.{Version}}
 use Rattle.broker_core.specs.{Text.{Text, same_text, same_version, same_pair}, State.{State, Verification}, Request.{consumer_version}, Change.{content_number}}
 use Rattle.broker_core.specs.{Machine.{Primitives}, Machine.Reading.{IsPact}, Contents.{IsContentOf, HasSoundContents, ReadsAgain}}
-use Rattle.broker_core.proofs.{Lists.{contains_none, some_is}, Judgement.{text_is, text_refl, contract_is, at_key}}
-use Rattle.broker_core.proofs.{Effects.{Change, after_step, contents_with, with_contract, with_result}, Effects.Change.{contract, claim, check}}
+use Rattle.broker_core.proofs.{Lists.{Contains-empty, Some-injective}, Judgement.{same_text-equal, same_text-refl, same_pair-contract_equal, put_at-cases}}
+use Rattle.broker_core.proofs.{Effects.{Change, Step-keeps, contents_with, with_contract, with_result}, Effects.Change.{contract, claim, check}}
 
 -- ---- texts and their numbers
 
@@ -16,54 +16,54 @@ text_in texts number = if number == 0 then None else slice_get texts (number - 1
 abbrev number_in : List Text → Text → ℕ
 number_in texts text = position_or_len (same_text text) texts + 1
 
-text_after : (texts : List Text) (i : ℕ) → text_in texts (i + 1) ≡ slice_get texts i
-text_after texts i = ap (λ b. cond b None (slice_get texts (i + 1 - 1))) (ne_eqb (i + 1) 0 (λ e. omega (arith, e))) ∙ ap (slice_get texts) (let e : i + 1 - 1 ≡ i = omega arith in e)
+text_in-next : (texts : List Text) (i : ℕ) → text_in texts (i + 1) ≡ slice_get texts i
+text_in-next texts i = ap (λ b. cond b None (slice_get texts (i + 1 - 1))) (ne_eqb (i + 1) 0 (λ e. omega (arith, e))) ∙ ap (slice_get texts) (let e : i + 1 - 1 ≡ i = omega arith in e)
 
 -- the place of a text with a number
-place_of : (texts : List Text) (n : ℕ) (x : Text) → text_in texts n ≡ Some x → (i : ℕ) × (n ≡ i + 1) × (slice_get texts i ≡ Some x)
-place_of texts zero x h = absurd cc
-place_of texts (suc i) x h =
+text_in-place : (texts : List Text) (n : ℕ) (x : Text) → text_in texts n ≡ Some x → (i : ℕ) × (n ≡ i + 1) × (slice_get texts i ≡ Some x)
+text_in-place texts zero x h = absurd cc
+text_in-place texts (suc i) x h =
     let next : suc i ≡ i + 1 = omega arith in
-    (i, next, sym (text_after texts i) ∙ ap (text_in texts) (sym next) ∙ h)
+    (i, next, sym (text_in-next texts i) ∙ ap (text_in texts) (sym next) ∙ h)
 
-numbered_at : (texts : List Text) (n i : ℕ) (x : Text) → n ≡ i + 1 → slice_get texts i ≡ Some x → text_in texts n ≡ Some x
-numbered_at texts n i x e h = ap (text_in texts) e ∙ text_after texts i ∙ h
+text_in-of_slice_get : (texts : List Text) (n i : ℕ) (x : Text) → n ≡ i + 1 → slice_get texts i ≡ Some x → text_in texts n ≡ Some x
+text_in-of_slice_get texts n i x e h = ap (text_in texts) e ∙ text_in-next texts i ∙ h
 
 -- the list has the text at its first place of that text
-first_place : (texts : List Text) (text : Text) → list_any (same_text text) texts ≡ true → slice_get texts (position_or_len (same_text text) texts) ≡ Some text
-first_place [] text e = absurd cc
-first_place (t ∷ texts) text e = by_test (same_text text t) refl e (first_place texts text)
+position_or_len-found_text : (texts : List Text) (text : Text) → list_any (same_text text) texts ≡ true → slice_get texts (position_or_len (same_text text) texts) ≡ Some text
+position_or_len-found_text [] text e = absurd cc
+position_or_len-found_text (t ∷ texts) text e = by_test (same_text text t) refl e (position_or_len-found_text texts text)
   where
     by_test : (b : Bool) → same_text text t ≡ b → (b || list_any (same_text text) texts) ≡ true
         → (list_any (same_text text) texts ≡ true → slice_get texts (position_or_len (same_text text) texts) ≡ Some text)
         → slice_get (t ∷ texts) (cond (not b) (1 + position_or_len (same_text text) texts) 0) ≡ Some text
-    by_test true same h more = ap Some (sym (text_is text t same))
+    by_test true same h more = ap Some (sym (same_text-equal text t same))
     by_test false other h more = ap (slice_get (t ∷ texts)) (let e : 1 + position_or_len (same_text text) texts ≡ suc (position_or_len (same_text text) texts) = omega arith in e) ∙ more h
 
 -- a text that isn't there would come next
-next_place : (texts : List Text) (text : Text) → list_any (same_text text) texts ≡ false → position_or_len (same_text text) texts ≡ length texts
-next_place [] text free = refl
-next_place (t ∷ texts) text free = by_test (same_text text t) refl free (next_place texts text)
+position_or_len-no_text : (texts : List Text) (text : Text) → list_any (same_text text) texts ≡ false → position_or_len (same_text text) texts ≡ length texts
+position_or_len-no_text [] text free = refl
+position_or_len-no_text (t ∷ texts) text free = by_test (same_text text t) refl free (position_or_len-no_text texts text)
   where
     by_test : (b : Bool) → same_text text t ≡ b → (b || list_any (same_text text) texts) ≡ false → (list_any (same_text text) texts ≡ false → position_or_len (same_text text) texts ≡ length texts)
         → position_or_len (same_text text) (t ∷ texts) ≡ length (t ∷ texts)
     by_test true e h more = absurd cc
     by_test false e h more = rw e (omega (arith, more h))
 
-before_end : (texts : List Text) (new : Text) (i : ℕ) (x : Text) → slice_get texts i ≡ Some x → slice_get (texts ++ new ∷ []) i ≡ Some x
-before_end [] new i x h = absurd cc
-before_end (t ∷ texts) new zero x h = h
-before_end (t ∷ texts) new (suc i) x h = before_end texts new i x h
+slice_get-push_before : (texts : List Text) (new : Text) (i : ℕ) (x : Text) → slice_get texts i ≡ Some x → slice_get (texts ++ new ∷ []) i ≡ Some x
+slice_get-push_before [] new i x h = absurd cc
+slice_get-push_before (t ∷ texts) new zero x h = h
+slice_get-push_before (t ∷ texts) new (suc i) x h = slice_get-push_before texts new i x h
 
-at_end : (texts : List Text) (new : Text) → slice_get (texts ++ new ∷ []) (length texts) ≡ Some new
-at_end [] new = refl
-at_end (t ∷ texts) new = at_end texts new
+slice_get-push_last : (texts : List Text) (new : Text) → slice_get (texts ++ new ∷ []) (length texts) ≡ Some new
+slice_get-push_last [] new = refl
+slice_get-push_last (t ∷ texts) new = slice_get-push_last texts new
 
-with_end : (texts : List Text) (new : Text) (i : ℕ) (x : Text) → slice_get (texts ++ new ∷ []) i ≡ Some x → (slice_get texts i ≡ Some x) ⊎ ((i ≡ length texts) × (x ≡ new))
-with_end [] new zero x h = inr (refl, sym (some_is new x h))
-with_end [] new (suc i) x h = absurd cc
-with_end (t ∷ texts) new zero x h = inl h
-with_end (t ∷ texts) new (suc i) x h = elim (with_end texts new i x h) [ inl old ↦ inl old | inr last ↦ inr (ap suc last.0, last.1) ]
+slice_get-push_cases : (texts : List Text) (new : Text) (i : ℕ) (x : Text) → slice_get (texts ++ new ∷ []) i ≡ Some x → (slice_get texts i ≡ Some x) ⊎ ((i ≡ length texts) × (x ≡ new))
+slice_get-push_cases [] new zero x h = inr (refl, sym (Some-injective new x h))
+slice_get-push_cases [] new (suc i) x h = absurd cc
+slice_get-push_cases (t ∷ texts) new zero x h = inl h
+slice_get-push_cases (t ∷ texts) new (suc i) x h = elim (slice_get-push_cases texts new i x h) [ inl old ↦ inl old | inr last ↦ inr (ap suc last.0, last.1) ]
 
 -- a number and its text, which is the new one and wasn't there
 abbrev IsNew : List Text → Text → ℕ → ℕ → Text → Type 0
@@ -75,26 +75,26 @@ record Added (old new : List Text) (text : Text) (number : ℕ) : Type 0 where
   pub kept : (n : ℕ) (x : Text) → text_in old n ≡ Some x → text_in new n ≡ Some x
   pub either : (n : ℕ) (x : Text) → text_in new n ≡ Some x → (text_in old n ≡ Some x) ⊎ IsNew old text number n x
 
-added : (texts : List Text) (text : Text) → Added texts (contents_with texts text) text (number_in texts text)
-added texts text = by_test (list_any (same_text text) texts) refl
+Added-contents_with : (texts : List Text) (text : Text) → Added texts (contents_with texts text) text (number_in texts text)
+Added-contents_with texts text = by_test (list_any (same_text text) texts) refl
   where
     by_test : (b : Bool) → list_any (same_text text) texts ≡ b → Added texts (if b then texts else texts ++ text ∷ []) text (number_in texts text)
     by_test true known = record {
-      there = numbered_at texts _ (position_or_len (same_text text) texts) text refl (first_place texts text known);
+      there = text_in-of_slice_get texts _ (position_or_len (same_text text) texts) text refl (position_or_len-found_text texts text known);
       kept = λ n x h. h;
       either = λ n x h. inl h;
     }
     by_test false free = record {
-      there = numbered_at (texts ++ text ∷ []) _ (length texts) text (ap (λ i. i + 1) (next_place texts text free)) (at_end texts text);
-      kept = λ n x h. let p = place_of texts n x h in numbered_at (texts ++ text ∷ []) n p.0 x p.1 (before_end texts text p.0 x p.2);
-      either = λ n x h. let p = place_of (texts ++ text ∷ []) n x h in elim (with_end texts text p.0 x p.2) [
-        | inl old ↦ inl (numbered_at texts n p.0 x p.1 old)
+      there = text_in-of_slice_get (texts ++ text ∷ []) _ (length texts) text (ap (λ i. i + 1) (position_or_len-no_text texts text free)) (slice_get-push_last texts text);
+      kept = λ n x h. let p = text_in-place texts n x h in text_in-of_slice_get (texts ++ text ∷ []) n p.0 x p.1 (slice_get-push_before texts text p.0 x p.2);
+      either = λ n x h. let p = text_in-place (texts ++ text ∷ []) n x h in elim (slice_get-push_cases texts text p.0 x p.2) [
+        | inl old ↦ inl (text_in-of_slice_get texts n p.0 x p.1 old)
         | inr last ↦ inr (
-          p.1 ∙ ap (λ i. i + 1) (last.0 ∙ sym (next_place texts text free)),
+          p.1 ∙ ap (λ i. i + 1) (last.0 ∙ sym (position_or_len-no_text texts text free)),
           last.1,
           λ k there.
-              let q = place_of texts k text there in
-              both_ways _ free (any_passes_from_place (same_text text) texts q.0 text q.2 (text_refl text)),
+              let q = text_in-place texts k text there in
+              both_ways _ free (any_passes_from_place (same_text text) texts q.0 text q.2 (same_text-refl text)),
         )
       ];
     }
@@ -103,19 +103,19 @@ added texts text = by_test (list_any (same_text text) texts) refl
 
 module _ (parts : Primitives) (again : ReadsAgain parts) (s : State) (sound : HasSoundContents parts s) where
   -- one text more, which has this number and is a pact's, and one contract more, which has it
-  contract_sound : (v : Version) (provider text : Text) → parts.Reads text (IsPact v.pacticipant provider text)
+  HasSoundContents-with_contract : (v : Version) (provider text : Text) → parts.Reads text (IsPact v.pacticipant provider text)
       → HasSoundContents parts (with_contract s v provider text)
-  contract_sound v provider text reads = record {
+  HasSoundContents-with_contract v provider text reads = record {
     apart = λ m n x a b. both m n x (more.either m x a) (more.either n x b);
     normal = λ n x h. normal_of n x (more.either n x h);
     contracts =
         λ w p content h. contract_of w p content
-        (at_key (same_pair same_version same_text) contract_is s.contracts (v, provider) (Some (content_number s text)) (w, p) (Some content) h);
+        (put_at-cases (same_pair same_version same_text) same_pair-contract_equal s.contracts (v, provider) (Some (content_number s text)) (w, p) (Some content) h);
     results = λ r c. let old = sound.results r c in (old.0, still r.content old.0 r.version.pacticipant old.1);
   }
     where
       more : Added s.contents (contents_with s.contents text) text (content_number s text)
-      more = added s.contents text
+      more = Added-contents_with s.contents text
 
       both : (m n : ℕ) (x : Text) → (text_in s.contents m ≡ Some x) ⊎ IsNew s.contents text (content_number s text) m x
           → (text_in s.contents n ≡ Some x) ⊎ IsNew s.contents text (content_number s text) n x → m ≡ n
@@ -137,14 +137,14 @@ module _ (parts : Primitives) (again : ReadsAgain parts) (s : State) (sound : Ha
           → IsContentOf parts (with_contract s v provider text) content w.pacticipant p
       contract_of w p content (inl new) = (
         text,
-        ap (text_in (contents_with s.contents text)) (sym (some_is (content_number s text) content new.1)) ∙ more.there,
+        ap (text_in (contents_with s.contents text)) (sym (Some-injective (content_number s text) content new.1)) ∙ more.there,
         subst (λ (k : Version × Text). parts.Reads text (IsPact k.0.pacticipant k.1 text)) (sym new.0) reads,
       )
       contract_of w p content (inr old) = still content w.pacticipant p (sound.contracts w p content old)
 
   -- the same texts and contracts, and one result more, of a contract's content
-  result_sound : (r : Verification) (consumer : Text) → IsContentOf parts s r.content consumer r.version.pacticipant → HasSoundContents parts (with_result s r)
-  result_sound r consumer of = record {
+  HasSoundContents-with_result : (r : Verification) (consumer : Text) → IsContentOf parts s r.content consumer r.version.pacticipant → HasSoundContents parts (with_result s r)
+  HasSoundContents-with_result r consumer of = record {
     apart = sound.apart;
     normal = sound.normal;
     contracts = sound.contracts;
@@ -154,26 +154,26 @@ module _ (parts : Primitives) (again : ReadsAgain parts) (s : State) (sound : Ha
     ];
   }
 
-  change_sound : (c : Command) (t : State) → Change parts s c t → HasSoundContents parts t
-  change_sound _ _ (contract path file text new reads) =
-      contract_sound (consumer_version path) path.provider text (again file path.consumer path.provider text reads)
-  change_sound _ _ (claim path r success content row new) = result_sound _ path.consumer (sound.contracts (consumer_version path) path.provider content row)
-  change_sound _ _ (check path r replies content failing row new) =
-      result_sound _ path.consumer (sound.contracts (consumer_version path) path.provider content row)
-  change_sound _ _ _ = record { apart = sound.apart; normal = sound.normal; contracts = sound.contracts; results = sound.results }
+  HasSoundContents-after_change : (c : Command) (t : State) → Change parts s c t → HasSoundContents parts t
+  HasSoundContents-after_change _ _ (contract path file text new reads) =
+      HasSoundContents-with_contract (consumer_version path) path.provider text (again file path.consumer path.provider text reads)
+  HasSoundContents-after_change _ _ (claim path r success content row new) = HasSoundContents-with_result _ path.consumer (sound.contracts (consumer_version path) path.provider content row)
+  HasSoundContents-after_change _ _ (check path r replies content failing row new) =
+      HasSoundContents-with_result _ path.consumer (sound.contracts (consumer_version path) path.provider content row)
+  HasSoundContents-after_change _ _ _ = record { apart = sound.apart; normal = sound.normal; contracts = sound.contracts; results = sound.results }
 
 -- sound contents stay sound after each step
-pub contents_stay : (parts : Primitives) → ReadsAgain parts → ContentsStay parts
-contents_stay parts again s token c out sound step = after_step parts s c (HasSoundContents parts) sound (λ t change. change_sound parts again s sound c t change) token out step
+pub ContentsStay-holds : (parts : Primitives) → ReadsAgain parts → ContentsStay parts
+ContentsStay-holds parts again s token c out sound step = Step-keeps parts s c (HasSoundContents parts) sound (λ t change. HasSoundContents-after_change parts again s sound c t change) token out step
 
 -- the contents of the first state are sound
-pub opening_is_sound : (parts : Primitives) → OpeningIsSound parts
-opening_is_sound parts office = record {
+pub OpeningIsSound-holds : (parts : Primitives) → OpeningIsSound parts
+OpeningIsSound-holds parts office = record {
   apart = λ m n x a b. absurd (nothing m x a);
   normal = λ n x h. absurd (nothing n x h);
   contracts = λ v p content h. absurd (cc);
-  results = λ r c. absurd (contains_none r c);
+  results = λ r c. absurd (Contains-empty r c);
 }
   where
     nothing : (n : ℕ) (x : Text) → text_in [] n ≡ Some x → ⊥
-    nothing n x h = let p = place_of [] n x h in let wrong : None ≡ Some x = p.2 in cc
+    nothing n x h = let p = text_in-place [] n x h in let wrong : None ≡ Some x = p.2 in cc

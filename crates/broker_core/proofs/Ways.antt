@@ -19,8 +19,8 @@ abbrev pub After : Primitives → State → Command → Transition → Option An
 After parts s c out r = MatchOption r (TakesEffect parts s c out) (λ answer. out ≡ unchanged_with s answer)
 
 module _ (parts : Primitives) (s : State) (token : Option Text) (c : Command) where
-  pub way_of : (out : Transition) → Step parts s token c out → Way parts s token c out
-  way_of out step = by_who step.0 step.1 step.2
+  pub Way-of_Step : (out : Transition) → Step parts s token c out → Way parts s token c out
+  Way-of_Step out step = by_who step.0 step.1 step.2
     where
       told : (o : Transition) → out ≡ o → Way parts s token c o → Way parts s token c out
       told o is = subst (Way parts s token c) (sym is)
@@ -40,8 +40,8 @@ module _ (parts : Primitives) (s : State) (token : Option Text) (c : Command) wh
       by_who None calls it = told _ it (nobody calls)
       by_who (Some caller) calls it = by_form caller calls it.0 it.1 it.2
 
-  pub step_by : (out : Transition) → Way parts s token c out → Step parts s token c out
-  step_by _ (nobody calls) = (None, calls, refl)
-  step_by _ (misformed caller calls f form) = (Some caller, calls, (Some f, form, refl))
-  step_by _ (refused caller calls form answer is) = (Some caller, calls, (None, form, subst (After parts s c (unchanged_with s answer)) (sym is) refl))
-  step_by _ (acting caller calls form out is it) = (Some caller, calls, (None, form, subst (After parts s c out) (sym is) it))
+  pub Step-of_Way : (out : Transition) → Way parts s token c out → Step parts s token c out
+  Step-of_Way _ (nobody calls) = (None, calls, refl)
+  Step-of_Way _ (misformed caller calls f form) = (Some caller, calls, (Some f, form, refl))
+  Step-of_Way _ (refused caller calls form answer is) = (Some caller, calls, (None, form, subst (After parts s c (unchanged_with s answer)) (sym is) refl))
+  Step-of_Way _ (acting caller calls form out is it) = (Some caller, calls, (None, form, subst (After parts s c out) (sym is) it))

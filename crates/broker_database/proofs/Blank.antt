@@ -6,8 +6,8 @@ use Rattle.table_access.specs.Durability.{HoldsDurably}
 use Rattle.broker_tables.specs.Making.{IsBlank}
 
 -- so a broker can be created on it
-pub memory_is_blank : (c : Held MemStore) → IsEmpty (state over_memory c) → HoldsDurably IsBlank (state over_memory c)
-memory_is_blank c it =
+pub HoldsDurably-memory_blank : (c : Held MemStore) → IsEmpty (state over_memory c) → HoldsDurably IsBlank (state over_memory c)
+HoldsDurably-memory_blank c it =
     let opened = it.0 in
     let sound : IsDatabase (state over_memory c).committed = (it.1 opened.is_open).1 in
     let blank : IsBlank (state over_memory c).committed = subst IsBlank opened.clean (record { schema = it.2; sound = (it.1 opened.is_open).0 }) in

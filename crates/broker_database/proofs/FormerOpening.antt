@@ -2,14 +2,14 @@
 -- opening state.
 use Rattle.std.proofs.Common.{[], refl, sym, subst}
 use Rattle.sqlite.specs.Effect.{Database}
-use Rattle.broker_core.{specs.{Text.{Text}, State.{opening}}, proofs.SoundContents.{opening_is_sound}}
+use Rattle.broker_core.{specs.{Text.{Text}, State.{opening}}, proofs.SoundContents.{OpeningIsSound-holds}}
 use Rattle.broker_tables.specs.{Making.{HasTables}, Former.{HoldsFormer, former_tables, former_format}}
 use Rattle.broker_tables.specs.Holds.{AreTeams, ArePacticipants, AreVersions, AreBranches, AreEnvironments, AreGrants, AreContents, AreContracts, AreResults, AreLatest, AreDeployed, AreReleased}
 use Rattle.command_facts.specs.Primitives.{broker_primitives}
 use Rattle.broker_database.specs.Migration.{StoresFormer}
 
-former_opens : (office : Text) (db : Database) → HasTables former_tables former_format office db → HoldsFormer db (opening office)
-former_opens office db has = let e = has.empty in record {
+HoldsFormer-opening : (office : Text) (db : Database) → HasTables former_tables former_format office db → HoldsFormer db (opening office)
+HoldsFormer-opening office db has = let e = has.empty in record {
   schema = has.schema;
   kept = has.kept;
   empty = tt;
@@ -29,5 +29,5 @@ former_opens office db has = let e = has.empty in record {
 }
 
 -- so the premise of a migration is met
-pub stores_former : (office : Text) (db : Database) → HasTables former_tables former_format office db → StoresFormer db (opening office)
-stores_former office db has = record { tables = former_opens office db has; contents = opening_is_sound broker_primitives office }
+pub StoresFormer-opening : (office : Text) (db : Database) → HasTables former_tables former_format office db → StoresFormer db (opening office)
+StoresFormer-opening office db has = record { tables = HoldsFormer-opening office db has; contents = OpeningIsSound-holds broker_primitives office }

@@ -11,9 +11,9 @@ use Rattle.registry_tables.specs.Format.{IsOfFormat, Finds, table_of}
 use Rattle.broker_database.specs.{declared.opening.OpenFault.TheVariants.{Format}, Opening.{FindsToday, IsMarkedToday, OpensOrRefuses, judgement}}
 
 -- the judgement by the format that is found is right
-pub judged : (db : Database) (found : Option ℕ) → FindsToday db found → OpensOrRefuses db (judgement format found)
-judged db None it = it
-judged db (Some n) it = go (n == format) refl
+pub OpensOrRefuses-judgement : (db : Database) (found : Option ℕ) → FindsToday db found → OpensOrRefuses db (judgement format found)
+OpensOrRefuses-judgement db None it = it
+OpensOrRefuses-judgement db (Some n) it = go (n == format) refl
   where
     go : (b : Bool) → (n == format) ≡ b → OpensOrRefuses db (if b then Ok tt else Err (Format n))
     go true e =
@@ -21,53 +21,53 @@ judged db (Some n) it = go (n == format) refl
         (subst (λ k. IsOfFormat k db) same it.0, it.1 same)
     go false e = (it.0, eqb-false n format e)
 
-pub blank_none : (db : Database) (found : Option ℕ) → db.schema ≡ no_schema → Finds db found → found ≡ None
-blank_none db None blank it = refl
-blank_none db (Some n) blank it = let none : table_of meta.name db.schema ≡ None = ap (table_of meta.name) blank in absurd (let found = it.1 in cc)
+pub Finds-blank_none : (db : Database) (found : Option ℕ) → db.schema ≡ no_schema → Finds db found → found ≡ None
+Finds-blank_none db None blank it = refl
+Finds-blank_none db (Some n) blank it = let none : table_of meta.name db.schema ≡ None = ap (table_of meta.name) blank in absurd (let found = it.1 in cc)
 
 -- the format in the one row of meta
-pub one_told : (n : ℕ) (office : Text) (r : Row) → IsMeta n office (r ∷ []) → whole_at in_meta.format r ≡ pos n
-one_told n office r one = ap (λ (xs : List (ℤ × ℤ × Text)). first_of xs) one
+pub IsMeta-format : (n : ℕ) (office : Text) (r : Row) → IsMeta n office (r ∷ []) → whole_at in_meta.format r ≡ pos n
+IsMeta-format n office r one = ap (λ (xs : List (ℤ × ℤ × Text)). first_of xs) one
   where
     first_of : List (ℤ × ℤ × Text) → ℤ
     first_of [] = pos 0
     first_of (x ∷ xs) = x.1
 
-one_format : (n k : ℕ) (office : Text) (rows : List Row) → IsMeta n office rows → map (λ row. column row in_meta.format) rows ≡ Int (pos k) ∷ [] → k ≡ n
-one_format n k office [] one is = absurd cc
-one_format n k office (r ∷ []) one is =
+IsMeta-one_format : (n k : ℕ) (office : Text) (rows : List Row) → IsMeta n office rows → map (λ row. column row in_meta.format) rows ≡ Int (pos k) ∷ [] → k ≡ n
+IsMeta-one_format n k office [] one is = absurd cc
+IsMeta-one_format n k office (r ∷ []) one is =
     let shown : whole_at in_meta.format r ≡ pos k = (let same : column r in_meta.format ≡ Int (pos k) = cc in ap id_in same) in
-    (let both : pos k ≡ pos n = sym shown ∙ one_told n office r one in cc)
-one_format n k office (r ∷ q ∷ rows) one is = absurd cc
+    (let both : pos k ≡ pos n = sym shown ∙ IsMeta-format n office r one in cc)
+IsMeta-one_format n k office (r ∷ q ∷ rows) one is = absurd cc
 
 -- the table of a broker's database that is found by meta's name
-meta_there : (n : ℕ) (office : Text) (db : Database) → IsMarked n office db → table_of meta.name db.schema ≡ Some meta
+table_of-meta : (n : ℕ) (office : Text) (db : Database) → IsMarked n office db → table_of meta.name db.schema ≡ Some meta
 unfolding same_name
-meta_there n office db marked = ap (table_of meta.name) marked.schema
+table_of-meta n office db marked = ap (table_of meta.name) marked.schema
 
-pub meta_is : (n : ℕ) (office : Text) (db : Database) → IsMarked n office db → (t : Table) → table_of meta.name db.schema ≡ Some t → t ≡ meta
-meta_is n office db marked t at = let both : Some t ≡ Some meta = sym at ∙ meta_there n office db marked in cc
+pub table_of-meta_unique : (n : ℕ) (office : Text) (db : Database) → IsMarked n office db → (t : Table) → table_of meta.name db.schema ≡ Some t → t ≡ meta
+table_of-meta_unique n office db marked t at = let both : Some t ≡ Some meta = sym at ∙ table_of-meta n office db marked in cc
 
-pub marked_some : (n : ℕ) (office : Text) (db : Database) (found : Option ℕ) → IsMarked n office db → Finds db found → found ≡ Some n
-marked_some n office db None marked it =
-    absurd (it meta (meta_there n office db marked) (((refl, refl), ((refl, refl), ((refl, refl), tt))), refl) (sym (length-map (db.trees in_meta.tree) _) ∙ ap length marked.row))
-marked_some n office db (Some k) marked it =
-    ap Some (one_format n k office (db.trees in_meta.tree) marked.row (subst (λ (t : Table). map (λ row. column row in_meta.format) (db.trees t.tree) ≡ Int (pos k) ∷ []) (meta_is n office db marked it.0 it.1) it.3))
+pub Finds-marked : (n : ℕ) (office : Text) (db : Database) (found : Option ℕ) → IsMarked n office db → Finds db found → found ≡ Some n
+Finds-marked n office db None marked it =
+    absurd (it meta (table_of-meta n office db marked) (((refl, refl), ((refl, refl), ((refl, refl), tt))), refl) (sym (length-map (db.trees in_meta.tree) _) ∙ ap length marked.row))
+Finds-marked n office db (Some k) marked it =
+    ap Some (IsMeta-one_format n k office (db.trees in_meta.tree) marked.row (subst (λ (t : Table). map (λ row. column row in_meta.format) (db.trees t.tree) ≡ Int (pos k) ∷ []) (table_of-meta_unique n office db marked it.0 it.1) it.3))
 
 -- ---- of a database that is to be opened
 
-pub blank_unopened : (db : Database) (found : Option ℕ) → db.schema ≡ no_schema → FindsToday db found → found ≡ None
-blank_unopened db None blank it = refl
-blank_unopened db (Some n) blank it = blank_none db (Some n) blank it.0
+pub FindsToday-blank : (db : Database) (found : Option ℕ) → db.schema ≡ no_schema → FindsToday db found → found ≡ None
+FindsToday-blank db None blank it = refl
+FindsToday-blank db (Some n) blank it = Finds-blank_none db (Some n) blank it.0
 
-pub other_unopened : (n : ℕ) (office : Text) (db : Database) (found : Option ℕ) → n ≢ format → IsMarked n office db → FindsToday db found → found ≡ Some n
-other_unopened n office db None other marked (inl foreign) = marked_some n office db None marked foreign
-other_unopened n office db None other marked (inr (tells, declares)) =
-    let is : Some format ≡ Some n = marked_some n office db (Some format) marked tells in
+pub FindsToday-other : (n : ℕ) (office : Text) (db : Database) (found : Option ℕ) → n ≢ format → IsMarked n office db → FindsToday db found → found ≡ Some n
+FindsToday-other n office db None other marked (inl foreign) = Finds-marked n office db None marked foreign
+FindsToday-other n office db None other marked (inr (tells, declares)) =
+    let is : Some format ≡ Some n = Finds-marked n office db (Some format) marked tells in
     absurd (other (let same : n ≡ format = cc in same))
-other_unopened n office db (Some k) other marked it = marked_some n office db (Some k) marked it.0
+FindsToday-other n office db (Some k) other marked it = Finds-marked n office db (Some k) marked it.0
 
-pub today_opened : (office : Text) (db : Database) (found : Option ℕ) → IsMarkedToday office db → FindsToday db found → found ≡ Some format
-today_opened office db None today (inl foreign) = marked_some format office db None today.0 foreign
-today_opened office db None today (inr (tells, other)) = absurd (other today.1)
-today_opened office db (Some n) today it = marked_some format office db (Some n) today.0 it.0
+pub FindsToday-today : (office : Text) (db : Database) (found : Option ℕ) → IsMarkedToday office db → FindsToday db found → found ≡ Some format
+FindsToday-today office db None today (inl foreign) = Finds-marked format office db None today.0 foreign
+FindsToday-today office db None today (inr (tells, other)) = absurd (other today.1)
+FindsToday-today office db (Some n) today it = Finds-marked format office db (Some n) today.0 it.0

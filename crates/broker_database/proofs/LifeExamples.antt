@@ -11,8 +11,8 @@ use Rattle.broker_database.specs.Life.Period.{Serving, Making, Migrating, NotOpe
 abbrev asks : Request
 asks = record { token = None; command = GetEnvironment (codes "live") }
 
-denied : (s : Broker) → Step broker_primitives s None asks.command (record { answer = Denied A1; state = s })
-denied s = (None, refl, refl)
+Step-denied : (s : Broker) → Step broker_primitives s None asks.command (record { answer = Denied A1; state = s })
+Step-denied s = (None, refl, refl)
 
 -- The making is stopped, so there are no tables; the next one is done, and the broker answers. Then the files can't be
 -- opened, and then the program serves and is stopped in its second command.
@@ -21,25 +21,25 @@ made_at_the_second_try office =
     Making office [] ∷ Making office ((asks, Stepped (Denied A1)) ∷ []) ∷ NotOpened
     ∷ Serving ((asks, Stepped (Denied A1)) ∷ (asks, WasCut) ∷ []) ∷ []
 
-pub a_broker_is_made_once : (office : Text) → LifeLeads Blank (made_at_the_second_try office) (OfToday (opening office))
-a_broker_is_made_once office =
+pub LifeLeads-made_at_second_try : (office : Text) → LifeLeads Blank (made_at_the_second_try office) (OfToday (opening office))
+LifeLeads-made_at_second_try office =
     let s = opening office in
-    (Blank, inl (refl, refl), (OfToday s, inr (s, tt, (s, denied s, refl), refl), (OfToday s, (refl, refl), (OfToday s, (s, tt, (s, denied s, (s, inl refl, refl)), refl), refl))))
+    (Blank, inl (refl, refl), (OfToday s, inr (s, tt, (s, Step-denied s, refl), refl), (OfToday s, (refl, refl), (OfToday s, (s, tt, (s, Step-denied s, (s, inl refl, refl)), refl), refl))))
 
 -- or the making that was stopped had made it, and the next one is refused
-pub a_stopped_making_may_have_made_it : (office : Text) → LifeLeads Blank (Making office [] ∷ Making office [] ∷ []) (OfToday (opening office))
-a_stopped_making_may_have_made_it office = let s = opening office in (OfToday s, inr (s, tt, refl, refl), (OfToday s, (refl, refl), refl))
+pub LifeLeads-made_by_stopped_making : (office : Text) → LifeLeads Blank (Making office [] ∷ Making office [] ∷ []) (OfToday (opening office))
+LifeLeads-made_by_stopped_making office = let s = opening office in (OfToday s, inr (s, tt, refl, refl), (OfToday s, (refl, refl), refl))
 
 -- without a making there is no broker, and nothing is served
-stays_blank : (old new : Kept) → old ≡ Blank → PeriodLeads old Migrating new → new ≡ Blank
-stays_blank Blank new is it = it.1
-stays_blank (OfFormer s) new is it = absurd (cc)
-stays_blank (OfToday s) new is it = absurd (cc)
+PeriodLeads-blank_migrating : (old new : Kept) → old ≡ Blank → PeriodLeads old Migrating new → new ≡ Blank
+PeriodLeads-blank_migrating Blank new is it = it.1
+PeriodLeads-blank_migrating (OfFormer s) new is it = absurd (cc)
+PeriodLeads-blank_migrating (OfToday s) new is it = absurd (cc)
 
-pub no_broker_without_a_making : (s : Broker) → ¬ (LifeLeads Blank (Serving [] ∷ Migrating ∷ []) (OfToday s))
-no_broker_without_a_making s it = let end = stays_blank it.0 it.2.0 it.1.1 it.2.1 in let same : OfToday s ≡ Blank = it.2.2 ∙ end in absurd (cc)
+pub LifeLeads-no_broker_unmade : (s : Broker) → ¬ (LifeLeads Blank (Serving [] ∷ Migrating ∷ []) (OfToday s))
+LifeLeads-no_broker_unmade s it = let end = PeriodLeads-blank_migrating it.0 it.2.0 it.1.1 it.2.1 in let same : OfToday s ≡ Blank = it.2.2 ∙ end in absurd (cc)
 
 -- A database of format 1 isn't served; it is migrated at the second try, a third one is refused, and then it is served.
-pub migrated_at_the_second_try : (s : Broker) → LifeLeads (OfFormer s) (Serving [] ∷ Migrating ∷ Migrating ∷ Migrating ∷ Serving ((asks, Stepped (Denied A1)) ∷ []) ∷ []) (OfToday s)
-migrated_at_the_second_try s =
-    (OfFormer s, (refl, refl), (OfFormer s, inl refl, (OfToday s, inr refl, (OfToday s, (refl, refl), (OfToday s, (s, tt, (s, denied s, refl), refl), refl)))))
+pub LifeLeads-migrated_at_second_try : (s : Broker) → LifeLeads (OfFormer s) (Serving [] ∷ Migrating ∷ Migrating ∷ Migrating ∷ Serving ((asks, Stepped (Denied A1)) ∷ []) ∷ []) (OfToday s)
+LifeLeads-migrated_at_second_try s =
+    (OfFormer s, (refl, refl), (OfFormer s, inl refl, (OfToday s, inr refl, (OfToday s, (refl, refl), (OfToday s, (s, tt, (s, Step-denied s, refl), refl), refl)))))

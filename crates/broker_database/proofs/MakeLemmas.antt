@@ -3,9 +3,9 @@ use Rattle.broker_core.specs.{State.{State as Broker, opening}, Text.{Text}}
 use Rattle.broker_database.specs.Migration.{BringsUp, BringsUpOrNot, FindsFormerAlone, HasFormerRoomFor, IsFormer, KeepsFormerRoom, OnlyIfNotMigrated, StoresFormer}
 use Rattle.broker_database.specs.Opening.{IsFresh, IsUncommitted, MakesOrFails, OnlyIfRefused, OnlyIfStoreFailed, Refuses, open_fault}
 use Rattle.broker_database.specs.{Stored.{HoldsState, Stores}, declared.ending.Failure.{Failure}, declared.ending.Failure.TheVariants.{Call, Commit}}
-use Rattle.broker_database.{specs.Transaction.{Concludes, EndsFor, told}, proofs.{MigrationLemmas.{former_found}, OpenFailures.{looking_fails, unbegun_fails}}}
-use Rattle.broker_database.proofs.{Sound.{opens_sound}, StoreFailures.{transaction_fails}}
-use Rattle.broker_database.proofs.Transaction.{WholeTransaction, adds_nothing, once_at_most, transaction_begun, transaction_ends, transaction_once, transaction_over, transaction_spares, transaction_told, transaction_unchanged, transaction_within, unbegun_ends, unbegun_over, unbegun_unchanged}
+use Rattle.broker_database.{specs.Transaction.{Concludes, EndsFor, told}, proofs.{MigrationLemmas.{FindsFormerAlone-former}, OpenFailures.{TellsNothing-of_look_up, HasFailed-unbegun}}}
+use Rattle.broker_database.proofs.{Sound.{HasSoundContents-opening}, StoreFailures.{HasFailed-of_transaction}}
+use Rattle.broker_database.proofs.Transaction.{WholeTransaction, AddsNoCrashState-of_survives, CommitsAtMostOnce-of_survives, Begins-transaction, EndsOrFails-transaction, CommitsAtMostOnce-whole, LeavesNoTransaction-transaction, AddsNoCrashState-transaction, IfOk-transaction, IsUnchangedUnless-transaction, Survives-before_whole_end, EndsOrFails-unbegun, LeavesNoTransaction-unbegun, IsUnchangedUnless-unbegun}
 use Rattle.broker_tables.specs.{Former.{former_format}, Holds.{Holds}, Making.{IsBlank, IsCalmOverBetween}, Room.{HasAllNumbers, HasRoomFor}}
 use Rattle.broker_tables.specs.Schema.{broker_schema}
 use Rattle.registry_tables.specs.Format.{FailsToFind, IsOfFormat}
@@ -13,54 +13,54 @@ use Rattle.sqlite.specs.{Effect.{Database}, Held.{Held}, State.{HasCleanDisk, St
 use Rattle.std.proofs.Common.{Bool, Err, IfErr, IsOk, IsOkAnd, IsTrue, None, Ok, Option, Result, Some, ap, arith, false, inl, inr, is_ok, refl, subst, sym, ℕ, ◌↔◌, ◌∙◌, ◌≡◌, ◌≤◌, ◌⊎◌}
 use Rattle.std.proofs.lemmas.Result.{IfErr-weaker, IfOk-weaker}
 use Rattle.table_access.specs.{Calls.{CallsStoreBetween, GoesOn, HasFailed}, Durability.{HoldsDurably}, Unit.{Begins, FailsToBegin, IsLeft, RefusesCommit}}
-use Rattle.table_access.{specs.{declared.StoreFault.{StoreFault}, declared.StoreFault.TheVariants.{Memory, Store}}, proofs.CallLemmas.{ended_since, may_take}}
+use Rattle.table_access.{specs.{declared.StoreFault.{StoreFault}, declared.StoreFault.TheVariants.{Memory, Store}}, proofs.CallLemmas.{EndsBy-later_call, CallsBetween-may_take_memory}}
 use Rattle.table_access.proofs.EndLemmas as ends
 
 -- ---- the format is looked for
 
-pub never_kept : (r : Result (Option ℕ) StoreFault) → IsTrue false ↔ IsOkAnd r (λ _. ⊥)
-never_kept (Ok found) = (λ no. absurd (cc), λ no. absurd no)
-never_kept (Err why) = (λ no. absurd (cc), λ no. absurd no)
+pub IsOkAnd-never : (r : Result (Option ℕ) StoreFault) → IsTrue false ↔ IsOkAnd r (λ _. ⊥)
+IsOkAnd-never (Ok found) = (λ no. absurd (cc), λ no. absurd no)
+IsOkAnd-never (Err why) = (λ no. absurd (cc), λ no. absurd no)
 
 -- nothing is kept
 abbrev pub looked : (old mid done new : State) (X : Option ℕ → Type 0) (worked result : Result (Option ℕ) StoreFault) → (HasCleanDisk mid → Begins old mid) → Survives old mid (λ _. ⊥) → CallsStoreBetween mid done worked X
     → Concludes done new false worked result → WholeTransaction old mid done new X (λ _. ⊥) result
 looked old mid done new X worked result begun begins works concludes =
-    record { worked = worked; keeps = false; begun = begun; begins = begins; works = may_take mid done worked _ works; kept = never_kept worked; concludes = concludes }
+    record { worked = worked; keeps = false; begun = begun; begins = begins; works = CallsBetween-may_take_memory mid done worked _ works; kept = IsOkAnd-never worked; concludes = concludes }
 
 -- ---- a broker's tables are made
 
 -- the making is kept if and only if it succeeded
-pub made_kept : (r : Result (Unit {0}) StoreFault) → IsTrue (is_ok r) ↔ IsOkAnd r (λ _. Unit {0})
-made_kept (Ok u) = (λ _. tt, λ _. refl)
-made_kept (Err why) = (λ no. absurd (cc), λ no. absurd no)
+pub IsOkAnd-is_ok : (r : Result (Unit {0}) StoreFault) → IsTrue (is_ok r) ↔ IsOkAnd r (λ _. Unit {0})
+IsOkAnd-is_ok (Ok u) = (λ _. tt, λ _. refl)
+IsOkAnd-is_ok (Err why) = (λ no. absurd (cc), λ no. absurd no)
 
 unfoldable pub made : (office : Text) (old mid done new : State) (worked result : Result (Unit {0}) StoreFault) (keeps : Bool) → (HasCleanDisk mid → Begins old mid) → Survives old mid (λ _. ⊥)
     → CallsStoreBetween mid done worked (λ _. IsBlank mid.now → Holds done.now (opening office) × HasAllNumbers done.now) → keeps ≡ is_ok worked → Concludes done new keeps worked result
     → WholeTransaction old mid done new (λ _. IsBlank mid.now → Holds done.now (opening office) × HasAllNumbers done.now) (λ _. Unit {0}) result
 made office old mid done new worked result keeps begun begins works is concludes =
-    record { worked = worked; keeps = keeps; begun = begun; begins = begins; works = may_take mid done worked _ works; kept = subst (λ (k : Bool). IsTrue k ↔ IsOkAnd worked (λ _. Unit {0})) (sym is) (made_kept worked); concludes = concludes }
+    record { worked = worked; keeps = keeps; begun = begun; begins = begins; works = CallsBetween-may_take_memory mid done worked _ works; kept = subst (λ (k : Bool). IsTrue k ↔ IsOkAnd worked (λ _. Unit {0})) (sym is) (IsOkAnd-is_ok worked); concludes = concludes }
 
-pub make_ends : (office : Text) (old mid done new : State) (r : Result (Unit {0}) StoreFault) → WholeTransaction old mid done new (λ _. IsBlank mid.now → Holds done.now (opening office) × HasAllNumbers done.now) (λ _. Unit {0}) r
+pub MakesOrFails-of_transaction : (office : Text) (old mid done new : State) (r : Result (Unit {0}) StoreFault) → WholeTransaction old mid done new (λ _. IsBlank mid.now → Holds done.now (opening office) × HasAllNumbers done.now) (λ _. Unit {0}) r
     → HasCleanDisk new → HoldsDurably IsBlank old → MakesOrFails office new r
-make_ends office old mid done new r t clean holds =
-    transaction_ends old mid done new _ _ r t IsBlank (λ db. Stores db (opening office)) (λ _. HoldsState (opening office) new × HoldsDurably HasAllNumbers new) clean holds
+MakesOrFails-of_transaction office old mid done new r t clean holds =
+    EndsOrFails-transaction old mid done new _ _ r t IsBlank (λ db. Stores db (opening office)) (λ _. HoldsState (opening office) new × HoldsDurably HasAllNumbers new) clean holds
     (λ u blank makes _. stored blank makes)
     (λ u blank makes _ commit. (commit (λ db. Stores db (opening office)) (stored blank makes), commit HasAllNumbers (makes blank).1))
     (λ u blank makes never kept. absurd (never tt))
   where
     stored : IsBlank mid.now → (IsBlank mid.now → Holds done.now (opening office) × HasAllNumbers done.now) → Stores done.now (opening office)
-    stored blank makes = record { tables = (makes blank).0; contents = opens_sound office }
+    stored blank makes = record { tables = (makes blank).0; contents = HasSoundContents-opening office }
 
-kept_ok : {A : Type 0} (Keeps : A → Type 0) (r : Result A StoreFault) → IsOkAnd r Keeps → IsOk r
-kept_ok Keeps (Ok a) is = refl
-kept_ok Keeps (Err why) is = absurd is
+IsOk-of_kept : {A : Type 0} (Keeps : A → Type 0) (r : Result A StoreFault) → IsOkAnd r Keeps → IsOk r
+IsOk-of_kept Keeps (Ok a) is = refl
+IsOk-of_kept Keeps (Err why) is = absurd is
 
 module _ {X A : Type 0} (shown : Held X → State) (Ready Before : Database → Type 0) (s : Broker) (old mid done new : Held X) (Does Keeps : A → Type 0) (result : Result A Failure) (t : WholeTransaction (shown old) (shown mid) (shown done) (shown new) Does Keeps (told result)) where
   module _ (calm : IsCalmOverBetween Ready (shown mid) (shown done) t.worked) (refused : HasCleanDisk (shown new) → IfErr result (EndsFor shown t.keeps t.worked done new))
       (ready : (db : Database) → Before db → Ready db) (makes : (a : A) → Does a → Keeps a → Before (shown mid).now → Holds (shown done).now s) (clean : HasCleanDisk (shown new)) (fresh : IsFresh (shown old)) (holds : HoldsDurably Before (shown old)) where
     begun : Begins (shown old) (shown mid)
-    begun = transaction_begun (shown old) (shown mid) (shown done) (shown new) Does Keeps (told result) t clean
+    begun = Begins-transaction (shown old) (shown mid) (shown done) (shown new) Does Keeps (told result) t clean
 
     before : Before (shown mid).now
     before = ends.begins Before (shown old) (shown mid) begun holds
@@ -75,7 +75,7 @@ module _ {X A : Type 0} (shown : Held X → State) (Ready Before : Database → 
     by_call : result ≡ Err (Call Store) → HasFailed (shown old) (shown new) Store
     by_call is =
         let why : EndsFor shown t.keeps t.worked done new (Call Store) = subst (λ (r : Result A Failure). IfErr r (EndsFor shown t.keeps t.worked done new)) is (refused clean) in
-        elim (transaction_fails (shown old) (shown mid) (shown done) (shown new) Does Keeps ⊥ clean (told result) t (work_calm ⊥) (λ a did keeps kept on. absurd (why kept (kept_ok Keeps t.worked (t.kept.0 kept)))) (ap told is)) [
+        elim (HasFailed-of_transaction (shown old) (shown mid) (shown done) (shown new) Does Keeps ⊥ clean (told result) t (work_calm ⊥) (λ a did keeps kept on. absurd (why kept (IsOk-of_kept Keeps t.worked (t.kept.0 kept)))) (ap told is)) [
           | inl failed ↦ failed
           | inr never ↦ absurd never
         ]
@@ -84,34 +84,34 @@ module _ {X A : Type 0} (shown : Held X → State) (Ready Before : Database → 
     by_commit : (why : StoreFault) → result ≡ Err (Commit why) → HasFailed (shown old) (shown new) Store ⊎ ((why ≡ Memory) × IsUncommitted shown s old new)
     by_commit why is =
         let refusal : EndsFor shown t.keeps t.worked done new (Commit why) = subst (λ (r : Result A Failure). IfErr r (EndsFor shown t.keeps t.worked done new)) is (refused clean) in
-        transaction_fails (shown old) (shown mid) (shown done) (shown new) Does Keeps ((why ≡ Memory) × IsUncommitted shown s old new) clean (told result) t (work_calm ((why ≡ Memory) × IsUncommitted shown s old new))
+        HasFailed-of_transaction (shown old) (shown mid) (shown done) (shown new) Does Keeps ((why ≡ Memory) × IsUncommitted shown s old new) clean (told result) t (work_calm ((why ≡ Memory) × IsUncommitted shown s old new))
         (λ a did keeps kept on. not_kept (makes a did keeps before) on why refusal.1) (ap told is)
       where
         not_kept : Holds (shown done).now s → GoesOn (shown mid) (shown done) → (fault : StoreFault) → RefusesCommit shown done new fault → HasFailed (shown old) (shown new) Store ⊎ ((fault ≡ Memory) × IsUncommitted shown s old new)
         not_kept made on Store refusal =
-            inl (ended_since (shown old) (shown done) (shown new) Store (on.0, λ _. on.1 begun.1.is_open) (let up : (shown old).faults ≤ (shown done).faults = omega (arith, t.begins.counts, t.works.survives.counts) in up) (refusal.failed on.0))
+            inl (EndsBy-later_call (shown old) (shown done) (shown new) Store (on.0, λ _. on.1 begun.1.is_open) (let up : (shown old).faults ≤ (shown done).faults = omega (arith, t.begins.counts, t.works.survives.counts) in up) (refusal.failed on.0))
         not_kept made on Memory refusal =
-            inr (refl, record { worked = done; inside = on.0; survives = transaction_within (shown old) (shown mid) (shown done) (shown new) Does Keeps (told result) t; made = made; refused = refusal })
+            inr (refl, record { worked = done; inside = on.0; survives = Survives-before_whole_end (shown old) (shown mid) (shown done) (shown new) Does Keeps (told result) t; made = made; refused = refusal })
 
   -- why it fails by Store: of a database from which the work makes one that holds this state
-  pub made_refused : IsCalmOverBetween Ready (shown mid) (shown done) t.worked → (HasCleanDisk (shown new) → IfErr result (EndsFor shown t.keeps t.worked done new))
+  pub OnlyIfRefused-of_transaction : IsCalmOverBetween Ready (shown mid) (shown done) t.worked → (HasCleanDisk (shown new) → IfErr result (EndsFor shown t.keeps t.worked done new))
       → ((db : Database) → Before db → Ready db) → ((a : A) → Does a → Keeps a → Before (shown mid).now → Holds (shown done).now s) → OnlyIfRefused shown Before s old new result
-  made_refused calm refused ready makes = record {
+  OnlyIfRefused-of_transaction calm refused ready makes = record {
     call = by_call calm refused ready makes;
     commit = by_commit calm refused ready makes;
   }
 
 -- the fault that is reported is Store only for these causes
-pub only_if_failed : {X A : Type 0} (shown : Held X → State) (Before : Database → Type 0) (s : Broker) (old new : Held X) (result : Result A Failure) → OnlyIfRefused shown Before s old new result → OnlyIfStoreFailed shown Before s old new (told result ≡ Err Store)
-only_if_failed shown Before s old new (Ok a) why clean fresh holds is = absurd (cc)
-only_if_failed shown Before s old new (Err (Call Memory)) why clean fresh holds is = absurd (cc)
-only_if_failed shown Before s old new (Err (Call Store)) why clean fresh holds is = inl (why.call clean fresh holds refl)
-only_if_failed shown Before s old new (Err (Commit fault)) why clean fresh holds is = elim (why.commit clean fresh holds fault refl) [ inl failed ↦ inl failed | inr refused ↦ inr refused.1 ]
+pub OnlyIfStoreFailed-of_refused : {X A : Type 0} (shown : Held X → State) (Before : Database → Type 0) (s : Broker) (old new : Held X) (result : Result A Failure) → OnlyIfRefused shown Before s old new result → OnlyIfStoreFailed shown Before s old new (told result ≡ Err Store)
+OnlyIfStoreFailed-of_refused shown Before s old new (Ok a) why clean fresh holds is = absurd (cc)
+OnlyIfStoreFailed-of_refused shown Before s old new (Err (Call Memory)) why clean fresh holds is = absurd (cc)
+OnlyIfStoreFailed-of_refused shown Before s old new (Err (Call Store)) why clean fresh holds is = inl (why.call clean fresh holds refl)
+OnlyIfStoreFailed-of_refused shown Before s old new (Err (Commit fault)) why clean fresh holds is = elim (why.commit clean fresh holds fault refl) [ inl failed ↦ inl failed | inr refused ↦ inr refused.1 ]
 
 -- the failure as the fault of making a broker
-pub refuses_as : (office : Text) (new : State) (why : StoreFault) → MakesOrFails office new (Err why) → Refuses IsBlank (λ db. Stores db (opening office)) new (open_fault why)
-refuses_as office new Memory it = it
-refuses_as office new Store it = it
+pub Refuses-of_fails : (office : Text) (new : State) (why : StoreFault) → MakesOrFails office new (Err why) → Refuses IsBlank (λ db. Stores db (opening office)) new (open_fault why)
+Refuses-of_fails office new Memory it = it
+Refuses-of_fails office new Store it = it
 
 -- ---- a database of format 1 is upgraded
 
@@ -119,37 +119,37 @@ abbrev pub IsBroughtUp : State → State → Option ℕ → Type 0
 IsBroughtUp mid done found = FindsFormerAlone mid.now found × (found ≡ Some former_format → BringsUp mid.now done.now × (done.now.schema ≡ broker_schema))
 
 -- nothing is committed but by a database of format 1
-pub former_of : (db : Database) (found : Option ℕ) → FindsFormerAlone db found → found ≡ Some former_format → IsFormer db
-former_of db None it is = absurd (cc)
-former_of db (Some n) it is = let same : n ≡ former_format = cc in (subst (λ k. IsOfFormat k db) same it.0, it.1 same)
+pub IsFormer-of_found : (db : Database) (found : Option ℕ) → FindsFormerAlone db found → found ≡ Some former_format → IsFormer db
+IsFormer-of_found db None it is = absurd (cc)
+IsFormer-of_found db (Some n) it is = let same : n ≡ former_format = cc in (subst (λ k. IsOfFormat k db) same it.0, it.1 same)
 
 abbrev pub going_up : (old mid done new : State) (worked result : Result (Option ℕ) StoreFault) (keeps : Bool) → (HasCleanDisk mid → Begins old mid) → Survives old mid (λ _. ⊥)
     → CallsStoreBetween mid done worked (IsBroughtUp mid done) → (IsTrue keeps ↔ IsOkAnd worked (λ found. found ≡ Some former_format)) → Concludes done new keeps worked result
     → WholeTransaction old mid done new (IsBroughtUp mid done) (λ found. found ≡ Some former_format) result
 going_up old mid done new worked result keeps begun begins works kept concludes =
-    record { worked = worked; keeps = keeps; begun = begun; begins = begins; works = may_take mid done worked _ works; kept = kept; concludes = concludes }
+    record { worked = worked; keeps = keeps; begun = begun; begins = begins; works = CallsBetween-may_take_memory mid done worked _ works; kept = kept; concludes = concludes }
 
-pub brought_up : {X : Type 0} (shown : Held X → State) (old mid done new : Held X) (worked result : Result (Option ℕ) StoreFault) (keeps : Bool) → (HasCleanDisk (shown mid) → Begins (shown old) (shown mid)) → Survives (shown old) (shown mid) (λ _. ⊥)
+pub BringsUpOrNot-of_transaction : {X : Type 0} (shown : Held X → State) (old mid done new : Held X) (worked result : Result (Option ℕ) StoreFault) (keeps : Bool) → (HasCleanDisk (shown mid) → Begins (shown old) (shown mid)) → Survives (shown old) (shown mid) (λ _. ⊥)
     → CallsStoreBetween (shown mid) (shown done) worked (IsBroughtUp (shown mid) (shown done)) → (IsTrue keeps ↔ IsOkAnd worked (λ found. found ≡ Some former_format)) → Concludes (shown done) (shown new) keeps worked result
     → (HasCleanDisk (shown done) → (shown mid).step_limit ≡ None → IfErr worked (λ fault. FailsToFind (shown mid) (shown done) fault ⊎ IsFormer (shown mid).now))
     → OnlyIfNotMigrated shown old new (result ≡ Err Store) → BringsUpOrNot shown old new result
-brought_up shown old mid done new worked result keeps begun begins works kept concludes looks former = record {
-  found = λ clean. IfOk-weaker result _ _ (λ found it. (it.0, subst (λ (db : Database). FindsFormerAlone db found) it.1 it.2.0)) (transaction_told (shown old) (shown mid) (shown done) (shown new) _ _ result t clean);
+BringsUpOrNot-of_transaction shown old mid done new worked result keeps begun begins works kept concludes looks former = record {
+  found = λ clean. IfOk-weaker result _ _ (λ found it. (it.0, subst (λ (db : Database). FindsFormerAlone db found) it.1 it.2.0)) (IfOk-transaction (shown old) (shown mid) (shown done) (shown new) _ _ result t clean);
   ends = λ clean s holds.
-      let begun = transaction_begun (shown old) (shown mid) (shown done) (shown new) _ _ result t clean in
-      transaction_ends (shown old) (shown mid) (shown done) (shown new) _ _ result t (λ db. StoresFormer db s) (λ db. Stores db s) (λ found. (found ≡ Some former_format) × HoldsState s (shown new) × KeepsFormerRoom (shown old) (shown new)) clean holds
+      let begun = Begins-transaction (shown old) (shown mid) (shown done) (shown new) _ _ result t clean in
+      EndsOrFails-transaction (shown old) (shown mid) (shown done) (shown new) _ _ result t (λ db. StoresFormer db s) (λ db. Stores db s) (λ found. (found ≡ Some former_format) × HoldsState s (shown new) × KeepsFormerRoom (shown old) (shown new)) clean holds
       (λ found was up is. stored s found was up is)
       (λ found was up is commit. (
         is,
         commit (λ db. Stores db s) (stored s found was up is),
         λ n room. commit (HasRoomFor n) (((up.1 is).0 s was.tables).1 n (subst (HasFormerRoomFor n) (sym begun.1.now_is) room)),
       ))
-      (λ found was up other kept. absurd (other (former_found (shown mid).now s found was.tables up.0)));
-  unchanged = transaction_unchanged (shown old) (shown mid) (shown done) (shown new) _ _ result t;
-  over = transaction_over (shown old) (shown mid) (shown done) (shown new) _ _ result t;
-  survives = transaction_once (shown old) (shown mid) (shown done) (shown new) _ _ result t;
-  spares = λ clean other. transaction_spares (shown old) (shown mid) (shown done) (shown new) _ _ result t (λ found same up is. other (subst IsFormer same (former_of (shown mid).now found up.0 is))) clean;
-  calm = λ clean fresh. looking_fails (shown old) (shown mid) (shown done) (shown new) _ _ result t clean fresh IsFormer looks (λ found up is. former_of (shown mid).now found up.0 is);
+      (λ found was up other kept. absurd (other (FindsFormerAlone-former (shown mid).now s found was.tables up.0)));
+  unchanged = IsUnchangedUnless-transaction (shown old) (shown mid) (shown done) (shown new) _ _ result t;
+  over = LeavesNoTransaction-transaction (shown old) (shown mid) (shown done) (shown new) _ _ result t;
+  survives = CommitsAtMostOnce-whole (shown old) (shown mid) (shown done) (shown new) _ _ result t;
+  spares = λ clean other. AddsNoCrashState-transaction (shown old) (shown mid) (shown done) (shown new) _ _ result t (λ found same up is. other (subst IsFormer same (IsFormer-of_found (shown mid).now found up.0 is))) clean;
+  calm = λ clean fresh. TellsNothing-of_look_up (shown old) (shown mid) (shown done) (shown new) _ _ result t clean fresh IsFormer looks (λ found up is. IsFormer-of_found (shown mid).now found up.0 is);
   calm_former = former;
 }
   where
@@ -160,18 +160,18 @@ brought_up shown old mid done new worked result keeps begun begins works kept co
     stored s found was up is = record { tables = ((up.1 is).0 s was.tables).0; contents = was.contents }
 
 -- if BEGIN was refused
-pub not_brought_up : {X : Type 0} (shown : Held X → State) (old new : Held X) (why : StoreFault) → (HasCleanDisk (shown new) → IsLeft (shown old) (shown new)) → (HasCleanDisk (shown new) → FailsToBegin (shown old) (shown new) why) → Survives (shown old) (shown new) (λ _. ⊥)
+pub BringsUpOrNot-unbegun : {X : Type 0} (shown : Held X → State) (old new : Held X) (why : StoreFault) → (HasCleanDisk (shown new) → IsLeft (shown old) (shown new)) → (HasCleanDisk (shown new) → FailsToBegin (shown old) (shown new) why) → Survives (shown old) (shown new) (λ _. ⊥)
     → BringsUpOrNot shown old new (Err why)
-not_brought_up shown old new why refused cause begins = record {
+BringsUpOrNot-unbegun shown old new why refused cause begins = record {
   found = λ clean. tt;
-  ends = λ clean s holds. unbegun_ends (shown old) (shown new) why refused begins (λ db. StoresFormer db s) (λ db. Stores db s) (λ found. (found ≡ Some former_format) × HoldsState s (shown new) × KeepsFormerRoom (shown old) (shown new)) clean holds;
-  unchanged = unbegun_unchanged (shown old) (shown new) why refused begins (λ found. found ≡ Some former_format);
-  over = unbegun_over (shown old) (shown new) refused;
-  survives = once_at_most (shown old) (shown new) begins;
-  spares = λ clean other. adds_nothing (shown old) (shown new) begins clean;
+  ends = λ clean s holds. EndsOrFails-unbegun (shown old) (shown new) why refused begins (λ db. StoresFormer db s) (λ db. Stores db s) (λ found. (found ≡ Some former_format) × HoldsState s (shown new) × KeepsFormerRoom (shown old) (shown new)) clean holds;
+  unchanged = IsUnchangedUnless-unbegun (shown old) (shown new) why refused begins (λ found. found ≡ Some former_format);
+  over = LeavesNoTransaction-unbegun (shown old) (shown new) refused;
+  survives = CommitsAtMostOnce-of_survives (shown old) (shown new) begins;
+  spares = λ clean other. AddsNoCrashState-of_survives (shown old) (shown new) begins clean;
   calm = λ clean fresh is. inl (inl (failed clean fresh is));
   calm_former = λ s fit clean fresh holds is. inl (failed clean fresh is);
 }
   where
     failed : HasCleanDisk (shown new) → IsFresh (shown old) → ◌≡◌ {A = Result (Option ℕ) StoreFault} (Err why) (Err Store) → HasFailed (shown old) (shown new) Store
-    failed clean fresh is = unbegun_fails (shown old) (shown new) why fresh (cause clean) (let same : why ≡ Store = (let h = is in cc) in same)
+    failed clean fresh is = HasFailed-unbegun (shown old) (shown new) why fresh (cause clean) (let same : why ≡ Store = (let h = is in cc) in same)

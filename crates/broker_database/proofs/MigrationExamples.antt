@@ -5,9 +5,9 @@ use Rattle.broker_core.specs.{declared.answer.Answer.TheVariants.{Shown}, declar
 use Rattle.broker_core.specs.{declared.command.Version.{Version}, declared.need.Kind.{Kind}, declared.need.Kind.TheVariants.{Missing, Failed}}
 use Rattle.broker_core.specs.{declared.need.PairFault.{PairFault}, Change.{unchanged_with}}
 use Rattle.broker_core.specs.{State.{State as Broker, Verification, opening, claimed_result, checked_result}, Text.{Text, same_text, put_at, version}}
-use Rattle.broker_core.proofs.Judgement.{Rows, with_rows, row_keys, judges}
+use Rattle.broker_core.proofs.Judgement.{Rows, with_rows, row_keys, Judges-is_permitted}
 use Rattle.broker_tables.specs.{Former.{IsUnmarked}, Holds.{AreResults}}
-use Rattle.broker_database.{specs.Migration.{Showed}, proofs.MigrationLemmas.{judges_as_before}}
+use Rattle.broker_database.{specs.Migration.{Showed}, proofs.MigrationLemmas.{JudgesAsBefore-unmarked}}
 
 abbrev shop : Version
 shop = version (codes "shop") (codes "1")
@@ -34,12 +34,12 @@ with_results results =
 abbrev result_row : Bool → Row
 result_row pass = Int (pos 1) ∷ Null ∷ Int (pos 1) ∷ Words (codes "stock") ∷ Int (pos 2) ∷ Int (if pass then pos 1 else pos 0) ∷ Null ∷ []
 
-pub a_row_of_format_1_is_a_claim : AreResults (shop ∷ stock ∷ []) (claimed_result 1 stock true None ∷ []) (result_row true ∷ []) []
-a_row_of_format_1_is_a_claim = refl
+pub AreResults-former_row_is_claim : AreResults (shop ∷ stock ∷ []) (claimed_result 1 stock true None ∷ []) (result_row true ∷ []) []
+AreResults-former_row_is_claim = refl
 
 -- after the migration the same row is still a claim, and a row that is listed among the checked ones isn't
-pub a_checked_result_has_a_row_more : AreResults (shop ∷ stock ∷ []) (checked_result 1 stock false None ∷ []) (result_row false ∷ []) ((Int (pos 1) ∷ Null ∷ []) ∷ [])
-a_checked_result_has_a_row_more = refl
+pub AreResults-checked_row : AreResults (shop ∷ stock ∷ []) (checked_result 1 stock false None ∷ []) (result_row false ∷ []) ((Int (pos 1) ∷ Null ∷ []) ∷ [])
+AreResults-checked_row = refl
 
 lenient : (results : List Verification) (e : Text) (marks : Marks) → (with_results results).environments e ≡ Some marks → marks.strict ≡ false
 lenient results e marks h =
@@ -48,27 +48,27 @@ lenient results e marks h =
       | false ↦ λ is. absurd (cc)
     ] h
 
-unmarked : (pass : Bool) → IsUnmarked (with_results (claimed_result 1 stock pass None ∷ []))
-unmarked pass = record { claimed = (refl, tt); lenient = lenient (claimed_result 1 stock pass None ∷ []) }
+IsUnmarked-claimed : (pass : Bool) → IsUnmarked (with_results (claimed_result 1 stock pass None ∷ []))
+IsUnmarked-claimed pass = record { claimed = (refl, tt); lenient = lenient (claimed_result 1 stock pass None ∷ []) }
 
-without_results : IsUnmarked (with_results [])
-without_results = record { claimed = tt; lenient = lenient [] }
+IsUnmarked-no_results : IsUnmarked (with_results [])
+IsUnmarked-no_results = record { claimed = tt; lenient = lenient [] }
 
 -- what is between shop 1 and stock 1
 abbrev lacks : Kind → PairFault
 lacks kind = record { consumer = codes "shop"; consumer_version = codes "1"; provider = codes "stock"; provider_version = Some (codes "1"); kind = kind }
 
-pub a_pass_was_shown_as_permitted : let s = with_results (claimed_result 1 stock true None ∷ []) in Showed s shop live (unchanged_with s (Shown (Gate live gated true [])))
-a_pass_was_shown_as_permitted =
+pub Showed-pass : let s = with_results (claimed_result 1 stock true None ∷ []) in Showed s shop live (unchanged_with s (Shown (Gate live gated true [])))
+Showed-pass =
     let s = with_results (claimed_result 1 stock true None ∷ []) in
-    ((judges_as_before s (unmarked true)).shows shop live _).0 (gated, refl, (true, [], judges s (row_keys s rows) shop live, refl))
+    ((JudgesAsBefore-unmarked s (IsUnmarked-claimed true)).shows shop live _).0 (gated, refl, (true, [], Judges-is_permitted s (row_keys s rows) shop live, refl))
 
-pub a_failure_was_shown : let s = with_results (claimed_result 1 stock false None ∷ []) in Showed s shop live (unchanged_with s (Shown (Gate live gated false (lacks Failed ∷ []))))
-a_failure_was_shown =
+pub Showed-failure : let s = with_results (claimed_result 1 stock false None ∷ []) in Showed s shop live (unchanged_with s (Shown (Gate live gated false (lacks Failed ∷ []))))
+Showed-failure =
     let s = with_results (claimed_result 1 stock false None ∷ []) in
-    ((judges_as_before s (unmarked false)).shows shop live _).0 (gated, refl, (false, lacks Failed ∷ [], judges s (row_keys s rows) shop live, refl))
+    ((JudgesAsBefore-unmarked s (IsUnmarked-claimed false)).shows shop live _).0 (gated, refl, (false, lacks Failed ∷ [], Judges-is_permitted s (row_keys s rows) shop live, refl))
 
-pub a_missing_result_was_shown : let s = with_results [] in Showed s shop live (unchanged_with s (Shown (Gate live gated false (lacks Missing ∷ []))))
-a_missing_result_was_shown =
+pub Showed-missing_result : let s = with_results [] in Showed s shop live (unchanged_with s (Shown (Gate live gated false (lacks Missing ∷ []))))
+Showed-missing_result =
     let s = with_results [] in
-    ((judges_as_before s without_results).shows shop live _).0 (gated, refl, (false, lacks Missing ∷ [], judges s (row_keys s rows) shop live, refl))
+    ((JudgesAsBefore-unmarked s IsUnmarked-no_results).shows shop live _).0 (gated, refl, (false, lacks Missing ∷ [], Judges-is_permitted s (row_keys s rows) shop live, refl))

@@ -4,7 +4,7 @@ use Rattle.std.proofs.Common.{◌≡◌, ◌≢◌, ◌==◌, ◌∷◌, [], ◌
 use Rattle.std.proofs.lemmas.Bool.{eqb-true, eqb-false}
 use Rattle.sqlite.specs.{Effect.{Database}, Held.{Held}, Schema.{Schema}, State.{State}, Table.{Table}, declared.types.Value.TheVariants.{Int}}
 use Rattle.sqlite_rules.specs.Lists.{Has}
-use Rattle.table_access.{specs.{declared.StoreFault.{StoreFault}, Durability.{HoldsDurably}}, proofs.SoundLemmas.{has_place, whole_in}}
+use Rattle.table_access.{specs.{declared.StoreFault.{StoreFault}, Durability.{HoldsDurably}}, proofs.SoundLemmas.{has_place, column-Int}}
 use Rattle.broker_core.specs.{declared.answer.Answer.TheVariants.{Shown}, declared.answer.Shown.TheVariants.{Gate}}
 use Rattle.broker_core.specs.{declared.command.Command.TheVariants.{CanIDeploy}, declared.command.Marks.{Marks}, declared.command.Version.{Version}}
 use Rattle.broker_core.specs.{declared.need.Kind.TheVariants.{Failed, Claimed}, declared.need.Latest.{Latest}, declared.need.Need.{Need}}
@@ -19,59 +19,59 @@ use Rattle.broker_database.specs.{Calls.{Migrated}, Ends.{IsUnchangedUnless}}
 use Rattle.broker_database.specs.Migration.{StoresFormer, BringsUpOrNot, FindsFormerAlone, HasFormerAlone, KeepsFormerRoom, MigratesOrRefuses, WasGood, WasPermitted, WasFault, WasJudged, Showed, JudgesAsBefore, former_kind, former_fault, former_marks}
 use Rattle.broker_database.specs.{Opening.{Refuses, IsUnchangedUnlessStore, judgement, open_fault}, Stored.{Stores, HoldsState}}
 use Rattle.broker_database.specs.{declared.opening.OpenFault.{OpenFault}, declared.opening.OpenFault.TheVariants.{Format}}
-use Rattle.broker_database.proofs.{Judgements.{one_told, meta_is, blank_none, marked_some}, OpenFailures.{judgement_is_none}}
+use Rattle.broker_database.proofs.{Judgements.{IsMeta-format, table_of-meta_unique, Finds-blank_none, Finds-marked}, OpenFailures.{judgement-not_store}}
 use Rattle.table_access.specs.declared.StoreFault.TheVariants as store_fault
 use Rattle.broker_tables.specs.Schema as tables
 
 -- what is held durably is seen, while the connection is open
-pub held_now : (P : Database → Type 0) (c : State) → HoldsDurably P c → IsTrue c.is_open → P c.now
-held_now P c keeps now = let was = keeps.held now in subst P (sym was.same) was.has
+pub HoldsDurably-now : (P : Database → Type 0) (c : State) → HoldsDurably P c → IsTrue c.is_open → P c.now
+HoldsDurably-now P c keeps now = let was = keeps.held now in subst P (sym was.same) was.has
 
 -- ---- the format that is found
 
 -- a database of format 1 has meta as its first table, with its one row
-pub former_marked : (db : Database) (s : Broker) → HoldsFormer db s → IsMarked former_format s.office db
-former_marked db s held = record { tables = drop 1 (schema_of former_tables).tables; indexes = (schema_of former_tables).indexes; schema = held.schema; row = held.meta }
+pub IsMarked-of_former : (db : Database) (s : Broker) → HoldsFormer db s → IsMarked former_format s.office db
+IsMarked-of_former db s held = record { tables = drop 1 (schema_of former_tables).tables; indexes = (schema_of former_tables).indexes; schema = held.schema; row = held.meta }
 
 -- each column is like itself
-like_itself : (cs : List Column) → AreLike cs cs
-like_itself [] = tt
-like_itself (c ∷ cs) = ((refl, refl), like_itself cs)
+AreLike-refl : (cs : List Column) → AreLike cs cs
+AreLike-refl [] = tt
+AreLike-refl (c ∷ cs) = ((refl, refl), AreLike-refl cs)
 
-keys_themselves : (keys : List (List ℕ)) → AreKeys keys keys
-keys_themselves [] = tt
-keys_themselves (places ∷ keys) = (refl, keys_themselves keys)
+AreKeys-refl : (keys : List (List ℕ)) → AreKeys keys keys
+AreKeys-refl [] = tt
+AreKeys-refl (places ∷ keys) = (refl, AreKeys-refl keys)
 
--- a table has its own form, whichever tree has its rows, if its columns compare bytes
-form : (t : Table) (tree : ℕ) → CompareBytes t.columns → HasForm t (record t { tree = tree })
-form t tree bytes = (like_itself t.columns, bytes, (refl, refl, keys_themselves t.uniques))
+-- a table has its own HasForm-own, whichever tree has its rows, if its columns compare bytes
+HasForm-own : (t : Table) (tree : ℕ) → CompareBytes t.columns → HasForm t (record t { tree = tree })
+HasForm-own t tree bytes = (AreLike-refl t.columns, bytes, (refl, refl, AreKeys-refl t.uniques))
 
-former_schema : HasFormerTables (schema_of former_tables)
+HasFormerTables-former_schema : HasFormerTables (schema_of former_tables)
 unfolding same_name
-former_schema = (form tables.meta 0 (refl, (refl, (refl, tt))), (form tables.teams 1 (refl, (refl, tt)), (form tables.pacticipants 4 (refl, (refl, tt)), (form tables.versions 6 (refl, (refl, (refl, tt))), (form tables.branches 8 (refl, (refl, tt)), (form tables.environments 10 (refl, (refl, tt)), (form tables.grants 12 (refl, (refl, tt)), (form tables.contents 14 (refl, (refl, (refl, tt))), (form tables.contracts 15 (refl, (refl, (refl, tt))), (form tables.results 17 (refl, (refl, (refl, (refl, (refl, (refl, tt)))))), (form tables.latest 19 (refl, (refl, (refl, tt))), (form tables.deployed 21 (refl, (refl, (refl, (refl, tt)))), (form tables.released 23 (refl, (refl, tt)), tt)))))))))))))
+HasFormerTables-former_schema = (HasForm-own tables.meta 0 (refl, (refl, (refl, tt))), (HasForm-own tables.teams 1 (refl, (refl, tt)), (HasForm-own tables.pacticipants 4 (refl, (refl, tt)), (HasForm-own tables.versions 6 (refl, (refl, (refl, tt))), (HasForm-own tables.branches 8 (refl, (refl, tt)), (HasForm-own tables.environments 10 (refl, (refl, tt)), (HasForm-own tables.grants 12 (refl, (refl, tt)), (HasForm-own tables.contents 14 (refl, (refl, (refl, tt))), (HasForm-own tables.contracts 15 (refl, (refl, (refl, tt))), (HasForm-own tables.results 17 (refl, (refl, (refl, (refl, (refl, (refl, tt)))))), (HasForm-own tables.latest 19 (refl, (refl, (refl, tt))), (HasForm-own tables.deployed 21 (refl, (refl, (refl, (refl, tt)))), (HasForm-own tables.released 23 (refl, (refl, tt)), tt)))))))))))))
 
-pub former_tables_there : (db : Database) (s : Broker) → HoldsFormer db s → HasFormerAlone db.schema
-former_tables_there db s held = subst HasFormerAlone (sym held.schema) (former_schema, refl, refl, refl)
+pub HasFormerAlone-of_former : (db : Database) (s : Broker) → HoldsFormer db s → HasFormerAlone db.schema
+HasFormerAlone-of_former db s held = subst HasFormerAlone (sym held.schema) (HasFormerTables-former_schema, refl, refl, refl)
 
-pub former_found : (db : Database) (s : Broker) (found : Option ℕ) → HoldsFormer db s → FindsFormerAlone db found → found ≡ Some former_format
-former_found db s None held (inl foreign) = marked_some former_format s.office db None (former_marked db s held) foreign
-former_found db s None held (inr (tells, lacks)) = absurd (lacks (former_tables_there db s held))
-former_found db s (Some n) held it = marked_some former_format s.office db (Some n) (former_marked db s held) it.0
+pub FindsFormerAlone-former : (db : Database) (s : Broker) (found : Option ℕ) → HoldsFormer db s → FindsFormerAlone db found → found ≡ Some former_format
+FindsFormerAlone-former db s None held (inl foreign) = Finds-marked former_format s.office db None (IsMarked-of_former db s held) foreign
+FindsFormerAlone-former db s None held (inr (tells, lacks)) = absurd (lacks (HasFormerAlone-of_former db s held))
+FindsFormerAlone-former db s (Some n) held it = Finds-marked former_format s.office db (Some n) (IsMarked-of_former db s held) it.0
 
 -- and its format can be found
-pub former_told : (db : Database) (s : Broker) → HoldsFormer db s → ¬ (HasNoFormat db ⊎ SharesTree db)
-former_told db s held (inl (table, at, is, (row, rows, none))) =
-    let one : db.trees in_meta.tree ≡ row ∷ [] = subst (λ (t : Table). db.trees t.tree ≡ row ∷ []) (meta_is former_format s.office db (former_marked db s held) table at) rows in
+pub HoldsFormer-has_format : (db : Database) (s : Broker) → HoldsFormer db s → ¬ (HasNoFormat db ⊎ SharesTree db)
+HoldsFormer-has_format db s held (inl (table, at, is, (row, rows, none))) =
+    let one : db.trees in_meta.tree ≡ row ∷ [] = subst (λ (t : Table). db.trees t.tree ≡ row ∷ []) (table_of-meta_unique former_format s.office db (IsMarked-of_former db s held) table at) rows in
     let there = has_place db.schema.tables 0 tables.meta (ap (λ (c : Schema). slice_get c.tables 0) held.schema) in
-    let number = whole_in db held.kept.sound tables.meta there row (subst (λ xs. Has xs row) (sym one) (inl refl)) 1 _ refl refl refl refl refl in
-    none former_format (number ∙ ap Int (one_told former_format s.office row (subst (IsMeta former_format s.office) one held.meta))) (omega arith)
-former_told db s held (inr (table, at, is, other)) =
-    other (subst (λ (t : Table). find (λ u. u.tree == t.tree) db.schema.tables ≡ Some t) (sym (meta_is former_format s.office db (former_marked db s held) table at)) (ap (λ (c : Schema). find (λ u. u.tree == in_meta.tree) c.tables) held.schema))
+    let number = column-Int db held.kept.sound tables.meta there row (subst (λ xs. Has xs row) (sym one) (inl refl)) 1 _ refl refl refl refl refl in
+    none former_format (number ∙ ap Int (IsMeta-format former_format s.office row (subst (IsMeta former_format s.office) one held.meta))) (omega arith)
+HoldsFormer-has_format db s held (inr (table, at, is, other)) =
+    other (subst (λ (t : Table). find (λ u. u.tree == t.tree) db.schema.tables ≡ Some t) (sym (table_of-meta_unique former_format s.office db (IsMarked-of_former db s held) table at)) (ap (λ (c : Schema). find (λ u. u.tree == in_meta.tree) c.tables) held.schema))
 
 -- the judgement by what is found is right
-judged_former : (db : Database) (found : Option ℕ) → FindsFormerAlone db found → MigratesOrRefuses db (judgement former_format found)
-judged_former db None it = it
-judged_former db (Some n) it = go (n == former_format) refl
+MigratesOrRefuses-judgement : (db : Database) (found : Option ℕ) → FindsFormerAlone db found → MigratesOrRefuses db (judgement former_format found)
+MigratesOrRefuses-judgement db None it = it
+MigratesOrRefuses-judgement db (Some n) it = go (n == former_format) refl
   where
     go : (b : Bool) → (n == former_format) ≡ b → MigratesOrRefuses db (if b then Ok tt else Err (Format n))
     go true e =
@@ -79,50 +79,50 @@ judged_former db (Some n) it = go (n == former_format) refl
         (subst (λ k. IsOfFormat k db) same it.0, it.1 same)
     go false e = (it.0, eqb-false n former_format e)
 
-blank_former : (db : Database) (found : Option ℕ) → db.schema ≡ no_schema → FindsFormerAlone db found → found ≡ None
-blank_former db None blank it = refl
-blank_former db (Some n) blank it = blank_none db (Some n) blank it.0
+FindsFormerAlone-blank : (db : Database) (found : Option ℕ) → db.schema ≡ no_schema → FindsFormerAlone db found → found ≡ None
+FindsFormerAlone-blank db None blank it = refl
+FindsFormerAlone-blank db (Some n) blank it = Finds-blank_none db (Some n) blank it.0
 
-marked_former : (n : ℕ) (office : Text) (db : Database) (found : Option ℕ) → n ≢ former_format → IsMarked n office db → FindsFormerAlone db found → found ≡ Some n
-marked_former n office db None other marked (inl foreign) = marked_some n office db None marked foreign
-marked_former n office db None other marked (inr (tells, lacks)) =
-    let is : Some former_format ≡ Some n = marked_some n office db (Some former_format) marked tells in
+FindsFormerAlone-marked : (n : ℕ) (office : Text) (db : Database) (found : Option ℕ) → n ≢ former_format → IsMarked n office db → FindsFormerAlone db found → found ≡ Some n
+FindsFormerAlone-marked n office db None other marked (inl foreign) = Finds-marked n office db None marked foreign
+FindsFormerAlone-marked n office db None other marked (inr (tells, lacks)) =
+    let is : Some former_format ≡ Some n = Finds-marked n office db (Some former_format) marked tells in
     absurd (other (let same : n ≡ former_format = cc in same))
-marked_former n office db (Some k) other marked it = marked_some n office db (Some k) marked it.0
+FindsFormerAlone-marked n office db (Some k) other marked it = Finds-marked n office db (Some k) marked it.0
 
 -- ---- the gate's words
 
-good_before : (need : Need) → IsGood false need → WasGood need
-good_before need good = (good.0, passes need.latest good.1)
+IsGood-was : (need : Need) → IsGood false need → WasGood need
+IsGood-was need good = (good.0, passes need.latest good.1)
   where
     passes : (o : Option Latest) → IsSomeAnd o (λ latest. IsTrue latest.pass × (IsTrue false → IsTrue latest.checked)) → IsSomeAnd o (λ latest. IsTrue latest.pass)
     passes None h = h
     passes (Some latest) h = h.0
 
-good_now : (need : Need) → WasGood need → IsGood false need
-good_now need good = (good.0, passes need.latest good.1)
+IsGood-now : (need : Need) → WasGood need → IsGood false need
+IsGood-now need good = (good.0, passes need.latest good.1)
   where
     passes : (o : Option Latest) → IsSomeAnd o (λ latest. IsTrue latest.pass) → IsSomeAnd o (λ latest. IsTrue latest.pass × (IsTrue false → IsTrue latest.checked))
     passes None h = h
     passes (Some latest) h = (h, λ never. absurd cc)
 
-same_kind : (w : Option Text) (latest : Option Latest) → kind_of false w latest ≡ former_kind w latest
-same_kind None latest = refl
-same_kind (Some w) None = refl
-same_kind (Some w) (Some latest) = by_pass latest.pass
+kind_of-former_kind : (w : Option Text) (latest : Option Latest) → kind_of false w latest ≡ former_kind w latest
+kind_of-former_kind None latest = refl
+kind_of-former_kind (Some w) None = refl
+kind_of-former_kind (Some w) (Some latest) = by_pass latest.pass
   where
     by_pass : (pass : Bool) → (if not pass then Some Failed else if false && not latest.checked then Some Claimed else None) ≡ (if pass then None else Some Failed)
     by_pass true = refl
     by_pass false = refl
 
-same_fault : (need : Need) → fault_of false need ≡ former_fault need
-same_fault need = ap (option_map (λ kind. record {
+fault_of-former_fault : (need : Need) → fault_of false need ≡ former_fault need
+fault_of-former_fault need = ap (option_map (λ kind. record {
   consumer = need.consumer;
   consumer_version = need.consumer_version;
   provider = need.provider;
   provider_version = need.provider_version;
   kind = kind;
-})) (same_kind need.provider_version need.latest)
+})) (kind_of-former_kind need.provider_version need.latest)
 
 -- ---- if no environment is strict
 
@@ -134,111 +134,111 @@ module _ (s : Broker) (are : IsUnmarked s) where
       go None is = refl
       go (Some marks) is = are.lenient e marks is
 
-  permits_now : (v : Version) (e : Text) → IsPermitted s v e ↔ WasPermitted s v e
-  permits_now v e = (forward, back)
+  IsPermitted-was_permitted : (v : Version) (e : Text) → IsPermitted s v e ↔ WasPermitted s v e
+  IsPermitted-was_permitted v e = (forward, back)
     where
       forward : IsPermitted s v e → WasPermitted s v e
-      forward (inl all) = inl (λ need is. good_before need (subst (λ strict. IsGood strict need) (lenient e) (all need is)))
+      forward (inl all) = inl (λ need is. IsGood-was need (subst (λ strict. IsGood strict need) (lenient e) (all need is)))
       forward (inr ungated) = inr ungated
 
       back : WasPermitted s v e → IsPermitted s v e
-      back (inl all) = inl (λ need is. subst (λ strict. IsGood strict need) (sym (lenient e)) (good_now need (all need is)))
+      back (inl all) = inl (λ need is. subst (λ strict. IsGood strict need) (sym (lenient e)) (IsGood-now need (all need is)))
       back (inr ungated) = inr ungated
 
-  same_now : (e : Text) (need : Need) → fault_of (is_strict s e) need ≡ former_fault need
-  same_now e need = ap (λ strict. fault_of strict need) (lenient e) ∙ same_fault need
+  fault_of-is_strict_former : (e : Text) (need : Need) → fault_of (is_strict s e) need ≡ former_fault need
+  fault_of-is_strict_former e need = ap (λ strict. fault_of strict need) (lenient e) ∙ fault_of-former_fault need
 
-  faults_now : (v : Version) (e : Text) (fault : PairFault) → IsFault s v e fault ↔ WasFault s v e fault
-  faults_now v e fault = (
-    λ it. (it.0, it.1, sym (same_now e it.0) ∙ it.2),
-    λ it. (it.0, it.1, same_now e it.0 ∙ it.2),
+  IsFault-was_fault : (v : Version) (e : Text) (fault : PairFault) → IsFault s v e fault ↔ WasFault s v e fault
+  IsFault-was_fault v e fault = (
+    λ it. (it.0, it.1, sym (fault_of-is_strict_former e it.0) ∙ it.2),
+    λ it. (it.0, it.1, fault_of-is_strict_former e it.0 ∙ it.2),
   )
 
-  judged_before : (v : Version) (e : Text) (permitted : Bool) (faults : List PairFault) → Judges s v e permitted faults → WasJudged s v e permitted faults
-  judged_before v e permitted faults it = record {
-    verdict = (λ yes. (permits_now v e).0 (it.verdict.0 yes), λ was. it.verdict.1 ((permits_now v e).1 was));
+  Judges-was : (v : Version) (e : Text) (permitted : Bool) (faults : List PairFault) → Judges s v e permitted faults → WasJudged s v e permitted faults
+  Judges-was v e permitted faults it = record {
+    verdict = (λ yes. (IsPermitted-was_permitted v e).0 (it.verdict.0 yes), λ was. it.verdict.1 ((IsPermitted-was_permitted v e).1 was));
     faults_are = record {
       sorted = it.faults_are.sorted;
-      exactly = λ f. (λ c. (faults_now v e f).0 ((it.faults_are.exactly f).0 c), λ is. (it.faults_are.exactly f).1 ((faults_now v e f).1 is));
+      exactly = λ f. (λ c. (IsFault-was_fault v e f).0 ((it.faults_are.exactly f).0 c), λ is. (it.faults_are.exactly f).1 ((IsFault-was_fault v e f).1 is));
     };
   }
 
-  judged_now : (v : Version) (e : Text) (permitted : Bool) (faults : List PairFault) → WasJudged s v e permitted faults → Judges s v e permitted faults
-  judged_now v e permitted faults it = record {
-    verdict = (λ yes. (permits_now v e).1 (it.verdict.0 yes), λ is. it.verdict.1 ((permits_now v e).0 is));
+  Judges-now : (v : Version) (e : Text) (permitted : Bool) (faults : List PairFault) → WasJudged s v e permitted faults → Judges s v e permitted faults
+  Judges-now v e permitted faults it = record {
+    verdict = (λ yes. (IsPermitted-was_permitted v e).1 (it.verdict.0 yes), λ is. it.verdict.1 ((IsPermitted-was_permitted v e).0 is));
     faults_are = record {
       sorted = it.faults_are.sorted;
-      exactly = λ f. (λ c. (faults_now v e f).1 ((it.faults_are.exactly f).0 c), λ is. (it.faults_are.exactly f).1 ((faults_now v e f).0 is));
+      exactly = λ f. (λ c. (IsFault-was_fault v e f).1 ((it.faults_are.exactly f).0 c), λ is. (it.faults_are.exactly f).1 ((IsFault-was_fault v e f).0 is));
     };
   }
 
-  marks_before : (e : Text) (marks : Marks) → s.environments e ≡ Some marks → marks ≡ former_marks marks.gated
-  marks_before e marks is = ap (λ strict. record marks { strict = strict }) (are.lenient e marks is)
+  former_marks-same : (e : Text) (marks : Marks) → s.environments e ≡ Some marks → marks ≡ former_marks marks.gated
+  former_marks-same e marks is = ap (λ strict. record marks { strict = strict }) (are.lenient e marks is)
 
-  shows_before : (v : Version) (e : Text) (out : Transition) → TakesEffect broker_primitives s (CanIDeploy v e) out → Showed s v e out
-  shows_before v e out (marks, is, (permitted, faults, judged, shown)) = (
+  Showed-of_effect : (v : Version) (e : Text) (out : Transition) → TakesEffect broker_primitives s (CanIDeploy v e) out → Showed s v e out
+  Showed-of_effect v e out (marks, is, (permitted, faults, judged, shown)) = (
     marks.gated,
     ap (option_map (λ (m : Marks). m.gated)) is,
-    (permitted, faults, judged_before v e permitted faults judged, shown ∙ ap (λ m. unchanged_with s (Shown (Gate e m permitted faults))) (marks_before e marks is)),
+    (permitted, faults, Judges-was v e permitted faults judged, shown ∙ ap (λ m. unchanged_with s (Shown (Gate e m permitted faults))) (former_marks-same e marks is)),
   )
 
-  shows_now : (v : Version) (e : Text) (out : Transition) → Showed s v e out → TakesEffect broker_primitives s (CanIDeploy v e) out
-  shows_now v e out (gated, is, (permitted, faults, judged, shown)) = go (s.environments e) refl
+  TakesEffect-of_showed : (v : Version) (e : Text) (out : Transition) → Showed s v e out → TakesEffect broker_primitives s (CanIDeploy v e) out
+  TakesEffect-of_showed v e out (gated, is, (permitted, faults, judged, shown)) = go (s.environments e) refl
     where
       go : (o : Option Marks) → s.environments e ≡ o → TakesEffect broker_primitives s (CanIDeploy v e) out
       go None none = absurd (let some = is in cc)
       go (Some marks) some =
           let same : marks.gated ≡ gated = (let both : Some marks.gated ≡ Some gated = sym (ap (option_map (λ (m : Marks). m.gated)) some) ∙ is in cc) in
-          (marks, some, (permitted, faults, judged_now v e permitted faults judged, shown ∙ ap (λ m. unchanged_with s (Shown (Gate e m permitted faults))) (ap former_marks (sym same) ∙ sym (marks_before e marks some))))
+          (marks, some, (permitted, faults, Judges-now v e permitted faults judged, shown ∙ ap (λ m. unchanged_with s (Shown (Gate e m permitted faults))) (ap former_marks (sym same) ∙ sym (former_marks-same e marks some))))
 
-  pub judges_as_before : JudgesAsBefore s
-  judges_as_before = record { unmarked = are; permits = permits_now; faults = faults_now; shows = λ v e out. (shows_before v e out, shows_now v e out) }
+  pub JudgesAsBefore-unmarked : JudgesAsBefore s
+  JudgesAsBefore-unmarked = record { unmarked = are; permits = IsPermitted-was_permitted; faults = IsFault-was_fault; shows = λ v e out. (Showed-of_effect v e out, TakesEffect-of_showed v e out) }
 
 -- of each state that a database of format 1 holds
 pub judges_former : (db : Database) (s : Broker) → HoldsFormer db s → JudgesAsBefore s
-judges_former db s held = judges_as_before s (unmarked former_format [] db s held)
+judges_former db s held = JudgesAsBefore-unmarked s (unmarked former_format [] db s held)
 
 -- ---- the record of a migration, from what its transaction leaves
 
-pub always : (r : Result (Unit {0}) OpenFault) (P : Type 0) → P → OnOk r P
-always (Ok u) P it = it
-always (Err fault) P it = tt
+pub OnOk-const : (r : Result (Unit {0}) OpenFault) (P : Type 0) → P → OnOk r P
+OnOk-const (Ok u) P it = it
+OnOk-const (Err fault) P it = tt
 
 -- if the judgement refuses, no database of format 1 was found
-refused_other : (old new : State) (found : Option ℕ) → IsUnchangedUnless (λ f. f ≡ Some former_format) old new (Ok found) → IfErr (judgement former_format found) (IsUnchangedUnlessStore old new)
-refused_other old new None it = it (λ is. cc)
-refused_other old new (Some n) it = go (n == former_format) refl
+judgement-refused_unchanged : (old new : State) (found : Option ℕ) → IsUnchangedUnless (λ f. f ≡ Some former_format) old new (Ok found) → IfErr (judgement former_format found) (IsUnchangedUnlessStore old new)
+judgement-refused_unchanged old new None it = it (λ is. cc)
+judgement-refused_unchanged old new (Some n) it = go (n == former_format) refl
   where
     go : (b : Bool) → (n == former_format) ≡ b → IfErr {T = Unit {0}} (if b then Ok tt else Err (Format n)) (IsUnchangedUnlessStore old new)
     go true e = tt
     go false e = it (λ is. eqb-false n former_format e (let same : n ≡ former_format = cc in same))
 
 -- a format was found
-pub migrated : {X : Type 0} (shown : Held X → State) (old new : Held X) (found : Option ℕ) → BringsUpOrNot shown old new (Ok found) → Migrated shown old new (judgement former_format found)
-migrated shown old new found up = record {
-  migrates = λ clean s keeps. always (judgement former_format found) (HoldsState s (shown new)) (up.ends clean s keeps).1;
-  room = λ clean s keeps. always (judgement former_format found) (KeepsFormerRoom (shown old) (shown new)) (up.ends clean s keeps).2;
+pub Migrated-found : {X : Type 0} (shown : Held X → State) (old new : Held X) (found : Option ℕ) → BringsUpOrNot shown old new (Ok found) → Migrated shown old new (judgement former_format found)
+Migrated-found shown old new found up = record {
+  migrates = λ clean s keeps. OnOk-const (judgement former_format found) (HoldsState s (shown new)) (up.ends clean s keeps).1;
+  room = λ clean s keeps. OnOk-const (judgement former_format found) (KeepsFormerRoom (shown old) (shown new)) (up.ends clean s keeps).2;
   refuses = λ clean s keeps.
       let is : Ok tt ≡ judgement former_format found = sym (ap (judgement former_format) (up.ends clean s keeps).0) in
       subst (λ (r : Result (Unit {0}) OpenFault). IfErr r (Refuses (λ db. StoresFormer db s) (λ db. Stores db s) (shown new))) is tt;
-  judges = λ clean. judged_former (shown old).now found (up.found clean).1;
-  calm = λ clean fresh is. absurd (judgement_is_none former_format found is);
-  calm_former = λ s fit clean fresh holds is. absurd (judgement_is_none former_format found is);
+  judges = λ clean. MigratesOrRefuses-judgement (shown old).now found (up.found clean).1;
+  calm = λ clean fresh is. absurd (judgement-not_store former_format found is);
+  calm_former = λ s fit clean fresh holds is. absurd (judgement-not_store former_format found is);
   blank = λ clean keeps.
       let it = up.found clean in
-      inl (ap (judgement former_format) (blank_former (shown old).now found (held_now IsBlank (shown old) keeps it.0).schema it.1));
+      inl (ap (judgement former_format) (FindsFormerAlone-blank (shown old).now found (HoldsDurably-now IsBlank (shown old) keeps it.0).schema it.1));
   marked = λ clean n office other keeps.
       let it = up.found clean in
-      inl (ap (judgement former_format) (marked_former n office (shown old).now found other (held_now (IsMarked n office) (shown old) keeps it.0) it.1));
-  unchanged = λ clean. refused_other (shown old) (shown new) found (up.unchanged clean);
+      inl (ap (judgement former_format) (FindsFormerAlone-marked n office (shown old).now found other (HoldsDurably-now (IsMarked n office) (shown old) keeps it.0) it.1));
+  unchanged = λ clean. judgement-refused_unchanged (shown old) (shown new) found (up.unchanged clean);
   over = up.over;
   survives = up.survives;
   spares = up.spares;
 }
 
 -- the database failed
-pub unmigrated : {X : Type 0} (shown : Held X → State) (old new : Held X) (why : StoreFault) → BringsUpOrNot shown old new (Err why) → Migrated shown old new (Err (open_fault why))
-unmigrated shown old new store_fault.Memory up = record {
+pub Migrated-failed : {X : Type 0} (shown : Held X → State) (old new : Held X) (why : StoreFault) → BringsUpOrNot shown old new (Err why) → Migrated shown old new (Err (open_fault why))
+Migrated-failed shown old new store_fault.Memory up = record {
   migrates = λ _ _ _. tt;
   room = λ _ _ _. tt;
   refuses = up.ends;
@@ -252,7 +252,7 @@ unmigrated shown old new store_fault.Memory up = record {
   survives = up.survives;
   spares = up.spares;
 }
-unmigrated shown old new store_fault.Store up = record {
+Migrated-failed shown old new store_fault.Store up = record {
   migrates = λ _ _ _. tt;
   room = λ _ _ _. tt;
   refuses = up.ends;

@@ -13,7 +13,7 @@ use Rattle.pact_file.specs.{declared.object.FileFault.{FileFault}, declared.obje
 use Rattle.pact_rules.specs.{Outcome.{◌>>=◌, guard}, Reading.{EachRead}, Rules.{no_rules}}
 use Rattle.pact_trees.specs.Checked.{checked_tree}
 use Rattle.command_facts.specs.Primitives.{broker_primitives}
-use Rattle.broker_http.proofs.PlainRequests.{in_ascii}
+use Rattle.broker_http.proofs.PlainRequests.{IsUtf8-of_ascii}
 
 abbrev pub shop : Text
 shop = codes "shop"
@@ -50,68 +50,68 @@ shelf = record { description = codes "the shelf"; states = []; request = request
 abbrev pact : Pact
 pact = record { consumer = shop; provider = stock; interactions = shelf ∷ [] }
 
-in_utf8 : is_utf8 pact_file ≡ true
-in_utf8 = is_utf8-from_IsUtf8 pact_file (in_ascii pact_file refl)
+is_utf8-pact_file : is_utf8 pact_file ≡ true
+is_utf8-pact_file = is_utf8-from_IsUtf8 pact_file (IsUtf8-of_ascii pact_file refl)
 
-json_read : json_of pact_file ≡ Ok file_data
+json_of-pact_file : json_of pact_file ≡ Ok file_data
 unfolding json_of serde_json_on_literals
-json_read = ap (λ b. if b then ok_or (read pact_file) NotJson else Err NotJson) in_utf8
+json_of-pact_file = ap (λ b. if b then ok_or (read pact_file) NotJson else Err NotJson) is_utf8-pact_file
 
-object_read : object_of pact_file ≡ Ok file_data
+object_of-pact_file : object_of pact_file ≡ Ok file_data
 unfolding object_of serde_json_on_literals
-object_read =
-    ap (λ (r : Outcome Data FileFault). r >>= (λ whole. tree_or_fault (checked_tree whole) >>= (λ tree. guard (is_some (as_object whole)) NotObject >>= (λ is. Ok whole)))) json_read
+object_of-pact_file =
+    ap (λ (r : Outcome Data FileFault). r >>= (λ whole. tree_or_fault (checked_tree whole) >>= (λ tree. guard (is_some (as_object whole)) NotObject >>= (λ is. Ok whole)))) json_of-pact_file
 
-file_read : file_of pact_file ≡ Ok file_data
+file_of-pact_file : file_of pact_file ≡ Ok file_data
 unfolding file_of
-file_read = ap (λ (r : Outcome Data FileFault). guard (nat_le (length pact_file) most_bytes) TooLong >>= (λ short. with_fault as_file_fault r)) object_read
+file_of-pact_file = ap (λ (r : Outcome Data FileFault). guard (nat_le (length pact_file) most_bytes) TooLong >>= (λ short. with_fault as_file_fault r)) object_of-pact_file
 
-sides_read : sides_of file_data ≡ Ok (shop, stock)
+sides_of-file_data : sides_of file_data ≡ Ok (shop, stock)
 unfolding sides_of side_of is_version_3 has_no_messages is_name serde_json_on_literals
-sides_read = refl
+sides_of-file_data = refl
 
-items_read : items_of file_data ≡ Ok (interaction ∷ [])
+items_of-file_data : items_of file_data ≡ Ok (interaction ∷ [])
 unfolding items_of serde_json_on_literals
-items_read = refl
+items_of-file_data = refl
 
-parts_read : parts_at 0 interaction ≡ Ok shelf
+parts_at-interaction : parts_at 0 interaction ≡ Ok shelf
 unfolding parts_at states_in all_of status_in serde_json_on_literals
-parts_read = refl
+parts_at-interaction = refl
 
-no_headers : HasHeaders response_data []
+HasHeaders-response_data : HasHeaders response_data []
 unfolding headers_found serde_json_on_literals
-no_headers = record { found = []; read = refl; apart = λ h. h; ordered = record { rising = tt; kept = λ x i. i; known = λ x i. i } }
+HasHeaders-response_data = record { found = []; read = refl; apart = λ h. h; ordered = record { rising = tt; kept = λ x i. i; known = λ x i. i } }
 
-none_matches : RulesRead 0 response_data (Ok no_rules)
+RulesRead-response_data : RulesRead 0 response_data (Ok no_rules)
 unfolding RulesRead serde_json_on_literals
-none_matches = (Ok no_rules, refl, refl)
+RulesRead-response_data = (Ok no_rules, refl, refl)
 
-in_order : InOrder (shelf ∷ []) (Ok (shelf ∷ []))
-in_order = (
+InOrder-shelf : InOrder (shelf ∷ []) (Ok (shelf ∷ []))
+InOrder-shelf = (
   λ clash. elim clash [ inl one ↦ one | inr more ↦ more ],
   record { rising = (tt, tt); kept = λ x i. i; known = λ x i. i },
 )
 
-interactions_read : InteractionsRead file_data (Ok (shelf ∷ []))
+InteractionsRead-file_data : InteractionsRead file_data (Ok (shelf ∷ []))
 unfolding InteractionsRead InteractionRead EachRead
-interactions_read = (
+InteractionsRead-file_data = (
   Ok (interaction ∷ []),
-  items_read,
+  items_of-file_data,
   (
     Ok (shelf ∷ []),
-    (Ok shelf, (Ok shelf, parts_read, (Ok [], no_headers, (Ok no_rules, none_matches, refl))), (Ok [], refl, refl)),
-    in_order,
+    (Ok shelf, (Ok shelf, parts_at-interaction, (Ok [], HasHeaders-response_data, (Ok no_rules, RulesRead-response_data, refl))), (Ok [], refl, refl)),
+    InOrder-shelf,
   ),
 )
 
-is_short : if_short pact ≡ Ok pact
+if_short-pact : if_short pact ≡ Ok pact
 unfolding serde_json_on_literals digits
-is_short = refl
+if_short-pact = refl
 
-normal_form_is : normal_text pact ≡ normal_form
+normal_text-pact : normal_text pact ≡ normal_form
 unfolding serde_json_on_literals digits
-normal_form_is = refl
+normal_text-pact = refl
 
-pub file_is_read : broker_primitives.Reads pact_file (IsPact shop stock normal_form)
+pub Reads-pact_file : broker_primitives.Reads pact_file (IsPact shop stock normal_form)
 unfolding Normal
-file_is_read = (Ok pact, (Ok file_data, file_read, (Ok (shop, stock), sides_read, (Ok (shelf ∷ []), interactions_read, is_short))), ap (λ text. IsPact shop stock text) (sym normal_form_is))
+Reads-pact_file = (Ok pact, (Ok file_data, file_of-pact_file, (Ok (shop, stock), sides_of-file_data, (Ok (shelf ∷ []), InteractionsRead-file_data, if_short-pact))), ap (λ text. IsPact shop stock text) (sym normal_text-pact))

@@ -10,7 +10,7 @@ use Rattle.broker_core.specs.declared.command.Command.TheVariants.{PutTeam, PutP
 use Rattle.http_messages.specs.{Fields.{same_name}, Heads.{judge, body_length, served_method}}
 use Rattle.http_routes.specs.Routes.{fits, is_on, resource_of, segment}
 use Rattle.http_requests.specs.{Bodies.{IsObject, only_object}, Commands.{IsCommand, IsPactPath}, Requests.{path_of, query_of}}
-use Rattle.broker_http.proofs.PlainRequests.{Asked, asked, IsComputed, is_ascii, in_ascii, path_name, field_name}
+use Rattle.broker_http.proofs.PlainRequests.{Asked, asked, IsComputed, is_ascii, IsUtf8-of_ascii, IsPathName-plain, IsNameField-plain}
 use Rattle.broker_http.proofs.DeploymentPact.{shop, stock, pact_file, with_text}
 use Rattle.http_routes.specs.declared.Operation.TheVariants as operation
 
@@ -86,65 +86,65 @@ requests = put_red ∷ put_shop ∷ put_stock ∷ put_live ∷ grant_live ∷ pu
 
 -- ---- what the requests ask, computed from their bytes
 
-pub computed_put_red : IsComputed put_red
+pub IsComputed-put_red : IsComputed put_red
 unfolding httparse_on_literals resource_of is_on fits judge body_length served_method same_name
-computed_put_red = refl
+IsComputed-put_red = refl
 
-pub computed_put_shop : IsComputed put_shop
+pub IsComputed-put_shop : IsComputed put_shop
 unfolding httparse_on_literals resource_of is_on fits judge body_length served_method same_name
-computed_put_shop = refl
+IsComputed-put_shop = refl
 
-pub computed_put_stock : IsComputed put_stock
+pub IsComputed-put_stock : IsComputed put_stock
 unfolding httparse_on_literals resource_of is_on fits judge body_length served_method same_name
-computed_put_stock = refl
+IsComputed-put_stock = refl
 
-pub computed_put_live : IsComputed put_live
+pub IsComputed-put_live : IsComputed put_live
 unfolding httparse_on_literals resource_of is_on fits judge body_length served_method same_name
-computed_put_live = refl
+IsComputed-put_live = refl
 
-pub computed_grant_live : IsComputed grant_live
+pub IsComputed-grant_live : IsComputed grant_live
 unfolding httparse_on_literals resource_of is_on fits judge body_length served_method same_name
-computed_grant_live = refl
+IsComputed-grant_live = refl
 
-pub computed_publish : IsComputed publish
+pub IsComputed-publish : IsComputed publish
 unfolding httparse_on_literals resource_of is_on fits judge body_length served_method same_name
-computed_publish = refl
+IsComputed-publish = refl
 
-pub computed_name_stock_1 : IsComputed name_stock_1
+pub IsComputed-name_stock_1 : IsComputed name_stock_1
 unfolding httparse_on_literals resource_of is_on fits judge body_length served_method same_name
-computed_name_stock_1 = refl
+IsComputed-name_stock_1 = refl
 
-pub computed_deploy_stock_1 : IsComputed deploy_stock_1
+pub IsComputed-deploy_stock_1 : IsComputed deploy_stock_1
 unfolding httparse_on_literals resource_of is_on fits judge body_length served_method same_name
-computed_deploy_stock_1 = refl
+IsComputed-deploy_stock_1 = refl
 
-pub computed_deploy_shop_1 : IsComputed deploy_shop_1
+pub IsComputed-deploy_shop_1 : IsComputed deploy_shop_1
 unfolding httparse_on_literals resource_of is_on fits judge body_length served_method same_name
-computed_deploy_shop_1 = refl
+IsComputed-deploy_shop_1 = refl
 
-pub computed_pass_stock_1 : IsComputed pass_stock_1
+pub IsComputed-pass_stock_1 : IsComputed pass_stock_1
 unfolding httparse_on_literals resource_of is_on fits judge body_length served_method same_name
-computed_pass_stock_1 = refl
+IsComputed-pass_stock_1 = refl
 
 abbrev IsAsked : Asked → Type 0
 IsAsked q = IsCommand q.operation (path_of q.target) (query_of q.target) q.body q.command
 
 -- a body of JSON
-in_json : (body : Text) (fields : Data) → is_ascii body ≡ true → read body ≡ Some fields → only_object (Some fields) ≡ Some fields → IsObject body (Some fields)
-in_json body fields low is whole = (Some fields, (in_ascii body low, is), sym whole)
+IsObject-of_ascii : (body : Text) (fields : Data) → is_ascii body ≡ true → read body ≡ Some fields → only_object (Some fields) ≡ Some fields → IsObject body (Some fields)
+IsObject-of_ascii body fields low is whole = (Some fields, (IsUtf8-of_ascii body low, is), sym whole)
 
-pub asked_put_red : IsAsked put_red
+pub IsAsked-put_red : IsAsked put_red
 unfolding segment percent_encoding_on_literals is_name serde_json_on_literals
-asked_put_red = (
+IsAsked-put_red = (
   Ok (PutTeam red red_token),
   (
     Ok red,
-    path_name 2 (path_of put_red.target) red refl refl refl,
+    IsPathName-plain 2 (path_of put_red.target) red refl refl refl,
     (
       Ok red_token,
       (
         Some (with_text (codes "token") red_token),
-        in_json put_red.body (with_text (codes "token") red_token) refl refl refl,
+        IsObject-of_ascii put_red.body (with_text (codes "token") red_token) refl refl refl,
         (refl, record { long = omega arith; short = omega arith; plain = AllPass-from_list_all is_callers_byte red_token refl }),
       ),
       refl,
@@ -153,19 +153,19 @@ asked_put_red = (
   refl,
 )
 
-pub asked_put_shop : IsAsked put_shop
+pub IsAsked-put_shop : IsAsked put_shop
 unfolding segment percent_encoding_on_literals is_name serde_json_on_literals
-asked_put_shop = (
+IsAsked-put_shop = (
   Ok (PutPacticipant shop red),
   (
     Ok shop,
-    path_name 2 (path_of put_shop.target) shop refl refl refl,
+    IsPathName-plain 2 (path_of put_shop.target) shop refl refl refl,
     (
       Ok red,
       (
         Some (with_text (codes "team") red),
-        in_json put_shop.body (with_text (codes "team") red) refl refl refl,
-        field_name (codes "team") (with_text (codes "team") red) red refl refl refl,
+        IsObject-of_ascii put_shop.body (with_text (codes "team") red) refl refl refl,
+        IsNameField-plain (codes "team") (with_text (codes "team") red) red refl refl refl,
       ),
       refl,
     ),
@@ -173,19 +173,19 @@ asked_put_shop = (
   refl,
 )
 
-pub asked_put_stock : IsAsked put_stock
+pub IsAsked-put_stock : IsAsked put_stock
 unfolding segment percent_encoding_on_literals is_name serde_json_on_literals
-asked_put_stock = (
+IsAsked-put_stock = (
   Ok (PutPacticipant stock red),
   (
     Ok stock,
-    path_name 2 (path_of put_stock.target) stock refl refl refl,
+    IsPathName-plain 2 (path_of put_stock.target) stock refl refl refl,
     (
       Ok red,
       (
         Some (with_text (codes "team") red),
-        in_json put_stock.body (with_text (codes "team") red) refl refl refl,
-        field_name (codes "team") (with_text (codes "team") red) red refl refl refl,
+        IsObject-of_ascii put_stock.body (with_text (codes "team") red) refl refl refl,
+        IsNameField-plain (codes "team") (with_text (codes "team") red) red refl refl refl,
       ),
       refl,
     ),
@@ -196,52 +196,52 @@ asked_put_stock = (
 abbrev marks_fields : Data
 marks_fields = object (member (codes "gated") (boolean true) no_members)
 
-pub asked_put_live : IsAsked put_live
+pub IsAsked-put_live : IsAsked put_live
 unfolding segment percent_encoding_on_literals is_name serde_json_on_literals
-asked_put_live = (
+IsAsked-put_live = (
   Ok (PutEnvironment live gated),
   (
     Ok live,
-    path_name 2 (path_of put_live.target) live refl refl refl,
-    (Ok gated, (Some marks_fields, in_json put_live.body marks_fields refl refl refl, (Ok true, refl, (Ok false, refl, refl))), refl),
+    IsPathName-plain 2 (path_of put_live.target) live refl refl refl,
+    (Ok gated, (Some marks_fields, IsObject-of_ascii put_live.body marks_fields refl refl refl, (Ok true, refl, (Ok false, refl, refl))), refl),
   ),
   refl,
 )
 
-pub asked_grant_live : IsAsked grant_live
+pub IsAsked-grant_live : IsAsked grant_live
 unfolding segment percent_encoding_on_literals is_name
-asked_grant_live = (
+IsAsked-grant_live = (
   Ok (PutGrant red live),
-  (Ok (red, live), (Ok red, path_name 3 (path_of grant_live.target) red refl refl refl, (Ok live, path_name 5 (path_of grant_live.target) live refl refl refl, refl)), refl),
+  (Ok (red, live), (Ok red, IsPathName-plain 3 (path_of grant_live.target) red refl refl refl, (Ok live, IsPathName-plain 5 (path_of grant_live.target) live refl refl refl, refl)), refl),
   refl,
 )
 
 -- the contract that a target names
-named_path : (target : Text) → percent_decode (segment 3 (path_of target)) ≡ stock → percent_decode (segment 5 (path_of target)) ≡ shop → percent_decode (segment 7 (path_of target)) ≡ one
+IsPactPath-path : (target : Text) → percent_decode (segment 3 (path_of target)) ≡ stock → percent_decode (segment 5 (path_of target)) ≡ shop → percent_decode (segment 7 (path_of target)) ≡ one
     → IsPactPath (path_of target) (Ok path)
 unfolding is_name
-named_path target provider consumer last = (
+IsPactPath-path target provider consumer last = (
   Ok (stock, shop, one),
   (
     Ok (stock, shop),
-    (Ok stock, path_name 3 (path_of target) stock provider refl refl, (Ok shop, path_name 5 (path_of target) shop consumer refl refl, refl)),
-    (Ok one, path_name 7 (path_of target) one last refl refl, refl),
+    (Ok stock, IsPathName-plain 3 (path_of target) stock provider refl refl, (Ok shop, IsPathName-plain 5 (path_of target) shop consumer refl refl, refl)),
+    (Ok one, IsPathName-plain 7 (path_of target) one last refl refl, refl),
   ),
   refl,
 )
 
-pub asked_publish : IsAsked publish
+pub IsAsked-publish : IsAsked publish
 unfolding segment percent_encoding_on_literals
-asked_publish = (Ok (PutPact path pact_file), (Ok path, named_path publish.target refl refl refl, refl), refl)
+IsAsked-publish = (Ok (PutPact path pact_file), (Ok path, IsPactPath-path publish.target refl refl refl, refl), refl)
 
-pub asked_name_stock_1 : IsAsked name_stock_1
+pub IsAsked-name_stock_1 : IsAsked name_stock_1
 unfolding segment percent_encoding_on_literals is_name serde_json_on_literals
-asked_name_stock_1 = (
+IsAsked-name_stock_1 = (
   Ok (PutVersion (version stock one) None),
   (
     Ok (stock, one),
-    (Ok stock, path_name 2 (path_of name_stock_1.target) stock refl refl refl, (Ok one, path_name 4 (path_of name_stock_1.target) one refl refl refl, refl)),
-    (Ok None, (Some (object no_members), in_json (codes "{}") (object no_members) refl refl refl, refl), refl),
+    (Ok stock, IsPathName-plain 2 (path_of name_stock_1.target) stock refl refl refl, (Ok one, IsPathName-plain 4 (path_of name_stock_1.target) one refl refl refl, refl)),
+    (Ok None, (Some (object no_members), IsObject-of_ascii (codes "{}") (object no_members) refl refl refl, refl), refl),
   ),
   refl,
 )
@@ -249,21 +249,21 @@ asked_name_stock_1 = (
 abbrev move_fields : Text → Data
 move_fields pacticipant = object (member (codes "pacticipant") (string pacticipant) (member (codes "version") (string one) no_members))
 
-pub asked_deploy_stock_1 : IsAsked deploy_stock_1
+pub IsAsked-deploy_stock_1 : IsAsked deploy_stock_1
 unfolding segment percent_encoding_on_literals is_name serde_json_on_literals
-asked_deploy_stock_1 = (
+IsAsked-deploy_stock_1 = (
   Ok (Deploy live (version stock one) None),
   (
     Ok live,
-    path_name 2 (path_of deploy_stock_1.target) live refl refl refl,
+    IsPathName-plain 2 (path_of deploy_stock_1.target) live refl refl refl,
     (
       Ok (version stock one, None),
       (
         Some (move_fields stock),
-        in_json deploy_stock_1.body (move_fields stock) refl refl refl,
+        IsObject-of_ascii deploy_stock_1.body (move_fields stock) refl refl refl,
         (
           Ok (version stock one),
-          (Ok stock, field_name (codes "pacticipant") (move_fields stock) stock refl refl refl, (Ok one, field_name (codes "version") (move_fields stock) one refl refl refl, refl)),
+          (Ok stock, IsNameField-plain (codes "pacticipant") (move_fields stock) stock refl refl refl, (Ok one, IsNameField-plain (codes "version") (move_fields stock) one refl refl refl, refl)),
           (Ok None, refl, refl),
         ),
       ),
@@ -273,21 +273,21 @@ asked_deploy_stock_1 = (
   refl,
 )
 
-pub asked_deploy_shop_1 : IsAsked deploy_shop_1
+pub IsAsked-deploy_shop_1 : IsAsked deploy_shop_1
 unfolding segment percent_encoding_on_literals is_name serde_json_on_literals
-asked_deploy_shop_1 = (
+IsAsked-deploy_shop_1 = (
   Ok (Deploy live (version shop one) None),
   (
     Ok live,
-    path_name 2 (path_of deploy_shop_1.target) live refl refl refl,
+    IsPathName-plain 2 (path_of deploy_shop_1.target) live refl refl refl,
     (
       Ok (version shop one, None),
       (
         Some (move_fields shop),
-        in_json deploy_shop_1.body (move_fields shop) refl refl refl,
+        IsObject-of_ascii deploy_shop_1.body (move_fields shop) refl refl refl,
         (
           Ok (version shop one),
-          (Ok shop, field_name (codes "pacticipant") (move_fields shop) shop refl refl refl, (Ok one, field_name (codes "version") (move_fields shop) one refl refl refl, refl)),
+          (Ok shop, IsNameField-plain (codes "pacticipant") (move_fields shop) shop refl refl refl, (Ok one, IsNameField-plain (codes "version") (move_fields shop) one refl refl refl, refl)),
           (Ok None, refl, refl),
         ),
       ),
@@ -300,19 +300,19 @@ asked_deploy_shop_1 = (
 abbrev result_fields : Data
 result_fields = object (member (codes "providerApplicationVersion") (string one) (member (codes "success") (boolean true) no_members))
 
-pub asked_pass_stock_1 : IsAsked pass_stock_1
+pub IsAsked-pass_stock_1 : IsAsked pass_stock_1
 unfolding segment percent_encoding_on_literals is_name serde_json_on_literals
-asked_pass_stock_1 = (
+IsAsked-pass_stock_1 = (
   Ok (PostResult path by_stock_1 true),
   (
     Ok path,
-    named_path pass_stock_1.target refl refl refl,
+    IsPactPath-path pass_stock_1.target refl refl refl,
     (
       Ok (by_stock_1, true),
       (
         Some result_fields,
-        in_json pass_stock_1.body result_fields refl refl refl,
-        (Ok one, field_name (codes "providerApplicationVersion") result_fields one refl refl refl, (Ok true, refl, (Ok None, refl, refl))),
+        IsObject-of_ascii pass_stock_1.body result_fields refl refl refl,
+        (Ok one, IsNameField-plain (codes "providerApplicationVersion") result_fields one refl refl refl, (Ok true, refl, (Ok None, refl, refl))),
       ),
       refl,
     ),

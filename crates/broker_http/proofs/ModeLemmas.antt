@@ -7,9 +7,9 @@ use Rattle.sqlite_trees.specs.declared.error.StoreError.TheVariants.{Io}
 use Rattle.table_access.specs.{Calls.{HasFailed}, declared.StoreFault.TheVariants.{Store}}
 use Rattle.broker_core.specs.{Laws.{IsDone}, Machine.{Request as Asked, is_step}, State.{State as Broker}, Text.{Text}, declared.answer.Answer.{Answer}}
 use Rattle.broker_core.specs.declared.command.Command.{Command}
-use Rattle.broker_tables.{specs.{Readable.{IsReadable}, Room.{HasRoomFor, TakesRoom, enough}}, proofs.RoomLemmas.{room_for, takes_none, takes_then}}
+use Rattle.broker_tables.{specs.{Readable.{IsReadable}, Room.{HasRoomFor, TakesRoom, enough}}, proofs.RoomLemmas.{HasRoomFor-fewer, TakesRoom-same, TakesRoom-trans}}
 use Rattle.broker_database.specs.{BrokerView.{BrokerView}, Calls.{Applied}, Ends.{Applies, IsAsBefore, CommitsAtMostOnce}, Stored.{HoldsState}}
-use Rattle.broker_database.proofs.{Transaction.{outlives_itself}, StoreFailures.{disk_at_fault}}
+use Rattle.broker_database.proofs.{Transaction.{Survives-refl}, StoreFailures.{HasFailed-disk_at_fault}}
 use Rattle.http_responses.specs.Responses.{Response}
 use Rattle.broker_http.specs.{Stream.{Responses}, Serving.{Mode, ModeStep, IsInMode, RunsReadable, IsDiskAtFault, StopsOnlyBy}}
 use Rattle.broker_http.specs.{Serving.Mode.{Running, IsStopped}, Journal.{Journal, JournalStep, written}}
@@ -17,22 +17,22 @@ use Rattle.http_requests.specs.{declared.requests.Request.{Request}, declared.re
 use Rattle.broker_core.specs.declared.answer.Answer.TheVariants as answers
 use Rattle.broker_http.specs.Exchange as exchange
 
-not_true : (b : Bool) → ¬ (b ≡ true) → b ≡ false
-not_true true differs = absurd (differs refl)
-not_true false differs = refl
+bool-not_true : (b : Bool) → ¬ (b ≡ true) → b ≡ false
+bool-not_true true differs = absurd (differs refl)
+bool-not_true false differs = refl
 
-no_step : (answer : Answer) → is_step answer ≡ true → answer ≢ answers.Store
-no_step answer e same = let wrong = ap is_step same in cc
+is_step-not_store : (answer : Answer) → is_step answer ≡ true → answer ≢ answers.Store
+is_step-not_store answer e same = let wrong = ap is_step same in cc
 
-still_clean : (m n : ℕ) → m ≤ n → n ≡ 0 → m ≡ 0
-still_clean m n le e = omega (arith, le, e)
+le-zero : (m n : ℕ) → m ≤ n → n ≡ 0 → m ≡ 0
+le-zero m n le e = omega (arith, le, e)
 
 -- one more commit, before the others
-first_commit : (commit : Trees) (commits : List Trees) (trees : Trees) → trees ≡ commit → Contains (commit ∷ commits) trees
-first_commit commit commits trees is = (0, omega arith, sym is)
+Contains-first : (commit : Trees) (commits : List Trees) (trees : Trees) → trees ≡ commit → Contains (commit ∷ commits) trees
+Contains-first commit commits trees is = (0, omega arith, sym is)
 
-later_commit : (commit : Trees) (commits : List Trees) (trees : Trees) → Contains commits trees → Contains (commit ∷ commits) trees
-later_commit commit commits trees it = (suc it.0, omega (arith, it.1), it.2)
+Contains-later : (commit : Trees) (commits : List Trees) (trees : Trees) → Contains commits trees → Contains (commit ∷ commits) trees
+Contains-later commit commits trees it = (suc it.0, omega (arith, it.1), it.2)
 
 -- ---- what stays of a connection
 
@@ -42,37 +42,37 @@ pub record IsSince (first here : State) : Type 0 where
   pub limit : here.step_limit ≡ first.step_limit
   pub closes : HasCleanDisk here → IsTrue first.is_open → IsTrue here.is_open ⊎ HasCause first here ⊥ Io
 
-pub since_itself : (c : State) → IsSince c c
-since_itself c = record { up = omega arith; limit = refl; closes = λ clean is_open. inl is_open }
+pub IsSince-refl : (c : State) → IsSince c c
+IsSince-refl c = record { up = omega arith; limit = refl; closes = λ clean is_open. inl is_open }
 
-since_then : {P : Trees → Type 0} (first here next : State) → IsSince first here → Survives here next P → HasCleanDisk next → IsSince first next
-since_then first here next since s clean = record {
+IsSince-trans : {P : Trees → Type 0} (first here next : State) → IsSince first here → Survives here next P → HasCleanDisk next → IsSince first next
+IsSince-trans first here next since s clean = record {
   up = omega (arith, since.up, s.counts);
   limit = s.limit ∙ since.limit;
-  closes = λ _ is_open. elim (since.closes (still_clean _ _ s.clean clean) is_open) [ inl still ↦ elim (s.closes clean still) [ inl now ↦ inl now | inr more ↦ inr (omega (arith, since.up, more)) ] | inr more ↦ inr (omega (arith, s.counts, more)) ];
+  closes = λ _ is_open. elim (since.closes (le-zero _ _ s.clean clean) is_open) [ inl still ↦ elim (s.closes clean still) [ inl now ↦ inl now | inr more ↦ inr (omega (arith, since.up, more)) ] | inr more ↦ inr (omega (arith, s.counts, more)) ];
 }
 
 -- a connection is open unless the disk failed
-open_or_fault : (first here : State) → IsSince first here → HasCleanDisk here → IsTrue here.is_open ⊎ IsDiskAtFault first here
-open_or_fault first here since clean = elim (cases_Bool first.is_open) [
+IsSince-open_or_fault : (first here : State) → IsSince first here → HasCleanDisk here → IsTrue here.is_open ⊎ IsDiskAtFault first here
+IsSince-open_or_fault first here since clean = elim (cases_Bool first.is_open) [
   | inl is_open ↦ elim (since.closes clean is_open) [ inl now ↦ inl now | inr more ↦ inr (inl more) ]
   | inr shut ↦ inr (inr shut)
 ]
 
-fault_stays : (first old new : State) → old.faults ≤ new.faults → IsDiskAtFault first old → IsDiskAtFault first new
-fault_stays first old new up (inl more) = inl (omega (arith, more, up))
-fault_stays first old new up (inr shut) = inr shut
+IsDiskAtFault-more_faults : (first old new : State) → old.faults ≤ new.faults → IsDiskAtFault first old → IsDiskAtFault first new
+IsDiskAtFault-more_faults first old new up (inl more) = inl (omega (arith, more, up))
+IsDiskAtFault-more_faults first old new up (inr shut) = inr shut
 
-fault_since : (first old new : State) → IsSince first old → HasCleanDisk old → old.faults ≤ new.faults → IsDiskAtFault old new → IsDiskAtFault first new
-fault_since first old new since clean up (inl more) = inl (omega (arith, since.up, more))
-fault_since first old new since clean up (inr shut) = elim (open_or_fault first old since clean) [
+IsDiskAtFault-since : (first old new : State) → IsSince first old → HasCleanDisk old → old.faults ≤ new.faults → IsDiskAtFault old new → IsDiskAtFault first new
+IsDiskAtFault-since first old new since clean up (inl more) = inl (omega (arith, since.up, more))
+IsDiskAtFault-since first old new since clean up (inr shut) = elim (IsSince-open_or_fault first old since clean) [
   | inl still ↦ absurd (let clash : true ≡ false = sym still ∙ shut in cc)
-  | inr fault ↦ fault_stays first old new up fault
+  | inr fault ↦ IsDiskAtFault-more_faults first old new up fault
 ]
 
 -- whether it failed is seen
-fault_or_none : (old new : State) → IsDiskAtFault old new ⊎ (¬ IsDiskAtFault old new)
-fault_or_none old new = elim (cases_Bool (nat_le (min (old.faults + 1) (2 ^ 64 - 1)) new.faults)) [
+IsDiskAtFault-decidable : (old new : State) → IsDiskAtFault old new ⊎ (¬ IsDiskAtFault old new)
+IsDiskAtFault-decidable old new = elim (cases_Bool (nat_le (min (old.faults + 1) (2 ^ 64 - 1)) new.faults)) [
   | inl more ↦ inl (inl (leb-true _ _ more))
   | inr few ↦ elim (cases_Bool old.is_open) [
     | inl is_open ↦ inr (λ fault. elim fault [
@@ -84,46 +84,46 @@ fault_or_none old new = elim (cases_Bool (nat_le (min (old.faults + 1) (2 ^ 64 -
 ]
 
 -- a command that leaves the database as it was leaves what is seen of it
-unmoved : (s : Broker) (old new : State) → HoldsState s old → IsAsBefore old new → IsTrue new.is_open → new.now ≡ old.now
-unmoved s old new holds it now =
+now-unchanged : (s : Broker) (old new : State) → HoldsState s old → IsAsBefore old new → IsTrue new.is_open → new.now ≡ old.now
+now-unchanged s old new holds it now =
     let was = holds.held (it.commit.was_open now) in (it.ended was.autocommit was.same now).1 ∙ it.commit.committed now ∙ sym was.same
 
 -- ---- what the store promises of the connection
 
 module _ {X : Type 0} (shown : Held X → State) where
-  untouched : {P : Trees → Type 0} (old new : BrokerView X) → new ≡ old → Survives (shown old.connection) (shown new.connection) P
-  untouched {P} old new same =
-      subst (λ (b : BrokerView X). Survives (shown old.connection) (shown b.connection) P) (sym same) (outlives_itself (shown old.connection))
+  Survives-untouched : {P : Trees → Type 0} (old new : BrokerView X) → new ≡ old → Survives (shown old.connection) (shown new.connection) P
+  Survives-untouched {P} old new same =
+      subst (λ (b : BrokerView X). Survives (shown old.connection) (shown b.connection) P) (sym same) (Survives-refl (shown old.connection))
 
-  unwritten : (old new : BrokerView X) → new ≡ old → CommitsAtMostOnce (shown old.connection) (shown new.connection)
-  unwritten old new same = ((shown old.connection).now.trees, untouched old new same)
+  CommitsAtMostOnce-unwritten : (old new : BrokerView X) → new ≡ old → CommitsAtMostOnce (shown old.connection) (shown new.connection)
+  CommitsAtMostOnce-unwritten old new same = ((shown old.connection).now.trees, Survives-untouched old new same)
 
   -- what the store promises of the connection, over one message
   survives : (old new : BrokerView X) (asked : Request) (response : Response) → exchange.Responds (Applied shown) old asked response new
       → CommitsAtMostOnce (shown old.connection) (shown new.connection)
-  survives old new (Refused refusal is_bodiless) response p = unwritten old new p.1
-  survives old new (NoRoute closes) response p = unwritten old new p.1
-  survives old new (NoMethod resource closes) response p = unwritten old new p.1
+  survives old new (Refused refusal is_bodiless) response p = CommitsAtMostOnce-unwritten old new p.1
+  survives old new (NoRoute closes) response p = CommitsAtMostOnce-unwritten old new p.1
+  survives old new (NoMethod resource closes) response p = CommitsAtMostOnce-unwritten old new p.1
   survives old new (Asks token command closes) response p = p.1.survives
 
   -- and over a stream
-  pub all_survive : (old : BrokerView X) (stream : List ℕ) (responses : List Response) (new : BrokerView X) (rest : List ℕ)
+  pub Survives-stream : (old : BrokerView X) (stream : List ℕ) (responses : List Response) (new : BrokerView X) (rest : List ℕ)
       → Responses (exchange.Exchange (Applied shown)) old stream responses new rest
       → (commits : List Trees) × Survives (shown old.connection) (shown new.connection) (Contains commits) × (length commits ≤ length responses)
-  all_survive old stream [] new rest p = ([], untouched old new p.0, omega arith)
-  all_survive old stream (response ∷ responses) new rest p =
+  Survives-stream old stream [] new rest p = ([], Survives-untouched old new p.0, omega arith)
+  Survives-stream old stream (response ∷ responses) new rest p =
       let one = survives old p.1 p.4.0 response p.4.2 in
-      let later = all_survive p.1 p.2 responses new rest p.5 in (
+      let later = Survives-stream p.1 p.2 responses new rest p.5 in (
         one.0 ∷ later.0,
-        survives_then (shown old.connection) (shown p.1.connection) (shown new.connection) _ _ _ (λ _ trees is. first_commit one.0 later.0 trees is) (λ _ trees is. later_commit one.0 later.0 trees is) one.1 later.1,
+        survives_then (shown old.connection) (shown p.1.connection) (shown new.connection) _ _ _ (λ _ trees is. Contains-first one.0 later.0 trees is) (λ _ trees is. Contains-later one.0 later.0 trees is) one.1 later.1,
         omega (arith, later.2),
       )
 
   -- a disk that is clean after a stream was clean before
-  all_clean : (old : BrokerView X) (stream : List ℕ) (responses : List Response) (new : BrokerView X) (rest : List ℕ)
+  HasCleanDisk-before_stream : (old : BrokerView X) (stream : List ℕ) (responses : List Response) (new : BrokerView X) (rest : List ℕ)
       → Responses (exchange.Exchange (Applied shown)) old stream responses new rest
       → HasCleanDisk (shown new.connection) → HasCleanDisk (shown old.connection)
-  all_clean old stream responses new rest p clean = still_clean _ _ (all_survive old stream responses new rest p).1.clean clean
+  HasCleanDisk-before_stream old stream responses new rest p clean = le-zero _ _ (Survives-stream old stream responses new rest p).1.clean clean
 
 -- ---- what a broker answers is what the machine answers, and why it is stopped
 
@@ -150,18 +150,18 @@ module _ {X : Type 0} (shown : Held X → State) (from : Mode) (first : Held X) 
       (next : Journal) × JournalStep (record { mode = mode; steps = steps }) token command answer next × Reaches new next.mode next.steps
 
   -- a broker that didn't change has reached the same mode
-  left_alone : (mode : Mode) (steps : List (Asked × Answer)) (old new : BrokerView X) → new ≡ old → Reaches old mode steps → Reaches new mode steps
-  left_alone mode steps old new same at = subst (λ (b : BrokerView X). Reaches b mode steps) (sym same) at
+  Reaches-unchanged : (mode : Mode) (steps : List (Asked × Answer)) (old new : BrokerView X) → new ≡ old → Reaches old mode steps → Reaches new mode steps
+  Reaches-unchanged mode steps old new same at = subst (λ (b : BrokerView X). Reaches b mode steps) (sym same) at
 
-  taken_on : (n m more : ℕ) (old new : Held X) → enough * n + m ≡ enough * more → IsSince (shown first) (shown new) → HasCleanDisk (shown new)
+  HasTaken-more : (n m more : ℕ) (old new : Held X) → enough * n + m ≡ enough * more → IsSince (shown first) (shown new) → HasCleanDisk (shown new)
       → (shown old).faults ≤ (shown new).faults → HasTaken n old
       → (IsTrue (shown new).is_open → TakesRoom m (shown old).now (shown new).now) → HasTaken more new
-  taken_on n m more old new all since clean up before now = elim (open_or_fault (shown first) (shown new) since clean) [
+  HasTaken-more n m more old new all since clean up before now = elim (IsSince-open_or_fault (shown first) (shown new) since clean) [
     | inr fault ↦ inl fault
     | inl is_open ↦ elim before [
-      | inl fault ↦ inl (fault_stays (shown first) (shown old) (shown new) up fault)
+      | inl fault ↦ inl (IsDiskAtFault-more_faults (shown first) (shown old) (shown new) up fault)
       | inr takes ↦
-          let both = takes_then (enough * n) m (shown first).now (shown old).now (shown new).now takes (now is_open) in
+          let both = TakesRoom-trans (enough * n) m (shown first).now (shown old).now (shown new).now takes (now is_open) in
           inr (subst (λ taken. TakesRoom taken (shown first).now (shown new).now) all both)
     ]
   ]
@@ -170,25 +170,25 @@ module _ {X : Type 0} (shown : Held X → State) (from : Mode) (first : Held X) 
   module _ (s : Broker) (steps : List (Asked × Answer)) (old : BrokerView X) (token : Option Text) (command : Command) (answer : Answer) (new : BrokerView X)
       (clean : HasCleanDisk (shown new.connection)) (at : Reaches old (Running s) steps) (a : Applied shown old token command answer new) where
     since_then_on : IsSince (shown first) (shown new.connection)
-    since_then_on = since_then (shown first) (shown old.connection) (shown new.connection) at.since a.survives.1 clean
+    since_then_on = IsSince-trans (shown first) (shown old.connection) (shown new.connection) at.since a.survives.1 clean
 
     runs_on : answer ≢ answers.Store → new.is_stopped ≡ false
-    runs_on other = not_true new.is_stopped (λ yes. other ((a.stops at.held.0).0 yes))
+    runs_on other = bool-not_true new.is_stopped (λ yes. other ((a.stops at.held.0).0 yes))
 
     -- no step: nothing is taken
     kept : answer ≢ answers.Store → ¬ (IsDone answer) → HoldsState s (shown new.connection) → steps ≡ written steps token command answer
         → ModeStep (Running s) token command answer (Running s) → Answers (Running s) steps token command answer new
-    kept other undone holds unwritten step = (
+    kept other undone holds CommitsAtMostOnce-unwritten step = (
       record { mode = Running s; steps = steps },
-      (step, unwritten),
+      (step, CommitsAtMostOnce-unwritten),
       record {
         held = (runs_on other, holds);
         since = since_then_on;
         stops = (
           at.stops.0,
-          taken_on (length steps) 0 (length steps) old.connection new.connection (omega arith) since_then_on clean a.survives.1.counts at.stops.1 (λ now.
-              let same = unmoved s (shown old.connection) (shown new.connection) at.held.1 (a.unchanged clean at.held.0 other undone) now in
-              takes_none 0 (shown old.connection).now (shown new.connection).now same),
+          HasTaken-more (length steps) 0 (length steps) old.connection new.connection (omega arith) since_then_on clean a.survives.1.counts at.stops.1 (λ now.
+              let same = now-unchanged s (shown old.connection) (shown new.connection) at.held.1 (a.unchanged clean at.held.0 other undone) now in
+              TakesRoom-same 0 (shown old.connection).now (shown new.connection).now same),
         );
       },
     )
@@ -197,17 +197,17 @@ module _ {X : Type 0} (shown : Held X → State) (from : Mode) (first : Held X) 
     room_here : ¬ IsDiskAtFault (shown first) (shown new.connection) → HasRoomFor (enough * (length steps + 1)) (shown first).now
         → HasRoomFor enough (shown old.connection).now
     room_here none room = elim at.stops.1 [
-      | inl fault ↦ absurd (none (fault_stays (shown first) (shown old.connection) (shown new.connection) a.survives.1.counts fault))
-      | inr takes ↦ takes enough (room_for (enough + enough * length steps) (enough * (length steps + 1)) (omega arith) (shown first).now room)
+      | inl fault ↦ absurd (none (IsDiskAtFault-more_faults (shown first) (shown old.connection) (shown new.connection) a.survives.1.counts fault))
+      | inr takes ↦ takes enough (HasRoomFor-fewer (enough + enough * length steps) (enough * (length steps + 1)) (omega arith) (shown first).now room)
     ]
 
     stopped_so : answer ≡ answers.Store → StopsOnlyBy shown from first new.connection (length steps) (IsStopped s token command)
-    stopped_so store unlimited readable = elim (fault_or_none (shown first) (shown new.connection)) [
+    stopped_so store unlimited readable = elim (IsDiskAtFault-decidable (shown first) (shown new.connection)) [
       | inl fault ↦ inl fault
       | inr none ↦
           let no_failure : HasFailed (shown old.connection) (shown new.connection) Store → ⊥ = λ failed.
-          none (fault_since (shown first) (shown old.connection) (shown new.connection) at.since
-          (still_clean _ _ a.survives.1.clean clean) a.survives.1.counts (disk_at_fault (shown old.connection) (shown new.connection) failed)) in
+          none (IsDiskAtFault-since (shown first) (shown old.connection) (shown new.connection) at.since
+          (le-zero _ _ a.survives.1.clean clean) a.survives.1.counts (HasFailed-disk_at_fault (shown old.connection) (shown new.connection) failed)) in
           elim (a.calm clean at.held.0 store s (record { held = at.held.1; readable = at.stops.0 readable; unlimited = at.since.limit ∙ unlimited })) [
             | inl failed ↦ absurd (no_failure failed)
             | inr to_do ↦ inr (to_do.0, λ room. elim (to_do.1 (room_here none room)) [ inl failed ↦ absurd (no_failure failed) | inr lacks ↦ (old.connection, lacks) ])
@@ -220,11 +220,11 @@ module _ {X : Type 0} (shown : Held X → State) (from : Mode) (first : Held X) 
           record { mode = Running p.next; steps = more },
           (inl (p.is_machines, p.step, p.teams_differ), sym (ap (λ b. if b then more else steps) p.is_machines)),
           record {
-            held = (runs_on (no_step answer p.is_machines), p.keeps);
+            held = (runs_on (is_step-not_store answer p.is_machines), p.keeps);
             since = since_then_on;
             stops = (
               λ readable. a.readable s (record { answer = answer; state = p.next }) (at.stops.0 readable) p.step,
-              taken_on (length steps) enough (length more) old.connection new.connection
+              HasTaken-more (length steps) enough (length more) old.connection new.connection
                   (omega (arith, length-append steps ((record { token = token; command = command }, answer) ∷ [])))
                   since_then_on clean a.survives.1.counts at.stops.1 (a.room clean at.held.0 s at.held.1),
             );
@@ -246,47 +246,47 @@ module _ {X : Type 0} (shown : Held X → State) (from : Mode) (first : Held X) 
       },
     )
 
-  answered : (mode : Mode) (steps : List (Asked × Answer)) (old new : BrokerView X) (token : Option Text) (command : Command) (answer : Answer)
+  Answers-of_applied : (mode : Mode) (steps : List (Asked × Answer)) (old new : BrokerView X) (token : Option Text) (command : Command) (answer : Answer)
       → HasCleanDisk (shown new.connection) → Reaches old mode steps → Applied shown old token command answer new → Answers mode steps token command answer new
-  answered (Running s) steps old new token command answer clean at a =
+  Answers-of_applied (Running s) steps old new token command answer clean at a =
       applied s steps old token command answer new clean at a (a.applies clean at.held.0 s at.held.1)
-  answered (IsStopped s of failed) steps old new token command answer clean at a =
+  Answers-of_applied (IsStopped s of failed) steps old new token command answer clean at a =
       let still = a.stopped at.held.0 in (
         record { mode = IsStopped s of failed; steps = steps },
         ((still.0, refl), sym (ap (written steps token command) still.0)),
-        left_alone (IsStopped s of failed) steps old new still.1 at,
+        Reaches-unchanged (IsStopped s of failed) steps old new still.1 at,
       )
 
   -- a message and its response
-  exchanged : (journal : Journal) (old new : BrokerView X) (asked : Request) (response : Response)
+  Responds-journal : (journal : Journal) (old new : BrokerView X) (asked : Request) (response : Response)
       → HasCleanDisk (shown new.connection) → Reaches old journal.mode journal.steps → exchange.Responds (Applied shown) old asked response new
       → (next : Journal) × exchange.Responds JournalStep journal asked response next × Reaches new next.mode next.steps
-  exchanged journal old new (Refused refusal is_bodiless) response clean at p = (journal, (p.0, refl), left_alone journal.mode journal.steps old new p.1 at)
-  exchanged journal old new (NoRoute closes) response clean at p = (journal, (p.0, refl), left_alone journal.mode journal.steps old new p.1 at)
-  exchanged journal old new (NoMethod resource closes) response clean at p = (journal, (p.0, refl), left_alone journal.mode journal.steps old new p.1 at)
-  exchanged journal old new (Asks token command closes) response clean at p =
-      let next = answered journal.mode journal.steps old new token command p.0 clean at p.1 in
+  Responds-journal journal old new (Refused refusal is_bodiless) response clean at p = (journal, (p.0, refl), Reaches-unchanged journal.mode journal.steps old new p.1 at)
+  Responds-journal journal old new (NoRoute closes) response clean at p = (journal, (p.0, refl), Reaches-unchanged journal.mode journal.steps old new p.1 at)
+  Responds-journal journal old new (NoMethod resource closes) response clean at p = (journal, (p.0, refl), Reaches-unchanged journal.mode journal.steps old new p.1 at)
+  Responds-journal journal old new (Asks token command closes) response clean at p =
+      let next = Answers-of_applied journal.mode journal.steps old new token command p.0 clean at p.1 in
       (next.0, (p.0, next.1, p.2), next.2)
 
   pub machine : (journal : Journal) (old : BrokerView X) (stream : List ℕ) (responses : List Response) (new : BrokerView X) (rest : List ℕ)
       → Responses (exchange.Exchange (Applied shown)) old stream responses new rest
       → HasCleanDisk (shown new.connection) → Reaches old journal.mode journal.steps
       → (last : Journal) × Responses (exchange.Exchange JournalStep) journal stream responses last rest × Reaches new last.mode last.steps
-  machine journal old stream [] new rest p clean at = (journal, (refl, p.1), left_alone journal.mode journal.steps old new p.0 at)
+  machine journal old stream [] new rest p clean at = (journal, (refl, p.1), Reaches-unchanged journal.mode journal.steps old new p.0 at)
   machine journal old stream (response ∷ responses) new rest p clean at =
-      let here = exchanged journal old p.1 p.4.0 response (all_clean shown p.1 p.2 responses new rest p.5 clean) at p.4.2 in
+      let here = Responds-journal journal old p.1 p.4.0 response (HasCleanDisk-before_stream shown p.1 p.2 responses new rest p.5 clean) at p.4.2 in
       let later = machine here.0 p.1 p.2 responses new rest p.5 clean here.2 in
       (later.0, (p.0, here.0, p.2, p.3, (p.4.0, p.4.1, here.1), later.1), later.2)
 
-  pub stops_so : (here : Held X) (steps : ℕ) (mode : Mode) → StopsLater here steps mode → StopsOnlyBy shown from first here steps mode
-  stops_so here steps (Running s) it = tt
-  stops_so here steps (IsStopped s token command) it = it
+  pub StopsOnlyBy-of_later : (here : Held X) (steps : ℕ) (mode : Mode) → StopsLater here steps mode → StopsOnlyBy shown from first here steps mode
+  StopsOnlyBy-of_later here steps (Running s) it = tt
+  StopsOnlyBy-of_later here steps (IsStopped s token command) it = it
 
 -- before the first message
-pub starts : {X : Type 0} (shown : Held X → State) (mode : Mode) (b : BrokerView X) → IsInMode shown mode b → Reaches shown mode b.connection b mode []
-starts shown (Running s) b held = record {
+pub Reaches-start : {X : Type 0} (shown : Held X → State) (mode : Mode) (b : BrokerView X) → IsInMode shown mode b → Reaches shown mode b.connection b mode []
+Reaches-start shown (Running s) b held = record {
   held = held;
-  since = since_itself (shown b.connection);
-  stops = (λ readable. readable, inr (takes_none 0 (shown b.connection).now (shown b.connection).now refl));
+  since = IsSince-refl (shown b.connection);
+  stops = (λ readable. readable, inr (TakesRoom-same 0 (shown b.connection).now (shown b.connection).now refl));
 }
-starts shown (IsStopped s token command) b held = record { held = held; since = since_itself (shown b.connection); stops = λ unlimited none. absurd none }
+Reaches-start shown (IsStopped s token command) b held = record { held = held; since = IsSince-refl (shown b.connection); stops = λ unlimited none. absurd none }

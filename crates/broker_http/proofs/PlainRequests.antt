@@ -1,4 +1,4 @@
--- Requests as a client writes them, all of one form: what such a request asks, once its parts are computed.
+-- Requests as a client writes them, all of one form: what such a request asks, once its IsComputed-parts are computed.
 use Rattle.std.specs.{Prelude.{codes, length, take, Option, Some, None, option_and_then, Result, Ok, MatchOption}, List.{list_all}, Str.{IsUtf8}}
 use Rattle.std.specs.Result.{result_unwrap_or}
 use Rattle.std.proofs.Common.{◌≡◌, ◌≤◌, ◌&&◌, ℕ, List, [], ◌∷◌, ◌++◌, Bool, arith, true, false, refl, sym, ap, subst, inl, inr, if◌then◌else◌}
@@ -24,21 +24,21 @@ use Rattle.broker_http.specs.{Calls.{ByMachine}, Journal.{Journal}, Serving.Mode
 abbrev pub is_ascii : List ℕ → Bool
 is_ascii bytes = list_all (λ b. ltb b 128) bytes
 
-pub in_ascii : (bytes : List ℕ) → is_ascii bytes ≡ true → IsUtf8 bytes
-in_ascii bytes low =
+pub IsUtf8-of_ascii : (bytes : List ℕ) → is_ascii bytes ≡ true → IsUtf8 bytes
+IsUtf8-of_ascii bytes low =
     IsUtf8-from_ascii bytes (IsAscii-from_all bytes (λ k d m. ltb-true _ 128 (AllPass-from_list_all (λ b. ltb b 128) bytes low k d m)))
 
 -- a plain name, by its bytes
-pub plain_name : (text : Text) → is_ascii text ≡ true → IsName text → IsNamed text (Some text)
-plain_name text low name = (refl, in_ascii text low, name)
+pub IsNamed-plain : (text : Text) → is_ascii text ≡ true → IsName text → IsNamed text (Some text)
+IsNamed-plain text low name = (refl, IsUtf8-of_ascii text low, name)
 
 -- the name that a path has at a place
-pub path_name : (n : ℕ) (path text : Text) → percent_decode (segment n path) ≡ text → is_ascii text ≡ true → IsName text → IsPathName n path (Ok text)
-path_name n path text is low name = (Some text, subst (λ t. IsNamed t (Some text)) (sym is) (plain_name text low name), refl)
+pub IsPathName-plain : (n : ℕ) (path text : Text) → percent_decode (segment n path) ≡ text → is_ascii text ≡ true → IsName text → IsPathName n path (Ok text)
+IsPathName-plain n path text is low name = (Some text, subst (λ t. IsNamed t (Some text)) (sym is) (IsNamed-plain text low name), refl)
 
 -- the name of a body's field
-pub field_name : (key : Text) (fields : Data) (text : Text) → option_and_then as_str (get key fields) ≡ Some text → is_ascii text ≡ true → IsName text → IsNameField key fields (Ok text)
-field_name key fields text is low name = (Some text, subst (λ (t : Option Text). IsTextNamed t (Some text)) (sym is) (plain_name text low name), refl)
+pub IsNameField-plain : (key : Text) (fields : Data) (text : Text) → option_and_then as_str (get key fields) ≡ Some text → is_ascii text ≡ true → IsName text → IsNameField key fields (Ok text)
+IsNameField-plain key fields text is low name = (Some text, subst (λ (t : Option Text). IsTextNamed t (Some text)) (sym is) (IsNamed-plain text low name), refl)
 
 -- ---- a request
 
@@ -115,62 +115,62 @@ facts a = (
   only_credentials (values_named (codes "authorization") (fields_of (parsed a))),
 )
 
--- The parts are sound and print as the head, which isn't too large; it announces the body, the stream goes on, the method
+-- The IsComputed-parts are sound and print as the head, which isn't too large; it announces the body, the stream goes on, the method
 -- and the target name the operation, and the caller has the token.
 abbrev pub IsComputed : Asked → Type 0
 IsComputed a = facts a ≡ (true, head_of a, false, Ok (length a.body), false, Some a.operation, Some a.token)
 
 module _ (a : Asked) (it : IsComputed a) where
-  parts : ((ltb 0 (length a.method) && list_all is_token_byte a.method) ≡ true) × (((ltb 0 (length a.target) && (list_all is_uri_byte a.target && is_ascii a.target)) ≡ true)
+  IsComputed-parts : ((ltb 0 (length a.method) && list_all is_token_byte a.method) ≡ true) × (((ltb 0 (length a.target) && (list_all is_uri_byte a.target && is_ascii a.target)) ≡ true)
       × (((is_field_text (codes "host") (codes " broker") && (is_field_text (codes "authorization") (authorization a) && is_field_text (codes "content-length") (content_length a))) ≡ true)
       × ((ltb 15 (length a.token) && (ltb (length a.token) 129 && list_all is_callers_byte a.token)) ≡ true)))
-  parts =
+  IsComputed-parts =
       let all = and_parts _ _ (ap (λ (f : Facts). f.0) it) in
       let more = and_parts _ _ all.1 in
       (all.0, (more.0, and_parts _ _ more.1))
 
-  is_field : (name raw : List ℕ) → is_field_text name raw ≡ true → IsField (field name raw)
-  is_field name raw is =
+  IsField-field : (name raw : List ℕ) → is_field_text name raw ≡ true → IsField (field name raw)
+  IsField-field name raw is =
       let both = and_parts _ _ is in
       let rest = and_parts _ _ both.1 in
       record { name = (ltb-true 0 (length name) both.0, AllPass-from_list_all is_token_byte name rest.0); raw = AllPass-from_list_all is_value_byte raw rest.1 }
 
-  is_head : IsRequestHead (parsed a)
-  is_head =
-      let method = and_parts _ _ parts.0 in
-      let target = and_parts _ _ parts.1.0 in
+  IsRequestHead-parsed : IsRequestHead (parsed a)
+  IsRequestHead-parsed =
+      let method = and_parts _ _ IsComputed-parts.0 in
+      let target = and_parts _ _ IsComputed-parts.1.0 in
       let texts = and_parts _ _ target.1 in
-      let first = and_parts _ _ parts.1.1.0 in
+      let first = and_parts _ _ IsComputed-parts.1.1.0 in
       let others = and_parts _ _ first.1 in
       record {
         method = (ltb-true 0 (length a.method) method.0, AllPass-from_list_all is_token_byte a.method method.1);
         target = (ltb-true 0 (length a.target) target.0, AllPass-from_list_all is_uri_byte a.target texts.0);
-        target_text = in_ascii a.target texts.1;
+        target_text = IsUtf8-of_ascii a.target texts.1;
         minor = omega arith;
         fields = All-from_recursion IsField (fields a) (
-          is_field (codes "host") (codes " broker") first.0,
+          IsField-field (codes "host") (codes " broker") first.0,
           (
-            is_field (codes "authorization") (authorization a) others.0,
-            (is_field (codes "content-length") (content_length a) others.1, tt),
+            IsField-field (codes "authorization") (authorization a) others.0,
+            (IsField-field (codes "content-length") (content_length a) others.1, tt),
           ),
         );
       }
 
-  is_head_text : IsHeadText (head_of a) (parsed a)
-  is_head_text = record { reads = (is_head, sym (ap (λ (f : Facts). f.1) it)); few = omega arith }
+  IsHeadText-head_of : IsHeadText (head_of a) (parsed a)
+  IsHeadText-head_of = record { reads = (IsRequestHead-parsed, sym (ap (λ (f : Facts). f.1) it)); few = omega arith }
 
-  is_judged : IsJudged (head_of a) (judge_head (parsed a))
-  is_judged = inr (inr (ap (λ (f : Facts). f.2) it, parsed a, is_head_text, refl))
+  IsJudged-head_of : IsJudged (head_of a) (judge_head (parsed a))
+  IsJudged-head_of = inr (inr (ap (λ (f : Facts). f.2) it, parsed a, IsHeadText-head_of, refl))
 
-  sized : body_of_head (parsed a) ≡ Ok (length a.body)
-  sized = ap (λ (f : Facts). f.3) it
+  body_of_head-parsed : body_of_head (parsed a) ≡ Ok (length a.body)
+  body_of_head-parsed = ap (λ (f : Facts). f.3) it
 
-  begins : (after : List ℕ) → head_text (take head_limit (head_of a ++ (a.body ++ after))) ≡ Some (head_of a) → BeginsWithMessage (head_of a ++ (a.body ++ after)) (message_of a) after
+  BeginsWithMessage-head_of : (after : List ℕ) → head_text (take head_limit (head_of a ++ (a.body ++ after))) ≡ Some (head_of a) → BeginsWithMessage (head_of a ++ (a.body ++ after)) (message_of a) after
   unfolding IsBodyLength
-  begins after found = record {
+  BeginsWithMessage-head_of after found = record {
     whole = refl;
     head = subst (λ o. MatchOption o ((head_of a ≡ take head_limit (head_of a ++ (a.body ++ after))) × (head_limit ≤ length (head_of a ++ (a.body ++ after)))) (λ text. head_of a ≡ text)) (sym found) refl;
-    body = (judge_head (parsed a), is_judged, ap (λ (r : Result ℕ Refusal). result_unwrap_or r 0) (sym sized));
+    body = (judge_head (parsed a), IsJudged-head_of, ap (λ (r : Result ℕ Refusal). result_unwrap_or r 0) (sym body_of_head-parsed));
   }
 
   abbrev says : Request
@@ -179,7 +179,7 @@ module _ (a : Asked) (it : IsComputed a) where
   module _ (is : IsCommand a.operation (path_of a.target) (query_of a.target) a.body a.command) where
     by_operation : ByOperation (parsed a) a.body a.operation says
     by_operation =
-        let token = and_parts _ _ parts.1.1.1 in
+        let token = and_parts _ _ IsComputed-parts.1.1.1 in
         let rest = and_parts _ _ token.1 in
         let low = ltb-true 15 (length a.token) token.0 in
         let high = ltb-true (length a.token) 129 rest.0 in (
@@ -198,9 +198,9 @@ module _ (a : Asked) (it : IsComputed a) where
     unfolding IsRequest
     asks = (
       judge_head (parsed a),
-      is_judged,
-      subst (λ r. ByHead (message_of a) (judge_head (parsed a)).is_bodiless r says) (sym sized)
-          (parsed a, is_head_text, by_resource (resource_of (path_of a.target)) (ap (λ (f : Facts). f.5) it)),
+      IsJudged-head_of,
+      subst (λ r. ByHead (message_of a) (judge_head (parsed a)).is_bodiless r says) (sym body_of_head-parsed)
+          (parsed a, IsHeadText-head_of, by_resource (resource_of (path_of a.target)) (ap (λ (f : Facts). f.5) it)),
     )
 
 -- ---- a stream of such requests, each answered by a step
@@ -223,7 +223,7 @@ answered a it is rest found s t steps answer is_one differ step bytes sent more 
   message_of a,
   after t (steps ++ (request_of a, answer) ∷ []),
   rest,
-  begins a it rest found,
+  BeginsWithMessage-head_of a it rest found,
   (says a it, asks a it is, (answer, (inl (is_one, step, differ), ap (λ b. if b then steps ++ (request_of a, answer) ∷ [] else steps) (sym is_one)), sent)),
   tail,
 )

@@ -4,19 +4,19 @@ use Rattle.std.specs.{Fmt.{digits}, Prelude.{codes, Some, None}}
 use Rattle.std.proofs.Common.{◌≡◌, ◌∙◌, ◌⊎◌, ap, ap₂, sym, subst, append-nil, Bool, ℕ, List, [], ◌∷◌, ◌++◌, true, false, refl, inl, inr, if◌then◌else◌}
 use Rattle.broker_core.specs.{Change.{Transition}, Laws.{TeamsDiffer}, declared.answer.Answer.{Answer}, declared.command.Command.TheVariants.{Deploy}}
 use Rattle.broker_core.specs.{declared.policy.Caller.TheVariants.{Team}, Machine.{Request, Step}, State.{State as Broker, claimed_result}}
-use Rattle.broker_core.{specs.Text.{Text, put_at, same_pair, same_place, same_text, same_version, version}, proofs.Once.{step_once}}
-use Rattle.broker_core.proofs.Judgement.{Rows, row_keys, judges, text_is}
+use Rattle.broker_core.{specs.Text.{Text, put_at, same_pair, same_place, same_text, same_version, version}, proofs.Once.{StepOnce-holds}}
+use Rattle.broker_core.proofs.Judgement.{Rows, row_keys, Judges-is_permitted, same_text-equal}
 use Rattle.command_facts.specs.Primitives.{broker_primitives}
-use Rattle.answer_texts.proofs.TextExamples.{is_claimed, refused_for_a_claim, the_body_of_a_refusal}
+use Rattle.answer_texts.proofs.TextExamples.{is_claimed, refused_for_a_claim, answer_text-of_refusal}
 use Rattle.http_responses.specs.Head.{phrase, status_line, content_fields, own_field, close_field}
 use Rattle.http_responses.specs.Responses.{Response, answer_response, response_of, sent_part}
-use Rattle.http_messages.{specs.Messages.{BeginsWithMessage}, proofs.MessagesLemmas.{BeginsWithMessage-unique, none_in_nothing}}
+use Rattle.http_messages.{specs.Messages.{BeginsWithMessage}, proofs.MessagesLemmas.{BeginsWithMessage-unique, HasNoMessage-empty}}
 use Rattle.http_requests.specs.{Requests.{IsRequest}, declared.requests.Request.{Request as Asked}, declared.requests.Request.TheVariants.{Asks}}
-use Rattle.http_requests.proofs.OneRequest.{request_one}
-use Rattle.http_requests.proofs.RequestExamples.{deployment_head, deployment_body, deployment_message, the_stream_begins_with_the_message, the_message_asks_a_deployment}
+use Rattle.http_requests.proofs.OneRequest.{IsRequest-unique}
+use Rattle.http_requests.proofs.RequestExamples.{deployment_head, deployment_body, deployment_message, BeginsWithMessage-deployment, IsRequest-deployment}
 use Rattle.broker_http.specs.{Calls.{ByMachine}, Exchange.{Responds}, Journal.{Journal, JournalStep, blank, written}, Serving.{Mode, ModeStep, Serves}}
 use Rattle.broker_http.specs.{Serving.Mode.{Running, IsStopped}, Stream.{Responses, StreamEnds, texts}, declared.served.Ended.{Ended}}
-use Rattle.broker_http.{specs.{declared.served.Ended.TheVariants.{AtEnd}, declared.served.Served.{Served}}, proofs.OneReading.{none_left, same_message}}
+use Rattle.broker_http.{specs.{declared.served.Ended.TheVariants.{AtEnd}, declared.served.Served.{Served}}, proofs.OneReading.{StreamEnds-no_message, Message-ext}}
 
 abbrev pub red : Text
 red = codes "red"
@@ -63,9 +63,9 @@ abbrev pub deploys : Request
 deploys = record { token = Some red_token; command = Deploy prod (version shop one) None }
 
 -- red's token isn't the office's
-pub a_claim_is_no_evidence : (office : Text) → ¬ (office ≡ broker_primitives.digest_of red_token)
+pub Step-claim_refused : (office : Text) → ¬ (office ≡ broker_primitives.digest_of red_token)
     → Step broker_primitives (claims_only office) deploys.token deploys.command (record { answer = refused_for_a_claim; state = claims_only office })
-a_claim_is_no_evidence office other = (Some (Team red), (other, refl), (None, refl, (false, is_claimed ∷ [], judges (claims_only office) (row_keys (claims_only office) rows) (version shop one) prod, refl)))
+Step-claim_refused office other = (Some (Team red), (other, refl), (None, refl, (false, is_claimed ∷ [], Judges-is_permitted (claims_only office) (row_keys (claims_only office) rows) (version shop one) prod, refl)))
 
 -- ---- the answer's bytes
 
@@ -78,23 +78,23 @@ refusal = record { text = refusal_bytes; closes = false }
 abbrev body : List ℕ
 body = codes "{\"answer\":\"not permitted\",\"faults\":[{\"consumer\":\"shop\",\"consumerVersion\":\"1\",\"kind\":\"claimed\",\"provider\":\"stock\",\"providerVersion\":\"1\"}]}"
 
-with_head : refusal ≡ response_of 409 [] false false body
+refusal-with_head : refusal ≡ response_of 409 [] false false body
 unfolding digits phrase status_line content_fields own_field close_field sent_part
-with_head = refl
+refusal-with_head = refl
 
-the_response : refusal ≡ answer_response refused_for_a_claim false
-the_response = with_head ∙ ap (response_of 409 [] false false) (sym the_body_of_a_refusal)
+refusal-answer_response : refusal ≡ answer_response refused_for_a_claim false
+refusal-answer_response = refusal-with_head ∙ ap (response_of 409 [] false false) (sym answer_text-of_refusal)
 
 -- one team has a token, so no two have one
-one_team : (digest team : Text) → put_at same_text (λ _. None) red (Some (broker_primitives.digest_of red_token)) team ≡ Some digest → team ≡ red
-one_team digest team has = by (same_text team red) refl has
+teams-red_only : (digest team : Text) → put_at same_text (λ _. None) red (Some (broker_primitives.digest_of red_token)) team ≡ Some digest → team ≡ red
+teams-red_only digest team has = by (same_text team red) refl has
   where
     by : (b : Bool) → same_text team red ≡ b → (if b then Some (broker_primitives.digest_of red_token) else None) ≡ Some digest → team ≡ red
-    by true same is = text_is team red same
+    by true same is = same_text-equal team red same
     by false same is = absurd (cc)
 
-teams_differ : (office : Text) → TeamsDiffer (claims_only office)
-teams_differ office digest a b is also = one_team digest a is ∙ sym (one_team digest b also)
+TeamsDiffer-claims_only : (office : Text) → TeamsDiffer (claims_only office)
+TeamsDiffer-claims_only office digest a b is also = teams-red_only digest a is ∙ sym (teams-red_only digest b also)
 
 -- ---- the stream
 
@@ -102,9 +102,9 @@ abbrev ending : Text → Journal
 ending office = record { mode = Running (claims_only office); steps = (deploys, refused_for_a_claim) ∷ [] }
 
 -- The stream is that one request, and its answer is all that is written. The machine is in the state in which it was.
-pub a_deployment_is_refused : (office : Text) → ¬ (office ≡ broker_primitives.digest_of red_token)
+pub Serves-refused_example : (office : Text) → ¬ (office ≡ broker_primitives.digest_of red_token)
     → Serves ByMachine (blank (Running (claims_only office))) (ending office) (Some (deployment_head ++ deployment_body)) (Some []) (Some []) (Some refusal_bytes) (record { answered = 1; ended = AtEnd })
-a_deployment_is_refused office other = (
+Serves-refused_example office other = (
   deployment_head ++ deployment_body,
   refusal ∷ [],
   [],
@@ -113,8 +113,8 @@ a_deployment_is_refused office other = (
     deployment_message,
     ending office,
     [],
-    the_stream_begins_with_the_message,
-    (_, the_message_asks_a_deployment, (refused_for_a_claim, (inl (refl, a_claim_is_no_evidence office other, teams_differ office), refl), the_response)),
+    BeginsWithMessage-deployment,
+    (_, IsRequest-deployment, (refused_for_a_claim, (inl (refl, Step-claim_refused office other, TeamsDiffer-claims_only office), refl), refusal-answer_response)),
     (refl, refl),
   ),
   ((refl, tt), refl),
@@ -128,32 +128,32 @@ module _ (office : Text) (other : ¬ (office ≡ broker_primitives.digest_of red
   abbrev IsRefused : Answer → Mode → List (Request × Answer) → Type 0
   IsRefused answer next steps = (answer ≡ refused_for_a_claim) × (next ≡ Running (claims_only office)) × (steps ≡ (deploys, refused_for_a_claim) ∷ [])
 
-  refused_or_no_step : (answer : Answer) (next : Mode) (steps : List (Request × Answer)) → ModeStep (Running (claims_only office)) deploys.token deploys.command answer next
+  ModeStep-refused_or_no_step : (answer : Answer) (next : Mode) (steps : List (Request × Answer)) → ModeStep (Running (claims_only office)) deploys.token deploys.command answer next
       → steps ≡ written [] deploys.token deploys.command answer → IsRefused answer next steps ⊎ (steps ≡ [])
-  refused_or_no_step answer (Running t) steps (inl it) are =
-      elim (step_once broker_primitives (λ _. false) deploys.command tt (claims_only office) deploys.token (record { answer = answer; state = t }) (record { answer = refused_for_a_claim; state = claims_only office }) (teams_differ office) it.1 (a_claim_is_no_evidence office other)) [
+  ModeStep-refused_or_no_step answer (Running t) steps (inl it) are =
+      elim (StepOnce-holds broker_primitives (λ _. false) deploys.command tt (claims_only office) deploys.token (record { answer = answer; state = t }) (record { answer = refused_for_a_claim; state = claims_only office }) (TeamsDiffer-claims_only office) it.1 (Step-claim_refused office other)) [
         | inl same ↦
             let told : answer ≡ refused_for_a_claim = ap (λ (out : Transition). out.answer) same in
             inl (told, ap (λ (out : Transition). Running out.state) same, are ∙ ap (written [] deploys.token deploys.command) told)
         | inr (inl wrong) ↦ absurd (let never : false ≡ true = wrong.2 in cc)
         | inr (inr wrong) ↦ absurd (let never : false ≡ true = wrong.2 in cc)
       ]
-  refused_or_no_step answer (Running t) steps (inr (inl it)) are = inr (are ∙ ap (written [] deploys.token deploys.command) it.0)
-  refused_or_no_step answer (Running t) steps (inr (inr it)) are = inr (are ∙ ap (written [] deploys.token deploys.command) it.0)
-  refused_or_no_step answer (IsStopped u of failed) steps it are = inr (are ∙ ap (written [] deploys.token deploys.command) it.0)
+  ModeStep-refused_or_no_step answer (Running t) steps (inr (inl it)) are = inr (are ∙ ap (written [] deploys.token deploys.command) it.0)
+  ModeStep-refused_or_no_step answer (Running t) steps (inr (inr it)) are = inr (are ∙ ap (written [] deploys.token deploys.command) it.0)
+  ModeStep-refused_or_no_step answer (IsStopped u of failed) steps it are = inr (are ∙ ap (written [] deploys.token deploys.command) it.0)
 
   abbrev IsRefusedBy : Response → Journal → Type 0
   IsRefusedBy response last = ((response ≡ refusal) × (last ≡ ending office)) ⊎ (last.steps ≡ [])
 
   -- the message asks for this command, so it is refused, or there is no step
-  responded : (asked : Asked) (response : Response) (last : Journal) → asked ≡ Asks (Some red_token) (Deploy prod (version shop one) None) false
+  Responds-refused : (asked : Asked) (response : Response) (last : Journal) → asked ≡ Asks (Some red_token) (Deploy prod (version shop one) None) false
       → Responds JournalStep (blank (Running (claims_only office))) asked response last → IsRefusedBy response last
-  responded asked response last is responds = go (subst (λ a. Responds JournalStep (blank (Running (claims_only office))) a response last) is responds)
+  Responds-refused asked response last is responds = go (subst (λ a. Responds JournalStep (blank (Running (claims_only office))) a response last) is responds)
     where
       go : Responds JournalStep (blank (Running (claims_only office))) (Asks (Some red_token) (Deploy prod (version shop one) None) false) response last → IsRefusedBy response last
-      go (answer, it, sent) = elim (refused_or_no_step answer last.mode last.steps it.0 it.1) [
+      go (answer, it, sent) = elim (ModeStep-refused_or_no_step answer last.mode last.steps it.0 it.1) [
         | inl refused ↦ inl (
-          sent ∙ ap (λ a. answer_response a false) refused.0 ∙ sym the_response,
+          sent ∙ ap (λ a. answer_response a false) refused.0 ∙ sym refusal-answer_response,
           ap₂ (λ (mode : Mode) (steps : List (Request × Answer)). let made : Journal = record { mode = mode; steps = steps } in made) refused.1 refused.2,
         )
         | inr none ↦ inr none
@@ -164,24 +164,24 @@ module _ (office : Text) (other : ¬ (office ≡ broker_primitives.digest_of red
       → Responses ByMachine (blank (Running (claims_only office))) stream responses last rest → StreamEnds ended responses rest
       → (response : Response) × (responses ≡ response ∷ []) × IsRefusedBy response last
   answered stream [] last rest ended is it ends =
-      absurd (none_left ended (deployment_head ++ deployment_body) deployment_message [] (subst (StreamEnds ended []) (it.1 ∙ is) ends) the_stream_begins_with_the_message)
+      absurd (StreamEnds-no_message ended (deployment_head ++ deployment_body) deployment_message [] (subst (StreamEnds ended []) (it.1 ∙ is) ends) BeginsWithMessage-deployment)
   answered stream (response ∷ more) last rest ended is (m, u, after, begins, exchange, tail) ends =
-      let unique = BeginsWithMessage-unique (deployment_head ++ deployment_body) after [] m deployment_message (subst (λ l. BeginsWithMessage l m after) is begins) the_stream_begins_with_the_message in
-      let same : m ≡ deployment_message = same_message m deployment_message unique.0 unique.1 in
-      let asked = request_one deployment_message exchange.0 _ (subst (λ n. IsRequest n exchange.0) same exchange.1) the_message_asks_a_deployment in
+      let unique = BeginsWithMessage-unique (deployment_head ++ deployment_body) after [] m deployment_message (subst (λ l. BeginsWithMessage l m after) is begins) BeginsWithMessage-deployment in
+      let same : m ≡ deployment_message = Message-ext m deployment_message unique.0 unique.1 in
+      let asked = IsRequest-unique deployment_message exchange.0 _ (subst (λ n. IsRequest n exchange.0) same exchange.1) IsRequest-deployment in
       let over = no_more more u last rest (subst (λ l. Responses ByMachine u l more last rest) unique.2 tail) in
-      (response, ap (λ rs. response ∷ rs) over.0, subst (IsRefusedBy response) (sym over.1) (responded exchange.0 response u asked exchange.2))
+      (response, ap (λ rs. response ∷ rs) over.0, subst (IsRefusedBy response) (sym over.1) (Responds-refused exchange.0 response u asked exchange.2))
     where
       no_more : (more : List Response) (u last : Journal) (rest : List ℕ) → Responses ByMachine u [] more last rest → (more ≡ []) × (last ≡ u)
       no_more [] u last rest it = (refl, it.0)
-      no_more (x ∷ xs) u last rest it = absurd (none_in_nothing it.0 it.2 it.3)
+      no_more (x ∷ xs) u last rest it = absurd (HasNoMessage-empty it.0 it.2 it.3)
 
   -- However that stream is served, this is all that is written and the state stays; or there was no step, since memory
   -- or the store failed.
-  pub no_other_answer : (served : Served) (last : Journal) (out : List ℕ)
+  pub Serves-no_other_answer : (served : Served) (last : Journal) (out : List ℕ)
       → Serves ByMachine (blank (Running (claims_only office))) last (Some (deployment_head ++ deployment_body)) (Some []) (Some []) (Some out) served
       → ((out ≡ refusal_bytes) × (last ≡ ending office)) ⊎ (last.steps ≡ [])
-  no_other_answer served last out (stream, responses, rest, consumed, it, ends, count, sent) =
+  Serves-no_other_answer served last out (stream, responses, rest, consumed, it, ends, count, sent) =
       let found = answered stream responses last rest served.ended (sym (append-nil stream) ∙ sym consumed) it ends in
       elim found.2 [
         | inl refused ↦ inl (sent ∙ ap texts found.1 ∙ ap (λ response. texts (response ∷ [])) refused.0, refused.1)

@@ -75,11 +75,11 @@ came a b old new (reads.Reader failed) p = (p.0, p.1)
 came a b old new reads.Memory p = (p.0 ++ p.1, p.2)
 
 -- memory that runs out after a head, for its body
-lacks : (a b : Option (List ℕ)) (old new stream : List ℕ) (fault : ReadFault) (left : LeavesAtFault a b old new fault) → (fault ≡ reads.Memory → AnnouncesBody new)
+IsOutOfMemory-after_head : (a b : Option (List ℕ)) (old new stream : List ℕ) (fault : ReadFault) (left : LeavesAtFault a b old new fault) → (fault ≡ reads.Memory → AnnouncesBody new)
     → IsOutOfMemory (fault_of_read fault) stream (old ++ (came a b old new fault left).0)
 unfolding came
-lacks a b old new stream (reads.Reader failed) left body = tt
-lacks a b old new stream reads.Memory left body =
+IsOutOfMemory-after_head a b old new stream (reads.Reader failed) left body = tt
+IsOutOfMemory-after_head a b old new stream reads.Memory left body =
     let there = body refl in
     let grown : old ++ (left.0 ++ left.1) ≡ new ++ left.1 = sym (append_assoc old left.0 left.1) ∙ ap (λ l. l ++ left.1) (sym left.4) in
     inr (inl (subst AnnouncesBody (sym grown) (there.0, there.1, IsHeadOf-more new left.1 there.0 there.2, there.3, there.4)))
@@ -145,13 +145,13 @@ module _ {S : Type 0} (Exchange : S → Message → Response → S → Type 0) w
         Responses-more Exchange s stream responses t bytes more.0 so_far,
         StreamCut-read fault responses opened,
         out,
-        lacks b c bytes new (stream ++ more.0) fault left body,
+        IsOutOfMemory-after_head b c bytes new (stream ++ more.0) fault left body,
       )
 
 -- a fault at one message isn't the reader's
-pub tells_writer : (fault : StreamFault) (P Q : Type 0) → TellsDevice fault ⊥ Q → TellsDevice fault P Q
-tells_writer (faults.Read failed) P Q p = absurd p
-tells_writer (faults.Turn over) P Q p = tt
-tells_writer faults.Count P Q p = tt
-tells_writer (faults.Write fault) P Q p = p
-tells_writer faults.Memory P Q p = tt
+pub TellsDevice-weaker : (fault : StreamFault) (P Q : Type 0) → TellsDevice fault ⊥ Q → TellsDevice fault P Q
+TellsDevice-weaker (faults.Read failed) P Q p = absurd p
+TellsDevice-weaker (faults.Turn over) P Q p = tt
+TellsDevice-weaker faults.Count P Q p = tt
+TellsDevice-weaker (faults.Write fault) P Q p = p
+TellsDevice-weaker faults.Memory P Q p = tt

@@ -6,10 +6,10 @@ use Rattle.broker_core.specs.Text.{Text}
 use Rattle.broker_http.specs.{Serving.{Mode, RunsReadable, StopsOnlyBy}, Serving.Mode.{IsStopped, Running}}
 use Rattle.broker_program.specs.Replays.{IsStoppedByChange, new_broker}
 
-pub stopped_by_change : (office : Text) (old new : Held MemStore) (steps : ℕ) (mode : Mode) → old.step_limit ≡ None → RunsReadable (new_broker office)
+pub IsStoppedByChange-of_stops : (office : Text) (old new : Held MemStore) (steps : ℕ) (mode : Mode) → old.step_limit ≡ None → RunsReadable (new_broker office)
     → StopsOnlyBy (state over_memory) (new_broker office) old new steps mode → IsStoppedByChange mode
-stopped_by_change office old new steps (Running s) unlimited readable calm = tt
-stopped_by_change office old new steps (IsStopped s token command) unlimited readable calm =
+IsStoppedByChange-of_stops office old new steps (Running s) unlimited readable calm = tt
+IsStoppedByChange-of_stops office old new steps (IsStopped s token command) unlimited readable calm =
     elim (calm unlimited readable) [
       | inl (inl more) ↦ let none : min (0 + 1) (2 ^ 64 - 1) ≤ 0 = more in absurd (omega (arith, none))
       | inl (inr shut) ↦ let bad : true ≡ false = shut in cc

@@ -13,13 +13,13 @@ use Rattle.program_io.specs.declared.fault.RunFault.TheVariants as run_fault
 use Rattle.sqlite.specs.declared.file.Leftover.TheVariants as left
 
 -- a store on which nothing was called
-pub quiet_itself : {D : Type 0} {g : Ghosts D} (store : FileStore D g) → IsQuietCall store store
-quiet_itself store = record { shield = λ s. s; clean = omega arith; counts = omega arith; closes = λ _ still. inl still; outcomes = λ _ r. r }
+pub IsQuietCall-refl : {D : Type 0} {g : Ghosts D} (store : FileStore D g) → IsQuietCall store store
+IsQuietCall-refl store = record { shield = λ s. s; clean = omega arith; counts = omega arith; closes = λ _ still. inl still; outcomes = λ _ r. r }
 
-pub opened_after : {D : Type 0} (g : Ghosts D) (stays : (file : D) → g.may_leave file (g.seen file)) (old store : FileStore D g) (files : Files D) (conn : Held (FileStore D g))
+pub IsOpenedAfter-emptied_log : {D : Type 0} (g : Ghosts D) (stays : (file : D) → g.may_leave file (g.seen file)) (old store : FileStore D g) (files : Files D) (conn : Held (FileStore D g))
     → EmptiesLog old (store, false) → (files.log, files.db) ≡ store_files store → IsOpened conn → Finds files conn → IsNew conn → (file_state conn).IsShielded
     → (now : FileStore D g) × IsStillGiven old now × IsOpenedAfter g (left.Store now) conn × IsNew conn × (file_state conn).IsShielded
-opened_after {D} g stays old store files conn empties same opened finds fresh shielded =
+IsOpenedAfter-emptied_log {D} g stays old store files conn empties same opened finds fresh shielded =
     let honest = subst (λ (p : D × D). AreClean g p.0 p.1) same finds.honest in
     let may : (image : Image) → outcomes g files.log files.db image → (store_state store).may_leave image = λ image it.
     may_leave_is store.pool image honest (subst (λ (p : D × D). outcomes g p.0 p.1 image) same it) in
@@ -32,9 +32,9 @@ opened_after {D} g stays old store files conn empties same opened finds fresh sh
     )
 
 -- So a stopped broker's files are opened again.
-pub opens_after : {D : Type 0} {g : Ghosts D} (stopped : BrokerView (FileStore D g)) (store now : FileStore D g) (conn : Held (FileStore D g)) → IsTrue stopped.is_stopped
+pub OpensAfter-stopped : {D : Type 0} {g : Ghosts D} (stopped : BrokerView (FileStore D g)) (store now : FileStore D g) (conn : Held (FileStore D g)) → IsTrue stopped.is_stopped
     → GivesUpAs stopped.connection store → IsStillGiven store now → IsOpenedAfter g (left.Store now) conn → IsNew conn → (file_state conn).IsShielded → OpensAfter stopped conn
-opens_after stopped store now conn stops gives still after fresh shielded =
+OpensAfter-stopped stopped store now conn stops gives still after fresh shielded =
     let early : IsClean (view store) = omega (arith, still.clean, still.quiet.clean) in
     let given = gives.ends early in
     record {
@@ -51,12 +51,12 @@ opens_after stopped store now conn stops gives still after fresh shielded =
       shielded = shielded;
     }
 
-pub reopens_on : {D : Type 0} {g : Ghosts D} (stopped : BrokerView (FileStore D g)) (store : FileStore D g) (conn : Held (FileStore D g)) → IsTrue stopped.is_stopped → GivesUpAs stopped.connection store
+pub ReopensOn-stopped : {D : Type 0} {g : Ghosts D} (stopped : BrokerView (FileStore D g)) (store : FileStore D g) (conn : Held (FileStore D g)) → IsTrue stopped.is_stopped → GivesUpAs stopped.connection store
     → OpensFilesAgain store (Some conn) → ReopensOn stopped conn
-reopens_on stopped store conn stops gives again early = let it = again early in opens_after stopped store it.0 conn stops gives it.1 it.2 it.3 it.4
+ReopensOn-stopped stopped store conn stops gives again early = let it = again early in OpensAfter-stopped stopped store it.0 conn stops gives it.1 it.2 it.3 it.4
 
 -- the connection that was opened again, if no broker is found
-pub none_again : {D : Type 0} {g : Ghosts D} (stopped : BrokerView (FileStore D g)) (store : FileStore D g) (conn : Held (FileStore D g)) (fault : OpenFault) (rest : FileStore D g) → IsTrue stopped.is_stopped
+pub FindsNoneAgain-stopped : {D : Type 0} {g : Ghosts D} (stopped : BrokerView (FileStore D g)) (store : FileStore D g) (conn : Held (FileStore D g)) (fault : OpenFault) (rest : FileStore D g) → IsTrue stopped.is_stopped
     → GivesUpAs stopped.connection store → OpensFilesAgain store (Some conn) → GivesUpUnopened conn fault rest → FindsNoneAgain stopped (run_fault.Open fault) (left.Store rest)
-none_again stopped store conn fault rest stops gives again none =
-    (conn, none.0, reopens_on stopped store conn stops gives again, none.1, none.2)
+FindsNoneAgain-stopped stopped store conn fault rest stops gives again none =
+    (conn, none.0, ReopensOn-stopped stopped store conn stops gives again, none.1, none.2)

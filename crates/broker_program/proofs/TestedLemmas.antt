@@ -6,13 +6,13 @@ use Rattle.sqlite_trees.proofs.Doubt.{no_doubt}
 use Rattle.sqlite.specs.{Closing.{files_left}, Files.{file_state}, Held.{Held}, Recovery.{Image}, State.{HasCleanDisk}, WalReads.{AreClean}}
 use Rattle.sqlite.{specs.{declared.FileStore.{FileStore}, declared.file.Leftover.{Leftover}}, proofs.Shield.{shield_means}}
 use Rattle.broker_program.specs.{Files.{EndsClean, IsTested}, Serving.{StartsAfter, Work}, Tested.{ServesHonestly, ShareDigest}}
-use Rattle.broker_program.proofs.CallLemmas.{works_since}
+use Rattle.broker_program.proofs.CallLemmas.{IsBefore-works}
 use Rattle.sqlite.specs.declared.file.Leftover.TheVariants as left
 
 module _ {D : Type 0} (g : Ghosts D) where
-  starts_tested : (held : Image) (works : List Work) (conn : Held (FileStore D g)) → StartsAfter held works conn → HasCleanDisk (file_state conn) → (file_state conn).IsShielded
-  starts_tested held [] conn it clean = (it clean).shielded
-  starts_tested held (work ∷ works) conn it clean = (it.4 clean).shielded
+  IsShielded-starts_after : (held : Image) (works : List Work) (conn : Held (FileStore D g)) → StartsAfter held works conn → HasCleanDisk (file_state conn) → (file_state conn).IsShielded
+  IsShielded-starts_after held [] conn it clean = (it clean).shielded
+  IsShielded-starts_after held (work ∷ works) conn it clean = (it.4 clean).shielded
 
   module _ (start : D → List ℕ) (history : D → List Event) (fair : (d : D) → g.is_fair d ≡ (replay (start d) (history d)).is_fair) (honest : (d : D) → g.is_clean d ≡ (replay (start d) (history d)).is_honest) where
     tested_left : (rest : Leftover D g) → IsTested rest → EndsClean rest ⊎ ShareDigest g start history (files_left rest)
@@ -28,5 +28,5 @@ module _ {D : Type 0} (g : Ghosts D) where
 
     pub serves_honestly : ServesHonestly g start history
     serves_honestly held visits rest it clean =
-        let tested = (works_since it.last it.connection it.end it.works).shield (starts_tested held it.before it.connection it.starts clean) in
+        let tested = (IsBefore-works it.last it.connection it.end it.works).shield (IsShielded-starts_after held it.before it.connection it.starts clean) in
         tested_left rest (it.ends.shield tested)

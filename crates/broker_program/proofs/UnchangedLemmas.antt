@@ -3,8 +3,8 @@ use Rattle.std.proofs.Common.{◌∙◌}
 use Rattle.sqlite.specs.State.{State}
 use Rattle.broker_database.specs.Ends.{IsAsBefore}
 
-pub still_as_before : (a b c : State) → IsAsBefore a b → IsAsBefore b c → IsAsBefore a c
-still_as_before a b c first second = record {
+pub IsAsBefore-trans : (a b c : State) → IsAsBefore a b → IsAsBefore b c → IsAsBefore a c
+IsAsBefore-trans a b c first second = record {
   commit = record {
     was_open = λ now. first.commit.was_open (second.commit.was_open now);
     committed = λ now. second.commit.committed now ∙ first.commit.committed (second.commit.was_open now);

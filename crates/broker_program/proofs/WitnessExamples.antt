@@ -8,22 +8,22 @@ use Rattle.command_line.specs.Lines.{is_line}
 use Rattle.program_io.specs.Entrance.{Peer, Queue, IsLetIn}
 use Rattle.broker_program.specs.{Running.{RanOver}, Serving.{ServesNext}, declared.left.Ended.{Ended}}
 
-longer : {A : Type 0} (xs : List A) (x : A) → ¬ (xs ++ x ∷ [] ≡ xs)
-longer xs x same = let counts = ap length same in omega (arith, counts, length-append xs (x ∷ []))
+append-not_self : {A : Type 0} (xs : List A) (x : A) → ¬ (xs ++ x ∷ [] ≡ xs)
+append-not_self xs x same = let counts = ap length same in omega (arith, counts, length-append xs (x ∷ []))
 
 -- `each_second_connection_unserved`: a peer that was let in, and then wasn't let go, was neither lost nor served
 module _ {D : Type 0} {g : Ghosts D} (s t : BrokerView (FileStore D g)) (old new : Queue) (peer : Peer) where
-  pub no_peer_is_dropped : IsLetIn old new peer → ¬ (ServesNext s t old new)
-  no_peer_is_dropped (rest, first, let_in) (inl (lost, kept)) =
-      longer old.came peer (sym (ap (λ (q : Queue). q.came) let_in) ∙ ap (λ (q : Queue). q.came) lost.3)
-  no_peer_is_dropped (rest, first, let_in) (inr (visit, (mid, comes, let_go), serves)) =
+  pub IsLetIn-not_dropped : IsLetIn old new peer → ¬ (ServesNext s t old new)
+  IsLetIn-not_dropped (rest, first, let_in) (inl (lost, kept)) =
+      append-not_self old.came peer (sym (ap (λ (q : Queue). q.came) let_in) ∙ ap (λ (q : Queue). q.came) lost.3)
+  IsLetIn-not_dropped (rest, first, let_in) (inr (visit, (mid, comes, let_go), serves)) =
       let went : mid.went ≡ old.went = ap (λ (q : Queue). q.went) comes.2 in
-      longer mid.went visit.after (sym (ap (λ (q : Queue). q.went) let_go) ∙ ap (λ (q : Queue). q.went) let_in ∙ sym went)
+      append-not_self mid.went visit.after (sym (ap (λ (q : Queue). q.went) let_go) ∙ ap (λ (q : Queue). q.went) let_in ∙ sym went)
 
 -- `status_halved_in_process`: words that are no command line don't end with 1, for any streams
 module _ {D I O E : Type 0} {g : Ghosts D} (held : Image) (remaining : I → Option (List ℕ)) (contents : O → Option (List ℕ)) (shows : E → Option (List ℕ)) where
-  pub no_mistake_ends_with_1 : (words : List Text) (end : Ended D g) → is_line words ≢ true → RanOver held remaining contents shows words end → end.status ≢ 1
-  no_mistake_ends_with_1 words end mistaken (before, after, old, new, untold, told, ran) is = elim (ran.told_of mistaken) [
+  pub RanOver-mistake_not_1 : (words : List Text) (end : Ended D g) → is_line words ≢ true → RanOver held remaining contents shows words end → end.status ≢ 1
+  RanOver-mistake_not_1 words end mistaken (before, after, old, new, untold, told, ran) is = elim (ran.told_of mistaken) [
     | inl mistake ↦ let clash = sym is ∙ mistake.1.0 in absurd cc
     | inr (inl (asks, inl shown)) ↦ let clash = sym is ∙ shown.0 in absurd cc
     | inr (inl (asks, inr lost)) ↦ let clash = sym is ∙ lost.0 in absurd cc

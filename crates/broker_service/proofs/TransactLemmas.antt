@@ -3,27 +3,27 @@ use Rattle.std.proofs.Common.{◌≡◌, ◌⊎◌, ◌↔◌, ◌≤◌, inl, i
 use Rattle.std.proofs.lemmas.Result.{IfErr-weaker}
 use Rattle.sqlite.specs.{Effect.{Database}, Held.{Held}, State.{State, HasCleanDisk, Survives}}
 use Rattle.table_access.specs.{Calls.{HasFailed, GoesOn, EndsBy}, Unit.{Begins, IsLeft, FailsToBegin, RefusesCommit}, declared.StoreFault.{StoreFault}}
-use Rattle.table_access.{specs.declared.StoreFault.TheVariants.{Memory, Store}, proofs.CallLemmas.{ended_since, ended_with}}
+use Rattle.table_access.{specs.declared.StoreFault.TheVariants.{Memory, Store}, proofs.CallLemmas.{EndsBy-later_call, EndsBy-weaken}}
 use Rattle.broker_core.specs.{Change.{Transition}, Contents.{HasSoundContents}, Laws.{IsDone}, Machine.{Step}, State.{State as Broker}, Text.{Text}}
 use Rattle.broker_core.specs.{declared.answer.Answer.{Answer}, declared.answer.Answer.TheVariants.{Done}, declared.command.Command.{Command}}
 use Rattle.broker_core.specs.SoundNames.{AreNames}
 use Rattle.broker_tables.specs.{Calm.{Serves, HasFailedOrMemory, FailsFromBetween}, Holds.{Holds, HoldsAfter}, Room.{HasRoomFor, TakesRoom, enough}}
-use Rattle.broker_tables.proofs.RoomLemmas.{takes_none}
+use Rattle.broker_tables.proofs.RoomLemmas.{TakesRoom-same}
 use Rattle.command_facts.specs.{Performs.{PerformsBetween, TokensStep, IsToChange, IsMisnamed}, Primitives.{broker_primitives}}
 use Rattle.broker_database.specs.{Causes.{HoldsReadable, IsToBeDone, KeepsRoom}, Ends.{HoldsNext, Steps, KeepsAtPattern}, Stored.{Stores, HoldsState}}
 use Rattle.broker_database.specs.{Transaction.{Concludes, EndsFor, conclusion, told}, declared.ending.Failure.{Failure}}
 use Rattle.broker_database.specs.declared.ending.Failure.TheVariants.{Call, Commit}
-use Rattle.broker_database.proofs.Transaction.{WholeTransaction, transaction_ends, transaction_unchanged, transaction_shows, transaction_begun, transaction_over, transaction_once, transaction_within, unbegun_ends, unbegun_unchanged, unbegun_over, once_at_most}
-use Rattle.broker_database.proofs.StoreFailures.{transaction_fails, work_failed}
+use Rattle.broker_database.proofs.Transaction.{WholeTransaction, EndsOrFails-transaction, IsUnchangedUnless-transaction, now-after_transaction, Begins-transaction, LeavesNoTransaction-transaction, CommitsAtMostOnce-whole, Survives-before_whole_end, EndsOrFails-unbegun, IsUnchangedUnless-unbegun, LeavesNoTransaction-unbegun, CommitsAtMostOnce-of_survives}
+use Rattle.broker_database.proofs.StoreFailures.{HasFailed-of_transaction, HasFailed-of_work}
 use Rattle.broker_service.specs.Transacted.{AppliesOrFails, FailsAtCommit, FailsInside, Transacted}
-use Rattle.broker_service.proofs.EndLemmas.{done_steps, next_stored, steps_on, undone_keeps}
+use Rattle.broker_service.proofs.EndLemmas.{Step-of_done, Stores-next, Steps-of_step, Steps-of_undone}
 use Rattle.table_access.proofs.EndLemmas as ends
 
 -- an answer of the transaction is that of the work
-pub answered : (P : Answer → Type 0) (worked : Result Answer StoreFault) (ended : Result (Unit {0}) StoreFault) (result : Result Answer Failure) → told result ≡ conclusion worked ended → IfOk worked P → IfOk result P
-answered P worked (Ok u) (Ok answer) is it = subst (λ (r : Result Answer StoreFault). IfOk r P) (sym is) it
-answered P worked (Err fault) (Ok answer) is it = absurd (cc)
-answered P worked ended (Err failure) is it = tt
+pub IfOk-told_conclusion : (P : Answer → Type 0) (worked : Result Answer StoreFault) (ended : Result (Unit {0}) StoreFault) (result : Result Answer Failure) → told result ≡ conclusion worked ended → IfOk worked P → IfOk result P
+IfOk-told_conclusion P worked (Ok u) (Ok answer) is it = subst (λ (r : Result Answer StoreFault). IfOk r P) (sym is) it
+IfOk-told_conclusion P worked (Err fault) (Ok answer) is it = absurd (cc)
+IfOk-told_conclusion P worked ended (Err failure) is it = tt
 
 module _ (token : Option Text) (command : Command) where
   -- what the work promises of its answer
@@ -32,60 +32,60 @@ module _ (token : Option Text) (command : Command) where
       × TokensStep token command s (record { answer = answer; state = t }) × HoldsAfter enough mid done t
 
   -- what is done is a step
-  done_next : (s : Broker) (mid done : State) (answer : Answer) → Stores mid.now s → IsPerformed mid done answer → IsDone answer
+  IsPerformed-done_step : (s : Broker) (mid done : State) (answer : Answer) → Stores mid.now s → IsPerformed mid done answer → IsDone answer
       → (t : Broker) × Step broker_primitives s token command (record { answer = answer; state = t }) × Stores done.now t
-  done_next s mid done answer was performs is_done =
+  IsPerformed-done_step s mid done answer was performs is_done =
       let next = performs s was.tables in
-      let step = done_steps s token command mid.now was (record { answer = answer; state = next.0 }) (next.1 was.contents) is_done in
-      (next.0, step, next_stored s token command mid.now was (record { answer = answer; state = next.0 }) done.now step next.2.0)
+      let step = Step-of_done s token command mid.now was (record { answer = answer; state = next.0 }) (next.1 was.contents) is_done in
+      (next.0, step, Stores-next s token command mid.now was (record { answer = answer; state = next.0 }) done.now step next.2.0)
 
-  transacted_ends : (old mid done new : State) (result : Result Answer StoreFault) → WholeTransaction old mid done new (IsPerformed mid done) IsDone result
+  AppliesOrFails-of_transaction : (old mid done new : State) (result : Result Answer StoreFault) → WholeTransaction old mid done new (IsPerformed mid done) IsDone result
       → HasCleanDisk new → (s : Broker) → HoldsState s old → AppliesOrFails s token command new result
-  transacted_ends old mid done new result t clean s holds =
-      transaction_ends old mid done new _ _ result t (λ db. Stores db s) (HoldsNext s token command) (λ answer. Steps s token command new answer ⊎ KeepsAtPattern s token command new answer) clean holds
-      (λ answer was performs is_done. let it = done_next s mid done answer was performs is_done in (answer, it.0, it.1, it.2))
-      (λ answer was performs is_done commit. let it = done_next s mid done answer was performs is_done in steps_on s token command mid.now was answer it.0 new it.1 (commit (λ db. Stores db it.0) it.2))
-      (λ answer was performs undone kept. let next = performs s was.tables in undone_keeps s token command mid.now was (record { answer = answer; state = next.0 }) new (next.1 was.contents) undone kept)
+  AppliesOrFails-of_transaction old mid done new result t clean s holds =
+      EndsOrFails-transaction old mid done new _ _ result t (λ db. Stores db s) (HoldsNext s token command) (λ answer. Steps s token command new answer ⊎ KeepsAtPattern s token command new answer) clean holds
+      (λ answer was performs is_done. let it = IsPerformed-done_step s mid done answer was performs is_done in (answer, it.0, it.1, it.2))
+      (λ answer was performs is_done commit. let it = IsPerformed-done_step s mid done answer was performs is_done in Steps-of_step s token command mid.now was answer it.0 new it.1 (commit (λ db. Stores db it.0) it.2))
+      (λ answer was performs undone kept. let next = performs s was.tables in Steps-of_undone s token command mid.now was (record { answer = answer; state = next.0 }) new (next.1 was.contents) undone kept)
 
   -- what a refused change was to do is to be done
-  to_be_done : (s : Broker) (db : Database) → Stores db s → IsToChange (TokensStep token command) s → IsToBeDone s token command
-  to_be_done s db was change =
+  IsToBeDone-of_change : (s : Broker) (db : Database) → Stores db s → IsToChange (TokensStep token command) s → IsToBeDone s token command
+  IsToBeDone-of_change s db was change =
       let out : Transition = record { answer = Done change.0; state = change.1 } in
-      (out, tt, done_steps s token command db was out (change.2 was.contents) tt)
+      (out, tt, Step-of_done s token command db was out (change.2 was.contents) tt)
 
   -- if BEGIN was refused, no transaction was open
-  begin_fails : (s : Broker) (old new : State) (fault : StoreFault) → HoldsState s old → FailsToBegin old new fault → HasFailed old new fault
-  begin_fails s old new fault holds (ran, inl failed) = failed
-  begin_fails s old new fault holds (ran, inr within) = absurd (let outside = (holds.held within.1.0.was_open).autocommit in let inside = within.0 in cc)
+  HasFailed-at_begin : (s : Broker) (old new : State) (fault : StoreFault) → HoldsState s old → FailsToBegin old new fault → HasFailed old new fault
+  HasFailed-at_begin s old new fault holds (ran, inl failed) = failed
+  HasFailed-at_begin s old new fault holds (ran, inr within) = absurd (let outside = (holds.held within.1.0.was_open).autocommit in let inside = within.0 in cc)
 
   -- a result that is done is an answer
-  done_is_ok : (r : Result Answer StoreFault) → IsOkAnd r IsDone → IsOk r
-  done_is_ok (Ok answer) is = refl
-  done_is_ok (Err fault) is = absurd is
+  IsOk-of_done : (r : Result Answer StoreFault) → IsOkAnd r IsDone → IsOk r
+  IsOk-of_done (Ok answer) is = refl
+  IsOk-of_done (Err fault) is = absurd is
 
-  never_err : (P : StoreFault → Type 0) (r : Result Answer StoreFault) → IsOk r → IfErr r P
-  never_err P (Ok answer) is = tt
-  never_err P (Err fault) is = absurd (cc)
+  IfErr-of_ok : (P : StoreFault → Type 0) (r : Result Answer StoreFault) → IsOk r → IfErr r P
+  IfErr-of_ok P (Ok answer) is = tt
+  IfErr-of_ok P (Err fault) is = absurd (cc)
 
   -- and nothing changed
-  unbegun_shows : {s : Broker} (old new : State) → HoldsState s old → IsLeft old new → IsTrue new.is_open → new.now ≡ old.now
-  unbegun_shows old new holds (inl same) now = same.0.now_is
-  unbegun_shows old new holds (inr back) now = (back.undone now).0 ∙ sym (holds.held (back.was_open now)).same
+  now-unchanged_unbegun : {s : Broker} (old new : State) → HoldsState s old → IsLeft old new → IsTrue new.is_open → new.now ≡ old.now
+  now-unchanged_unbegun old new holds (inl same) now = same.0.now_is
+  now-unchanged_unbegun old new holds (inr back) now = (back.undone now).0 ∙ sym (holds.held (back.was_open now)).same
 
   -- at most the numbers of a command are taken
-  transacted_room : (old mid done new : State) (result : Result Answer StoreFault) → WholeTransaction old mid done new (IsPerformed mid done) IsDone result → HasCleanDisk new → (s : Broker) → HoldsState s old → KeepsRoom old new
-  transacted_room old mid done new result t clean s holds now =
-      let begun = transaction_begun old mid done new _ _ result t clean in
+  KeepsRoom-of_transaction : (old mid done new : State) (result : Result Answer StoreFault) → WholeTransaction old mid done new (IsPerformed mid done) IsDone result → HasCleanDisk new → (s : Broker) → HoldsState s old → KeepsRoom old new
+  KeepsRoom-of_transaction old mid done new result t clean s holds now =
+      let begun = Begins-transaction old mid done new _ _ result t clean in
       let was : Stores mid.now s = ends.begins (λ db. Stores db s) old mid begun holds in
-      elim (transaction_shows old mid done new _ _ result t clean (holds.held begun.1.was_open).same now) [
-        | inl same ↦ takes_none enough old.now new.now same
+      elim (now-after_transaction old mid done new _ _ result t clean (holds.held begun.1.was_open).same now) [
+        | inl same ↦ TakesRoom-same enough old.now new.now same
         | inr left ↦ subst₂ (TakesRoom enough) left.2 (sym left.3) (left.1 s was.tables).2.1
       ]
 
   module _ {X : Type 0} (shown : Held X → State) where
     module _ (old mid done new : Held X) (result : Result Answer Failure) (t : WholeTransaction (shown old) (shown mid) (shown done) (shown new) (IsPerformed (shown mid) (shown done)) IsDone (told result)) (clean : HasCleanDisk (shown new)) (s : Broker) (ready : HoldsReadable s (shown old)) where
       begun_there : Begins (shown old) (shown mid)
-      begun_there = transaction_begun (shown old) (shown mid) (shown done) (shown new) _ _ (told result) t clean
+      begun_there = Begins-transaction (shown old) (shown mid) (shown done) (shown new) _ _ (told result) t clean
 
       was : Stores (shown mid).now s
       was = ends.begins (λ db. Stores db s) (shown old) (shown mid) begun_there ready.held
@@ -104,25 +104,25 @@ module _ (token : Option Text) (command : Command) where
       work_fails named fault (inl (inr memory)) is = absurd (let clash : Memory ≡ Store = sym memory ∙ is in cc)
       work_fails named fault (inr (change, ended)) is =
           inr (
-            to_be_done s (shown mid).now was change,
+            IsToBeDone-of_change s (shown mid).now was change,
             λ room.
-                let failed = ended_with (shown mid) (shown done) fault (λ long. long named) (ended (subst (HasRoomFor enough) (sym begun_there.1.now_is) room)) in
-                work_failed (shown old) (shown mid) (shown done) (shown new) _ _ clean (told result) t Store (subst (HasFailed (shown mid) (shown done)) is failed),
+                let failed = EndsBy-weaken (shown mid) (shown done) fault (λ long. long named) (ended (subst (HasRoomFor enough) (sym begun_there.1.now_is) room)) in
+                HasFailed-of_work (shown old) (shown mid) (shown done) (shown new) _ _ clean (told result) t Store (subst (HasFailed (shown mid) (shown done)) is failed),
           )
 
       -- and what was done isn't kept
       not_kept : (answer : Answer) → IsPerformed (shown mid) (shown done) answer → IsDone answer → GoesOn (shown mid) (shown done) → (fault : StoreFault) → RefusesCommit shown done new fault → HasFailed (shown old) (shown new) Store ⊎ FailsAtCommit shown s token command old new fault
       not_kept answer performs is_done on Store refused =
-          inl (ended_since (shown old) (shown done) (shown new) Store (on.0, λ _. on.1 begun_there.1.is_open) (let up : (shown old).faults ≤ (shown done).faults = omega (arith, t.begins.counts, t.works.survives.counts) in up) (refused.failed on.0))
+          inl (EndsBy-later_call (shown old) (shown done) (shown new) Store (on.0, λ _. on.1 begun_there.1.is_open) (let up : (shown old).faults ≤ (shown done).faults = omega (arith, t.begins.counts, t.works.survives.counts) in up) (refused.failed on.0))
       not_kept answer performs is_done on Memory refused =
-          let next = done_next s (shown mid) (shown done) answer was performs is_done in
+          let next = IsPerformed-done_step s (shown mid) (shown done) answer was performs is_done in
           inr (
             refl,
             (record { answer = answer; state = next.0 }, is_done, next.1),
             record {
               worked = done;
               inside = on.0;
-              survives = transaction_within (shown old) (shown mid) (shown done) (shown new) _ _ (told result) t;
+              survives = Survives-before_whole_end (shown old) (shown mid) (shown done) (shown new) _ _ (told result) t;
               last = last (on.1 begun_there.1.is_open);
               next = (answer, next.0, next.1, next.2);
               refused = refused;
@@ -130,22 +130,22 @@ module _ (token : Option Text) (command : Command) where
           )
 
       module _ (refused : IfErr result (EndsFor shown t.keeps t.worked done new)) where
-        -- why a call is answered Store
+        -- why a call is IfOk-told_conclusion Store
         by_call : AreNames command → FailsFromBetween (shown mid) (shown done) t.worked (IsMisnamed command) (HasSoundContents broker_primitives) (IsToChange (TokensStep token command))
             → result ≡ Err (Call Store) → HasFailed (shown old) (shown new) Store ⊎ FailsInside s token command (shown old) (shown new)
         by_call named why is =
             let served : Serves (shown mid) s = record { inside = begun_there.1.mode; unlimited = t.begins.limit ∙ ready.unlimited; held = was.tables; readable = ready.readable } in
             let none : EndsFor shown t.keeps t.worked done new (Call Store) = subst (λ (r : Result Answer Failure). IfErr r (EndsFor shown t.keeps t.worked done new)) is refused in
-            transaction_fails (shown old) (shown mid) (shown done) (shown new) _ _ (FailsInside s token command (shown old) (shown new)) clean (told result) t
+            HasFailed-of_transaction (shown old) (shown mid) (shown done) (shown new) _ _ (FailsInside s token command (shown old) (shown new)) clean (told result) t
             (IfErr-weaker t.worked _ _ (λ fault it store. work_fails named fault it store) (why worked_clean s served was.contents))
-            (λ answer performs is_done kept on. absurd (none kept (done_is_ok t.worked (t.kept.0 kept)))) (ap told is)
+            (λ answer performs is_done kept on. absurd (none kept (IsOk-of_done t.worked (t.kept.0 kept)))) (ap told is)
 
         -- why COMMIT was refused
         by_commit : (fault : StoreFault) → result ≡ Err (Commit fault) → HasFailed (shown old) (shown new) Store ⊎ FailsAtCommit shown s token command old new fault
         by_commit fault is =
             let refusal : EndsFor shown t.keeps t.worked done new (Commit fault) = subst (λ (r : Result Answer Failure). IfErr r (EndsFor shown t.keeps t.worked done new)) is refused in
-            transaction_fails (shown old) (shown mid) (shown done) (shown new) _ _ (FailsAtCommit shown s token command old new fault) clean (told result) t
-            (never_err (λ f. f ≡ Store → HasFailed (shown mid) (shown done) f ⊎ FailsAtCommit shown s token command old new fault) t.worked (done_is_ok t.worked (t.kept.0 refusal.0)))
+            HasFailed-of_transaction (shown old) (shown mid) (shown done) (shown new) _ _ (FailsAtCommit shown s token command old new fault) clean (told result) t
+            (IfErr-of_ok (λ f. f ≡ Store → HasFailed (shown mid) (shown done) f ⊎ FailsAtCommit shown s token command old new fault) t.worked (IsOk-of_done t.worked (t.kept.0 refusal.0)))
             (λ answer performs is_done kept on. not_kept answer performs is_done on fault refusal.1) (ap told is)
 
     pub transacted : (old mid done new : Held X) (worked : Result Answer StoreFault) (result : Result Answer Failure) (keeps : Bool) → (HasCleanDisk (shown mid) → Begins (shown old) (shown mid)) → Survives (shown old) (shown mid) (λ _. ⊥)
@@ -153,13 +153,13 @@ module _ (token : Option Text) (command : Command) where
         → FailsFromBetween (shown mid) (shown done) worked (IsMisnamed command) (HasSoundContents broker_primitives) (IsToChange (TokensStep token command)) → (IsTrue keeps ↔ IsOkAnd worked IsDone) → Concludes (shown done) (shown new) keeps worked (told result)
         → (HasCleanDisk (shown new) → IfErr result (EndsFor shown keeps worked done new)) → Transacted shown token command old new result
     transacted old mid done new worked result keeps begun begins works calm kept concludes refused = record {
-      ends = transacted_ends (shown old) (shown mid) (shown done) (shown new) (told result) t;
-      unchanged = transaction_unchanged (shown old) (shown mid) (shown done) (shown new) _ _ (told result) t;
+      ends = AppliesOrFails-of_transaction (shown old) (shown mid) (shown done) (shown new) (told result) t;
+      unchanged = IsUnchangedUnless-transaction (shown old) (shown mid) (shown done) (shown new) _ _ (told result) t;
       calm = λ clean named s ready. by_call old mid done new result t clean s ready (refused clean) named calm;
       refused = λ clean s ready. by_commit old mid done new result t clean s ready (refused clean);
-      room = transacted_room (shown old) (shown mid) (shown done) (shown new) (told result) t;
-      over = transaction_over (shown old) (shown mid) (shown done) (shown new) _ _ (told result) t;
-      survives = transaction_once (shown old) (shown mid) (shown done) (shown new) _ _ (told result) t;
+      room = KeepsRoom-of_transaction (shown old) (shown mid) (shown done) (shown new) (told result) t;
+      over = LeavesNoTransaction-transaction (shown old) (shown mid) (shown done) (shown new) _ _ (told result) t;
+      survives = CommitsAtMostOnce-whole (shown old) (shown mid) (shown done) (shown new) _ _ (told result) t;
     }
       where
         t : WholeTransaction (shown old) (shown mid) (shown done) (shown new) (IsPerformed (shown mid) (shown done)) IsDone (told result)
@@ -169,11 +169,11 @@ module _ (token : Option Text) (command : Command) where
     pub untransacted : (old new : Held X) (why : StoreFault) → (HasCleanDisk (shown new) → IsLeft (shown old) (shown new)) → (HasCleanDisk (shown new) → FailsToBegin (shown old) (shown new) why)
         → Survives (shown old) (shown new) (λ _. ⊥) → Transacted shown token command old new (Err (Call why))
     untransacted old new why refused cause begins = record {
-      ends = λ clean s holds. unbegun_ends (shown old) (shown new) why refused begins (λ db. Stores db s) (HoldsNext s token command) (λ answer. Steps s token command (shown new) answer ⊎ KeepsAtPattern s token command (shown new) answer) clean holds;
-      unchanged = unbegun_unchanged (shown old) (shown new) why refused begins IsDone;
-      calm = λ clean named s ready is. let same : why ≡ Store = (let h = is in cc) in inl (subst (HasFailed (shown old) (shown new)) same (begin_fails s (shown old) (shown new) why ready.held (cause clean)));
+      ends = λ clean s holds. EndsOrFails-unbegun (shown old) (shown new) why refused begins (λ db. Stores db s) (HoldsNext s token command) (λ answer. Steps s token command (shown new) answer ⊎ KeepsAtPattern s token command (shown new) answer) clean holds;
+      unchanged = IsUnchangedUnless-unbegun (shown old) (shown new) why refused begins IsDone;
+      calm = λ clean named s ready is. let same : why ≡ Store = (let h = is in cc) in inl (subst (HasFailed (shown old) (shown new)) same (HasFailed-at_begin s (shown old) (shown new) why ready.held (cause clean)));
       refused = λ clean s ready fault is. absurd (let h = is in cc);
-      room = λ clean s holds now. takes_none enough (shown old).now (shown new).now (unbegun_shows (shown old) (shown new) holds (refused clean) now);
-      over = unbegun_over (shown old) (shown new) refused;
-      survives = once_at_most (shown old) (shown new) begins;
+      room = λ clean s holds now. TakesRoom-same enough (shown old).now (shown new).now (now-unchanged_unbegun (shown old) (shown new) holds (refused clean) now);
+      over = LeavesNoTransaction-unbegun (shown old) (shown new) refused;
+      survives = CommitsAtMostOnce-of_survives (shown old) (shown new) begins;
     }

@@ -6,7 +6,7 @@ use Rattle.table_access.specs.Calls.{HasFailed}
 use Rattle.broker_core.specs.{SoundNames.{AreNames}, State.{State as Broker}, Text.{Text}, declared.answer.Answer.{Answer}, declared.command.Command.{Command}}
 use Rattle.broker_tables.specs.Room.{HasRoomFor, enough}
 use Rattle.broker_database.specs.{Causes.{HoldsReadable}, declared.ending.Failure.{Failure}, declared.ending.Failure.TheVariants.{Call}}
-use Rattle.broker_database.proofs.StoreFailures.{disk_at_fault}
+use Rattle.broker_database.proofs.StoreFailures.{HasFailed-disk_at_fault}
 use Rattle.broker_service.specs.Transacted.{Transacted}
 use Rattle.table_access.specs.declared.StoreFault.TheVariants as faults
 
@@ -15,8 +15,8 @@ abbrev DiskWorks : State → State → Type 0
 DiskWorks old new = ¬ (HasCause old new ⊥ Io)
 
 -- a store that was open, over a disk that works, hasn't failed by Store
-no_failure : (old new : State) → IsTrue old.is_open → DiskWorks old new → ¬ (HasFailed old new faults.Store)
-no_failure old new was_open works failed = elim (disk_at_fault old new failed) [
+HasFailed-not_if_disk_works : (old new : State) → IsTrue old.is_open → DiskWorks old new → ¬ (HasFailed old new faults.Store)
+HasFailed-not_if_disk_works old new was_open works failed = elim (HasFailed-disk_at_fault old new failed) [
   | inl more ↦ works more
   | inr shut ↦ let clash : true ≡ false = sym was_open ∙ shut in absurd cc
 ]
@@ -24,10 +24,10 @@ no_failure old new was_open works failed = elim (disk_at_fault old new failed) [
 -- `done_command_given_up`: over a disk that works, and tables that have numbers for its rows, no command is given up by
 -- Store
 module _ {X : Type 0} (shown : Held X → State) (token : Option Text) (command : Command) (old new : Held X) (result : Result Answer Failure) where
-  pub no_done_command_is_given_up : Transacted shown token command old new result → HasCleanDisk (shown new) → AreNames command
+  pub Transacted-no_done_given_up : Transacted shown token command old new result → HasCleanDisk (shown new) → AreNames command
       → (s : Broker) → HoldsReadable s (shown old) → IsTrue (shown old).is_open → DiskWorks (shown old) (shown new) → HasRoomFor enough (shown old).now
       → result ≢ Err (Call faults.Store)
-  no_done_command_is_given_up it clean names s holds was_open works room is = elim (it.calm clean names s holds is) [
-    | inl failed ↦ no_failure (shown old) (shown new) was_open works failed
-    | inr inside ↦ no_failure (shown old) (shown new) was_open works (inside.1 room)
+  Transacted-no_done_given_up it clean names s holds was_open works room is = elim (it.calm clean names s holds is) [
+    | inl failed ↦ HasFailed-not_if_disk_works (shown old) (shown new) was_open works failed
+    | inr inside ↦ HasFailed-not_if_disk_works (shown old) (shown new) was_open works (inside.1 room)
   ]

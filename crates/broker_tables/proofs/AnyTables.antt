@@ -9,8 +9,8 @@ use Rattle.sqlite_value.specs.declared.keys.Key.{Key}
 use Rattle.sqlite_trees.specs.{declared.error.StoreError.{StoreError}, declared.error.StoreError.TheVariants.{OutOfMemory, Broken, Unstorable}}
 use Rattle.sqlite_schema.specs.declared.schema.Column.{Column}
 use Rattle.table_access.specs.{declared.StoreFault.{StoreFault}, Calls.{HasFailed}, Reading.{IsRefusedAs}, Statements.{from_table, keeps, shows}}
-use Rattle.table_access.proofs.{Answered.{Runs, refusal_ends, shown_of, first_has}, Members.{has_map, has_filter, has_contains, contains_has}}
-use Rattle.table_access.proofs.Steps.{Means, selects, shown_answers, shown_unchanged}
+use Rattle.table_access.proofs.{Answered.{Runs, IsRefusedAs-HasFailed, Shown-of_table_row, slice_get-has_first}, Members.{has_map, has_filter, has_contains, contains_has}}
+use Rattle.table_access.proofs.Steps.{Means, IsPermutation-selected_rows, Shown-Answers, Shown-IsUnchanged}
 use Rattle.broker_tables.specs.{Schema.{environments, numbers}, Asking.{IsColumnLike, HasColumns, HasBrokerTables, CanBeAsked}}
 
 -- ---- the tables
@@ -24,12 +24,12 @@ abbrev put_first : {X : Type 0} → X → (ℕ → X) → ℕ → X
 put_first x given zero = x
 put_first x given (suc n) = given n
 
-pub lays : (wanted ts : List Table) → AllZip HasColumns wanted ts → (given : ℕ → Table) × (ts ≡ laid_out wanted given)
-lays [] [] h = (λ n. environments, refl)
-lays (w ∷ ws) (t ∷ ts) h =
-    let more = lays ws ts h.1 in
+pub laid_out-of_HasColumns : (wanted ts : List Table) → AllZip HasColumns wanted ts → (given : ℕ → Table) × (ts ≡ laid_out wanted given)
+laid_out-of_HasColumns [] [] h = (λ n. environments, refl)
+laid_out-of_HasColumns (w ∷ ws) (t ∷ ts) h =
+    let more = laid_out-of_HasColumns ws ts h.1 in
     (put_first t more.0, λ i. record t { name = h.0.0 i; tree = h.0.1 i } ∷ more.1 i)
-lays _ _ h = absurd h
+laid_out-of_HasColumns _ _ h = absurd h
 
 -- ---- the columns
 
@@ -42,12 +42,12 @@ abbrev pub set_out : List Column → (ℕ → Column) → List Column
 set_out [] given = []
 set_out (c ∷ cs) given = named_as c (given zero) ∷ set_out cs (λ n. given (suc n))
 
-pub sets_out : (wanted cs : List Column) → AllZip IsColumnLike wanted cs → (given : ℕ → Column) × (cs ≡ set_out wanted given)
-sets_out [] [] h = (λ n. numbers [], refl)
-sets_out (w ∷ ws) (c ∷ cs) h =
-    let more = sets_out ws cs h.1 in
+pub set_out-of_IsColumnLike : (wanted cs : List Column) → AllZip IsColumnLike wanted cs → (given : ℕ → Column) × (cs ≡ set_out wanted given)
+set_out-of_IsColumnLike [] [] h = (λ n. numbers [], refl)
+set_out-of_IsColumnLike (w ∷ ws) (c ∷ cs) h =
+    let more = set_out-of_IsColumnLike ws cs h.1 in
     (put_first c more.0, λ i. record c { name = h.0.0 i; kind = h.0.1 i; collation = h.0.2 i } ∷ more.1 i)
-sets_out _ _ h = absurd h
+set_out-of_IsColumnLike _ _ h = absurd h
 
 -- ---- what a text asks of a schema
 
@@ -59,56 +59,56 @@ pub record AsksOf (schema : Schema) (sql : List ℕ) (params : Row) (query : Que
 
 module _ {sql : List ℕ} {params : Row} {query : Query} (old new : State) (asks : AsksOf old.now.schema sql params query) where
   -- what is shown is its answer
-  pub is_answer_of : (rows : List Row) → Shown sql params old new rows → Answers old.now (record { lets = []; body = query }) params rows
-  is_answer_of rows shown = shown_answers sql params old new _ asks.names asks.means rows shown
+  pub Shown-Answers_query : (rows : List Row) → Shown sql params old new rows → Answers old.now (record { lets = []; body = query }) params rows
+  Shown-Answers_query rows shown = Shown-Answers sql params old new _ asks.names asks.means rows shown
 
   -- nothing changes
-  pub leaves_all : (rows : List Row) → Shown sql params old new rows → IsUnchanged old new
-  leaves_all rows shown = shown_unchanged sql params old new rows asks.means.plain shown
+  pub Shown-leaves_all : (rows : List Row) → Shown sql params old new rows → IsUnchanged old new
+  Shown-leaves_all rows shown = Shown-IsUnchanged sql params old new rows asks.means.plain shown
 
   -- it is refused only as the store fails
-  pub refused_ends : old.step_limit ≡ None → (fault : StoreFault) → IsRefusedAs sql params old new fault → HasFailed old new fault
-  refused_ends unlimited fault = refusal_ends sql params old new query asks.names asks.means asks.runs unlimited fault
+  pub IsRefusedAs-ends : old.step_limit ≡ None → (fault : StoreFault) → IsRefusedAs sql params old new fault → HasFailed old new fault
+  IsRefusedAs-ends unlimited fault = IsRefusedAs-HasFailed sql params old new query asks.names asks.means asks.runs unlimited fault
 
 -- ---- the rows of one table that are shown
 
-pub nothing_in : (xs : List Row) → slice_get xs 0 ≡ None → (x : Row) → Has xs x → ⊥
-nothing_in [] none x has = has
-nothing_in (y ∷ xs) none x has = absurd cc
+pub slice_get-None_empty : (xs : List Row) → slice_get xs 0 ≡ None → (x : Row) → Has xs x → ⊥
+slice_get-None_empty [] none x has = has
+slice_get-None_empty (y ∷ xs) none x has = absurd cc
 
 module _ {sql : List ℕ} {params : Row} {t : ℕ} {terms project : List Term} {order : List (Term × Key)} (old new : State) (asks : AsksOf old.now.schema sql params (from_table t terms project order))
     (rows : List Row) (shown : Shown sql params old new rows) where
   -- the first one is what is shown of a row that WHERE keeps
-  pub first_kept : (row : Row) → slice_get rows 0 ≡ Some row → (r : Row) × Has (old.now.trees t) r × (keeps terms params r ≡ true) × (row ≡ shows project params r)
-  first_kept row head = shown_of sql params old new t terms project order asks.names asks.means rows row shown (first_has rows row head)
+  pub Shown-first_kept : (row : Row) → slice_get rows 0 ≡ Some row → (r : Row) × Has (old.now.trees t) r × (keeps terms params r ≡ true) × (row ≡ shows project params r)
+  Shown-first_kept row head = Shown-of_table_row sql params old new t terms project order asks.names asks.means rows row shown (slice_get-has_first rows row head)
 
   -- and if there is none, WHERE keeps no row
-  pub none_kept : slice_get rows 0 ≡ None → (r : Row) → Has (old.now.trees t) r → keeps terms params r ≡ true → ⊥
-  none_kept none r has kept =
+  pub Shown-none_kept : slice_get rows 0 ≡ None → (r : Row) → Has (old.now.trees t) r → keeps terms params r ≡ true → ⊥
+  Shown-none_kept none r has kept =
       let here = has_map (shows project params) _ r (has_filter (keeps terms params) (old.now.trees t) r has kept) in
-      nothing_in rows none _ (contains_has rows _ (Contains-permutation _ rows _ (selects sql params old new t terms project order asks.names asks.means rows shown) (has_contains _ _ here)))
+      slice_get-None_empty rows none _ (contains_has rows _ (Contains-permutation _ rows _ (IsPermutation-selected_rows sql params old new t terms project order asks.names asks.means rows shown) (has_contains _ _ here)))
 
   -- so one is shown if and only if WHERE keeps a row
-  pub any_kept : (b : Bool) → b ≡ is_some (slice_get rows 0) → IsTrue b ↔ ((r : Row) × Has (old.now.trees t) r × (keeps terms params r ≡ true))
-  any_kept b is = go b (slice_get rows 0) refl is
+  pub Shown-any_kept : (b : Bool) → b ≡ is_some (slice_get rows 0) → IsTrue b ↔ ((r : Row) × Has (old.now.trees t) r × (keeps terms params r ≡ true))
+  Shown-any_kept b is = go b (slice_get rows 0) refl is
     where
       go : (b : Bool) (o : Option Row) → slice_get rows 0 ≡ o → b ≡ is_some o → IsTrue b ↔ ((r : Row) × Has (old.now.trees t) r × (keeps terms params r ≡ true))
-      go true (Some row) head is = (λ t. let it = first_kept row head in (it.0, it.1, it.2), λ m. refl)
-      go false None head is = (λ t. absurd cc, λ m. absurd (none_kept head m.0 m.1 m.2))
+      go true (Some row) head is = (λ t. let it = Shown-first_kept row head in (it.0, it.1, it.2), λ m. refl)
+      go false None head is = (λ t. absurd cc, λ m. absurd (Shown-none_kept head m.0 m.1 m.2))
       go _ _ head is = absurd cc
 
 -- ---- one query after another
 
-cause_since : (a b c : State) (cause : StoreError) → IsTrue b.is_open → a.faults ≤ b.faults → HasCause b c ⊥ cause → HasCause a c ⊥ cause
-cause_since a b c OutOfMemory live up h = tt
-cause_since a b c Broken live up h = absurd (let e = live in cc)
-cause_since a b c Unstorable live up h = h
-cause_since a b c _ live up h = omega (arith, up, h)
+HasCause-later_call_open : (a b c : State) (cause : StoreError) → IsTrue b.is_open → a.faults ≤ b.faults → HasCause b c ⊥ cause → HasCause a c ⊥ cause
+HasCause-later_call_open a b c OutOfMemory live up h = tt
+HasCause-later_call_open a b c Broken live up h = absurd (let e = live in cc)
+HasCause-later_call_open a b c Unstorable live up h = h
+HasCause-later_call_open a b c _ live up h = omega (arith, up, h)
 
 -- if a query left all as it was, a later failure of the store is one of both calls together
-pub failed_since_query : (a b c : State) (e : StoreFault) → IsUnchanged a b → a.faults ≤ b.faults → HasFailed b c e → HasFailed a c e
-failed_since_query a b c e same up h = record { cause = h.cause; fault_is = h.fault_is; has = cause_since a b c h.cause same.0.is_open up h.has; over = h.over; blamed = h.blamed }
+pub HasFailed-after_query : (a b c : State) (e : StoreFault) → IsUnchanged a b → a.faults ≤ b.faults → HasFailed b c e → HasFailed a c e
+HasFailed-after_query a b c e same up h = record { cause = h.cause; fault_is = h.fault_is; has = HasCause-later_call_open a b c h.cause same.0.is_open up h.has; over = h.over; blamed = h.blamed }
 
 -- and what can be asked still can
-pub still_asked : (a b : State) → IsUnchanged a b → b.step_limit ≡ a.step_limit → CanBeAsked a → CanBeAsked b
-still_asked a b same limit asked = (limit ∙ asked.0, subst (λ (db : Database). HasBrokerTables db.schema) (sym same.0.now_is) asked.1)
+pub CanBeAsked-unchanged : (a b : State) → IsUnchanged a b → b.step_limit ≡ a.step_limit → CanBeAsked a → CanBeAsked b
+CanBeAsked-unchanged a b same limit asked = (limit ∙ asked.0, subst (λ (db : Database). HasBrokerTables db.schema) (sym same.0.now_is) asked.1)

@@ -17,8 +17,8 @@ use Rattle.sqlite_schema.specs.{declared.schema.Index.{Index}, declared.schema.C
 use Rattle.sqlite_schema.specs.Rules.{Keeps, guards, clashes, table_reals, index_reals}
 use Rattle.sqlite_trees.specs.View.{IsStorable}
 use Rattle.sqlite_sql.specs.Catalog.{entry_of}
-use Rattle.table_access.proofs.{Answered.{is_whole}, Refused.{stopped, caused_by, in_place, is_anywhere, change_fails, Ends}, SoundLemmas.{all_of, at_has}}
-use Rattle.table_access.proofs.{Steps.{Means}, Storable.{no_reals, entry_fits}}
+use Rattle.table_access.proofs.{Answered.{is_whole}, Refused.{EndsAs-stopped, Fails-weaken, IsMisplaced-never_anywhere, is_anywhere, Executes-change_fails, Ends}, SoundLemmas.{all_of, at_has}}
+use Rattle.table_access.proofs.{Steps.{Means}, Storable.{index_reals-zero, entry_of-IsStorable}}
 use Rattle.broker_tables.specs.{Schema.{all_indexes}, Making.{AreShortKeys}}
 
 -- ---- a statement whose text is known
@@ -30,22 +30,22 @@ pub record IsAlone (schema : Schema) (sql : List ℕ) (command : Command) : Type
   pub text : statement_of sql (understood schema sql) ≡ sql
 
 -- if nothing stops its command, it fails only as the store fails
-text_fails : (sql : List ℕ) (old new : State) (command : Command) → IsAlone old.now.schema sql command → is_query command ≡ false → is_pragma command ≡ false
+Executes-text_fails : (sql : List ℕ) (old new : State) (command : Command) → IsAlone old.now.schema sql command → is_query command ≡ false → is_pragma command ≡ false
     → is_anywhere command ≡ true → ((stop : Option Error) → ¬ Does old.step_limit (mode_of old) [] old.now sql None command (Err stop))
     → (e : Error) → Executes sql [] old new (Err e) → Fails old new ⊥ e
-text_fails sql old new command it quiet plain anywhere never e h =
+Executes-text_fails sql old new command it quiet plain anywhere never e h =
     let none : (stop : Option Error) → ¬ Ends sql [] old new command (λ e. ⊥) stop =
     λ stop does. never stop (subst (λ t. Does old.step_limit (mode_of old) [] old.now t None command (Err stop)) it.text does) in
-    elim (change_fails sql [] old new command (λ e. ⊥) it.means it.whole quiet plain (λ e is same. in_place old command anywhere e is)
+    elim (Executes-change_fails sql [] old new command (λ e. ⊥) it.means it.whole quiet plain (λ e is same. IsMisplaced-never_anywhere old command anywhere e is)
     (λ e writes. none (Some e)) e h) [
-      | inl fails ↦ caused_by old new e (none None) fails
+      | inl fails ↦ Fails-weaken old new e (none None) fails
       | inr is ↦ absurd is
     ]
 
 -- ---- what a text may define
 
-utf8 : (text : List ℕ) → list_all (λ c. nat_lt c 128) text ≡ true → IsUtf8 text
-utf8 text low = IsUtf8-from_ascii text (IsAscii-from_all text (All-from_recursion _ text (all_of (λ c. c < 128) text (λ c has. ltb-true c 128 (test_has (λ c. nat_lt c 128) text c low has)))))
+IsUtf8-ascii : (text : List ℕ) → list_all (λ c. nat_lt c 128) text ≡ true → IsUtf8 text
+IsUtf8-ascii text low = IsUtf8-from_ascii text (IsAscii-from_all text (All-from_recursion _ text (all_of (λ c. c < 128) text (λ c has. ltb-true c 128 (test_has (λ c. nat_lt c 128) text c low has)))))
 
 -- The text and the name are short and of ASCII letters, the name is free and none of SQLite's own, and the schema has room.
 -- Each field is `refl` for what is written out, under `unfolding everything`.
@@ -86,44 +86,44 @@ pub record DefinesIndex (schema : Schema) (sql : List ℕ) (one : Table × Index
 
 module _ (sql : List ℕ) (old new : State) (table : Table) (it : DefinesTable old.now.schema sql table) where
   -- what is refused of a table that the text defines, is refused of this one
-  of_table : (P : Table → Type 0) → (t : Table) × (table_defined_by sql ≡ Ok t) × P t → P table
-  of_table P (t, is, p) = let both : Ok t ≡ Ok table = sym is ∙ it.defined in let same : t ≡ table = cc in subst P same p
+  table_defined_by-unique : (P : Table → Type 0) → (t : Table) × (table_defined_by sql ≡ Ok t) × P t → P table
+  table_defined_by-unique P (t, is, p) = let both : Ok t ≡ Ok table = sym is ∙ it.defined in let same : t ≡ table = cc in subst P same p
 
-  table_not_refused : (why : Refusal) → ¬ RefusesTable old.now.schema sql why
-  table_not_refused (Invalid e) h = let clash = sym it.defined ∙ h in cc
-  table_not_refused NameTaken h = elim (of_table (λ t. (is_used old.now.schema t.name ≡ true) ⊎ ((i : Index) × Has (automatics t 0 0 t.uniques) i × (is_used old.now.schema i.name ≡ true))) h) [
+  RefusesTable-never : (why : Refusal) → ¬ RefusesTable old.now.schema sql why
+  RefusesTable-never (Invalid e) h = let clash = sym it.defined ∙ h in cc
+  RefusesTable-never NameTaken h = elim (table_defined_by-unique (λ t. (is_used old.now.schema t.name ≡ true) ⊎ ((i : Index) × Has (automatics t 0 0 t.uniques) i × (is_used old.now.schema i.name ≡ true))) h) [
     | inl used ↦ both_ways _ it.new.free used
     | inr key ↦ both_ways _ it.keys_free (some_from (λ i. is_used old.now.schema i.name) (automatics table 0 0 table.uniques) key.0 key.1 key.2)
   ]
-  table_not_refused BadName h = elim (of_table (λ t. (¬ IsUtf8 t.name) ⊎ ((is_reserved t.name ≡ true) × ((length t.uniques == 0) ≡ false))) h) [
-    | inl bad ↦ bad (utf8 table.name it.new.named)
+  RefusesTable-never BadName h = elim (table_defined_by-unique (λ t. (¬ IsUtf8 t.name) ⊎ ((is_reserved t.name ≡ true) × ((length t.uniques == 0) ≡ false))) h) [
+    | inl bad ↦ bad (IsUtf8-ascii table.name it.new.named)
     | inr own ↦ both_ways _ it.new.own own.0
   ]
-  table_not_refused TooBig h = elim (of_table (λ t. (65536 ≤ next_tree old.now.schema + length t.uniques) ⊎ ((2 ^ 64 ≤ table_reals t) ⊎ ((key : List ℕ) × Has t.uniques key × (2 ^ 64 ≤ index_reals (table_reals t) key)))) h) [
+  RefusesTable-never TooBig h = elim (table_defined_by-unique (λ t. (65536 ≤ next_tree old.now.schema + length t.uniques) ⊎ ((2 ^ 64 ≤ table_reals t) ⊎ ((key : List ℕ) × Has t.uniques key × (2 ^ 64 ≤ index_reals (table_reals t) key)))) h) [
     | inl full ↦ omega (arith, full, ltb-true (next_tree old.now.schema + length table.uniques) 65536 it.new.room)
     | inr wide ↦ elim wide [
       | inl reals ↦ omega (arith, reals, it.whole_numbers)
-      | inr key ↦ omega (arith, key.2, ap (λ r. index_reals r key.0) it.whole_numbers ∙ no_reals key.0)
+      | inr key ↦ omega (arith, key.2, ap (λ r. index_reals r key.0) it.whole_numbers ∙ index_reals-zero key.0)
     ]
   ]
-  table_not_refused BadKey h = both_ways _ (of_table (λ t. is_formed t ≡ false) h) it.formed
-  table_not_refused BadText h = both_ways _ (of_table (λ t. is_fit (Text (codes "table")) (Text t.name) (Text t.name) (Text sql) ≡ false) h) it.fit
-  table_not_refused (Violates rule) h = h
+  RefusesTable-never BadKey h = both_ways _ (table_defined_by-unique (λ t. is_formed t ≡ false) h) it.formed
+  RefusesTable-never BadText h = both_ways _ (table_defined_by-unique (λ t. is_fit (Text (codes "table")) (Text t.name) (Text t.name) (Text sql) ≡ false) h) it.fit
+  RefusesTable-never (Violates rule) h = h
 
-  table_not_stopped : (stop : Option Error) → ¬ MakesTable sql old.now (Err stop)
-  table_not_stopped None h = omega (arith, of_table (λ t. 10 ^ 9 ≤ 2 * length t.name + length sql + 200) h, ltb-true (2 * length table.name + length sql) 10000 it.new.short)
-  table_not_stopped (Some e) (inl bad) = bad.0 (utf8 sql it.new.written)
-  table_not_stopped (Some e) (inr refused) = table_not_refused refused.0 refused.1
+  MakesTable-never_stops : (stop : Option Error) → ¬ MakesTable sql old.now (Err stop)
+  MakesTable-never_stops None h = omega (arith, table_defined_by-unique (λ t. 10 ^ 9 ≤ 2 * length t.name + length sql + 200) h, ltb-true (2 * length table.name + length sql) 10000 it.new.short)
+  MakesTable-never_stops (Some e) (inl bad) = bad.0 (IsUtf8-ascii sql it.new.written)
+  MakesTable-never_stops (Some e) (inr refused) = RefusesTable-never refused.0 refused.1
 
   -- tables without AUTOINCREMENT need no other one
   uncounted : (after : Database) → MakesTable sql old.now (Ok after) → lacks_sequence after.schema ≡ false
-  uncounted after made = of_table (λ t. lacks_sequence (created old.now.schema t) ≡ false → lacks_sequence after.schema ≡ false)
+  uncounted after made = table_defined_by-unique (λ t. lacks_sequence (created old.now.schema t) ≡ false → lacks_sequence after.schema ≡ false)
       (made.table, made.defined, λ none. ap lacks_sequence made.is ∙ none) it.uncounted
 
-  pub table_fails : (e : Error) → Executes sql [] old new (Err e) → Fails old new ⊥ e
-  table_fails = text_fails sql old new CreateTable it.alone refl refl refl (λ stop h. elim (stopped stop h) [
-    | inl making ↦ elim (stopped stop making) [
-      | inl made ↦ table_not_stopped stop made
+  pub Executes-table_fails : (e : Error) → Executes sql [] old new (Err e) → Fails old new ⊥ e
+  Executes-table_fails = Executes-text_fails sql old new CreateTable it.alone refl refl refl (λ stop h. elim (EndsAs-stopped stop h) [
+    | inl making ↦ elim (EndsAs-stopped stop making) [
+      | inl made ↦ MakesTable-never_stops stop made
       | inr counts ↦ absurd (let plain = uncounted counts.0 counts.1 in let given = (rw plain at counts.2) in cc)
     ]
     | inr noted ↦ absurd (let given = noted.2 in cc)
@@ -132,45 +132,45 @@ module _ (sql : List ℕ) (old new : State) (table : Table) (it : DefinesTable o
 -- ---- CREATE INDEX
 
 module _ (sql : List ℕ) (old new : State) (one : Table × Index) (it : DefinesIndex old.now.schema sql one) (sound : IsDatabase old.now) (short : AreShortKeys old.now.trees one) where
-  of_index : (P : Index → Type 0) → (i : Index) × (index_defined_by one.0 sql ≡ Ok i) × P i → P one.1
-  of_index P (i, is, p) = let both : Ok i ≡ Ok one.1 = sym is ∙ it.defined in let same : i ≡ one.1 = cc in subst P same p
+  index_defined_by-unique : (P : Index → Type 0) → (i : Index) × (index_defined_by one.0 sql ≡ Ok i) × P i → P one.1
+  index_defined_by-unique P (i, is, p) = let both : Ok i ≡ Ok one.1 = sym is ∙ it.defined in let same : i ≡ one.1 = cc in subst P same p
 
   -- an index that isn't UNIQUE asks nothing of rows
-  still_unique : Keeps Unique (indexed old.now.schema one.0 one.1) old.now.trees
-  still_unique = all_of _ old.now.schema.tables (λ t known. all_of _ (old.now.trees t.tree) (λ row has.
+  Keeps-Unique_indexed : Keeps Unique (indexed old.now.schema one.0 one.1) old.now.trees
+  Keeps-Unique_indexed = all_of _ old.now.schema.tables (λ t known. all_of _ (old.now.trees t.tree) (λ row has.
       let was = at_has _ (old.now.trees t.tree) row (at_has _ old.now.schema.tables t (sound.obeys.rules Unique) known) has in
       test_push (λ i. not (guards i t && clashes i.order i.columns (old.now.trees t.tree) row)) old.now.schema.indexes (record one.1 { tree = next_tree old.now.schema; table = one.0.tree }) was
       (ap (λ b. not ((b && (one.0.tree == t.tree)) && clashes one.1.order one.1.columns (old.now.trees t.tree) row)) it.repeats)))
 
-  index_not_refused : (why : Refusal) → ¬ RefusesIndex old.now.schema old.now.trees one.0 sql why
-  index_not_refused (Invalid e) h = let clash = sym it.defined ∙ h in cc
-  index_not_refused NameTaken h = both_ways _ it.new.free (of_index (λ i. is_used old.now.schema i.name ≡ true) h)
-  index_not_refused BadName h = elim (of_index (λ i. ((¬ IsUtf8 i.name) ⊎ ((is_reserved i.name ≡ true) × (false ≡ false))) ⊎ (¬ IsUtf8 one.0.name)) h) [
-    | inl name ↦ elim name [ inl bad ↦ bad (utf8 one.1.name it.new.named) | inr own ↦ both_ways _ it.new.own own.0 ]
-    | inr bad ↦ bad (utf8 one.0.name it.parent)
+  RefusesIndex-never : (why : Refusal) → ¬ RefusesIndex old.now.schema old.now.trees one.0 sql why
+  RefusesIndex-never (Invalid e) h = let clash = sym it.defined ∙ h in cc
+  RefusesIndex-never NameTaken h = both_ways _ it.new.free (index_defined_by-unique (λ i. is_used old.now.schema i.name ≡ true) h)
+  RefusesIndex-never BadName h = elim (index_defined_by-unique (λ i. ((¬ IsUtf8 i.name) ⊎ ((is_reserved i.name ≡ true) × (false ≡ false))) ⊎ (¬ IsUtf8 one.0.name)) h) [
+    | inl name ↦ elim name [ inl bad ↦ bad (IsUtf8-ascii one.1.name it.new.named) | inr own ↦ both_ways _ it.new.own own.0 ]
+    | inr bad ↦ bad (IsUtf8-ascii one.0.name it.parent)
   ]
-  index_not_refused TooBig h = elim (of_index (λ i. (65536 ≤ next_tree old.now.schema) ⊎ ((2 ^ 64 ≤ table_reals one.0) ⊎ (2 ^ 64 ≤ index_reals (table_reals one.0) i.columns))) h) [
+  RefusesIndex-never TooBig h = elim (index_defined_by-unique (λ i. (65536 ≤ next_tree old.now.schema) ⊎ ((2 ^ 64 ≤ table_reals one.0) ⊎ (2 ^ 64 ≤ index_reals (table_reals one.0) i.columns))) h) [
     | inl full ↦ omega (arith, full, ltb-true (next_tree old.now.schema + length one.0.name) 65536 it.new.room)
     | inr wide ↦ elim wide [
       | inl reals ↦ omega (arith, reals, it.whole_numbers)
-      | inr key ↦ omega (arith, key, ap (λ r. index_reals r one.1.columns) it.whole_numbers ∙ no_reals one.1.columns)
+      | inr key ↦ omega (arith, key, ap (λ r. index_reals r one.1.columns) it.whole_numbers ∙ index_reals-zero one.1.columns)
     ]
   ]
-  index_not_refused BadKey h = h
-  index_not_refused BadText h = both_ways _ (of_index (λ i. is_fit (Text (codes "index")) (Text i.name) (Text one.0.name) (Text sql) ≡ false) h) it.fit
-  index_not_refused (Violates rule) h = of_index (λ i. ¬ Keeps Unique (indexed old.now.schema one.0 i) old.now.trees) (h.0, h.1, h.3) still_unique
+  RefusesIndex-never BadKey h = h
+  RefusesIndex-never BadText h = both_ways _ (index_defined_by-unique (λ i. is_fit (Text (codes "index")) (Text i.name) (Text one.0.name) (Text sql) ≡ false) h) it.fit
+  RefusesIndex-never (Violates rule) h = index_defined_by-unique (λ i. ¬ Keeps Unique (indexed old.now.schema one.0 i) old.now.trees) (h.0, h.1, h.3) Keeps-Unique_indexed
 
-  index_not_stopped : (stop : Option Error) → ¬ MakesIndex sql old.now one.0 (Err stop)
-  index_not_stopped None h = elim (of_index (λ i. (10 ^ 9 ≤ length i.name + length one.0.name + length sql + 200) ⊎ ((row : Row) × Has (old.now.trees one.0.tree) row × ¬ IsStorable (index_reals (table_reals one.0) i.columns) (entry_of i.columns row))) h) [
+  MakesIndex-never_stops : (stop : Option Error) → ¬ MakesIndex sql old.now one.0 (Err stop)
+  MakesIndex-never_stops None h = elim (index_defined_by-unique (λ i. (10 ^ 9 ≤ length i.name + length one.0.name + length sql + 200) ⊎ ((row : Row) × Has (old.now.trees one.0.tree) row × ¬ IsStorable (index_reals (table_reals one.0) i.columns) (entry_of i.columns row))) h) [
     | inl long ↦ omega (arith, long, ltb-true (2 * length one.1.name + length sql) 10000 it.new.short, ltb-true (next_tree old.now.schema + length one.0.name) 65536 it.new.room)
-    | inr row ↦ row.2 (entry_fits one.0 one.1.columns row.0 it.whole_numbers (ltb-true _ 12 it.few) (at_has _ (old.now.trees one.0.tree) row.0 short row.1))
+    | inr row ↦ row.2 (entry_of-IsStorable one.0 one.1.columns row.0 it.whole_numbers (ltb-true _ 12 it.few) (at_has _ (old.now.trees one.0.tree) row.0 short row.1))
   ]
-  index_not_stopped (Some e) (inl bad) = bad.0 (utf8 sql it.new.written)
-  index_not_stopped (Some e) (inr refused) = index_not_refused refused.0 refused.1
+  MakesIndex-never_stops (Some e) (inl bad) = bad.0 (IsUtf8-ascii sql it.new.written)
+  MakesIndex-never_stops (Some e) (inr refused) = RefusesIndex-never refused.0 refused.1
 
-  pub index_fails : (e : Error) → Executes sql [] old new (Err e) → Fails old new ⊥ e
-  index_fails = text_fails sql old new (CreateIndex it.at) it.alone refl refl refl
-      (λ stop h. elim (stopped stop (subst (λ o. AtPlace (λ t. Defines (mode_of old) (MakesIndex sql old.now t)) o (Err stop)) it.there h)) [
-        | inl made ↦ index_not_stopped stop made
+  pub Executes-index_fails : (e : Error) → Executes sql [] old new (Err e) → Fails old new ⊥ e
+  Executes-index_fails = Executes-text_fails sql old new (CreateIndex it.at) it.alone refl refl refl
+      (λ stop h. elim (EndsAs-stopped stop (subst (λ o. AtPlace (λ t. Defines (mode_of old) (MakesIndex sql old.now t)) o (Err stop)) it.there h)) [
+        | inl made ↦ MakesIndex-never_stops stop made
         | inr noted ↦ absurd (let given = noted.2 in cc)
       ])

@@ -20,7 +20,7 @@ listed = tt
 abbrev Defines : ℕ → List ℕ → Table → Type 0
 Defines before = DefinesTable (schema_of (take before all_tables))
 
-each_table : Defines 0 META.now schema.meta
+Defines-each_table : Defines 0 META.now schema.meta
     × Defines 1 TEAMS.now schema.teams
     × Defines 2 PACTICIPANTS.now schema.pacticipants
     × Defines 3 VERSIONS.now schema.versions
@@ -36,7 +36,7 @@ each_table : Defines 0 META.now schema.meta
     × Defines 13 CHECKED_RESULTS.now schema.checked_results
     × Defines 14 STRICT_ENVIRONMENTS.now schema.strict_environments
 unfolding understood everything listed
-each_table = (
+Defines-each_table = (
   record { alone = record { means = record { is = refl; plain = (refl, refl); unlisted = refl }; whole = refl; text = refl }; defined = refl; uncounted = refl; new = record { written = refl; named = refl; free = refl; own = refl; room = refl; short = refl }; keys_free = refl; formed = refl; fit = refl; whole_numbers = refl },
   record { alone = record { means = record { is = refl; plain = (refl, refl); unlisted = refl }; whole = refl; text = refl }; defined = refl; uncounted = refl; new = record { written = refl; named = refl; free = refl; own = refl; room = refl; short = refl }; keys_free = refl; formed = refl; fit = refl; whole_numbers = refl },
   record { alone = record { means = record { is = refl; plain = (refl, refl); unlisted = refl }; whole = refl; text = refl }; defined = refl; uncounted = refl; new = record { written = refl; named = refl; free = refl; own = refl; room = refl; short = refl }; keys_free = refl; formed = refl; fit = refl; whole_numbers = refl },
@@ -54,22 +54,22 @@ each_table = (
   record { alone = record { means = record { is = refl; plain = (refl, refl); unlisted = refl }; whole = refl; text = refl }; defined = refl; uncounted = refl; new = record { written = refl; named = refl; free = refl; own = refl; room = refl; short = refl }; keys_free = refl; formed = refl; fit = refl; whole_numbers = refl },
 )
 
-each_index : DefinesIndex (indexed_by (schema_of all_tables) (take 0 all_indexes)) CONTENTS_BY_DIGEST.now schema.contents_by_digest
+DefinesIndex-each_index : DefinesIndex (indexed_by (schema_of all_tables) (take 0 all_indexes)) CONTENTS_BY_DIGEST.now schema.contents_by_digest
     × DefinesIndex (indexed_by (schema_of all_tables) (take 1 all_indexes)) CONTRACTS_BY_CONTENT.now schema.contracts_by_content
     × DefinesIndex (indexed_by (schema_of all_tables) (take 2 all_indexes)) LATEST_BY_PROVIDER_VERSION.now schema.latest_by_provider_version
     × DefinesIndex (indexed_by (schema_of all_tables) (take 3 all_indexes)) VERSIONS_BY_PACTICIPANT.now schema.versions_by_pacticipant
 unfolding understood everything listed
-each_index = (
+DefinesIndex-each_index = (
   record { at = 7; alone = record { means = record { is = refl; plain = (refl, refl); unlisted = refl }; whole = refl; text = refl }; there = refl; defined = refl; new = record { written = refl; named = refl; free = refl; own = refl; room = refl; short = refl }; parent = refl; fit = refl; whole_numbers = refl; repeats = refl; known = inl refl; few = refl },
   record { at = 8; alone = record { means = record { is = refl; plain = (refl, refl); unlisted = refl }; whole = refl; text = refl }; there = refl; defined = refl; new = record { written = refl; named = refl; free = refl; own = refl; room = refl; short = refl }; parent = refl; fit = refl; whole_numbers = refl; repeats = refl; known = inr (inl refl); few = refl },
   record { at = 10; alone = record { means = record { is = refl; plain = (refl, refl); unlisted = refl }; whole = refl; text = refl }; there = refl; defined = refl; new = record { written = refl; named = refl; free = refl; own = refl; room = refl; short = refl }; parent = refl; fit = refl; whole_numbers = refl; repeats = refl; known = inr (inr (inl refl)); few = refl },
   record { at = 3; alone = record { means = record { is = refl; plain = (refl, refl); unlisted = refl }; whole = refl; text = refl }; there = refl; defined = refl; new = record { written = refl; named = refl; free = refl; own = refl; room = refl; short = refl }; parent = refl; fit = refl; whole_numbers = refl; repeats = refl; known = inr (inr (inr (inl refl))); few = refl },
 )
 
-pub tables_defined : AreDefinedTables no_schema table_texts
-tables_defined =
-    let e = each_table in
+pub AreDefinedTables-table_texts : AreDefinedTables no_schema table_texts
+AreDefinedTables-table_texts =
+    let e = Defines-each_table in
     (e.0, (e.1, (e.2, (e.3, (e.4, (e.5, (e.6, (e.7, (e.8, (e.9, (e.10, (e.11, (e.12, (e.13, (e.14, tt)))))))))))))))
 
-pub indexes_defined : AreDefinedIndexes (schema_of all_tables) index_texts
-indexes_defined = let e = each_index in (e.0, (e.1, (e.2, (e.3, tt))))
+pub AreDefinedIndexes-index_texts : AreDefinedIndexes (schema_of all_tables) index_texts
+AreDefinedIndexes-index_texts = let e = DefinesIndex-each_index in (e.0, (e.1, (e.2, (e.3, tt))))

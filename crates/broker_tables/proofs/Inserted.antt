@@ -2,11 +2,11 @@
 use Rattle.broker_core.specs.{State.{State as Broker}, declared.command.Version.{Version}}
 use Rattle.broker_tables.specs.{Holds.{Holds, HoldsAfter, IsBroker, marks_in}, Numbers.{number_of, numbered}, ChangeRefusals.{AreShort, HaveNumbers, HoldsOpen}}
 use Rattle.broker_tables.specs.{Room.{LeaveNumbers}, Rows.{rows_of, value_at}}
-use Rattle.broker_tables.{specs.Schema.{broker_schema, in_environments, in_pacticipants, in_teams, in_versions, to}, proofs.Frames.{Frame, frame_of, meant}}
+use Rattle.broker_tables.{specs.Schema.{broker_schema, in_environments, in_pacticipants, in_teams, in_versions, to}, proofs.Frames.{Frame, ChangesOnly-Frame, Means-over_broker_schema}}
 use Rattle.broker_tables.proofs.Keyed.{IsFree}
-use Rattle.broker_tables.proofs.Placed.{Need, Placed, at_environments, at_pacticipants, at_teams, calm, is_plain, listed, numbered_in, plain_there, plainly, ready_at, texts_in, there}
-use Rattle.broker_tables.proofs.{RoomLemmas.{Grows, after_one, grows_added, number_for}, Orders.{exact_texts}, References.{LeadsTo, leads, row_number}}
-use Rattle.broker_tables.proofs.VersionRows.{find_version, version_number}
+use Rattle.broker_tables.proofs.Placed.{Need, Placed, at_environments, at_pacticipants, at_teams, calm, plainly-same, listed, Placed-IsNumbered, slice_get-Placed_plainly, plainly, IsBroker-IsReady, column-texts, slice_get-Placed_table}
+use Rattle.broker_tables.proofs.{RoomLemmas.{Grows, HoldsAfter-one_table, Grows-added, fits_i64-next_rowid}, Orders.{text_cmp-antisymmetric}, References.{LeadsTo, LeadsTo-each, enumerate_from-row_number}}
+use Rattle.broker_tables.proofs.VersionRows.{number_of-has_row, version_number}
 use Rattle.sqlite.specs.{Cast.{cast_all, cast_row}, Collation.TheVariants.{Binary}, Command.TheVariants.{Insert}, Does.{due}, Edit.{next_rowid, with_rowid}}
 use Rattle.sqlite.specs.{Effect.{Database, value_rows}, Listing.{understood}, Order.{Row, column, value_cmp}, Rows.{Edited, Inserts, Written}, Schema.{Schema}}
 use Rattle.sqlite.specs.{Source.TheVariants.{Values}, State.{Executes, Fails, State, mode_of}, Table.{Table}, Term.{Term}, Tree.{IsAscending, rowid}}
@@ -26,46 +26,46 @@ use Rattle.std.proofs.Common.{Bool, Err, IsTrue, List, None, Ok, Option, Some, [
 use Rattle.std.proofs.lemmas.Bool.{and_from, and_parts, false_from_ne_true, ltb-true, or_right}
 use Rattle.table_access.specs.{Calls.{EndsBy, FailsToRun, fault_of}, Columns.{text, text_cmp, whole_at}, Sound.{IsNumbered, IsShortValue}}
 use Rattle.table_access.{specs.{Statements.{ChangesOnly, IsAdded}, declared.StoreFault.{StoreFault}}, proofs.Answered.{is_whole}}
-use Rattle.table_access.proofs.{Edits.{Suits as EditSuits, goes, one_unique, refers}, Maps.{find_has}, Members.{has_map, map_has}}
-use Rattle.table_access.proofs.{Refused.{caused_by, insert_fails}, SoundLemmas.{all_of, at_has}, Steps.{Means, inserts, same_value, went}}
-use Rattle.table_access.proofs.{Storable.{IsShortRow, short_fits}, UpsertRefused.{key_of}, Values.{cast_null, same_ints, same_texts}}
+use Rattle.table_access.proofs.{Edits.{Suits as EditSuits, goes, are_unique-put_row, refers}, Maps.{find-has_row}, Members.{has_map, map_has}}
+use Rattle.table_access.proofs.{Refused.{Fails-weaken, insert_fails}, SoundLemmas.{all_of, at_has}, Steps.{Means, inserts, Ok-injective, Ok-not_stopped}}
+use Rattle.table_access.proofs.{Storable.{IsShortRow, IsShortRow-not_oversized}, UpsertRefused.{key_of}, Values.{cast-Null, binary-Eq_Int, binary-Eq_Text}}
 
 -- ---- the tables of a broker
 
--- tables whose trees rise are apart
+-- tables whose trees rising-broker_schema are apart
 abbrev pub rising : List Table → Bool
 rising [] = true
 rising (t ∷ ts) = list_all (λ u. nat_lt t.tree u.tree) ts && rising ts
 
-pub apart_of : (ts : List Table) → rising ts ≡ true → IsAscending (λ a b. a.tree ≡ b.tree → ⊥) ts
-apart_of [] h = tt
-apart_of (t ∷ ts) h =
+pub rising-trees_apart : (ts : List Table) → rising ts ≡ true → IsAscending (λ a b. a.tree ≡ b.tree → ⊥) ts
+rising-trees_apart [] h = tt
+rising-trees_apart (t ∷ ts) h =
     let both = and_parts _ _ h in
-    (all_of _ ts (λ u has same. let low : t.tree < u.tree = ltb-true t.tree u.tree (test_has (λ (u : Table). nat_lt t.tree u.tree) ts u both.0 has) in omega (arith, low, same)), apart_of ts both.1)
+    (all_of _ ts (λ u has same. let low : t.tree < u.tree = ltb-true t.tree u.tree (test_has (λ (u : Table). nat_lt t.tree u.tree) ts u both.0 has) in omega (arith, low, same)), rising-trees_apart ts both.1)
 
-rise : rising broker_schema.tables ≡ true
+rising-broker_schema : rising broker_schema.tables ≡ true
 unfolding everything
-rise = refl
+rising-broker_schema = refl
 
 -- no two tables have one tree
 pub apart : IsAscending (λ a b. a.tree ≡ b.tree → ⊥) broker_schema.tables
-apart = apart_of broker_schema.tables rise
+apart = rising-trees_apart broker_schema.tables rising-broker_schema
 
 -- no table has a REAL column, and no index many columns
-short_entries : (list_all (λ t. nat_lt (table_reals t) 1) broker_schema.tables ≡ true) × (list_all (λ i. nat_lt (length i.columns) 12) broker_schema.indexes ≡ true)
+broker_schema-short_entries : (list_all (λ t. nat_lt (table_reals t) 1) broker_schema.tables ≡ true) × (list_all (λ i. nat_lt (length i.columns) 12) broker_schema.indexes ≡ true)
 unfolding everything
-short_entries = (refl, refl)
+broker_schema-short_entries = (refl, refl)
 
 -- so a row with a few short texts can be stored
 pub storable : (db : Database) → IsBroker db → (t : Table) → Has db.schema.tables t → (row : Row) → IsShortRow row → ¬ IsOversized db.schema t row
-storable db broker t listed = short_fits db.schema t (record {
-  whole = (let none = ltb-true (table_reals t) 1 (test_has (λ (u : Table). nat_lt (table_reals u) 1) db.schema.tables t (subst (λ (s : Schema). list_all (λ u. nat_lt (table_reals u) 1) s.tables ≡ true) (sym broker.schema) short_entries.0) listed) in omega (arith, none));
-  narrow = subst (λ (s : Schema). list_all (λ i. nat_lt (length i.columns) 12) s.indexes ≡ true) (sym broker.schema) short_entries.1;
+storable db broker t listed = IsShortRow-not_oversized db.schema t (record {
+  whole = (let none = ltb-true (table_reals t) 1 (test_has (λ (u : Table). nat_lt (table_reals u) 1) db.schema.tables t (subst (λ (s : Schema). list_all (λ u. nat_lt (table_reals u) 1) s.tables ≡ true) (sym broker.schema) broker_schema-short_entries.0) listed) in omega (arith, none));
+  narrow = subst (λ (s : Schema). list_all (λ i. nat_lt (length i.columns) 12) s.indexes ≡ true) (sym broker.schema) broker_schema-short_entries.1;
 })
 
 -- ---- a row that nothing is against
 
--- the row fits the columns and CHECKs of its table, nothing has its number or one of its keys, and what it refers to is there
+-- the row fits the columns and CHECKs of its table, nothing has its number or one of its keys, and what it refers to is slice_get-Placed_table
 pub record Suits (db : Database) (t : Table) (made : Row) : Type 0 where
   pub pass : PassAlone t (made ∷ [])
   pub fits : fits_i64 (id_in (rowid made)) ≡ true
@@ -83,15 +83,15 @@ module _ (db : Database) (broker : IsBroker db) (t : Table) (listed : Has db.sch
   free i known guard r has = ap (λ (k : Order × List ℕ). agree k.0 k.1 r k.1 made) places.2 ∙ at_has _ t.uniques places.0 suits.free places.1 r has
     where
       places : (ps : List ℕ) × Has t.uniques ps × (key_of i ≡ (plain, ps))
-      places = map_has (λ ps. (plain, ps)) t.uniques (key_of i) (subst (λ keys. Has keys (key_of i)) (ap (λ (x : Need). x.1) (ready_at db broker t listed)) (has_map key_of _ i (has_kept (λ i. guards i t) db.schema.indexes i known guard)))
+      places = map_has (λ ps. (plain, ps)) t.uniques (key_of i) (subst (λ keys. Has keys (key_of i)) (ap (λ (x : Need). x.1) (IsBroker-IsReady db broker t listed)) (has_map key_of _ i (has_kept (λ i. guards i t) db.schema.indexes i known guard)))
 
   referred : (keys : Keys) → is_referred db.schema keys (putting t made) ≡ true
   referred Off = refl
-  referred _ = ap (λ (x : Need). x.2 && true) (ready_at db broker t listed)
+  referred _ = ap (λ (x : Need). x.2 && true) (IsBroker-IsReady db broker t listed)
 
   -- so the edit that puts it in suits the table
-  edit_suits : (keys : Keys) → EditSuits (¬ AreShort texts) db.schema keys db.trees (putting t made)
-  edit_suits keys = record {
+  EditSuits-putting : (keys : Keys) → EditSuits (¬ AreShort texts) db.schema keys db.trees (putting t made)
+  EditSuits-putting keys = record {
     apart = subst (λ (s : Schema). IsAscending (λ a b. a.tree ≡ b.tree → ⊥) s.tables) (sym broker.schema) apart;
     calm = calm db broker;
     listed = listed;
@@ -102,7 +102,7 @@ module _ (db : Database) (broker : IsBroker db) (t : Table) (listed : Has db.sch
     keyed = ap (λ b. b && true) suits.keyed;
     fits = ap (λ b. b && true) suits.fits;
     fresh = ap (λ b. not b && true) suits.fresh;
-    unique = one_unique db.schema db.trees t (db.trees t.tree) made suits.keyed free;
+    unique = are_unique-put_row db.schema db.trees t (db.trees t.tree) made suits.keyed free;
     referred = referred keys;
     parents = λ row new ref named. elim new [
       | inl same ↦ subst (λ r. has_parent db.schema.tables db.trees r ref ≡ true) (sym same) (ap (λ (s : Schema). has_parent s.tables db.trees made ref) broker.schema ∙ at_has _ t.references ref suits.parents named)
@@ -136,48 +136,48 @@ abbrev pub Puts : {t : Table} → Placed t → List ℕ → Row → Row → Type
 Puts at = PutsInto broker_schema at.place
 
 -- without a limit of steps it fails only as the store fails, if the edit that puts the row in suits the table
-module _ (sql : List ℕ) (params : Row) (old new : State) (t : Table) (at : ℕ) (there : slice_get old.now.schema.tables at ≡ Some t) (same : plainly t ≡ t)
+module _ (sql : List ℕ) (params : Row) (old new : State) (t : Table) (at : ℕ) (slice_get-Placed_table : slice_get old.now.schema.tables at ≡ Some t) (same : plainly t ≡ t)
     (row made : Row) (puts : PutsInto old.now.schema at sql params row) (stored : with_rowid Chosen (old.now.trees t.tree) (cast_row t row) ≡ made)
     (TooBig : Type 0) (suits : EditSuits TooBig old.now.schema (mode_of old).keys old.now.trees (putting t made)) where
   -- the edit is the one of this row
-  edit_is : (rows : List Row) → rows ≡ row ∷ [] → edit_of old.now.trees (plainly t) [] Chosen 0 rows ≡ putting t made
-  edit_is rows is =
+  edit_of-putting : (rows : List Row) → rows ≡ row ∷ [] → edit_of old.now.trees (plainly t) [] Chosen 0 rows ≡ putting t made
+  edit_of-putting rows is =
       ap (edit_of old.now.trees (plainly t) [] Chosen 0) is ∙ ap (λ u. edit_of old.now.trees u [] Chosen 0 (row ∷ [])) same ∙ ap (λ r. record { table = t; gone = []; news = r ∷ [] }) stored
 
-  left : (w : Written) → Inserts (record { limit = old.step_limit; keys = (mode_of old).keys; schema = old.now.schema; table = plainly t; params = params }) (Values puts.terms puts.width) old.now.trees (Ok w) → Refers All old.now.schema w.trees
-  left w h =
-      let given = went h in
-      let written = went (went given.2).2 in
-      let counted = went written.2 in
+  Refers-after_insert : (w : Written) → Inserts (record { limit = old.step_limit; keys = (mode_of old).keys; schema = old.now.schema; table = plainly t; params = params }) (Values puts.terms puts.width) old.now.trees (Ok w) → Refers All old.now.schema w.trees
+  Refers-after_insert w h =
+      let given = Ok-not_stopped h in
+      let written = Ok-not_stopped (Ok-not_stopped given.2).2 in
+      let counted = Ok-not_stopped written.2 in
       let one = subst (λ (e : Edit). Edited old.now.schema (mode_of old).keys old.now.trees e (Ok written.0))
-      (edit_is _ (given.1.1 ∙ ap (λ ps. value_rows ps puts.width (length puts.terms / puts.width) puts.terms) (append-nil params) ∙ puts.one)) written.1 in
-      subst (λ trees. Refers All old.now.schema trees) (sym (ap (λ (it : Written). it.trees) (same_value counted.2) ∙ same_value counted.1))
+      (edit_of-putting _ (given.1.1 ∙ ap (λ ps. value_rows ps puts.width (length puts.terms / puts.width) puts.terms) (append-nil params) ∙ puts.one)) written.1 in
+      subst (λ trees. Refers All old.now.schema trees) (sym (ap (λ (it : Written). it.trees) (Ok-injective counted.2) ∙ Ok-injective counted.1))
       (refers TooBig old.now.schema (mode_of old).keys old.now.trees (putting t made) suits written.0 one)
 
-  pub row_fails : old.step_limit ≡ None → (error : Error) → Executes sql params old new (Err error) → Fails old new TooBig error
-  row_fails unlimited error h =
+  pub Executes-insert_fails : old.step_limit ≡ None → (error : Error) → Executes sql params old new (Err error) → Fails old new TooBig error
+  Executes-insert_fails unlimited error h =
       elim (insert_fails t.name t.tree t.columns t.key t.primary t.uniques t.orders t.checks t.references sql params old new at
-      (there ∙ ap Some (sym same)) puts.terms puts.width puts.means puts.whole puts.kinds unlimited error h) [
-        | inl store ↦ caused_by old new error (λ unfit. (stops None unfit).1) store
+      (slice_get-Placed_table ∙ ap Some (sym same)) puts.terms puts.width puts.means puts.whole puts.kinds unlimited error h) [
+        | inl store ↦ Fails-weaken old new error (λ unfit. (stops None unfit).1) store
         | inr unfit ↦ absurd (let clash : Some error ≡ None = (stops (Some error) unfit).0 in cc)
       ]
     where
       stops : (stop : Option Error) → Edited old.now.schema (mode_of old).keys old.now.trees (edit_of old.now.trees (plainly t) [] Chosen 0 (value_rows params puts.width (length puts.terms / puts.width) puts.terms)) (Err stop)
           ⊎ ((w : Written) × Inserts (record { limit = old.step_limit; keys = (mode_of old).keys; schema = old.now.schema; table = plainly t; params = params }) (Values puts.terms puts.width) old.now.trees (Ok w) × (¬ Refers (due (mode_of old)) old.now.schema w.trees)) → (stop ≡ None) × TooBig
-      stops stop (inl edited) = goes TooBig old.now.schema (mode_of old).keys old.now.trees (putting t made) suits stop (subst (λ (e : Edit). Edited old.now.schema (mode_of old).keys old.now.trees e (Err stop)) (edit_is _ puts.one) edited)
-      stops stop (inr (w, writes, stray)) = absurd (stray (left w writes))
+      stops stop (inl edited) = goes TooBig old.now.schema (mode_of old).keys old.now.trees (putting t made) suits stop (subst (λ (e : Edit). Edited old.now.schema (mode_of old).keys old.now.trees e (Err stop)) (edit_of-putting _ puts.one) edited)
+      stops stop (inr (w, writes, stray)) = absurd (stray (Refers-after_insert w writes))
 
 module _ {t : Table} (at : Placed t) {sql : List ℕ} {params row made : Row} (puts : Puts at sql params row) (old new : State) (broker : IsBroker old.now)
     (stored : with_rowid Chosen (old.now.trees t.tree) (cast_row t row) ≡ made) where
   -- if it is done, the row is added, and no other table changes
-  pub inserted : (count : ℕ) → Executes sql params old new (Ok count) → ChangesOnly t.tree old new × IsAdded (old.now.trees t.tree) (new.now.trees t.tree) made
-  inserted count h =
-      inserts t.name t.tree t.columns t.key t.primary t.uniques t.orders t.checks t.references sql params old new at.place (plain_there at old.now broker) puts.terms puts.width row made puts.one stored (meant old.now broker sql puts.means) count h
+  pub Executes-insert_adds : (count : ℕ) → Executes sql params old new (Ok count) → ChangesOnly t.tree old new × IsAdded (old.now.trees t.tree) (new.now.trees t.tree) made
+  Executes-insert_adds count h =
+      inserts t.name t.tree t.columns t.key t.primary t.uniques t.orders t.checks t.references sql params old new at.place (slice_get-Placed_plainly at old.now broker) puts.terms puts.width row made puts.one stored (Means-over_broker_schema old.now broker sql puts.means) count h
 
-  pub insert_ends : Suits old.now t made → (texts : List (List ℕ)) → (AreShort texts → IsShortRow made) → EndsOnly texts sql params old new
-  insert_ends suits texts short unlimited fault (error, is, h) =
-      let it = row_fails sql params old new t at.place (there at old.now broker) (is_plain at old.now broker) row made (subst (λ s. PutsInto s at.place sql params row) (sym broker.schema) puts) stored
-      (¬ AreShort texts) (edit_suits old.now broker t (listed at old.now broker) made suits texts short (mode_of old).keys) unlimited error h in
+  pub EndsOnly-insert : Suits old.now t made → (texts : List (List ℕ)) → (AreShort texts → IsShortRow made) → EndsOnly texts sql params old new
+  EndsOnly-insert suits texts short unlimited fault (error, is, h) =
+      let it = Executes-insert_fails sql params old new t at.place (slice_get-Placed_table at old.now broker) (plainly-same at old.now broker) row made (subst (λ s. PutsInto s at.place sql params row) (sym broker.schema) puts) stored
+      (¬ AreShort texts) (EditSuits-putting old.now broker t (listed at old.now broker) made suits texts short (mode_of old).keys) unlimited error h in
       record { cause = it.0; fault_is = is ∙ ap fault_of it.1; has = it.2; over = it.3.autocommit; blamed = it.4 }
 
 -- ---- what it refers to
@@ -186,44 +186,44 @@ module _ (db : Database) (made : Row) (p : ℕ) where
   abbrev IsThere : List ℕ → List ℕ → Type 0
   IsThere parent key = has_parent broker_schema.tables db.trees made (to p parent key) ≡ true
 
-  -- the row is there that it leads to
-  pub stands : (parent key : List ℕ) (tree place : ℕ) → LeadsTo p parent key tree place → (r : Row) → Has (db.trees tree) r → equal Binary (column r place) (column made p) ≡ true → IsThere parent key
-  stands parent key tree place (o, keyed, binary) r has ties =
+  -- the row is slice_get-Placed_table that it LeadsTo-each to
+  pub IsThere-of_row : (parent key : List ℕ) (tree place : ℕ) → LeadsTo p parent key tree place → (r : Row) → Has (db.trees tree) r → equal Binary (column r place) (column made p) ≡ true → IsThere parent key
+  IsThere-of_row parent key tree place (o, keyed, binary) r has ties =
       let tied : equal (first_key o).collation (column r place) (column made p) ≡ true = ap (λ c. equal c (column r place) (column made p)) binary ∙ ties in
       or_right _ _ (ap (is_held db.trees (p ∷ []) made) keyed ∙ some_from (λ x. agree o (place ∷ []) x (p ∷ []) made) (db.trees tree) r has (and_from _ _ tied refl))
 
   named : {V : Type 0} (parent : List ℕ) (tree place : ℕ) → LeadsTo p parent (codes "name") tree place → ((r : Row) → Has (db.trees tree) r → column r place ≡ Text (text place r)) → (value : Row → V) (name : List ℕ) (found : Option V)
       → value_at text_cmp (text place) value (db.trees tree) name ≡ found → IsTrue (is_some found) → column made p ≡ Text name → IsThere parent (codes "name")
-  named parent tree place leads typed value name None is has refer = absurd cc
-  named parent tree place leads typed value name (Some v) is has refer =
-      let row = find_has nat_list_cmp_total exact_texts (text place) value name v (db.trees tree) is in
-      stands parent (codes "name") tree place leads row.0 row.1 (ap (λ v. equal Binary v (column made p)) (typed row.0 row.1 ∙ ap Text (sym row.2)) ∙ ap (equal Binary (Text name)) refer ∙ same_texts name name ∙ (eq_by_cmp_equiv nat_list_cmp_total).refl name)
+  named parent tree place LeadsTo-each typed value name None is has refer = absurd cc
+  named parent tree place LeadsTo-each typed value name (Some v) is has refer =
+      let row = find-has_row nat_list_cmp_total text_cmp-antisymmetric (text place) value name v (db.trees tree) is in
+      IsThere-of_row parent (codes "name") tree place LeadsTo-each row.0 row.1 (ap (λ v. equal Binary v (column made p)) (typed row.0 row.1 ∙ ap Text (sym row.2)) ∙ ap (equal Binary (Text name)) refer ∙ binary-Eq_Text name name ∙ (eq_by_cmp_equiv nat_list_cmp_total).refl name)
 
 module _ (db : Database) (s : Broker) (held : Holds db s) (made : Row) (p : ℕ) where
-  -- a team that is there has the row that a reference to its name leads to
-  pub team_there : (name : List ℕ) → IsTrue (is_some (s.teams name)) → column made p ≡ Text name → IsThere db made p (codes "teams") (codes "name")
-  team_there name = named db made p (codes "teams") in_teams.tree in_teams.name (leads p).5 (texts_in at_teams db held.broker in_teams.name refl) (text in_teams.token_digest) name (s.teams name) (held.teams name)
+  -- a team that is slice_get-Placed_table has the row that a reference to its name LeadsTo-each to
+  pub IsThere-team : (name : List ℕ) → IsTrue (is_some (s.teams name)) → column made p ≡ Text name → IsThere db made p (codes "teams") (codes "name")
+  IsThere-team name = named db made p (codes "teams") in_teams.tree in_teams.name (LeadsTo-each p).5 (column-texts at_teams db held.broker in_teams.name refl) (text in_teams.token_digest) name (s.teams name) (held.teams name)
 
   -- and so do a pacticipant, an environment, and a version for its number
-  pub pacticipant_there : (name : List ℕ) → IsTrue (is_some (s.pacticipants name)) → column made p ≡ Text name → IsThere db made p (codes "pacticipants") (codes "name")
-  pacticipant_there name = named db made p (codes "pacticipants") in_pacticipants.tree in_pacticipants.name (leads p).4 (texts_in at_pacticipants db held.broker in_pacticipants.name refl) (text in_pacticipants.team) name (s.pacticipants name) (held.pacticipants name)
+  pub IsThere-pacticipant : (name : List ℕ) → IsTrue (is_some (s.pacticipants name)) → column made p ≡ Text name → IsThere db made p (codes "pacticipants") (codes "name")
+  IsThere-pacticipant name = named db made p (codes "pacticipants") in_pacticipants.tree in_pacticipants.name (LeadsTo-each p).4 (column-texts at_pacticipants db held.broker in_pacticipants.name refl) (text in_pacticipants.team) name (s.pacticipants name) (held.pacticipants name)
 
-  pub environment_there : (name : List ℕ) → IsTrue (is_some (s.environments name)) → column made p ≡ Text name → IsThere db made p (codes "environments") (codes "name")
-  environment_there name = named db made p (codes "environments") in_environments.tree in_environments.name (leads p).3 (texts_in at_environments db held.broker in_environments.name refl) (marks_in (rows_of db (codes "strict_environments"))) name (s.environments name) (held.environments name)
+  pub IsThere-environment : (name : List ℕ) → IsTrue (is_some (s.environments name)) → column made p ≡ Text name → IsThere db made p (codes "environments") (codes "name")
+  IsThere-environment name = named db made p (codes "environments") in_environments.tree in_environments.name (LeadsTo-each p).3 (column-texts at_environments db held.broker in_environments.name refl) (marks_in (rows_of db (codes "strict_environments"))) name (s.environments name) (held.environments name)
 
-  pub version_there : (v : Version) (n : ℕ) → number_of s.versions v ≡ Some n → column made p ≡ Int (pos n) → IsThere db made p (codes "versions") (codes "number")
-  version_there v n is refer =
-      let row = find_version db held.broker s.versions v n held.versions is in
-      stands db made p (codes "versions") (codes "number") in_versions.tree in_versions.number (leads p).0 row.0 row.1
-      (ap (λ x. equal Binary x (column made p)) (version_number db held.broker row.0 row.1 ∙ ap Int row.4) ∙ ap (equal Binary (Int (pos n))) refer ∙ same_ints (pos n) (pos n) ∙ (eq_by_cmp_equiv int_cmp_total).refl (pos n))
+  pub IsThere-version : (v : Version) (n : ℕ) → number_of s.versions v ≡ Some n → column made p ≡ Int (pos n) → IsThere db made p (codes "versions") (codes "number")
+  IsThere-version v n is refer =
+      let row = number_of-has_row db held.broker s.versions v n held.versions is in
+      IsThere-of_row db made p (codes "versions") (codes "number") in_versions.tree in_versions.number (LeadsTo-each p).0 row.0 row.1
+      (ap (λ x. equal Binary x (column made p)) (version_number db held.broker row.0 row.1 ∙ ap Int row.4) ∙ ap (equal Binary (Int (pos n))) refer ∙ binary-Eq_Int (pos n) (pos n) ∙ (eq_by_cmp_equiv int_cmp_total).refl (pos n))
 
 -- ---- numbers
 
 -- in a table whose rows are numbered from 1 without gaps, none has the next number
-pub next_counted : {X : Type 0} (f : Row → X) (rows : List Row) (xs : List X) (rest : Row) → map {B = ℤ × X} (λ r. (whole_at 0 r, f r)) rows ≡ numbered xs → IsNumbered rows → is_taken rows (Int (pos (length xs + 1)) ∷ rest) ≡ false
-next_counted f rows xs rest are rising = false_from_ne_true _ (λ taken.
+pub is_taken-next_number : {X : Type 0} (f : Row → X) (rows : List Row) (xs : List X) (rest : Row) → map {B = ℤ × X} (λ r. (whole_at 0 r, f r)) rows ≡ numbered xs → IsNumbered rows → is_taken rows (Int (pos (length xs + 1)) ∷ rest) ≡ false
+is_taken-next_number f rows xs rest are rising = false_from_ne_true _ (λ taken.
     let hit = some_has (λ r. is_eq (value_cmp (rowid r) (Int (pos (length xs + 1))))) rows taken in
-    let low = row_number f rows xs 1 are hit.0 hit.1 in
+    let low = enumerate_from-row_number f rows xs 1 are hit.0 hit.1 in
     let ties : is_eq (int_cmp (pos low.0) (pos (length xs + 1))) ≡ true =
     ap is_eq (sym (value_cmp-Int (pos low.0) (pos (length xs + 1)))) ∙ ap (λ v. is_eq (value_cmp v (Int (pos (length xs + 1))))) (ap Int (sym low.1) ∙ sym (int_is (rowid hit.0) (at_has _ rows hit.0 rising.1 hit.1))) ∙ hit.2 in
     let same : pos low.0 ≡ pos (length xs + 1) = int_cmp-IsAntisymmetric _ _ ((Equal-is (int_cmp (pos low.0) (pos (length xs + 1)))).0 ties) in
@@ -238,36 +238,36 @@ pub record Adds {t : Table} (at : Placed t) (sql : List ℕ) (params rest : Row)
   pub stored : cast_all t.columns rest ≡ rest
 
 module _ {t : Table} {at : Placed t} {sql : List ℕ} {params rest : Row} (adds : Adds at sql params rest) (old new : State) (broker : IsBroker old.now) where
-  -- the row as it is there
+  -- the row as it is slice_get-Placed_table
   abbrev pub added : Row
   added = Int (next_rowid (old.now.trees t.tree)) ∷ rest
 
   stored : with_rowid Chosen (old.now.trees t.tree) (cast_row t (Null ∷ rest)) ≡ added
-  stored = λ i. with_rowid Chosen (old.now.trees t.tree) (cast_null i ∷ adds.stored i)
+  stored = λ i. with_rowid Chosen (old.now.trees t.tree) (cast-Null i ∷ adds.stored i)
 
   -- if it is done, the row is added, and no other table changes
-  pub adds_row : (count : ℕ) → Executes sql params old new (Ok count) → ChangesOnly t.tree old new × IsAdded (old.now.trees t.tree) (new.now.trees t.tree) added
-  adds_row = inserted at adds.puts old new broker stored
+  pub Executes-adds_row : (count : ℕ) → Executes sql params old new (Ok count) → ChangesOnly t.tree old new × IsAdded (old.now.trees t.tree) (new.now.trees t.tree) added
+  Executes-adds_row = Executes-insert_adds at adds.puts old new broker stored
 
   -- so the next state is held, if that follows from the row that was added and the tables that stayed
-  pub held_added : {taken : ℕ} → 1 ≤ taken → {next : Broker} (count : ℕ) → Executes sql params old new (Ok count)
+  pub HoldsAfter-added : {taken : ℕ} → 1 ≤ taken → {next : Broker} (count : ℕ) → Executes sql params old new (Ok count)
       → (Frame (t.name ∷ []) old.now new.now → IsAdded (old.now.trees t.tree) (new.now.trees t.tree) added → Holds new.now next) → HoldsAfter taken old new next
-  held_added {taken} some {next} count h holds =
-      let it = adds_row count h in
-      let frame = frame_of (t.name ∷ []) t.tree at.alone old new broker it.0 in
-      after_one taken some t.name old new next frame
-      (λ counted. subst (λ o. Grows (option_map_or old.now.trees o []) (option_map_or new.now.trees o [])) (sym at.named) (grows_added _ _ added it.1 refl)) (holds frame it.1)
+  HoldsAfter-added {taken} some {next} count h holds =
+      let it = Executes-adds_row count h in
+      let frame = ChangesOnly-Frame (t.name ∷ []) t.tree at.alone old new broker it.0 in
+      HoldsAfter-one_table taken some t.name old new next frame
+      (λ counted. subst (λ o. Grows (option_map_or old.now.trees o []) (option_map_or new.now.trees o [])) (sym at.named) (Grows-added _ _ added it.1 refl)) (holds frame it.1)
 
   -- It fails only as the store fails, or since one of these texts is too long, if the table has a number for it, its
-  -- columns and keys are as they have to be, and what it refers to is there.
-  pub adds_ends : LeaveNumbers 1 (old.now.trees t.tree) → PassAlone t (added ∷ []) → AllByRecursion (IsFree (old.now.trees t.tree) added) t.uniques
+  -- columns and keys are as they have to be, and what it refers to is slice_get-Placed_table.
+  pub EndsOnly-added : LeaveNumbers 1 (old.now.trees t.tree) → PassAlone t (added ∷ []) → AllByRecursion (IsFree (old.now.trees t.tree) added) t.uniques
       → AllByRecursion (λ ref. has_parent broker_schema.tables old.now.trees added ref ≡ true) t.references
       → (texts : List (List ℕ)) → (AreShort texts → AllByRecursion IsShortValue rest) → 0 < length rest → length rest ≤ 11 → EndsOnly texts sql params old new
-  adds_ends room pass free parents texts short some few =
-      let numbered = numbered_in at old.now broker in
-      insert_ends at adds.puts old new broker stored (record {
+  EndsOnly-added room pass free parents texts short some few =
+      let numbered = Placed-IsNumbered at old.now broker in
+      EndsOnly-insert at adds.puts old new broker stored (record {
         pass = pass;
-        fits = number_for _ room;
+        fits = fits_i64-next_rowid _ room;
         keyed = refl;
         fresh = next_is_free Chosen (old.now.trees t.tree) rest numbered.0 numbered.1;
         free = free;

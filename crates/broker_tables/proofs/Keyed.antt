@@ -7,12 +7,12 @@ use Rattle.sqlite_value.specs.Keys.{plain}
 use Rattle.sqlite_rules.{specs.Lists.{Has}, proofs.ListLemmas.{some_from}}
 use Rattle.sqlite_keyed.proofs.SliceLemmas.{is_some-map}
 use Rattle.table_access.specs.{Columns.{by_both, pair_cmp, text, text_cmp, whole_at}, Statements.{from_table, keeps, shows}}
-use Rattle.table_access.proofs.Keys.{Key, HasCells, agrees, are_params, keeps_key, once, params_for, text_and, text_key, whole_and, whole_key}
-use Rattle.table_access.proofs.{Maps.{looks_up_at}, SoundLemmas.{all_of}, Steps.{answered}}
+use Rattle.table_access.proofs.Keys.{Key, HasCells, agree-keys_tie, are_params, keeps-one_key, IsAscending-keys_unique, params_for, text_and, text_key, whole_and, whole_key}
+use Rattle.table_access.proofs.{Maps.{find-first_shown}, SoundLemmas.{all_of}, Steps.{IsPermutation-kept_rows}}
 use Rattle.broker_tables.specs.{Holds.{IsBroker}, Rows.{stands_at, value_at}}
 use Rattle.broker_tables.specs.Schema.{numbers, texts, in_branches, in_contracts, in_deployed, in_environments, in_grants, in_latest, in_pacticipants, in_released, in_strict_environments, in_teams, in_versions}
-use Rattle.broker_tables.proofs.Standing.{stands_found}
-use Rattle.broker_tables.proofs.Placed.{Placed, column_at, keys_apart, texts_in, wholes_in, at_branches, at_contracts, at_deployed, at_environments, at_grants, at_latest, at_pacticipants, at_released, at_strict_environments, at_teams, at_versions}
+use Rattle.broker_tables.proofs.Standing.{value_at-is_some}
+use Rattle.broker_tables.proofs.Placed.{Placed, column_at, uniques-keys_apart, column-texts, column-whole_numbers, at_branches, at_contracts, at_deployed, at_environments, at_grants, at_latest, at_pacticipants, at_released, at_strict_environments, at_teams, at_versions}
 
 -- columns of a table, as a key: each row of it has the values of one there
 pub record Columns {t : Table} (at : Placed t) {K : Type 0} (R : K → K → Ordering) (places : List ℕ) (key : Row → K) : Type 0 where
@@ -22,18 +22,18 @@ pub record Columns {t : Table} (at : Placed t) {K : Type 0} (R : K → K → Ord
 module _ {t : Table} (at : Placed t) (place : ℕ) {name : List ℕ} where
   -- a column of texts, and one of whole numbers
   abbrev pub texts_key : column_at t place ≡ Some (texts name) → Columns at text_cmp (place ∷ []) (text place)
-  texts_key is = record { of = text_key place; typed = λ db broker r has i. texts_in at db broker place is r has i ∷ [] }
+  texts_key is = record { of = text_key place; typed = λ db broker r has i. column-texts at db broker place is r has i ∷ [] }
 
   abbrev pub wholes_key : column_at t place ≡ Some (numbers name) → Columns at int_cmp (place ∷ []) (whole_at place)
-  wholes_key is = record { of = whole_key place; typed = λ db broker r has i. wholes_in at db broker place is r has i ∷ [] }
+  wholes_key is = record { of = whole_key place; typed = λ db broker r has i. column-whole_numbers at db broker place is r has i ∷ [] }
 
   module _ {K : Type 0} {S : K → K → Ordering} {places : List ℕ} {key : Row → K} where
     -- and then others
     abbrev pub texts_and : column_at t place ≡ Some (texts name) → Columns at S places key → Columns at (by_both text_cmp S) (place ∷ places) (λ r. (text place r, key r))
-    texts_and is rest = record { of = text_and place rest.of; typed = λ db broker r has i. texts_in at db broker place is r has i ∷ rest.typed db broker r has i }
+    texts_and is rest = record { of = text_and place rest.of; typed = λ db broker r has i. column-texts at db broker place is r has i ∷ rest.typed db broker r has i }
 
     abbrev pub wholes_and : column_at t place ≡ Some (numbers name) → Columns at S places key → Columns at (by_both int_cmp S) (place ∷ places) (λ r. (whole_at place r, key r))
-    wholes_and is rest = record { of = whole_and place rest.of; typed = λ db broker r has i. wholes_in at db broker place is r has i ∷ rest.typed db broker r has i }
+    wholes_and is rest = record { of = whole_and place rest.of; typed = λ db broker r has i. column-whole_numbers at db broker place is r has i ∷ rest.typed db broker r has i }
 
 -- the table, and columns that are one of its keys
 pub record Keyed {K : Type 0} (R : K → K → Ordering) (key : Row → K) : Type 0 where
@@ -52,33 +52,33 @@ module _ {K : Type 0} {R : K → K → Ordering} {key : Row → K} (t : Keyed R 
   rows = db.trees t.table.tree
 
   -- no two rows have one key
-  pub keys_of : IsAscending (λ a b. eq_by_cmp R (key a) (key b) ≡ false) rows
-  keys_of = once t.columns.of rows (t.columns.typed db broker) (keys_apart t.at db broker t.places t.unique)
+  pub IsAscending-keys_of_table : IsAscending (λ a b. eq_by_cmp R (key a) (key b) ≡ false) rows
+  IsAscending-keys_of_table = IsAscending-keys_unique t.columns.of rows (t.columns.typed db broker) (uniques-keys_apart t.at db broker t.places t.unique)
 
   -- a made row is free if no row has its key
-  pub is_free : (made : Row) → HasCells t.columns.of made → stands_at R key rows (key made) ≡ false → IsFree rows made t.places
-  is_free made cells none r has =
-      agrees t.columns.of r made (t.columns.typed db broker r has) cells ∙ (eq_by_cmp_equiv t.columns.of.total).symm (key r) (key made)
+  pub IsFree-of_stands_at : (made : Row) → HasCells t.columns.of made → stands_at R key rows (key made) ≡ false → IsFree rows made t.places
+  IsFree-of_stands_at made cells none r has =
+      agree-keys_tie t.columns.of r made (t.columns.typed db broker r has) cells ∙ (eq_by_cmp_equiv t.columns.of.total).symm (key r) (key made)
       ∙ false_from_ne_true _ (λ hit. let clash : true ≡ false = sym (some_from (λ x. eq_by_cmp R (key made) (key x)) rows r has hit) ∙ none in cc)
 
   -- WHERE the columns of the key are these parameters
   module _ (params : Row) (k : K) (given : params_for t.places 0 params ≡ t.columns.of.cells k) where
     pub kept_by : AllByRecursion (λ r. keeps (are_params t.places 0) params r ≡ eq_by_cmp R k (key r)) rows
-    kept_by = all_of _ rows (λ r has. keeps_key t.columns.of 0 params k given r (t.columns.typed db broker r has))
+    kept_by = all_of _ rows (λ r has. keeps-one_key t.columns.of 0 params k given r (t.columns.typed db broker r has))
 
     -- what is read of the first row is the value that the key has
     pub finds : {V : Type 0} {project : List Term} (value read : Row → V) → ((r : Row) → read (shows project params r) ≡ value r) → (out : List Row)
         → Answers db (record { lets = []; body = from_table t.table.tree (are_params t.places 0) project [] }) params out
         → option_map read (slice_get out 0) ≡ value_at R key value rows k
     finds {project = project} value read same out h =
-        looks_up_at t.columns.of.total t.columns.of.exact key value (shows project params) read same k (keeps (are_params t.places 0) params) rows out kept_by keys_of
-        (answered db params t.table.tree (are_params t.places 0) project [] out h)
+        find-first_shown t.columns.of.total t.columns.of.exact key value (shows project params) read same k (keeps (are_params t.places 0) params) rows out kept_by IsAscending-keys_of_table
+        (IsPermutation-kept_rows db params t.table.tree (are_params t.places 0) project [] out h)
 
     -- and a row is found if and only if some row has the key
     pub finds_row : {project : List Term} (out : List Row) → Answers db (record { lets = []; body = from_table t.table.tree (are_params t.places 0) project [] }) params out
         → is_some (slice_get out 0) ≡ stands_at R key rows k
     finds_row out h =
-        sym (is_some-map (λ r. tt {0}) (slice_get out 0)) ∙ ap is_some (finds (λ r. tt {0}) (λ r. tt {0}) (λ r. refl) out h) ∙ stands_found R key (λ r. tt {0}) rows k
+        sym (is_some-map (λ r. tt {0}) (slice_get out 0)) ∙ ap is_some (finds (λ r. tt {0}) (λ r. tt {0}) (λ r. refl) out h) ∙ value_at-is_some R key (λ r. tt {0}) rows k
 
 -- ---- the tables
 

@@ -11,39 +11,39 @@ abbrev last_of : {A : Type 0} → A → List A → A
 last_of x [] = x
 last_of x (y ∷ ys) = last_of y ys
 
-first_before : {A : Type 0} (xs ys : List A) (z : A) → slice_get xs 0 ≡ Some z → slice_get (xs ++ ys) 0 ≡ Some z
-first_before [] ys z h = absurd (cc)
-first_before (x ∷ xs) ys z h = h
+slice_get-append_first : {A : Type 0} (xs ys : List A) (z : A) → slice_get xs 0 ≡ Some z → slice_get (xs ++ ys) 0 ≡ Some z
+slice_get-append_first [] ys z h = absurd (cc)
+slice_get-append_first (x ∷ xs) ys z h = h
 
-last_first : {A : Type 0} (x : A) (xs : List A) → slice_get (reverse (x ∷ xs)) 0 ≡ Some (last_of x xs)
-last_first x [] = refl
-last_first x (y ∷ ys) = ap (λ l. slice_get l 0) (reverse_onto (y ∷ ys) x []) ∙ first_before (reverse (y ∷ ys)) (x ∷ []) (last_of y ys) (last_first y ys)
+slice_get-reverse_last : {A : Type 0} (x : A) (xs : List A) → slice_get (reverse (x ∷ xs)) 0 ≡ Some (last_of x xs)
+slice_get-reverse_last x [] = refl
+slice_get-reverse_last x (y ∷ ys) = ap (λ l. slice_get l 0) (reverse_onto (y ∷ ys) x []) ∙ slice_get-append_first (reverse (y ∷ ys)) (x ∷ []) (last_of y ys) (slice_get-reverse_last y ys)
 
 module _ {X : Type 0} (entry : Row → X) where
   abbrev listed : Row → ℤ × X
   listed r = (whole_at 0 r, entry r)
 
-  last_number : (n : ℕ) (r : Row) (rows : List Row) (x : X) (xs : List X) → map listed (r ∷ rows) ≡ map (λ e. (pos e.0, e.1)) (enumerate_from n (x ∷ xs)) → whole_at 0 (last_of r rows) ≡ pos (n + length xs)
-  last_number n r [] x [] is =
+  whole_at-last_of : (n : ℕ) (r : Row) (rows : List Row) (x : X) (xs : List X) → map listed (r ∷ rows) ≡ map (λ e. (pos e.0, e.1)) (enumerate_from n (x ∷ xs)) → whole_at 0 (last_of r rows) ≡ pos (n + length xs)
+  whole_at-last_of n r [] x [] is =
       let pair : ◌≡◌ {A = ℤ × X} (listed r) (pos n, x) = cc in
       ap (λ (p : ℤ × X). p.0) pair ∙ ap pos (let e : n ≡ n + 0 = omega arith in e)
-  last_number n r (s ∷ rows) x (y ∷ ys) is =
+  whole_at-last_of n r (s ∷ rows) x (y ∷ ys) is =
       let rest : map listed (s ∷ rows) ≡ map (λ e. (pos e.0, e.1)) (enumerate_from (n + 1) (y ∷ ys)) = cc in
-      last_number (n + 1) s rows y ys rest ∙ ap pos (let e : n + 1 + length ys ≡ n + length (y ∷ ys) = omega arith in e)
-  last_number n r _ x _ is = absurd (let e = ap length is in cc)
+      whole_at-last_of (n + 1) s rows y ys rest ∙ ap pos (let e : n + 1 + length ys ≡ n + length (y ∷ ys) = omega arith in e)
+  whole_at-last_of n r _ x _ is = absurd (let e = ap length is in cc)
 
   -- The greatest number is how many items are listed; it is 0 if there is no row.
-  pub newest : (rows : List Row) (xs : List X) (found : Option ℕ) → map listed rows ≡ numbered xs → option_map pos found ≡ option_map (whole_at 0) (slice_get (reverse rows) 0) → unwrap_or found 0 ≡ length xs
-  newest [] [] None is read = refl
-  newest [] [] (Some n) is read = absurd cc
-  newest (r ∷ rows) (x ∷ xs) None is read = absurd (let e : None ≡ Some (whole_at 0 (last_of r rows)) = read ∙ ap (option_map (whole_at 0)) (last_first r rows) in cc)
-  newest (r ∷ rows) (x ∷ xs) (Some n) is read =
-      let e : Some (pos n) ≡ Some (pos (1 + length xs)) = read ∙ ap (option_map (whole_at 0)) (last_first r rows) ∙ ap Some (last_number 1 r rows x xs is) in
+  pub unwrap_or-newest : (rows : List Row) (xs : List X) (found : Option ℕ) → map listed rows ≡ numbered xs → option_map pos found ≡ option_map (whole_at 0) (slice_get (reverse rows) 0) → unwrap_or found 0 ≡ length xs
+  unwrap_or-newest [] [] None is read = refl
+  unwrap_or-newest [] [] (Some n) is read = absurd cc
+  unwrap_or-newest (r ∷ rows) (x ∷ xs) None is read = absurd (let e : None ≡ Some (whole_at 0 (last_of r rows)) = read ∙ ap (option_map (whole_at 0)) (slice_get-reverse_last r rows) in cc)
+  unwrap_or-newest (r ∷ rows) (x ∷ xs) (Some n) is read =
+      let e : Some (pos n) ≡ Some (pos (1 + length xs)) = read ∙ ap (option_map (whole_at 0)) (slice_get-reverse_last r rows) ∙ ap Some (whole_at-last_of 1 r rows x xs is) in
       let same : n ≡ 1 + length xs = cc in
       same ∙ (let f : 1 + length xs ≡ length (x ∷ xs) = omega arith in f)
-  newest _ _ found is read = absurd (let e = is in cc)
+  unwrap_or-newest _ _ found is read = absurd (let e = is in cc)
 
 -- how many results there are
-pub newest_result : (versions : List Version) (results : List Verification) (rows checked : List Row) (found : Option ℕ) → AreResults versions results rows checked → option_map pos found ≡ option_map (whole_at in_results.number) (slice_get (reverse rows) 0)
+pub unwrap_or-newest_result : (versions : List Version) (results : List Verification) (rows checked : List Row) (found : Option ℕ) → AreResults versions results rows checked → option_map pos found ≡ option_map (whole_at in_results.number) (slice_get (reverse rows) 0)
     → unwrap_or found 0 ≡ length results
-newest_result versions results rows checked found are read = newest (result_in checked) rows (map (result_of versions) results) found are read ∙ length-map results (result_of versions)
+unwrap_or-newest_result versions results rows checked found are read = unwrap_or-newest (result_in checked) rows (map (result_of versions) results) found are read ∙ length-map results (result_of versions)

@@ -5,31 +5,31 @@ use Rattle.sqlite_sql.specs.{Ops.{binary, is_true}, declared.ops.BinaryOp.TheVar
 use Rattle.sqlite_rules.specs.Lists.{Has}
 use Rattle.table_access.specs.{Columns.{text, whole_at}, Reading.{AreRead}}
 use Rattle.broker_core.specs.{declared.command.Version.{Version}, Text.{version}, State.{State as Broker}}
-use Rattle.broker_tables.{specs.{Schema.{to, in_versions}, Numbers.{number_of}, Holds.{Holds}}, proofs.References.{refers_version}}
-use Rattle.broker_tables.proofs.VersionRows.{row_number, whole_test}
+use Rattle.broker_tables.{specs.{Schema.{to, in_versions}, Numbers.{number_of}, Holds.{Holds}}, proofs.References.{references-version}}
+use Rattle.broker_tables.proofs.VersionRows.{number_of-version_row, binary-Eq_same_Int}
 
 -- a row whose column refers to versions has the number of one
-pub no_row : (db : Database) (s : Broker) → Holds db s → (n : ℕ) → ((v : Version) → ¬ (number_of s.versions v ≡ Some n)) → (t : Table) → Has db.schema.tables t → (p : ℕ) → Has t.references (to p (codes "versions") (codes "number"))
+pub references-not_unknown_version : (db : Database) (s : Broker) → Holds db s → (n : ℕ) → ((v : Version) → ¬ (number_of s.versions v ≡ Some n)) → (t : Table) → Has db.schema.tables t → (p : ℕ) → Has t.references (to p (codes "versions") (codes "number"))
     → (r : Row) → Has (db.trees t.tree) r → column r p ≡ Int (whole_at p r) → is_true (binary (Compare Eq Binary) (column r p) (Int (pos n))) ≡ true → ⊥
-no_row db s held n none t listed p among r has typed tested =
-    let x = refers_version db held.broker t listed p among r has typed in
-    let k = row_number db held.broker s.versions held.versions x.0 x.1 in
-    let is : whole_at p r ≡ pos n = (whole_test (column r p) (Int (pos n)) (whole_at p r) (pos n) typed refl).0 tested in
+references-not_unknown_version db s held n none t listed p among r has typed tested =
+    let x = references-version db held.broker t listed p among r has typed in
+    let k = number_of-version_row db held.broker s.versions held.versions x.0 x.1 in
+    let is : whole_at p r ≡ pos n = (binary-Eq_same_Int (column r p) (Int (pos n)) (whole_at p r) (pos n) typed refl).0 tested in
     let ints : pos k.0 ≡ pos n = sym k.2 ∙ x.2 ∙ is in
     let same : k.0 ≡ n = cc in
     none (version (text in_versions.pacticipant x.0) (text in_versions.version x.0)) (k.1 ∙ ap Some same)
 
 -- ---- if no row is shown, nothing is read
 
-pub no_first : (rows : List Row) → ((row : Row) → Has rows row → ⊥) → slice_get rows 0 ≡ None
-no_first [] none = refl
-no_first (row ∷ rows) none = absurd (none row (inl refl))
+pub slice_get-no_rows : (rows : List Row) → ((row : Row) → Has rows row → ⊥) → slice_get rows 0 ≡ None
+slice_get-no_rows [] none = refl
+slice_get-no_rows (row ∷ rows) none = absurd (none row (inl refl))
 
-pub no_answer : {X Y : Type 0} (f : X → Y) (g : Row → Y) (rows : List Row) (found : Option X) → ((row : Row) → Has rows row → ⊥) → option_map f found ≡ option_map g (slice_get rows 0) → found ≡ None
-no_answer f g rows None none read = refl
-no_answer f g rows (Some x) none read = absurd (let e = read ∙ ap (option_map g) (no_first rows none) in cc)
+pub option_map-no_rows : {X Y : Type 0} (f : X → Y) (g : Row → Y) (rows : List Row) (found : Option X) → ((row : Row) → Has rows row → ⊥) → option_map f found ≡ option_map g (slice_get rows 0) → found ≡ None
+option_map-no_rows f g rows None none read = refl
+option_map-no_rows f g rows (Some x) none read = absurd (let e = read ∙ ap (option_map g) (slice_get-no_rows rows none) in cc)
 
-pub no_items : {B : Type 0} (reads : Row → B → Type 0) (rows : List Row) (items : List B) → ((row : Row) → Has rows row → ⊥) → AreRead reads rows items → items ≡ []
-no_items reads [] [] none are = refl
-no_items reads [] (x ∷ items) none are = absurd are
-no_items reads (row ∷ rows) items none are = absurd (none row (inl refl))
+pub AreRead-no_rows : {B : Type 0} (reads : Row → B → Type 0) (rows : List Row) (items : List B) → ((row : Row) → Has rows row → ⊥) → AreRead reads rows items → items ≡ []
+AreRead-no_rows reads [] [] none are = refl
+AreRead-no_rows reads [] (x ∷ items) none are = absurd are
+AreRead-no_rows reads (row ∷ rows) items none are = absurd (none row (inl refl))

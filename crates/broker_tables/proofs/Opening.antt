@@ -5,7 +5,7 @@ use Rattle.sqlite.specs.{Table.{Table}, Schema.{Schema}, Order.{Row}, Tree.{Tree
 use Rattle.sqlite_rules.specs.Lists.{Has}
 use Rattle.sqlite_keyed.proofs.ListLemmas.{all-append, all_both}
 use Rattle.table_access.specs.{Statements.{Makes, new_trees, MakesIndexes, indexed_by}, Sound.{IsKept, IsNumbered}}
-use Rattle.table_access.proofs.{Creation.{made_schema, made_keeps, made_empty, made_kept}, Indexing.{indexes_schema, indexes_keep, indexes_kept}}
+use Rattle.table_access.proofs.{Creation.{Makes-schema, Makes-KeepsRows, Makes-new_tables_empty, Makes-IsKept}, Indexing.{MakesIndexes-schema, MakesIndexes-KeepsRows, MakesIndexes-IsKept}}
 use Rattle.table_access.proofs.SoundLemmas.{at_has}
 use Rattle.broker_core.specs.{Text.{Text, same_text}, State.{opening}}
 use Rattle.broker_tables.specs.{Schema.{schema_of, all_tables, all_indexes, in_meta}, Room.{LeaveNumbers, HasAllNumbers}, Making.{IsBlank, HasTables, HasAll}}
@@ -14,47 +14,47 @@ use Rattle.broker_tables.proofs.Placed.{meta}
 use Rattle.broker_tables.specs.Schema as schema
 
 -- a database without tables is kept: it is sound, and there are no rows whose numbers could be amiss
-pub blank_kept : (db : Database) → IsBlank db → IsKept db
-blank_kept db blank = record { sound = blank.sound; numbered = subst (λ (s : Schema). AllByRecursion (λ t. IsNumbered (db.trees t.tree)) s.tables) (sym blank.schema) tt }
+pub IsBlank-IsKept : (db : Database) → IsBlank db → IsKept db
+IsBlank-IsKept db blank = record { sound = blank.sound; numbered = subst (λ (s : Schema). AllByRecursion (λ t. IsNumbered (db.trees t.tree)) s.tables) (sym blank.schema) tt }
 
 abbrev pub IsEmpty : Trees → Table → Type 0
 IsEmpty trees t = same_text t.name (codes "meta") ≡ false → trees t.tree ≡ []
 
 -- tables that were empty, and new ones
-all_empty : (trees : Trees) (s : Schema) (part : List Table) → AllByRecursion (IsEmpty trees) s.tables → AllByRecursion (λ n. trees n ≡ []) (new_trees s part) → AllByRecursion (IsEmpty trees) (fold created s part).tables
-all_empty trees s [] one two = one
-all_empty trees s (t ∷ part) one two = all_empty trees (created s t) part (all-append (IsEmpty trees) s.tables (record t { tree = next_tree s } ∷ []) one ((λ _. two.0), tt)) two.1
+IsEmpty-created : (trees : Trees) (s : Schema) (part : List Table) → AllByRecursion (IsEmpty trees) s.tables → AllByRecursion (λ n. trees n ≡ []) (new_trees s part) → AllByRecursion (IsEmpty trees) (fold created s part).tables
+IsEmpty-created trees s [] one two = one
+IsEmpty-created trees s (t ∷ part) one two = IsEmpty-created trees (created s t) part (all-append (IsEmpty trees) s.tables (record t { tree = next_tree s } ∷ []) one ((λ _. two.0), tt)) two.1
 
-pub still_empty : (old new : Trees) (ts : List Table) → KeepsRows ts old new → AllByRecursion (IsEmpty old) ts → AllByRecursion (IsEmpty new) ts
-still_empty old new = all_both (λ t. new t.tree ≡ old t.tree) (IsEmpty old) (IsEmpty new) (λ t same was other. same ∙ was other)
+pub IsEmpty-KeepsRows : (old new : Trees) (ts : List Table) → KeepsRows ts old new → AllByRecursion (IsEmpty old) ts → AllByRecursion (IsEmpty new) ts
+IsEmpty-KeepsRows old new = all_both (λ t. new t.tree ≡ old t.tree) (IsEmpty old) (IsEmpty new) (λ t same was other. same ∙ was other)
 
 -- more tables are made, after these
-pub has_more : (before part : List Table) (n : ℕ) (office : Text) (old new : Database) → Has (schema_of before).tables meta → HasTables before n office old → Makes part old new → HasTables (before ++ part) n office new
-has_more before part n office old new among has makes =
-    let keeps : KeepsRows (schema_of before).tables old.trees new.trees = subst (λ (s : Schema). KeepsRows s.tables old.trees new.trees) has.schema (made_keeps part old new makes) in
+pub HasTables-append : (before part : List Table) (n : ℕ) (office : Text) (old new : Database) → Has (schema_of before).tables meta → HasTables before n office old → Makes part old new → HasTables (before ++ part) n office new
+HasTables-append before part n office old new among has makes =
+    let keeps : KeepsRows (schema_of before).tables old.trees new.trees = subst (λ (s : Schema). KeepsRows s.tables old.trees new.trees) has.schema (Makes-KeepsRows part old new makes) in
     let rows : new.trees in_meta.tree ≡ old.trees in_meta.tree = at_has (λ t. new.trees t.tree ≡ old.trees t.tree) (schema_of before).tables meta keeps among in
     let is : fold created (schema_of before) part ≡ schema_of (before ++ part) = sym (fold-append created schema.no_schema before part) in
     record {
-      schema = made_schema part old new makes ∙ ap (λ s. fold created s part) has.schema ∙ is;
-      kept = made_kept part old new makes has.kept;
+      schema = Makes-schema part old new makes ∙ ap (λ s. fold created s part) has.schema ∙ is;
+      kept = Makes-IsKept part old new makes has.kept;
       meta = subst (IsMeta n office) (sym rows) has.meta;
-      empty = subst (λ (s : Schema). AllByRecursion (IsEmpty new.trees) s.tables) is (all_empty new.trees (schema_of before) part (still_empty old.trees new.trees (schema_of before).tables keeps has.empty)
-          (subst (λ s. AllByRecursion (λ m. new.trees m ≡ []) (new_trees s part)) has.schema (made_empty part old new makes)));
+      empty = subst (λ (s : Schema). AllByRecursion (IsEmpty new.trees) s.tables) is (IsEmpty-created new.trees (schema_of before) part (IsEmpty-KeepsRows old.trees new.trees (schema_of before).tables keeps has.empty)
+          (subst (λ s. AllByRecursion (λ m. new.trees m ≡ []) (new_trees s part)) has.schema (Makes-new_tables_empty part old new makes)));
     }
 
 -- then the indexes
-pub has_all : (n : ℕ) (office : Text) (old new : Database) → HasTables all_tables n office old → MakesIndexes all_indexes old new → HasAll n office new
-has_all n office old new has makes =
-    let keeps : KeepsRows (schema_of all_tables).tables old.trees new.trees = subst (λ (s : Schema). KeepsRows s.tables old.trees new.trees) has.schema (indexes_keep all_indexes old new makes) in record {
-      schema = indexes_schema all_indexes old new makes ∙ ap (λ s. indexed_by s all_indexes) has.schema;
-      kept = indexes_kept all_indexes old new makes has.kept;
+pub HasTables-HasAll : (n : ℕ) (office : Text) (old new : Database) → HasTables all_tables n office old → MakesIndexes all_indexes old new → HasAll n office new
+HasTables-HasAll n office old new has makes =
+    let keeps : KeepsRows (schema_of all_tables).tables old.trees new.trees = subst (λ (s : Schema). KeepsRows s.tables old.trees new.trees) has.schema (MakesIndexes-KeepsRows all_indexes old new makes) in record {
+      schema = MakesIndexes-schema all_indexes old new makes ∙ ap (λ s. indexed_by s all_indexes) has.schema;
+      kept = MakesIndexes-IsKept all_indexes old new makes has.kept;
       meta = subst (IsMeta n office) (sym keeps.0) has.meta;
-      empty = still_empty old.trees new.trees (schema_of all_tables).tables keeps has.empty;
+      empty = IsEmpty-KeepsRows old.trees new.trees (schema_of all_tables).tables keeps has.empty;
     }
 
 -- once all is made, the database holds the state of a new broker
-pub opens : (office : Text) (db : Database) → HasAll format office db → Holds db (opening office)
-opens office db has = let e = has.empty in record {
+pub HasAll-Holds_opening : (office : Text) (db : Database) → HasAll format office db → Holds db (opening office)
+HasAll-Holds_opening office db has = let e = has.empty in record {
   broker = record { schema = has.schema; kept = has.kept };
   meta = has.meta;
   teams = subst (AreTeams (opening office).teams) (sym (e.1.0 refl)) (λ t. refl);
@@ -72,8 +72,8 @@ opens office db has = let e = has.empty in record {
 }
 
 -- and each table has room for as many rows as SQLite has numbers
-pub opens_with_room : (n : ℕ) (office : Text) (db : Database) → HasAll n office db → HasAllNumbers db
-opens_with_room n office db has more few =
+pub HasAll-HasAllNumbers : (n : ℕ) (office : Text) (db : Database) → HasAll n office db → HasAllNumbers db
+HasAll-HasAllNumbers n office db has more few =
     let e = has.empty in
     (none (e.1.0 refl), (none (e.1.1.0 refl), (none (e.1.1.1.1.0 refl), (none (e.1.1.1.1.1.0 refl), (none (e.1.1.1.1.1.1.1.1.1.1.1.1.1.1.0 refl), (none (e.1.1.1.1.1.1.0 refl), (none (e.1.1.1.1.1.1.1.1.0 refl), (none (e.1.1.1.1.1.1.1.1.1.1.0 refl), (none (e.1.1.1.1.1.1.1.1.1.1.1.0 refl), (none (e.1.1.1.1.1.1.1.1.1.1.1.1.0 refl), tt))))))))))
   where

@@ -8,7 +8,7 @@ use Rattle.sqlite_value.specs.{declared.keys.Order.{Order}, Keys.{plain}}
 use Rattle.sqlite_rules.specs.Lists.{Has}
 use Rattle.sqlite_tied.specs.Compute.{everything}
 use Rattle.table_access.specs.{Columns.{text, whole_at}, Sound.{IsNumbered}, Statements.{IsCalm, plain_table}}
-use Rattle.table_access.proofs.{SoundLemmas.{at_has, has_place, text_at, whole_in}, Keys.{apart_by}, Members.{has_map, map_has, filter_has}}
+use Rattle.table_access.proofs.{SoundLemmas.{at_has, has_place, column-Text, column-Int}, Keys.{IsKept-unique_index_apart}, Members.{has_map, map_has, filter_has}}
 use Rattle.table_access.proofs.UpsertRefused.{key_of}
 use Rattle.broker_tables.specs.{Holds.{IsBroker}, Rows.{tree_of}}
 use Rattle.broker_tables.specs.Schema.{in_meta, in_teams, in_pacticipants, in_versions, in_branches, in_environments, in_grants, in_contents, in_contracts, in_results, in_latest, in_deployed, in_released, in_checked_results, in_strict_environments}
@@ -66,7 +66,7 @@ abbrev columns_of : Table → List (ℕ × List ℕ)
 columns_of t = map (λ e. (cond (is_key t.key e.0) 0 (e.0 + 1), e.1.name)) (enumerate_from 0 t.columns)
 
 -- each name of a tree and of a column is that of the broker's schema, and names the column that is called so
-names_are_right : map {B = List ℕ × ℕ × List (ℕ × List ℕ)} (λ t. (t.name, t.tree, columns_of t)) schema.broker_schema.tables
+broker_schema-names : map {B = List ℕ × ℕ × List (ℕ × List ℕ)} (λ t. (t.name, t.tree, columns_of t)) schema.broker_schema.tables
     ≡ (codes "meta", in_meta.tree, (in_meta.one, codes "one") ∷ (in_meta.format, codes "format") ∷ (in_meta.office_digest, codes "office_digest") ∷ [])
     ∷ (codes "teams", in_teams.tree, (in_teams.name, codes "name") ∷ (in_teams.token_digest, codes "token_digest") ∷ [])
     ∷ (codes "pacticipants", in_pacticipants.tree, (in_pacticipants.name, codes "name") ∷ (in_pacticipants.team, codes "team") ∷ [])
@@ -107,11 +107,11 @@ names_are_right : map {B = List ℕ × ℕ × List (ℕ × List ℕ)} (λ t. (t.
     ∷ (codes "released", in_released.tree, (in_released.environment, codes "environment") ∷ (in_released.version_number, codes "version_number") ∷ [])
     ∷ (codes "checked_results", in_checked_results.tree, (in_checked_results.result, codes "result") ∷ [])
     ∷ (codes "strict_environments", in_strict_environments.tree, (in_strict_environments.environment, codes "environment") ∷ []) ∷ []
-names_are_right = refl
+broker_schema-names = refl
 
 -- no foreign key acts on a change of its parent
-pub all_calm : IsCalm schema.broker_schema.tables
-all_calm =
+pub broker_schema-IsCalm : IsCalm schema.broker_schema.tables
+broker_schema-IsCalm =
     (tt, (tt, (((refl, refl), tt), (((refl, refl), tt), (((refl, refl), tt), (tt, (((refl, refl), ((refl, refl), tt)), (tt, (((refl, refl), ((refl, refl), ((refl, refl), tt))), (((refl, refl), ((refl, refl), ((refl, refl), tt))), (((refl, refl), ((refl, refl), ((refl, refl), tt))), (((refl, refl), ((refl, refl), ((refl, refl), tt))), (((refl, refl), ((refl, refl), tt)), (((refl, refl), tt), (((refl, refl), tt), tt)))))))))))))))
 
 -- ---- where each table is
@@ -183,62 +183,62 @@ needed schema t = (plainly t, map key_of (filter (λ i. guards i t) schema.index
 abbrev pub IsReady : Schema → Table → Type 0
 IsReady schema t = needed schema t ≡ (t, map (λ places. (plain, places)) t.uniques, true)
 
-ready : AllByRecursion (IsReady schema.broker_schema) schema.broker_schema.tables
+broker_schema-IsReady : AllByRecursion (IsReady schema.broker_schema) schema.broker_schema.tables
 unfolding everything
-ready = (refl, (refl, (refl, (refl, (refl, (refl, (refl, (refl, (refl, (refl, (refl, (refl, (refl, (refl, (refl, tt)))))))))))))))
+broker_schema-IsReady = (refl, (refl, (refl, (refl, (refl, (refl, (refl, (refl, (refl, (refl, (refl, (refl, (refl, (refl, (refl, tt)))))))))))))))
 
-pub ready_at : (db : Database) → IsBroker db → (t : Table) → Has db.schema.tables t → IsReady db.schema t
-ready_at db broker t listed = at_has _ db.schema.tables t (subst (λ (s : Schema). AllByRecursion (IsReady s) s.tables) (sym broker.schema) ready) listed
+pub IsBroker-IsReady : (db : Database) → IsBroker db → (t : Table) → Has db.schema.tables t → IsReady db.schema t
+IsBroker-IsReady db broker t listed = at_has _ db.schema.tables t (subst (λ (s : Schema). AllByRecursion (IsReady s) s.tables) (sym broker.schema) broker_schema-IsReady) listed
 
 -- no foreign key acts on a change of its parent
 pub calm : (db : Database) → IsBroker db → IsCalm db.schema.tables
-calm db broker = subst (λ (s : Schema). IsCalm s.tables) (sym broker.schema) all_calm
+calm db broker = subst (λ (s : Schema). IsCalm s.tables) (sym broker.schema) broker_schema-IsCalm
 
 -- the column at this place, if it isn't the row's number
 abbrev pub column_at : Table → ℕ → Option Column
 column_at t zero = None
 column_at t (suc at) = cond (is_key t.key at) None (slice_get t.columns at)
 
-other_than : {A : Type 0} (key : Bool) (found : Option A) (a : A) → cond key None found ≡ Some a → (key ≡ false) × (found ≡ Some a)
-other_than true found a is = absurd cc
-other_than false found a is = (refl, is)
+cond-Some : {A : Type 0} (key : Bool) (found : Option A) (a : A) → cond key None found ≡ Some a → (key ≡ false) × (found ≡ Some a)
+cond-Some true found a is = absurd cc
+cond-Some false found a is = (refl, is)
 
 module _ {t : Table} (at : Placed t) (db : Database) (broker : IsBroker db) where
-  -- each broker's database has the table there
-  pub there : slice_get db.schema.tables at.place ≡ Some t
-  there = ap (λ (s : Schema). slice_get s.tables at.place) broker.schema ∙ at.placed
+  -- each broker's database has the table slice_get-Placed_table
+  pub slice_get-Placed_table : slice_get db.schema.tables at.place ≡ Some t
+  slice_get-Placed_table = ap (λ (s : Schema). slice_get s.tables at.place) broker.schema ∙ at.placed
 
   pub listed : Has db.schema.tables t
-  listed = has_place _ at.place t there
+  listed = has_place _ at.place t slice_get-Placed_table
 
   -- which is such a plain table
-  pub is_plain : plainly t ≡ t
-  is_plain = ap (λ (x : Need). x.0) (ready_at db broker t listed)
+  pub plainly-same : plainly t ≡ t
+  plainly-same = ap (λ (x : Need). x.0) (IsBroker-IsReady db broker t listed)
 
-  pub plain_there : slice_get db.schema.tables at.place ≡ Some (plainly t)
-  plain_there = there ∙ ap Some (sym is_plain)
+  pub slice_get-Placed_plainly : slice_get db.schema.tables at.place ≡ Some (plainly t)
+  slice_get-Placed_plainly = slice_get-Placed_table ∙ ap Some (sym plainly-same)
 
   -- its rows rise by their numbers
-  pub numbered_in : IsNumbered (db.trees t.tree)
-  numbered_in = at_has _ db.schema.tables t broker.kept.numbered listed
+  pub Placed-IsNumbered : IsNumbered (db.trees t.tree)
+  Placed-IsNumbered = at_has _ db.schema.tables t broker.kept.numbered listed
 
   -- a column of texts has a text in each row, and one of whole numbers a whole number
-  pub texts_in : (place : ℕ) {name : List ℕ} → column_at t place ≡ Some (schema.texts name) → (r : Row) → Has (db.trees t.tree) r → column r place ≡ Text (text place r)
-  texts_in zero is r has = absurd cc
-  texts_in (suc p) {name} is r has =
-      let it = other_than (is_key t.key p) (slice_get t.columns p) (schema.texts name) is in
-      subst (λ n. column r n ≡ Text (text n r)) (add-one p) (text_at db broker.kept.sound t listed r has p (schema.texts name) it.1 it.0 refl refl refl)
+  pub column-texts : (place : ℕ) {name : List ℕ} → column_at t place ≡ Some (schema.texts name) → (r : Row) → Has (db.trees t.tree) r → column r place ≡ Text (text place r)
+  column-texts zero is r has = absurd cc
+  column-texts (suc p) {name} is r has =
+      let it = cond-Some (is_key t.key p) (slice_get t.columns p) (schema.texts name) is in
+      subst (λ n. column r n ≡ Text (text n r)) (add-one p) (column-Text db broker.kept.sound t listed r has p (schema.texts name) it.1 it.0 refl refl refl)
 
-  pub wholes_in : (place : ℕ) {name : List ℕ} → column_at t place ≡ Some (schema.numbers name) → (r : Row) → Has (db.trees t.tree) r → column r place ≡ Int (whole_at place r)
-  wholes_in zero is r has = absurd cc
-  wholes_in (suc p) {name} is r has =
-      let it = other_than (is_key t.key p) (slice_get t.columns p) (schema.numbers name) is in
-      subst (λ n. column r n ≡ Int (whole_at n r)) (add-one p) (whole_in db broker.kept.sound t listed r has p (schema.numbers name) it.1 it.0 refl refl refl)
+  pub column-whole_numbers : (place : ℕ) {name : List ℕ} → column_at t place ≡ Some (schema.numbers name) → (r : Row) → Has (db.trees t.tree) r → column r place ≡ Int (whole_at place r)
+  column-whole_numbers zero is r has = absurd cc
+  column-whole_numbers (suc p) {name} is r has =
+      let it = cond-Some (is_key t.key p) (slice_get t.columns p) (schema.numbers name) is in
+      subst (λ n. column r n ≡ Int (whole_at n r)) (add-one p) (column-Int db broker.kept.sound t listed r has p (schema.numbers name) it.1 it.0 refl refl refl)
 
   -- no two rows have one key of the table
-  pub keys_apart : (places : List ℕ) → Has t.uniques places → IsAscending (λ a b. agree plain places a places b ≡ false) (db.trees t.tree)
-  keys_apart places among =
-      let keys = ap (λ (x : Need). x.1) (ready_at db broker t listed) in
+  pub uniques-keys_apart : (places : List ℕ) → Has t.uniques places → IsAscending (λ a b. agree plain places a places b ≡ false) (db.trees t.tree)
+  uniques-keys_apart places among =
+      let keys = ap (λ (x : Need). x.1) (IsBroker-IsReady db broker t listed) in
       let i = map_has key_of _ (plain, places) (subst (λ ks. Has ks (plain, places)) (sym keys) (has_map (λ ps. (plain, ps)) t.uniques places among)) in
       let known = filter_has (λ j. guards j t) db.schema.indexes i.0 i.1 in
-      subst (λ (k : Order × List ℕ). IsAscending (λ a b. agree k.0 k.1 a k.1 b ≡ false) (db.trees t.tree)) (sym i.2) (apart_by db broker.kept t listed i.0 known.0 known.1)
+      subst (λ (k : Order × List ℕ). IsAscending (λ a b. agree k.0 k.1 a k.1 b ≡ false) (db.trees t.tree)) (sym i.2) (IsKept-unique_index_apart db broker.kept t listed i.0 known.0 known.1)

@@ -4,124 +4,124 @@ use Rattle.std.proofs.Common.{Bool, true, false, refl, sym, subst, inl, inr, ◌
 use Rattle.std.proofs.lemmas.Result.{IfErr-weaker}
 use Rattle.sqlite.specs.State.{State, HasCleanDisk}
 use Rattle.table_access.specs.{declared.StoreFault.{StoreFault}, declared.StoreFault.TheVariants.{Memory, Store}, Calls.{CallsBetween, GoesOn, EndsBy}}
-use Rattle.table_access.proofs.CallLemmas.{call_with, then_result, then_err, seq, may_take, ended_since}
+use Rattle.table_access.proofs.CallLemmas.{CallsBetween-weaken, CallsBetween-then_result, CallsBetween-pass_Err, CallsBetween-then_call, CallsBetween-may_take_memory, EndsBy-later_call}
 use Rattle.broker_core.specs.State.{State as Broker}
 use Rattle.broker_tables.specs.{Holds.{Holds, IsRead, QueriesBetween}, Calm.{Serves, FailsOnlyBy, HasFailedTaking, CalmQueriesBetween}}
 
 -- a database that is as it was holds the same state
-pub stays_held : (old new : State) (s : Broker) → new.now ≡ old.now → Holds old.now s → Holds new.now s
-stays_held old new s same held = subst (λ d. Holds d s) (sym same) held
+pub Holds-same_database : (old new : State) (s : Broker) → new.now ≡ old.now → Holds old.now s → Holds new.now s
+Holds-same_database old new s same held = subst (λ d. Holds d s) (sym same) held
 
 -- one query after another
-pub both_read : {A B C : Type 0} (old mid new : State) (a : A) (b : B) (c : C) (P : A → Broker → Type 0) (Q : B → Broker → Type 0) (R : C → Broker → Type 0) → ((s : Broker) → P a s → Q b s → R c s) → IsRead old mid P a → IsRead mid new Q b → IsRead old new R c
-both_read old mid new a b c P Q R f p q s held = let one = p s held in let two = q s (stays_held old mid s one.1 held) in (f s one.0 two.0, two.1 ∙ one.1)
+pub IsRead-both : {A B C : Type 0} (old mid new : State) (a : A) (b : B) (c : C) (P : A → Broker → Type 0) (Q : B → Broker → Type 0) (R : C → Broker → Type 0) → ((s : Broker) → P a s → Q b s → R c s) → IsRead old mid P a → IsRead mid new Q b → IsRead old new R c
+IsRead-both old mid new a b c P Q R f p q s held = let one = p s held in let two = q s (Holds-same_database old mid s one.1 held) in (f s one.0 two.0, two.1 ∙ one.1)
 
 -- what served a query serves the next one
-pub serves_on : {A : Type 0} {any : Bool} (old mid : State) (a : A) (P : A → Broker → Type 0) → HasCleanDisk mid → QueriesBetween any old mid (Ok a) P → (s : Broker) → Serves old s → Serves mid s
-serves_on old mid a P clean one s it = record {
+pub Serves-after_query : {A : Type 0} {any : Bool} (old mid : State) (a : A) (P : A → Broker → Type 0) → HasCleanDisk mid → QueriesBetween any old mid (Ok a) P → (s : Broker) → Serves old s → Serves mid s
+Serves-after_query old mid a P clean one s it = record {
   inside = (one.goes_on clean it.inside).0;
   unlimited = one.survives.limit ∙ it.unlimited;
-  held = stays_held old mid s (one.ok clean s it.held).1 it.held;
+  held = Holds-same_database old mid s (one.ok clean s it.held).1 it.held;
   readable = it.readable;
 }
 
 -- a later failure of the store is one of both calls together
-pub ended_or_memory : {TooBig : Type 0} (old mid new : State) (e : StoreFault) → GoesOn old mid → old.faults ≤ mid.faults → EndsBy TooBig mid new e ⊎ (e ≡ Memory) → EndsBy TooBig old new e ⊎ (e ≡ Memory)
-ended_or_memory old mid new e on up (inl ended) = inl (ended_since old mid new e on up ended)
-ended_or_memory old mid new e on up (inr room) = inr room
+pub EndsBy-later_or_Memory : {TooBig : Type 0} (old mid new : State) (e : StoreFault) → GoesOn old mid → old.faults ≤ mid.faults → EndsBy TooBig mid new e ⊎ (e ≡ Memory) → EndsBy TooBig old new e ⊎ (e ≡ Memory)
+EndsBy-later_or_Memory old mid new e on up (inl ended) = inl (EndsBy-later_call old mid new e on up ended)
+EndsBy-later_or_Memory old mid new e on up (inr room) = inr room
 
-failed_since : (takes : Bool) (old mid new : State) (e : StoreFault) → GoesOn old mid → old.faults ≤ mid.faults → HasFailedTaking takes mid new e → HasFailedTaking takes old new e
-failed_since true = ended_or_memory
-failed_since false = ended_since
+HasFailedTaking-later_call : (takes : Bool) (old mid new : State) (e : StoreFault) → GoesOn old mid → old.faults ≤ mid.faults → HasFailedTaking takes mid new e → HasFailedTaking takes old new e
+HasFailedTaking-later_call true = EndsBy-later_or_Memory
+HasFailedTaking-later_call false = EndsBy-later_call
 
 -- if a row reads, a fault that is Store only if it doesn't read is Memory
-pub else_memory : {Reads : Type 0} (fault : StoreFault) → (fault ≡ Store → ¬ Reads) → Reads → fault ≡ Memory
-else_memory Memory only reads = refl
-else_memory Store only reads = absurd (only refl reads)
+pub fault-Memory_if_read : {Reads : Type 0} (fault : StoreFault) → (fault ≡ Store → ¬ Reads) → Reads → fault ≡ Memory
+fault-Memory_if_read Memory only reads = refl
+fault-Memory_if_read Store only reads = absurd (only refl reads)
 
 -- ---- one call
 
 -- a failure for Cause is one for Why, if Cause gives Why in each state that is served
-pub calm_by : {A : Type 0} (old new : State) (r : Result A StoreFault) (Cause Why : StoreFault → Type 0) → ((s : Broker) → Serves old s → (e : StoreFault) → Cause e → Why e) → (HasCleanDisk new → IfErr r Cause) → FailsOnlyBy old new r Why
-calm_by old new r Cause Why why cause clean s here = IfErr-weaker r _ _ (why s here) (cause clean)
+pub FailsOnlyBy-of_cause : {A : Type 0} (old new : State) (r : Result A StoreFault) (Cause Why : StoreFault → Type 0) → ((s : Broker) → Serves old s → (e : StoreFault) → Cause e → Why e) → (HasCleanDisk new → IfErr r Cause) → FailsOnlyBy old new r Why
+FailsOnlyBy-of_cause old new r Cause Why why cause clean s here = IfErr-weaker r _ _ (why s here) (cause clean)
 
 -- what a call answers is read of the state, and if that is served, the call fails only for this cause
-pub read_out : {A : Type 0} {takes : Bool} (old new : State) (r : Result A StoreFault) (Q : A → Type 0) (P : A → Broker → Type 0) (Cause : StoreFault → Type 0) → ((a : A) → Q a → IsRead old new P a) → ((s : Broker) → Serves old s → (e : StoreFault) → Cause e → HasFailedTaking takes old new e)
+pub CalmQueriesBetween-read : {A : Type 0} {takes : Bool} (old new : State) (r : Result A StoreFault) (Q : A → Type 0) (P : A → Broker → Type 0) (Cause : StoreFault → Type 0) → ((a : A) → Q a → IsRead old new P a) → ((s : Broker) → Serves old s → (e : StoreFault) → Cause e → HasFailedTaking takes old new e)
     → CallsBetween takes old new r Q → (HasCleanDisk new → IfErr r Cause) → CalmQueriesBetween takes old new r P
-read_out {takes} old new r Q P Cause more why call cause = record { call = call_with old new r Q _ more call; calm = calm_by old new r Cause (HasFailedTaking takes old new) why cause }
+CalmQueriesBetween-read {takes} old new r Q P Cause more why call cause = record { call = CallsBetween-weaken old new r Q _ more call; calm = FailsOnlyBy-of_cause old new r Cause (HasFailedTaking takes old new) why cause }
 
 -- the same by the arms of a match on its answer: a computation that fails only if a row breaks the rules, which no row
 -- does if the state is served
-pub read_result : {A B : Type 0} {any takes : Bool} (old new : State) (a : A) (r : Result B StoreFault) (Q : A → Type 0) (P : B → Broker → Type 0) → IfOk r (λ b. Q a → IsRead old new P b) → (takes ≡ false → IfErr r (λ e. e ≡ Store)) → ((s : Broker) → Serves old s → Q a → IfErr r (λ e. ⊥))
+pub CalmQueriesBetween-read_result : {A B : Type 0} {any takes : Bool} (old new : State) (a : A) (r : Result B StoreFault) (Q : A → Type 0) (P : B → Broker → Type 0) → IfOk r (λ b. Q a → IsRead old new P b) → (takes ≡ false → IfErr r (λ e. e ≡ Store)) → ((s : Broker) → Serves old s → Q a → IfErr r (λ e. ⊥))
     → CallsBetween any old new (Ok a) Q → CalmQueriesBetween takes old new r P
-read_result old new a r Q P more store never call =
-    record { call = then_result old new a r Q _ more store call; calm = λ clean s here. IfErr-weaker r _ _ (λ e no. absurd no) (never s here (call.ok clean)) }
+CalmQueriesBetween-read_result old new a r Q P more store never call =
+    record { call = CallsBetween-then_result old new a r Q _ more store call; calm = λ clean s here. IfErr-weaker r _ _ (λ e no. absurd no) (never s here (call.ok clean)) }
 
-pub read_ok : {A B : Type 0} {any takes : Bool} (old new : State) (a : A) (b : B) (Q : A → Type 0) (P : B → Broker → Type 0) → (Q a → IsRead old new P b) → CallsBetween any old new (Ok a) Q → CalmQueriesBetween takes old new (Ok b) P
-read_ok old new a b Q P more call = read_result old new a (Ok b) Q P more (λ none. tt) (λ s here q. tt) call
+pub CalmQueriesBetween-read_Ok : {A B : Type 0} {any takes : Bool} (old new : State) (a : A) (b : B) (Q : A → Type 0) (P : B → Broker → Type 0) → (Q a → IsRead old new P b) → CallsBetween any old new (Ok a) Q → CalmQueriesBetween takes old new (Ok b) P
+CalmQueriesBetween-read_Ok old new a b Q P more call = CalmQueriesBetween-read_result old new a (Ok b) Q P more (λ none. tt) (λ s here q. tt) call
 
-pub read_err : {A B : Type 0} {takes : Bool} (old new : State) (e : StoreFault) (Q : A → Type 0) (P : B → Broker → Type 0) (Cause : StoreFault → Type 0) → ((s : Broker) → Serves old s → (e : StoreFault) → Cause e → HasFailedTaking takes old new e)
+pub CalmQueriesBetween-read_Err : {A B : Type 0} {takes : Bool} (old new : State) (e : StoreFault) (Q : A → Type 0) (P : B → Broker → Type 0) (Cause : StoreFault → Type 0) → ((s : Broker) → Serves old s → (e : StoreFault) → Cause e → HasFailedTaking takes old new e)
     → CallsBetween takes old new (Err e) Q → (HasCleanDisk new → Cause e) → CalmQueriesBetween takes old new (Err e) P
-read_err old new e Q P Cause why call cause = record { call = then_err old new e Q _ call; calm = λ clean s here. why s here e (cause clean) }
+CalmQueriesBetween-read_Err old new e Q P Cause why call cause = record { call = CallsBetween-pass_Err old new e Q _ call; calm = λ clean s here. why s here e (cause clean) }
 
 -- an answer that no state that is served has
-pub read_never : {A B : Type 0} {any : Bool} (old new : State) (a : A) (e : StoreFault) (Q : A → Type 0) (P : B → Broker → Type 0) → ((s : Broker) → Serves old s → Q a → ⊥) → CallsBetween any old new (Ok a) Q → CalmQueriesBetween true old new (Err e) P
-read_never old new a e Q P never call = read_result old new a (Err e) Q P tt (λ none. absurd (cc)) never call
+pub CalmQueriesBetween-read_never : {A B : Type 0} {any : Bool} (old new : State) (a : A) (e : StoreFault) (Q : A → Type 0) (P : B → Broker → Type 0) → ((s : Broker) → Serves old s → Q a → ⊥) → CallsBetween any old new (Ok a) Q → CalmQueriesBetween true old new (Err e) P
+CalmQueriesBetween-read_never old new a e Q P never call = CalmQueriesBetween-read_result old new a (Err e) Q P tt (λ none. absurd (cc)) never call
 
 -- ---- queries
 
 -- one that answers has no failure
-pub placed : {A : Type 0} {takes : Bool} (old new : State) (a : A) (P : A → Broker → Type 0) → QueriesBetween takes old new (Ok a) P → CalmQueriesBetween takes old new (Ok a) P
-placed old new a P it = record { call = it; calm = λ clean s here. tt }
+pub CalmQueriesBetween-Ok : {A : Type 0} {takes : Bool} (old new : State) (a : A) (P : A → Broker → Type 0) → QueriesBetween takes old new (Ok a) P → CalmQueriesBetween takes old new (Ok a) P
+CalmQueriesBetween-Ok old new a P it = record { call = it; calm = λ clean s here. tt }
 
 -- a query whose answer takes no memory is one whose answer may take some
-pub in_place : {A : Type 0} (old new : State) (r : Result A StoreFault) (P : A → Broker → Type 0) → CalmQueriesBetween false old new r P → CalmQueriesBetween true old new r P
-in_place old new r P it = record { call = may_take old new r _ it.call; calm = λ clean s here. IfErr-weaker r _ _ (λ e why. inl why) (it.calm clean s here) }
+pub CalmQueriesBetween-may_take_memory : {A : Type 0} (old new : State) (r : Result A StoreFault) (P : A → Broker → Type 0) → CalmQueriesBetween false old new r P → CalmQueriesBetween true old new r P
+CalmQueriesBetween-may_take_memory old new r P it = record { call = CallsBetween-may_take_memory old new r _ it.call; calm = λ clean s here. IfErr-weaker r _ _ (λ e why. inl why) (it.calm clean s here) }
 
 -- another answer, computed from the first
-pub query_ok : {A B : Type 0} {any takes : Bool} (old new : State) (a : A) (b : B) (P : A → Broker → Type 0) (Q : B → Broker → Type 0) → (IsRead old new P a → IsRead old new Q b) → CalmQueriesBetween any old new (Ok a) P → CalmQueriesBetween takes old new (Ok b) Q
-query_ok old new a b P Q more it = read_ok old new a b _ Q more it.call
+pub CalmQueriesBetween-then_Ok : {A B : Type 0} {any takes : Bool} (old new : State) (a : A) (b : B) (P : A → Broker → Type 0) (Q : B → Broker → Type 0) → (IsRead old new P a → IsRead old new Q b) → CalmQueriesBetween any old new (Ok a) P → CalmQueriesBetween takes old new (Ok b) Q
+CalmQueriesBetween-then_Ok old new a b P Q more it = CalmQueriesBetween-read_Ok old new a b _ Q more it.call
 
 -- what is read says more
-pub query_with : {A : Type 0} {takes : Bool} (old new : State) (r : Result A StoreFault) (P Q : A → Broker → Type 0) → ((a : A) → IsRead old new P a → IsRead old new Q a) → CalmQueriesBetween takes old new r P → CalmQueriesBetween takes old new r Q
-query_with old new r P Q more it = record { call = call_with old new r _ _ more it.call; calm = it.calm }
+pub CalmQueriesBetween-weaken : {A : Type 0} {takes : Bool} (old new : State) (r : Result A StoreFault) (P Q : A → Broker → Type 0) → ((a : A) → IsRead old new P a → IsRead old new Q a) → CalmQueriesBetween takes old new r P → CalmQueriesBetween takes old new r Q
+CalmQueriesBetween-weaken old new r P Q more it = record { call = CallsBetween-weaken old new r _ _ more it.call; calm = it.calm }
 
-pub query_err : {A B : Type 0} {takes : Bool} (old new : State) (e : StoreFault) (P : A → Broker → Type 0) (Q : B → Broker → Type 0) → CalmQueriesBetween takes old new (Err e) P → CalmQueriesBetween takes old new (Err e) Q
-query_err old new e P Q it = record { call = then_err old new e _ _ it.call; calm = it.calm }
+pub CalmQueriesBetween-pass_Err : {A B : Type 0} {takes : Bool} (old new : State) (e : StoreFault) (P : A → Broker → Type 0) (Q : B → Broker → Type 0) → CalmQueriesBetween takes old new (Err e) P → CalmQueriesBetween takes old new (Err e) Q
+CalmQueriesBetween-pass_Err old new e P Q it = record { call = CallsBetween-pass_Err old new e _ _ it.call; calm = it.calm }
 
 -- one after another
-pub query_seq : {A B : Type 0} {any takes : Bool} (old mid new : State) (a : A) (r : Result B StoreFault) (P : A → Broker → Type 0) (Q R : B → Broker → Type 0) → (IsRead old mid P a → (b : B) → IsRead mid new Q b → IsRead old new R b)
+pub CalmQueriesBetween-then_query : {A B : Type 0} {any takes : Bool} (old mid new : State) (a : A) (r : Result B StoreFault) (P : A → Broker → Type 0) (Q R : B → Broker → Type 0) → (IsRead old mid P a → (b : B) → IsRead mid new Q b → IsRead old new R b)
     → CalmQueriesBetween any old mid (Ok a) P → CalmQueriesBetween takes mid new r Q → CalmQueriesBetween takes old new r R
-query_seq {takes} old mid new a r P Q R more one two = record {
-  call = seq old mid new a r _ _ _ more one.call two.call;
+CalmQueriesBetween-then_query {takes} old mid new a r P Q R more one two = record {
+  call = CallsBetween-then_call old mid new a r _ _ _ more one.call two.call;
   calm = λ clean s here.
       let mid_clean : HasCleanDisk mid = omega (arith, two.call.survives.clean, clean) in
-      IfErr-weaker r _ _ (λ e why. failed_since takes old mid new e (one.call.goes_on mid_clean here.inside) one.call.survives.counts why) (two.calm clean s (serves_on old mid a P mid_clean one.call s here));
+      IfErr-weaker r _ _ (λ e why. HasFailedTaking-later_call takes old mid new e (one.call.goes_on mid_clean here.inside) one.call.survives.counts why) (two.calm clean s (Serves-after_query old mid a P mid_clean one.call s here));
 }
 
 -- the failure of a query after another
-pub query_failed : {A B C : Type 0} {any takes : Bool} (old mid new : State) (a : A) (e : StoreFault) (P : A → Broker → Type 0) (Q : B → Broker → Type 0) (R : C → Broker → Type 0) → CalmQueriesBetween any old mid (Ok a) P → CalmQueriesBetween takes mid new (Err e) Q → CalmQueriesBetween takes old new (Err e) R
-query_failed {A} {B} {C} old mid new a e P Q R one two =
-    query_err old new e (λ (b : B) (s : Broker). Q b s) R (query_seq old mid new a (Err e) P Q Q (λ p b. both_read old mid new a b b P Q Q (λ s one two. two) p) one two)
+pub CalmQueriesBetween-then_failed : {A B C : Type 0} {any takes : Bool} (old mid new : State) (a : A) (e : StoreFault) (P : A → Broker → Type 0) (Q : B → Broker → Type 0) (R : C → Broker → Type 0) → CalmQueriesBetween any old mid (Ok a) P → CalmQueriesBetween takes mid new (Err e) Q → CalmQueriesBetween takes old new (Err e) R
+CalmQueriesBetween-then_failed {A} {B} {C} old mid new a e P Q R one two =
+    CalmQueriesBetween-pass_Err old new e (λ (b : B) (s : Broker). Q b s) R (CalmQueriesBetween-then_query old mid new a (Err e) P Q Q (λ p b. IsRead-both old mid new a b b P Q Q (λ s one two. two) p) one two)
 
 -- ---- by what is read of a state
 
 -- another answer of a query
-pub calm_answers : {A B : Type 0} {any takes : Bool} (old new : State) (x : A) (y : B) (P : A → Broker → Type 0) (Q : B → Broker → Type 0) → ((s : Broker) → P x s → Q y s) → CalmQueriesBetween any old new (Ok x) P → CalmQueriesBetween takes old new (Ok y) Q
-calm_answers old new x y P Q f = query_ok old new x y P Q (λ h s held. let it = h s held in (f s it.0, it.1))
+pub CalmQueriesBetween-other_answer : {A B : Type 0} {any takes : Bool} (old new : State) (x : A) (y : B) (P : A → Broker → Type 0) (Q : B → Broker → Type 0) → ((s : Broker) → P x s → Q y s) → CalmQueriesBetween any old new (Ok x) P → CalmQueriesBetween takes old new (Ok y) Q
+CalmQueriesBetween-other_answer old new x y P Q f = CalmQueriesBetween-then_Ok old new x y P Q (λ h s held. let it = h s held in (f s it.0, it.1))
 
 -- one query after another
-pub calm_then : {A B : Type 0} {any takes : Bool} (old mid new : State) (x : A) (r : Result B StoreFault) (P : A → Broker → Type 0) (Q R : B → Broker → Type 0) → ((s : Broker) → P x s → (b : B) → Q b s → R b s) → CalmQueriesBetween any old mid (Ok x) P → CalmQueriesBetween takes mid new r Q → CalmQueriesBetween takes old new r R
-calm_then old mid new x r P Q R f = query_seq old mid new x r P Q R (λ p b. both_read old mid new x b b P Q R (λ s one two. f s one b two) p)
+pub CalmQueriesBetween-then : {A B : Type 0} {any takes : Bool} (old mid new : State) (x : A) (r : Result B StoreFault) (P : A → Broker → Type 0) (Q R : B → Broker → Type 0) → ((s : Broker) → P x s → (b : B) → Q b s → R b s) → CalmQueriesBetween any old mid (Ok x) P → CalmQueriesBetween takes mid new r Q → CalmQueriesBetween takes old new r R
+CalmQueriesBetween-then old mid new x r P Q R f = CalmQueriesBetween-then_query old mid new x r P Q R (λ p b. IsRead-both old mid new x b b P Q R (λ s one two. f s one b two) p)
 
 -- two queries give what each of them gives
-pub both_told : {A B : Type 0} {any takes : Bool} (old mid new : State) (x : A) (y : B) (P : A → Broker → Type 0) (Q : B → Broker → Type 0) → CalmQueriesBetween any old mid (Ok x) P → CalmQueriesBetween takes mid new (Ok y) Q → CalmQueriesBetween takes old new (Ok y) (λ b s. P x s × Q b s)
-both_told old mid new x y P Q = calm_then old mid new x (Ok y) P Q (λ b s. P x s × Q b s) (λ s one b two. (one, two))
+pub CalmQueriesBetween-both : {A B : Type 0} {any takes : Bool} (old mid new : State) (x : A) (y : B) (P : A → Broker → Type 0) (Q : B → Broker → Type 0) → CalmQueriesBetween any old mid (Ok x) P → CalmQueriesBetween takes mid new (Ok y) Q → CalmQueriesBetween takes old new (Ok y) (λ b s. P x s × Q b s)
+CalmQueriesBetween-both old mid new x y P Q = CalmQueriesBetween-then old mid new x (Ok y) P Q (λ b s. P x s × Q b s) (λ s one b two. (one, two))
 
 -- and an answer from both, also by what the database holds
-pub both_held : {A B C : Type 0} {any also takes : Bool} (old mid new : State) (x : A) (y : B) (z : C) (P : A → Broker → Type 0) (Q : B → Broker → Type 0) (R : C → Broker → Type 0) → ((s : Broker) → Holds new.now s → P x s → Q y s → R z s) → CalmQueriesBetween any old mid (Ok x) P → CalmQueriesBetween also mid new (Ok y) Q → CalmQueriesBetween takes old new (Ok z) R
-both_held old mid new x y z P Q R f one two =
-    query_ok old new y z (λ b s. P x s × Q b s) R (λ h s held. let it = h s held in (f s (stays_held old new s it.1 held) it.0.0 it.0.1, it.1)) (both_told old mid new x y P Q one two)
+pub CalmQueriesBetween-from_both_held : {A B C : Type 0} {any also takes : Bool} (old mid new : State) (x : A) (y : B) (z : C) (P : A → Broker → Type 0) (Q : B → Broker → Type 0) (R : C → Broker → Type 0) → ((s : Broker) → Holds new.now s → P x s → Q y s → R z s) → CalmQueriesBetween any old mid (Ok x) P → CalmQueriesBetween also mid new (Ok y) Q → CalmQueriesBetween takes old new (Ok z) R
+CalmQueriesBetween-from_both_held old mid new x y z P Q R f one two =
+    CalmQueriesBetween-then_Ok old new y z (λ b s. P x s × Q b s) R (λ h s held. let it = h s held in (f s (Holds-same_database old new s it.1 held) it.0.0 it.0.1, it.1)) (CalmQueriesBetween-both old mid new x y P Q one two)
 
-pub calm_both : {A B C : Type 0} {any also takes : Bool} (old mid new : State) (x : A) (y : B) (z : C) (P : A → Broker → Type 0) (Q : B → Broker → Type 0) (R : C → Broker → Type 0) → ((s : Broker) → P x s → Q y s → R z s) → CalmQueriesBetween any old mid (Ok x) P → CalmQueriesBetween also mid new (Ok y) Q → CalmQueriesBetween takes old new (Ok z) R
-calm_both old mid new x y z P Q R f = both_held old mid new x y z P Q R (λ s held. f s)
+pub CalmQueriesBetween-from_both : {A B C : Type 0} {any also takes : Bool} (old mid new : State) (x : A) (y : B) (z : C) (P : A → Broker → Type 0) (Q : B → Broker → Type 0) (R : C → Broker → Type 0) → ((s : Broker) → P x s → Q y s → R z s) → CalmQueriesBetween any old mid (Ok x) P → CalmQueriesBetween also mid new (Ok y) Q → CalmQueriesBetween takes old new (Ok z) R
+CalmQueriesBetween-from_both old mid new x y z P Q R f = CalmQueriesBetween-from_both_held old mid new x y z P Q R (λ s held. f s)

@@ -8,8 +8,8 @@ use Rattle.table_access.specs.{declared.StoreFault.{StoreFault}, Calls.{HasFaile
 use Rattle.table_access.{specs.Statements.{ChangesOnly, from_table, keeps}, proofs.{Answered.{Runs}, Deleted.{IsLeaf, delete_fails}, Edits.{IsAlone}}}
 use Rattle.table_access.proofs.{SoundLemmas.{has_place}, Steps.{Means, deletes}}
 use Rattle.broker_core.specs.State.{State as Broker}
-use Rattle.broker_tables.{specs.{Schema.{broker_schema}, Holds.{IsBroker, Holds, HoldsAfter}}, proofs.Frames.{Frame, frame_of, meant, runs_here}}
-use Rattle.broker_tables.proofs.{Inserted.{apart}, Placed.{Placed, calm, numbered_in, plain_there, plainly}, RoomLemmas.{Grows, after_one, grows_kept}}
+use Rattle.broker_tables.{specs.{Schema.{broker_schema}, Holds.{IsBroker, Holds, HoldsAfter}}, proofs.Frames.{Frame, ChangesOnly-Frame, Means-over_broker_schema, Runs-over_broker_schema}}
+use Rattle.broker_tables.proofs.{Inserted.{apart}, Placed.{Placed, calm, Placed-IsNumbered, slice_get-Placed_plainly, plainly}, RoomLemmas.{Grows, HoldsAfter-one_table, Grows-filter}}
 
 -- The text, with these parameters, takes the rows that WHERE keeps out of the table. `refl` finds each field but the last,
 -- under `unfolding understood everything`.
@@ -20,30 +20,30 @@ pub record TakesFrom {t : Table} (at : Placed t) (sql : List ℕ) (params : Row)
   pub fits : (removes : Bool) → references_fit broker_schema (plainly t) false removes ≡ true
 
 module _ {t : Table} {at : Placed t} {sql : List ℕ} {params : Row} {terms : List Term} (takes : TakesFrom at sql params terms) (old new : State) (broker : IsBroker old.now) where
-  found : slice_get old.now.schema.tables at.place ≡ Some (plainly t)
-  found = plain_there at old.now broker
+  slice_get-Delete_table : slice_get old.now.schema.tables at.place ≡ Some (plainly t)
+  slice_get-Delete_table = slice_get-Placed_plainly at old.now broker
 
-  numbered : IsNumbered (old.now.trees t.tree)
-  numbered = numbered_in at old.now broker
+  IsNumbered-before_delete : IsNumbered (old.now.trees t.tree)
+  IsNumbered-before_delete = Placed-IsNumbered at old.now broker
 
   -- if it is done, these rows are gone, the count says how many they were, and no other table changes
-  pub taken_from : (count : ℕ) → Executes sql params old new (Ok count) → ChangesOnly t.tree old new × (new.now.trees t.tree ≡ filter (λ r. not (keeps terms params r)) (old.now.trees t.tree))
+  pub Executes-delete_rows : (count : ℕ) → Executes sql params old new (Ok count) → ChangesOnly t.tree old new × (new.now.trees t.tree ≡ filter (λ r. not (keeps terms params r)) (old.now.trees t.tree))
       × (count ≡ length (filter (keeps terms params) (old.now.trees t.tree)))
-  taken_from = deletes t.name t.tree t.columns t.key t.primary t.uniques t.orders t.checks t.references sql params old new at.place found terms
-      (meant old.now broker sql takes.means) (calm old.now broker) numbered
+  Executes-delete_rows = deletes t.name t.tree t.columns t.key t.primary t.uniques t.orders t.checks t.references sql params old new at.place slice_get-Delete_table terms
+      (Means-over_broker_schema old.now broker sql takes.means) (calm old.now broker) IsNumbered-before_delete
 
   -- so the next state is held, if that follows from the rows that are left and the tables that stayed
-  pub held_taken : {taken : ℕ} → 1 ≤ taken → {next : Broker} (count : ℕ) → Executes sql params old new (Ok count)
+  pub HoldsAfter-deleted : {taken : ℕ} → 1 ≤ taken → {next : Broker} (count : ℕ) → Executes sql params old new (Ok count)
       → (Frame (t.name ∷ []) old.now new.now → new.now.trees t.tree ≡ filter (λ r. not (keeps terms params r)) (old.now.trees t.tree) → Holds new.now next) → HoldsAfter taken old new next
-  held_taken {taken} some {next} count h holds =
-      let it = taken_from count h in
-      let frame = frame_of (t.name ∷ []) t.tree at.alone old new broker it.0 in
-      after_one taken some t.name old new next frame
-      (λ counted. subst (λ o. Grows (option_map_or old.now.trees o []) (option_map_or new.now.trees o [])) (sym at.named) (grows_kept _ _ _ it.1)) (holds frame it.1)
+  HoldsAfter-deleted {taken} some {next} count h holds =
+      let it = Executes-delete_rows count h in
+      let frame = ChangesOnly-Frame (t.name ∷ []) t.tree at.alone old new broker it.0 in
+      HoldsAfter-one_table taken some t.name old new next frame
+      (λ counted. subst (λ o. Grows (option_map_or old.now.trees o []) (option_map_or new.now.trees o [])) (sym at.named) (Grows-filter _ _ _ it.1)) (holds frame it.1)
 
   -- and without a limit of steps it fails only as the store fails
-  pub taking_ends : old.step_limit ≡ None → (fault : StoreFault) → FailsToRun sql params old new fault → HasFailed old new fault
-  taking_ends unlimited fault (error, is, h) =
+  pub FailsToRun-delete : old.step_limit ≡ None → (fault : StoreFault) → FailsToRun sql params old new fault → HasFailed old new fault
+  FailsToRun-delete unlimited fault (error, is, h) =
       let here : (P : Schema → Type 0) → P broker_schema → P old.now.schema = λ P. subst P (sym broker.schema) in
       let leaf : IsLeaf t.name t.tree t.columns t.key t.primary t.uniques t.orders t.checks t.references old.now.schema = record {
         apart = here (λ s. IsAscending (λ a b. a.tree ≡ b.tree → ⊥) s.tables) apart;
@@ -51,6 +51,6 @@ module _ {t : Table} {at : Placed t} {sql : List ℕ} {params : Row} {terms : Li
         alone = here (λ s. IsAlone s t.tree) takes.alone;
         fits = here (λ s. (removes : Bool) → references_fit s (plainly t) false removes ≡ true) takes.fits;
       } in
-      let it = delete_fails t.name t.tree t.columns t.key t.primary t.uniques t.orders t.checks t.references sql params old new at.place found terms (meant old.now broker sql takes.means)
-      (runs_here old.now broker sql params _ takes.runs) unlimited leaf (has_place _ at.place (plainly t) found) numbered.0 broker.kept.sound.obeys.rules error h in
+      let it = delete_fails t.name t.tree t.columns t.key t.primary t.uniques t.orders t.checks t.references sql params old new at.place slice_get-Delete_table terms (Means-over_broker_schema old.now broker sql takes.means)
+      (Runs-over_broker_schema old.now broker sql params _ takes.runs) unlimited leaf (has_place _ at.place (plainly t) slice_get-Delete_table) IsNumbered-before_delete.0 broker.kept.sound.obeys.rules error h in
       record { cause = it.0; fault_is = is ∙ ap fault_of it.1; has = it.2; over = it.3.autocommit; blamed = it.4 }

@@ -4,31 +4,31 @@ use Rattle.std.proofs.Common.{◌≡◌, ◌≤◌, ℕ, ℤ, pos, [], ◌∷◌
 use Rattle.sqlite.specs.{Order.{Row, column}, Term.{eval}, declared.types.Value.TheVariants.{Int}, Collation.TheVariants.{Binary}}
 use Rattle.sqlite_sql.specs.{Ops.{binary, is_false, from_truth}, declared.ops.BinaryOp.TheVariants.{Compare, Or}, declared.ops.CompareOp.TheVariants.{Eq}}
 use Rattle.sqlite_value.proofs.OrderLemmas.{value_cmp-Int}
-use Rattle.table_access.proofs.ReadLemmas.{option_map_twice}
+use Rattle.table_access.proofs.ReadLemmas.{option_map-compose}
 use Rattle.broker_tables.specs.{Schema.{is_truth}, Rows.{mark_of}}
 
-equal : (a b : ℤ) → binary (Compare Eq Binary) (Int a) (Int b) ≡ from_truth (Some (is_eq (int_cmp a b)))
+binary-Eq_is_eq : (a b : ℤ) → binary (Compare Eq Binary) (Int a) (Int b) ≡ from_truth (Some (is_eq (int_cmp a b)))
 unfolding binary
-equal a b = ap (λ o. from_truth (Some (is_eq o))) (value_cmp-Int a b)
+binary-Eq_is_eq a b = ap (λ o. from_truth (Some (is_eq o))) (value_cmp-Int a b)
 
-either : (a b : Bool) → not (is_false (binary Or (from_truth (Some a)) (from_truth (Some b)))) ≡ true → a ≡ false → b ≡ true
+binary-Or_right : (a b : Bool) → not (is_false (binary Or (from_truth (Some a)) (from_truth (Some b)))) ≡ true → a ≡ false → b ≡ true
 unfolding binary
-either false true t none = refl
-either _ _ t none = absurd cc
+binary-Or_right false true t none = refl
+binary-Or_right _ _ t none = absurd cc
 
 -- it is 0 or 1
-pub is_low : (row : Row) (place : ℕ) (z : ℤ) → column row place ≡ Int z → not (is_false (eval (is_truth place) ([] ∷ row ∷ []))) ≡ true → (n : ℕ) × (z ≡ pos n) × (n ≤ 1)
-is_low row place z is t = go (is_eq (int_cmp z (pos 0))) refl
+pub is_truth-bounds : (row : Row) (place : ℕ) (z : ℤ) → column row place ≡ Int z → not (is_false (eval (is_truth place) ([] ∷ row ∷ []))) ≡ true → (n : ℕ) × (z ≡ pos n) × (n ≤ 1)
+is_truth-bounds row place z is t = go (is_eq (int_cmp z (pos 0))) refl
   where
     tested : not (is_false (binary Or (from_truth (Some (is_eq (int_cmp z (pos 0))))) (from_truth (Some (is_eq (int_cmp z (pos 1))))))) ≡ true
-    tested = subst (λ v. not (is_false (binary Or v (from_truth (Some (is_eq (int_cmp z (pos 1))))))) ≡ true) (equal z (pos 0))
-        (subst (λ v. not (is_false (binary Or (binary (Compare Eq Binary) (Int z) (Int (pos 0))) v)) ≡ true) (equal z (pos 1))
+    tested = subst (λ v. not (is_false (binary Or v (from_truth (Some (is_eq (int_cmp z (pos 1))))))) ≡ true) (binary-Eq_is_eq z (pos 0))
+        (subst (λ v. not (is_false (binary Or (binary (Compare Eq Binary) (Int z) (Int (pos 0))) v)) ≡ true) (binary-Eq_is_eq z (pos 1))
         (subst (λ v. not (is_false (binary Or (binary (Compare Eq Binary) v (Int (pos 0))) (binary (Compare Eq Binary) v (Int (pos 1))))) ≡ true) is t))
 
     go : (b : Bool) → is_eq (int_cmp z (pos 0)) ≡ b → (n : ℕ) × (z ≡ pos n) × (n ≤ 1)
     go true e = (0, int_cmp-IsAntisymmetric z (pos 0) ((Equal-is (int_cmp z (pos 0))).0 e), omega arith)
-    go false e = (1, int_cmp-IsAntisymmetric z (pos 1) ((Equal-is (int_cmp z (pos 1))).0 (either (is_eq (int_cmp z (pos 0))) (is_eq (int_cmp z (pos 1))) tested e)), omega arith)
+    go false e = (1, int_cmp-IsAntisymmetric z (pos 1) ((Equal-is (int_cmp z (pos 1))).0 (binary-Or_right (is_eq (int_cmp z (pos 0))) (is_eq (int_cmp z (pos 1))) tested e)), omega arith)
 
 -- the mark of a truth value, as a column has it
-pub mark_in_column : (o : Option Bool) → option_map (λ t. Int (pos (mark_of t))) o ≡ option_map (λ n. Int (pos n)) (option_map mark_of o)
-mark_in_column o = sym (option_map_twice (λ n. Int (pos n)) mark_of o)
+pub mark_of-option_map : (o : Option Bool) → option_map (λ t. Int (pos (mark_of t))) o ≡ option_map (λ n. Int (pos n)) (option_map mark_of o)
+mark_of-option_map o = sym (option_map-compose (λ n. Int (pos n)) mark_of o)

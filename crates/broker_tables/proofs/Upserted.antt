@@ -13,11 +13,11 @@ use Rattle.sqlite_value.specs.Keys.{plain}
 use Rattle.sqlite_schema.specs.{declared.command.Conflict.TheVariants.{Abort}, Rules.{agree, guards, has_parent, references_fit}}
 use Rattle.sqlite_rules.specs.{Keys.{AreConflicts, conflicts}, Lists.{Has}, Steps.{PassAlone}}
 use Rattle.table_access.{specs.{Calls.{fault_of}, Sound.{IsNumbered, IsShortValue}, Statements.{ChangesOnly, IsAdded, shows}}, proofs.Answered.{is_whole}}
-use Rattle.table_access.proofs.{Edits.{IsAlone}, SoundLemmas.{has_place, at_has}, Steps.{Means}, Upsert.{setting, Upserted, upsert_leaves}}
-use Rattle.table_access.proofs.{Changes.{upserts_at}, Keys.{agrees, cells_at}, UpsertRefused.{Takes, key_of, upsert_fails}, Values.{cast_null, cast_kept}}
+use Rattle.table_access.proofs.{Edits.{IsAlone}, SoundLemmas.{has_place, at_has}, Steps.{Means}, Upsert.{setting, Upserted, Executes-upsert}}
+use Rattle.table_access.proofs.{Changes.{find-after_upsert}, Keys.{agree-keys_tie, cells_at}, UpsertRefused.{Takes, key_of, upsert_fails}, Values.{cast-Null, cast_row-kept}}
 use Rattle.broker_tables.specs.{Schema.{broker_schema}, Holds.{IsBroker}, ChangeRefusals.{AreShort}, Room.{LeavesAbove, LeaveNumbers}, Rows.{value_at}}
-use Rattle.broker_tables.proofs.{Frames.{meant}, Keyed.{Keyed, keys_of}, Inserted.{apart, storable, EndsOnly}}
-use Rattle.broker_tables.proofs.{Placed.{Placed, calm, numbered_in, plain_there, plainly}, RoomLemmas.{Grows, grows_added, grows_changed, number_for}}
+use Rattle.broker_tables.proofs.{Frames.{Means-over_broker_schema}, Keyed.{Keyed, IsAscending-keys_of_table}, Inserted.{apart, storable, EndsOnly}}
+use Rattle.broker_tables.proofs.{Placed.{Placed, calm, Placed-IsNumbered, slice_get-Placed_plainly, plainly}, RoomLemmas.{Grows, Grows-added, Grows-changed, fits_i64-next_rowid}}
 
 -- The text, with these parameters, puts one row into the table, or sets columns of the one that has its key.
 -- The row has these columns beside its number, and its key is the one of the table. `refl` finds each field, under
@@ -41,7 +41,7 @@ pub record PutsOver {t : Table} (at : Placed t) (sql : List ℕ) (params : Row) 
 
 module _ {t : Table} {at : Placed t} {sql : List ℕ} {params : Row} {target : List ℕ} {n : ℕ} {project : List Term} {rest : Row} (puts : PutsOver at sql params target n project rest) (old new : State) (broker : IsBroker old.now) where
   found : slice_get old.now.schema.tables at.place ≡ Some (plainly t)
-  found = plain_there at old.now broker
+  found = slice_get-Placed_plainly at old.now broker
 
   abbrev rows : List Row
   rows = old.now.trees t.tree
@@ -54,11 +54,11 @@ module _ {t : Table} {at : Placed t} {sql : List ℕ} {params : Row} {target : L
   abbrev IsMet : Row → Type 0
   IsMet r = conflicts (Some target) old.now.schema.indexes (plainly t) it r ≡ true
 
-  here_listed : Has old.now.schema.tables (plainly t)
-  here_listed = has_place _ at.place (plainly t) found
+  Has-upsert_table : Has old.now.schema.tables (plainly t)
+  Has-upsert_table = has_place _ at.place (plainly t) found
 
   numbered : IsNumbered rows
-  numbered = numbered_in at old.now broker
+  numbered = Placed-IsNumbered at old.now broker
 
   -- SET makes it the same row, under its own number
   module _ (changed : (r : Row) → Has rows r → IsMet r → shows project (params ++ rowid r ∷ shown (plainly t) it) r ≡ rowid r ∷ rest) where
@@ -71,20 +71,20 @@ module _ {t : Table} {at : Placed t} {sql : List ℕ} {params : Row} {target : L
     -- if it is done, the row is there, and no other table changes
     pub upserted : (count : ℕ) → Executes sql params old new (Ok count) → ChangesOnly t.tree old new × IsPutOver
     upserted count h =
-        let done = upsert_leaves t.name t.tree t.columns t.key t.primary t.uniques t.orders t.checks t.references sql params old new at.place target n project puts.terms puts.width (Null ∷ rest) found puts.one puts.placed
-        (meant old.now broker sql puts.means) (calm old.now broker) numbered count h in
-        let made : with_rowid Chosen rows (cast_row (plainly t) (Null ∷ rest)) ≡ it = λ i. with_rowid Chosen rows (cast_null i ∷ puts.stored i) in (
+        let done = Executes-upsert t.name t.tree t.columns t.key t.primary t.uniques t.orders t.checks t.references sql params old new at.place target n project puts.terms puts.width (Null ∷ rest) found puts.one puts.placed
+        (Means-over_broker_schema old.now broker sql puts.means) (calm old.now broker) numbered count h in
+        let made : with_rowid Chosen rows (cast_row (plainly t) (Null ∷ rest)) ≡ it = λ i. with_rowid Chosen rows (cast-Null i ∷ puts.stored i) in (
           done.0,
           elim (subst (Upserted t.name t.tree t.columns t.key t.primary t.uniques t.orders t.checks t.references sql params old new at.place target n project) made done.1) [
-            | inl none ↦ inl (none.0, subst (IsAdded rows (new.now.trees t.tree)) (cast_kept (plainly t) it refl puts.stored) none.1)
-            | inr some ↦ inr (some.0, some.1, some.2, subst (IsAdded _ (new.now.trees t.tree)) (ap (cast_row (plainly t)) (changed some.0 some.1 some.2) ∙ cast_kept (plainly t) (rowid some.0 ∷ rest) (at_has _ rows some.0 numbered.1 some.1) puts.stored) some.3)
+            | inl none ↦ inl (none.0, subst (IsAdded rows (new.now.trees t.tree)) (cast_row-kept (plainly t) it refl puts.stored) none.1)
+            | inr some ↦ inr (some.0, some.1, some.2, subst (IsAdded _ (new.now.trees t.tree)) (ap (cast_row (plainly t)) (changed some.0 some.1 some.2) ∙ cast_row-kept (plainly t) (rowid some.0 ∷ rest) (at_has _ rows some.0 numbered.1 some.1) puts.stored) some.3)
           ],
         )
 
     -- and takes a number at most
     pub upsert_grows : IsPutOver → Grows rows (new.now.trees t.tree)
-    upsert_grows (inl none) = grows_added rows (new.now.trees t.tree) it none.1 refl
-    upsert_grows (inr some) = grows_changed rows (new.now.trees t.tree) some.0 (rowid some.0 ∷ rest) _ some.1 refl some.3
+    upsert_grows (inl none) = Grows-added rows (new.now.trees t.tree) it none.1 refl
+    upsert_grows (inr some) = Grows-changed rows (new.now.trees t.tree) some.0 (rowid some.0 ∷ rest) _ some.1 refl some.3
 
     -- If the table has a number for the row, its columns are as they have to be, and what it refers to is there, it fails
     -- only as the store fails, or since one of these texts, which it has, is too long.
@@ -94,7 +94,7 @@ module _ {t : Table} {at : Placed t} {sql : List ℕ} {params : Row} {target : L
         let here : (P : Schema → Type 0) → P broker_schema → P old.now.schema = λ P. subst P (sym broker.schema) in
         let takes : Takes t.name t.tree t.columns t.key t.primary t.uniques t.orders t.checks t.references sql params old new at.place target n project puts.terms puts.width rest (¬ AreShort texts) = record {
           found = found;
-          listed = here_listed;
+          listed = Has-upsert_table;
           apart = here (λ s. IsAscending (λ a b. a.tree ≡ b.tree → ⊥) s.tables) apart;
           calm = calm old.now broker;
           rules = broker.kept.sound.obeys.rules;
@@ -104,7 +104,7 @@ module _ {t : Table} {at : Placed t} {sql : List ℕ} {params : Row} {target : L
           keys = here (λ s. map key_of (filter (λ i. guards i (plainly t)) s.indexes) ≡ (plain, target) ∷ []) puts.keys;
           no_rowid = puts.no_rowid;
           no_first = puts.no_first;
-          means = meant old.now broker sql puts.means;
+          means = Means-over_broker_schema old.now broker sql puts.means;
           whole = here (λ s. is_whole sql (length params) (understood s sql) ≡ true) puts.whole;
           kinds = puts.kinds;
           one = puts.one;
@@ -112,9 +112,9 @@ module _ {t : Table} {at : Placed t} {sql : List ℕ} {params : Row} {target : L
           typed = here (λ s. (z : ℤ) → accepts_program s [] (setting t.tree n project) (params ++ Int z ∷ shown (plainly t) it) ≡ true) (λ z. puts.typed z (next_rowid rows));
           cast = puts.stored;
           changed = changed;
-          room = number_for rows room;
+          room = fits_i64-next_rowid rows room;
           numbers = λ r has. let above = at_has (LeavesAbove 1) rows r room.1 has in ap (λ v. fits_i64 (id_in v)) above.1 ∙ lt-ltb above.0 (2 ^ 63) (let low : above.0 < 2 ^ 63 = omega (arith, above.2) in low);
-          storable = λ z big are. storable old.now broker (plainly t) here_listed (Int z ∷ rest) (record { wide = omega (arith, some); narrow = omega (arith, few); short = (tt, short are) }) big;
+          storable = λ z big are. storable old.now broker (plainly t) Has-upsert_table (Int z ∷ rest) (record { wide = omega (arith, some); narrow = omega (arith, few); short = (tt, short are) }) big;
           pass = pass;
           parents = λ v ref named. here (λ s. has_parent s.tables old.now.trees (v ∷ rest) ref ≡ true) (at_has _ t.references ref (parents v) named);
         } in
@@ -141,26 +141,26 @@ module _ {K V : Type 0} {R : K → K → Ordering} {key : Row → K} (t : Keyed 
   row = Int (next_rowid there) ∷ rest
 
   -- a row is met if and only if it has the key
-  meets : (r : Row) → Has there r → conflicts (Some t.places) old.now.schema.indexes (plainly t.table) row r ≡ eq_by_cmp R k (key r)
-  meets r has =
+  conflicts-eq_by_cmp : (r : Row) → Has there r → conflicts (Some t.places) old.now.schema.indexes (plainly t.table) row r ≡ eq_by_cmp R k (key r)
+  conflicts-eq_by_cmp r has =
       ap (λ (s : Schema). conflicts (Some t.places) s.indexes (plainly t.table) row r) broker.schema ∙ puts.met row r ∙ or-false (agree plain t.places r t.places row)
-      ∙ agrees t.columns.of r row (t.columns.typed old.now broker r has) (at.cells _ ∙ ap t.columns.of.cells (sym (at.keyed _)))
+      ∙ agree-keys_tie t.columns.of r row (t.columns.typed old.now broker r has) (at.cells _ ∙ ap t.columns.of.cells (sym (at.keyed _)))
       ∙ ap (eq_by_cmp R (key r)) (at.keyed _) ∙ (eq_by_cmp_equiv t.columns.of.total).symm (key r) k
 
   -- and SET makes it the same row, under its own number
-  pub set_at : (r : Row) → Has there r → conflicts (Some t.places) old.now.schema.indexes (plainly t.table) row r ≡ true → shows project (params ++ rowid r ∷ shown (plainly t.table) row) r ≡ rowid r ∷ rest
-  set_at r has met =
-      let same : k ≡ key r = t.columns.of.exact k (key r) ((Equal-is (R k (key r))).0 (sym (meets r has) ∙ met)) in
+  pub shows-set_row : (r : Row) → Has there r → conflicts (Some t.places) old.now.schema.indexes (plainly t.table) row r ≡ true → shows project (params ++ rowid r ∷ shown (plainly t.table) row) r ≡ rowid r ∷ rest
+  shows-set_row r has met =
+      let same : k ≡ key r = t.columns.of.exact k (key r) ((Equal-is (R k (key r))).0 (sym (conflicts-eq_by_cmp r has) ∙ met)) in
       at.sets _ r ∙ ap (λ cells. rowid r ∷ (cells ++ at.last)) (t.columns.typed old.now broker r has ∙ ap t.columns.of.cells (sym same))
       ∙ ap (λ xs. rowid r ∷ xs) (sym at.whole)
 
   -- if it is done, the key has the value, each other key has what it had, and no other table changes
-  pub put_at : (count : ℕ) → Executes sql params old new (Ok count) → ChangesOnly t.table.tree old new × Grows there (new.now.trees t.table.tree)
+  pub Executes-upsert_value : (count : ℕ) → Executes sql params old new (Ok count) → ChangesOnly t.table.tree old new × Grows there (new.now.trees t.table.tree)
       × ((q : K) → value_at R key value (new.now.trees t.table.tree) q ≡ cond (eq_by_cmp R q k) (Some v) (value_at R key value there q))
-  put_at count h =
-      let done = upserted puts old new broker set_at count h in (
+  Executes-upsert_value count h =
+      let done = upserted puts old new broker shows-set_row count h in (
         done.0,
-        upsert_grows puts old new broker set_at done.1,
-        upserts_at t.columns.of.total t.columns.of.exact key value (Some t.places) old.now.schema.indexes (plainly t.table) there (new.now.trees t.table.tree) row row (λ r. rowid r ∷ rest) k v
-            (keys_of t old.now broker) (numbered_in t.at old.now broker).0 meets (at.keyed _, at.valued _) (λ r has hit. (at.keyed _, at.valued _)) done.1,
+        upsert_grows puts old new broker shows-set_row done.1,
+        find-after_upsert t.columns.of.total t.columns.of.exact key value (Some t.places) old.now.schema.indexes (plainly t.table) there (new.now.trees t.table.tree) row row (λ r. rowid r ∷ rest) k v
+            (IsAscending-keys_of_table t old.now broker) (Placed-IsNumbered t.at old.now broker).0 conflicts-eq_by_cmp (at.keyed _, at.valued _) (λ r has hit. (at.keyed _, at.valued _)) done.1,
       )

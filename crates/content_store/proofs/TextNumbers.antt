@@ -5,12 +5,12 @@ use Rattle.std.proofs.lemmas.Bool.{lt-ltb, le-ltb}
 use Rattle.broker_core.specs.{Text.{Text, same_text}, Limit.{limit, HasRoom, has_room}}
 use Rattle.content_store.specs.Contents.{is_among}
 -- texts that are the same by their bytes are equal, and a text is the same as itself
-pub use Rattle.broker_core.proofs.Judgement.{text_is as same_is, text_refl as same_itself}
+pub use Rattle.broker_core.proofs.Judgement.{same_text-equal as same_is, same_text-refl as same_itself}
 
 -- a text that isn't there gets the next number
-pub none_before : (texts : List Text) (body : Text) → is_among texts body ≡ false → position_or_len (same_text body) texts ≡ length texts
-none_before [] body free = refl
-none_before (t ∷ texts) body free = go (same_text body t) refl free (none_before texts body)
+pub position_or_len-absent : (texts : List Text) (body : Text) → is_among texts body ≡ false → position_or_len (same_text body) texts ≡ length texts
+position_or_len-absent [] body free = refl
+position_or_len-absent (t ∷ texts) body free = go (same_text body t) refl free (position_or_len-absent texts body)
   where
     go : (b : Bool) → same_text body t ≡ b → (b || is_among texts body) ≡ false → (is_among texts body ≡ false → position_or_len (same_text body) texts ≡ length texts) → position_or_len (same_text body) (t ∷ texts) ≡ length (t ∷ texts)
     go true e h more = absurd cc
@@ -19,6 +19,6 @@ none_before (t ∷ texts) body free = go (same_text body t) refl free (none_befo
 -- ---- the limit
 
 -- whether there is room for one more, by their count
-pub room_is : {X : Type 0} (xs : List X) (count : ℕ) (b : Bool) → IsTrue b ↔ HasRoom count → count ≡ length xs → has_room xs ≡ b
-room_is xs count true h is = lt-ltb (length xs) limit (subst (λ n. n < limit) is (h.0 refl))
-room_is xs count false h is = le-ltb (length xs) limit (let high : ¬ (count < limit) = (λ low. true≢false (sym (h.1 low))) in omega (arith, high, is))
+pub has_room-of_count : {X : Type 0} (xs : List X) (count : ℕ) (b : Bool) → IsTrue b ↔ HasRoom count → count ≡ length xs → has_room xs ≡ b
+has_room-of_count xs count true h is = lt-ltb (length xs) limit (subst (λ n. n < limit) is (h.0 refl))
+has_room-of_count xs count false h is = le-ltb (length xs) limit (let high : ¬ (count < limit) = (λ low. true≢false (sym (h.1 low))) in omega (arith, high, is))

@@ -8,12 +8,12 @@ use Rattle.broker_core.specs.{Text.{Text, same_text, version}, State.{State}, Ch
 use Rattle.broker_core.specs.{Request.{branch_version, refusal, refused, unless, has_grant}, declared.answer.Answer.{Answer}}
 use Rattle.broker_core.specs.{declared.command.Command.TheVariants.{GetBranchPact}, declared.command.Version.{Version}, declared.policy.Caller.{Caller}}
 use Rattle.broker_core.specs.declared.policy.Rule.TheVariants.{A5}
-use Rattle.broker_tables.{specs.{Schema.{in_versions}, Numbers.{number_of}, Holds.{Holds}}, proofs.NumberLemmas.{within, one_version}}
-use Rattle.broker_tables.proofs.VersionRows.{row_number, false_if}
+use Rattle.broker_tables.{specs.{Schema.{in_versions}, Numbers.{number_of}, Holds.{Holds}}, proofs.NumberLemmas.{number_of-bounds, number_of-injective}}
+use Rattle.broker_tables.proofs.VersionRows.{number_of-version_row, false_if}
 use Rattle.content_store.proofs.TextNumbers.{same_is, same_itself}
 use Rattle.contract_commands.specs.BranchPact.{NoneFrom, IsNextBelow, IsBranchContent, ReachesBranch}
 use Rattle.contract_commands.specs.{Pacts.{AreSidesRead, missing_of_branch, Admits, ShowsReached}, declared.sides.Sides.{Sides}}
-use Rattle.command_facts.{specs.Primitives.{broker_primitives}, proofs.CallerSteps.{refuses, acts}}
+use Rattle.command_facts.{specs.Primitives.{broker_primitives}, proofs.CallerSteps.{StepOfCaller-refused, StepOfCaller-effect}}
 use Rattle.broker_core.specs.declared.answer.Missing.TheVariants as missing
 
 -- ---- versions whose places in the list are their numbers
@@ -50,7 +50,7 @@ module _ (versions : List Version) where
         go false e later =
             let near = ltb-false n k e in
             let nats : n ≡ k = omega (arith, low, near) in
-            let same : x ≡ v = one_version versions x v k (stand.0 ∙ ap Some nats) is in
+            let same : x ≡ v = number_of-injective versions x v k (stand.0 ∙ ap Some nats) is in
             ap (λ b. last_or o (cond b (x ∷ filter test xs) (filter test xs))) (ap test same ∙ passes)
             ∙ none_last (n + 1) xs stand.1 (Some x) (λ w m at far. false_if (test w) (λ passing. let over = top w m at passing in omega (arith, far, over, near))) ∙ ap Some same
 
@@ -71,17 +71,17 @@ module _ (versions : List Version) where
   abbrev HasNumber : Row → Type 0
   HasNumber r = (k : ℕ) × (number_of versions (version (text in_versions.pacticipant r) (text in_versions.version r)) ≡ Some k) × (whole_at in_versions.number r ≡ pos k)
 
-  stand_from : (n : ℕ) (xs : List Version) (rows : List Row) → map entry rows ≡ map (λ e. (pos e.0, e.1)) (enumerate_from n xs) → AllByRecursion HasNumber rows → StandFrom versions n xs
-  stand_from n [] rows is each = tt
-  stand_from n (x ∷ xs) [] is each = absurd (let e = is in cc)
-  stand_from n (x ∷ xs) (r ∷ rows) is each =
+  StandFrom-enumerate : (n : ℕ) (xs : List Version) (rows : List Row) → map entry rows ≡ map (λ e. (pos e.0, e.1)) (enumerate_from n xs) → AllByRecursion HasNumber rows → StandFrom versions n xs
+  StandFrom-enumerate n [] rows is each = tt
+  StandFrom-enumerate n (x ∷ xs) [] is each = absurd (let e = is in cc)
+  StandFrom-enumerate n (x ∷ xs) (r ∷ rows) is each =
       let here : entry r ≡ (pos n, x) = ap (head_of (pos n, x)) is in
       let ints : pos each.0.0 ≡ pos n = sym each.0.2 ∙ ap (λ (e : ℤ × Version). e.0) here in
       let nats : each.0.0 ≡ n = cc in
-      (ap (number_of versions) (sym (ap (λ (e : ℤ × Version). e.1) here)) ∙ each.0.1 ∙ ap Some nats, stand_from (n + 1) xs rows (ap rest_of is) each.1)
+      (ap (number_of versions) (sym (ap (λ (e : ℤ × Version). e.1) here)) ∙ each.0.1 ∙ ap Some nats, StandFrom-enumerate (n + 1) xs rows (ap rest_of is) each.1)
 
-all_stand : (db : Database) (s : State) → Holds db s → StandFrom s.versions 1 s.versions
-all_stand db s held = stand_from s.versions 1 s.versions (db.trees in_versions.tree) held.versions (all_of (HasNumber s.versions) (db.trees in_versions.tree) (λ r has. row_number db held.broker s.versions held.versions r has))
+StandFrom-versions : (db : Database) (s : State) → Holds db s → StandFrom s.versions 1 s.versions
+StandFrom-versions db s held = StandFrom-enumerate s.versions 1 s.versions (db.trees in_versions.tree) held.versions (all_of (HasNumber s.versions) (db.trees in_versions.tree) (λ r has. number_of-version_row db held.broker s.versions held.versions r has))
 
 -- ---- the version that the branch shows
 
@@ -89,30 +89,30 @@ module _ (s : State) (provider consumer branch : Text) where
   abbrev passes : Version → Bool
   passes v = same_text v.pacticipant consumer && (s.branches (v, branch) && is_some (s.contracts (v, provider)))
 
-  passed : (v : Version) → passes v ≡ true → (v.pacticipant ≡ consumer) × (s.branches (v, branch) ≡ true) × (is_some (s.contracts (v, provider)) ≡ true)
-  passed v h =
+  passes-parts : (v : Version) → passes v ≡ true → (v.pacticipant ≡ consumer) × (s.branches (v, branch) ≡ true) × (is_some (s.contracts (v, provider)) ≡ true)
+  passes-parts v h =
       let one = and_parts (same_text v.pacticipant consumer) (s.branches (v, branch) && is_some (s.contracts (v, provider))) h in
       let two = and_parts (s.branches (v, branch)) (is_some (s.contracts (v, provider))) one.1 in
       (same_is v.pacticipant consumer one.0, two.0, two.1)
 
   -- no version from the bound on passes
-  under : (bound : ℕ) → NoneFrom s provider consumer branch bound → (v : Version) (n : ℕ) → number_of s.versions v ≡ Some n → passes v ≡ true → n < bound
-  under bound none v n is passing = go (nat_lt n bound) refl
+  passes-below_bound : (bound : ℕ) → NoneFrom s provider consumer branch bound → (v : Version) (n : ℕ) → number_of s.versions v ≡ Some n → passes v ≡ true → n < bound
+  passes-below_bound bound none v n is passing = go (nat_lt n bound) refl
     where
       go : (b : Bool) → nat_lt n bound ≡ b → n < bound
       go true e = ltb-true n bound e
       go false e =
-          let it = passed v passing in
+          let it = passes-parts v passing in
           let has : is_some (s.contracts (v, provider)) ≡ false = ap is_some (none v n is (ltb-false n bound e) it.0 it.1) in
           absurd (let clash : true ≡ false = sym it.2 ∙ has in cc)
 
   -- the bound that is above all numbers
-  pub above_all : (bound : ℕ) → bound ≡ length s.versions + 1 → NoneFrom s provider consumer branch bound
-  above_all bound is v n number low owner on = absurd (let it = within s.versions v n number in omega (arith, is, low, it.1))
+  pub NoneFrom-above_all : (bound : ℕ) → bound ≡ length s.versions + 1 → NoneFrom s provider consumer branch bound
+  NoneFrom-above_all bound is v n number low owner on = absurd (let it = number_of-bounds s.versions v n number in omega (arith, is, low, it.1))
 
   -- the next version has no contract with the provider
-  pub none_there : (bound next : ℕ) → NoneFrom s provider consumer branch bound → IsNextBelow s provider consumer branch bound (Some (record { number = next; content = None })) → NoneFrom s provider consumer branch next
-  none_there bound next none found v n is low owner on = go (nat_lt n bound) refl
+  pub NoneFrom-next_without_content : (bound next : ℕ) → NoneFrom s provider consumer branch bound → IsNextBelow s provider consumer branch bound (Some (record { number = next; content = None })) → NoneFrom s provider consumer branch next
+  NoneFrom-next_without_content bound next none found v n is low owner on = go (nat_lt n bound) refl
     where
       go : (b : Bool) → nat_lt n bound ≡ b → s.contracts (v, provider) ≡ None
       go true e =
@@ -124,9 +124,9 @@ module _ (s : State) (provider consumer branch : Text) where
   module _ (db : Database) (held : Holds db s) where
     -- no version is left
     pub none_shown : (bound : ℕ) → NoneFrom s provider consumer branch bound → IsNextBelow s provider consumer branch bound None → IsBranchContent s provider consumer branch None
-    none_shown bound none found = none_last s.versions passes 1 s.versions (all_stand db s held) None (λ v n is low. false_if (passes v) (λ passing.
-        let it = passed v passing in
-        let near = under bound none v n is passing in
+    none_shown bound none found = none_last s.versions passes 1 s.versions (StandFrom-versions db s held) None (λ v n is low. false_if (passes v) (λ passing.
+        let it = passes-parts v passing in
+        let near = passes-below_bound bound none v n is passing in
         let far = found n (v, is, it.0, it.1) in
         omega (arith, near, far)))
 
@@ -136,11 +136,11 @@ module _ (s : State) (provider consumer branch : Text) where
         let on = found.0.0 in
         let v = on.0 in
         let has : s.contracts (v, provider) ≡ Some content = sym (found.1 v on.1) in
-        let fits = within s.versions v next on.1 in
+        let fits = number_of-bounds s.versions v next on.1 in
         let all : passes v ≡ true = (λ i. same_text (on.2 i) consumer && (on.3 i && is_some (has i))) ∙ ap (λ b. b && true) (same_itself consumer) in (
           v,
-          greatest_last s.versions passes 1 s.versions (all_stand db s held) None v next on.1 all
-              (λ w m is also. let it = passed w also in found.0.2 m (w, is, it.0, it.1) (under bound none w m is also))
+          greatest_last s.versions passes 1 s.versions (StandFrom-versions db s held) None v next on.1 all
+              (λ w m is also. let it = passes-parts w also in found.0.2 m (w, is, it.0, it.1) (passes-below_bound bound none w m is also))
               fits.0 (omega (arith, fits.1)),
           has,
         )
@@ -148,9 +148,9 @@ module _ (s : State) (provider consumer branch : Text) where
 -- ---- what is shown of it
 
 module _ (s : State) (caller : Caller) (provider consumer branch : Text) where
-  there : (content : Option ℕ) → IsBranchContent s provider consumer branch content → is_some (branch_version s provider consumer branch) ≡ is_some content
-  there None it = ap is_some it
-  there (Some n) it = ap is_some it.1
+  IsBranchContent-is_some : (content : Option ℕ) → IsBranchContent s provider consumer branch content → is_some (branch_version s provider consumer branch) ≡ is_some content
+  IsBranchContent-is_some None it = ap is_some it
+  IsBranchContent-is_some (Some n) it = ap is_some it.1
 
   module _ (found : Sides) (content : Option ℕ) (sides : AreSidesRead s caller A5 (provider ∷ consumer ∷ []) provider consumer found) (is : IsBranchContent s provider consumer branch content) where
     -- the command is refused as its sides and its contract say
@@ -158,17 +158,17 @@ module _ (s : State) (caller : Caller) (provider consumer branch : Text) where
         ≡ refused (GetBranchPact provider consumer branch) (missing_of_branch found content) found.is_allowed
     branch_refused =
         let may = sides.may_is (has_grant s caller None) in
-        let shown = there content is in
+        let shown = IsBranchContent-is_some content is in
         λ i. refused (GetBranchPact provider consumer branch) (unless (sides.provider_is i) missing.Pacticipant (unless (sides.consumer_is i) missing.Pacticipant (unless (shown i) missing.Contract None))) (may i)
 
     pub reaches_branch : (r : Result ℕ Answer) → Admits A5 content (missing_of_branch found content) found.is_allowed r → ReachesBranch s caller provider consumer branch r
     reaches_branch (Ok n) it = (subst (IsBranchContent s provider consumer branch) it.0 is, branch_refused ∙ it.1 (GetBranchPact provider consumer branch) refl)
     reaches_branch (Err answer) it = branch_refused ∙ it (GetBranchPact provider consumer branch) refl
 
-  pub branch_shown : (place : Result ℕ Answer) (answer : Answer) → ReachesBranch s caller provider consumer branch place → ShowsReached s place answer → StepOfCaller broker_primitives s caller (GetBranchPact provider consumer branch) (unchanged_with s answer)
-  branch_shown (Ok content) answer reach it =
+  pub StepOfCaller-branch_pact : (place : Result ℕ Answer) (answer : Answer) → ReachesBranch s caller provider consumer branch place → ShowsReached s place answer → StepOfCaller broker_primitives s caller (GetBranchPact provider consumer branch) (unchanged_with s answer)
+  StepOfCaller-branch_pact (Ok content) answer reach it =
       let shown_as = reach.0 in
-      acts s caller (GetBranchPact provider consumer branch) refl (unchanged_with s answer) reach.1
+      StepOfCaller-effect s caller (GetBranchPact provider consumer branch) refl (unchanged_with s answer) reach.1
       (shown_as.0, shown_as.1, (it.0, ap (option_and_then (text_of s)) shown_as.2 ∙ it.1, ap (unchanged_with s) it.2))
-  branch_shown (Err refusal) answer reach it =
-      subst (λ a. StepOfCaller broker_primitives s caller (GetBranchPact provider consumer branch) (unchanged_with s a)) (sym it) (refuses s caller (GetBranchPact provider consumer branch) refl refusal reach)
+  StepOfCaller-branch_pact (Err refusal) answer reach it =
+      subst (λ a. StepOfCaller broker_primitives s caller (GetBranchPact provider consumer branch) (unchanged_with s a)) (sym it) (StepOfCaller-refused s caller (GetBranchPact provider consumer branch) refl refusal reach)

@@ -11,14 +11,14 @@ use Rattle.pact_file.specs.{Normal.{Normal}, Pact.{Pact}, declared.fault.PactFau
 use Rattle.reply_check.specs.{Recorded.{Reply}, Replies.{RepliesRead}}
 use Rattle.command_facts.specs.{Readings.{Tells, reading_of}, declared.checking.Comparison.{Comparison}}
 use Rattle.command_facts.specs.{declared.checking.Comparison.TheVariants.{Failing, UnknownReply, Pattern, NoPact}, Performs.{CallersStep}}
-use Rattle.command_facts.{specs.Primitives.{broker_primitives}, proofs.CallerSteps.{acts, refuses}}
+use Rattle.command_facts.{specs.Primitives.{broker_primitives}, proofs.CallerSteps.{StepOfCaller-effect, StepOfCaller-refused}}
 use Rattle.contract_commands.specs.Checks.{Leads, Checks}
 use Rattle.broker_core.specs.declared.answer.Answer.TheVariants as answer
 
 module _ (s : State) (caller : Caller) (path : PactPath) (r : Report) (body : Text) where
   -- the form of the replies is at fault
-  pub replies_fault : (found : FormFault) → FindsFault broker_primitives (PostReplies path r body) (Some found) → CallersStep caller (PostReplies path r body) s (unchanged_with s (BadForm found))
-  replies_fault found is = λ sound. inl (Some found, is, refl)
+  pub CallersStep-replies_fault : (found : FormFault) → FindsFault broker_primitives (PostReplies path r body) (Some found) → CallersStep caller (PostReplies path r body) s (unchanged_with s (BadForm found))
+  CallersStep-replies_fault found is = λ sound. inl (Some found, is, refl)
 
   module _ (replies : List Reply) (reads : RepliesRead body (Ok replies)) where
     well_formed : FindsFault broker_primitives (PostReplies path r body) None
@@ -26,12 +26,12 @@ module _ (s : State) (caller : Caller) (path : PactPath) (r : Report) (body : Te
 
     -- they are refused
     pub replies_refused : (answer : Answer) → refusal s caller (PostReplies path r body) ≡ Some answer → CallersStep caller (PostReplies path r body) s (unchanged_with s answer)
-    replies_refused answer is = λ sound. inl (refuses s caller (PostReplies path r body) well_formed answer is)
+    replies_refused answer is = λ sound. inl (StepOfCaller-refused s caller (PostReplies path r body) well_formed answer is)
 
     by_told : (out : Transition) (content : ℕ) (text : Text) (told : Comparison) → s.contracts (consumer_version path, path.provider) ≡ Some content → refusal s caller (PostReplies path r body) ≡ None → text_of s content ≡ Some text
         → Tells text replies told → Leads s path.provider r content told out → CallersStep caller (PostReplies path r body) s out
-    by_told out content text (Failing places) is none has tells leads = λ sound. inl (acts s caller (PostReplies path r body) well_formed out none (content, is, (text, has, (Some places, (replies, reads, tells), leads))))
-    by_told out content text UnknownReply is none has tells leads = λ sound. inl (acts s caller (PostReplies path r body) well_formed out none (content, is, (text, has, (None, (replies, reads, tells), leads))))
+    by_told out content text (Failing places) is none has tells leads = λ sound. inl (StepOfCaller-effect s caller (PostReplies path r body) well_formed out none (content, is, (text, has, (Some places, (replies, reads, tells), leads))))
+    by_told out content text UnknownReply is none has tells leads = λ sound. inl (StepOfCaller-effect s caller (PostReplies path r body) well_formed out none (content, is, (text, has, (None, (replies, reads, tells), leads))))
     by_told out content text Pattern is none has tells leads = λ sound. inr (leads, (none, (text, ap (option_and_then (text_of s)) is ∙ has, (replies, reads, tells.1))))
     by_told out content text NoPact is none has tells leads = absurd leads
 
@@ -45,12 +45,12 @@ module _ (s : State) (caller : Caller) (path : PactPath) (r : Report) (body : Te
         → Checks s path.provider r content replies (record { answer = Done detail; state = t }) → StepOfCaller broker_primitives s caller (PostReplies path r body) (record { answer = Done detail; state = t })
     step_checked detail t content sound is none it = elim (replies_checked (record { answer = Done detail; state = t }) content is none it sound) [
       | inl step ↦ step
-      | inr refuses ↦ absurd (let clash : Done detail ≡ answer.Pattern = ap (λ (out : Transition). out.answer) refuses.0 in cc)
+      | inr StepOfCaller-refused ↦ absurd (let clash : Done detail ≡ answer.Pattern = ap (λ (out : Transition). out.answer) StepOfCaller-refused.0 in cc)
     ]
 
 -- a content with a text that is read as a pact, as that of each contract is
-pub pact_there : (s : State) (path : PactPath) (content : ℕ) → HasSoundContents broker_primitives s → s.contracts (consumer_version path, path.provider) ≡ Some content → (text : Text) × (text_of s content ≡ Some text) × ((p : Pact) × Normal text (Ok p))
-pact_there s path content sound is =
+pub HasSoundContents-pact : (s : State) (path : PactPath) (content : ℕ) → HasSoundContents broker_primitives s → s.contracts (consumer_version path, path.provider) ≡ Some content → (text : Text) × (text_of s content ≡ Some text) × ((p : Pact) × Normal text (Ok p))
+HasSoundContents-pact s path content sound is =
     let it = sound.contracts (consumer_version path) path.provider content is in
     (it.0, it.1, by_answer it.2.0 it.2.1 it.2.2)
   where
@@ -59,15 +59,15 @@ pact_there s path content sound is =
     by_answer (Err found) reads is = absurd cc
 
 -- a comparison with it doesn't answer `NoPact`
-pub pact_told : (s : State) (content : ℕ) (text : Text) (replies : List Reply) (told : Comparison) → text_of s content ≡ Some text → ((old : Text) × (text_of s content ≡ Some old) × ((p : Pact) × Normal old (Ok p))) → Tells text replies told → ¬ (told ≡ NoPact)
-pact_told s content text replies told stored has tells is =
+pub Tells-not_NoPact : (s : State) (content : ℕ) (text : Text) (replies : List Reply) (told : Comparison) → text_of s content ≡ Some text → ((old : Text) × (text_of s content ≡ Some old) × ((p : Pact) × Normal old (Ok p))) → Tells text replies told → ¬ (told ≡ NoPact)
+Tells-not_NoPact s content text replies told stored has tells is =
     let both : Some has.0 ≡ Some text = sym has.1 ∙ stored in
     let same : has.0 ≡ text = cc in
     subst (λ (c : Comparison). Tells text replies c) is tells has.2.0 (subst (λ t. Normal t (Ok has.2.0)) same has.2.1)
 
 -- no interaction fails if the list of those that do is empty
-pub empty_is : (failing : List ℕ) → (length failing == 0) ≡ is_empty failing
-empty_is [] = refl
-empty_is (place ∷ failing) = some_fail (length failing) where
-  some_fail : (n : ℕ) → (suc n == 0) ≡ false
-  some_fail n = grind (arith, nat_tests)
+pub length-zero_is_empty : (failing : List ℕ) → (length failing == 0) ≡ is_empty failing
+length-zero_is_empty [] = refl
+length-zero_is_empty (place ∷ failing) = suc-not_zero (length failing) where
+  suc-not_zero : (n : ℕ) → (suc n == 0) ≡ false
+  suc-not_zero n = grind (arith, nat_tests)

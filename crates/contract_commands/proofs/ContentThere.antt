@@ -4,12 +4,12 @@ use Rattle.std.proofs.Common.{◌≡◌, ◌==◌, ◌+◌, ◌-◌, ◌<◌, �
 use Rattle.std.proofs.{lemmas.Bool.Decides.{nat_tests}, lemmas.List.{length-map}, lemmas.Option.{slice_get-get_or, slice_get_within}}
 use Rattle.sqlite.specs.{Order.{Row}, Effect.{Database}}
 use Rattle.sqlite_rules.specs.Lists.{Has}
-use Rattle.table_access.{specs.Columns.{text, whole_at}, proofs.Maps.{find_has}}
+use Rattle.table_access.{specs.Columns.{text, whole_at}, proofs.Maps.{find-has_row}}
 use Rattle.broker_core.specs.{Text.{Text}, State.{State}, Change.{text_of}, Request.{consumer_version}, declared.answer.Answer.{Answer}}
 use Rattle.broker_core.specs.{declared.command.PactPath.{PactPath}, declared.command.Version.{Version}, declared.policy.Caller.{Caller}}
 use Rattle.broker_core.specs.declared.policy.Rule.{Rule}
 use Rattle.broker_tables.specs.{Schema.{in_contents, in_contracts}, Holds.{Holds, with_digest}, Numbers.{number_of}}
-use Rattle.broker_tables.proofs.{Orders.{marked_total, exact_marked}, Placed.{contracts, at_contracts, listed}, References.{refers_content}}
+use Rattle.broker_tables.proofs.{Orders.{by_both-total_int_text, by_both-exact_int_text}, Placed.{contracts, at_contracts, listed}, References.{references-content}}
 use Rattle.contract_tables.proofs.ContractRows.{key, content_at, contents}
 use Rattle.contract_commands.specs.{BranchPact.{ReachesBranch}, Pacts.{HasContent, Reaches, HasReachedContent}}
 
@@ -33,43 +33,43 @@ within {X} f (y ∷ rows) (x ∷ xs) m n is r (inr more) at =
     rest [] = []
     rest (p ∷ ps) = ps
 
-not_zero : (n : ℕ) → 1 ≤ n → (n == 0) ≡ false
-not_zero n low = grind (arith, nat_tests)
+positive-not_zero : (n : ℕ) → 1 ≤ n → (n == 0) ≡ false
+positive-not_zero n low = grind (arith, nat_tests)
 
-text_at : (s : State) (n : ℕ) → 1 ≤ n → text_of s n ≡ slice_get s.contents (n - 1)
-text_at s n low = ap (λ b. cond b None (slice_get s.contents (n - 1))) (not_zero n low)
+text_of-slice_get : (s : State) (n : ℕ) → 1 ≤ n → text_of s n ≡ slice_get s.contents (n - 1)
+text_of-slice_get s n low = ap (λ b. cond b None (slice_get s.contents (n - 1))) (positive-not_zero n low)
 
 -- a number from 1 to the count is that of a text
-text_there : (s : State) (n : ℕ) → 1 ≤ n → n ≤ length s.contents → HasContent s n
-text_there s n low high =
+HasContent-of_bounds : (s : State) (n : ℕ) → 1 ≤ n → n ≤ length s.contents → HasContent s n
+HasContent-of_bounds s n low high =
     let place : n - 1 < length s.contents = omega (arith, low, high) in
-    (get_or s.contents (n - 1) [], text_at s n low ∙ slice_get-get_or s.contents (n - 1) [] place)
+    (get_or s.contents (n - 1) [], text_of-slice_get s n low ∙ slice_get-get_or s.contents (n - 1) [] place)
 
 -- and only such a number is one
-pub number_there : (s : State) (n : ℕ) → HasContent s n → (1 ≤ n) × (n ≤ length s.contents)
-number_there s zero has = absurd cc
-number_there s (suc n) has = let within = slice_get_within s.contents (suc n - 1) has.0 (sym (text_at s (suc n) (omega arith)) ∙ has.1) in (omega arith, omega (arith, within))
+pub HasContent-bounds : (s : State) (n : ℕ) → HasContent s n → (1 ≤ n) × (n ≤ length s.contents)
+HasContent-bounds s zero has = absurd cc
+HasContent-bounds s (suc n) has = let within = slice_get_within s.contents (suc n - 1) has.0 (sym (text_of-slice_get s (suc n) (omega arith)) ∙ has.1) in (omega arith, omega (arith, within))
 
 module _ (db : Database) (s : State) (held : Holds db s) where
-  contract_row : (v : Version) (p : Text) (n : ℕ) → s.contracts (v, p) ≡ Some n → (r : Row) × Has (db.trees in_contracts.tree) r × (whole_at in_contracts.content r ≡ pos n)
-  contract_row v p n is = by_number (number_of s.versions v) (held.contracts v p ∙ ap (option_map pos) is) where
+  contracts-has_row : (v : Version) (p : Text) (n : ℕ) → s.contracts (v, p) ≡ Some n → (r : Row) × Has (db.trees in_contracts.tree) r × (whole_at in_contracts.content r ≡ pos n)
+  contracts-has_row v p n is = by_number (number_of s.versions v) (held.contracts v p ∙ ap (option_map pos) is) where
     by_number : (o : Option ℕ) → option_and_then (λ k. content_at (db.trees in_contracts.tree) k p) o ≡ Some (pos n) → (r : Row) × Has (db.trees in_contracts.tree) r × (whole_at in_contracts.content r ≡ pos n)
     by_number None e = absurd cc
-    by_number (Some k) e = let it = find_has marked_total exact_marked key (whole_at in_contracts.content) (pos k, p) (pos n) (db.trees in_contracts.tree) e in (it.0, it.1, it.3)
+    by_number (Some k) e = let it = find-has_row by_both-total_int_text by_both-exact_int_text key (whole_at in_contracts.content) (pos k, p) (pos n) (db.trees in_contracts.tree) e in (it.0, it.1, it.3)
 
   -- the content of a contract has a text
-  pub contract_text : (v : Version) (p : Text) (n : ℕ) → s.contracts (v, p) ≡ Some n → HasContent s n
-  contract_text v p n is =
-      let row = contract_row v p n is in
-      let x = refers_content db held.broker contracts (listed at_contracts db held.broker) in_contracts.content (inr (inr (inl refl))) row.0 row.1 (contents db held.broker row.0 row.1) in
+  pub contracts-has_content : (v : Version) (p : Text) (n : ℕ) → s.contracts (v, p) ≡ Some n → HasContent s n
+  contracts-has_content v p n is =
+      let row = contracts-has_row v p n is in
+      let x = references-content db held.broker contracts (listed at_contracts db held.broker) in_contracts.content (inr (inr (inl refl))) row.0 row.1 (contents db held.broker row.0 row.1) in
       let it = within (λ r. (text in_contents.digest r, text in_contents.body r)) (db.trees in_contents.tree) (map with_digest s.contents) 1 n held.contents x.0 x.1 (x.2 ∙ row.2) in
-      text_there s n it.0 (let same = length-map s.contents with_digest in omega (arith, it.1, same))
+      HasContent-of_bounds s n it.0 (let same = length-map s.contents with_digest in omega (arith, it.1, same))
 
   -- so has that of one that was reached
-  pub text_reached : (caller : Caller) (path : PactPath) (rule : Rule) (owned : List Text) (place : Result ℕ Answer) → Reaches s caller path rule owned place → HasReachedContent s place
-  text_reached caller path rule owned (Ok content) reach = contract_text (consumer_version path) path.provider content reach.0
-  text_reached caller path rule owned (Err refusal) reach = tt
+  pub Reaches-has_content : (caller : Caller) (path : PactPath) (rule : Rule) (owned : List Text) (place : Result ℕ Answer) → Reaches s caller path rule owned place → HasReachedContent s place
+  Reaches-has_content caller path rule owned (Ok content) reach = contracts-has_content (consumer_version path) path.provider content reach.0
+  Reaches-has_content caller path rule owned (Err refusal) reach = tt
 
-  pub branch_text : (caller : Caller) (provider consumer branch : Text) (place : Result ℕ Answer) → ReachesBranch s caller provider consumer branch place → HasReachedContent s place
-  branch_text caller provider consumer branch (Ok content) reach = let it = reach.0 in contract_text it.0 provider content it.2
-  branch_text caller provider consumer branch (Err refusal) reach = tt
+  pub ReachesBranch-has_content : (caller : Caller) (provider consumer branch : Text) (place : Result ℕ Answer) → ReachesBranch s caller provider consumer branch place → HasReachedContent s place
+  ReachesBranch-has_content caller provider consumer branch (Ok content) reach = let it = reach.0 in contracts-has_content it.0 provider content it.2
+  ReachesBranch-has_content caller provider consumer branch (Err refusal) reach = tt

@@ -4,15 +4,15 @@ use Rattle.std.proofs.Common.{◌≡◌, ◌+◌, ◌||◌, ℕ, List, length, t
 use Rattle.broker_core.specs.{Limit.{has_room}, Change.{can_name}, Request.{is_known}, State.{State}, declared.command.Version.{Version}}
 use Rattle.broker_tables.specs.Numbers.{number_of}
 use Rattle.registry_tables.specs.Registry.{AddsVersion, AllowsVersionAs}
-use Rattle.content_store.proofs.TextNumbers.{room_is}
+use Rattle.content_store.proofs.TextNumbers.{has_room-of_count}
 use Rattle.contract_commands.specs.{Numbering.{IsNextNumber, IsNextOf, IsNumberFor, CanName, NamesAs}, declared.numbers.VersionNumber.{VersionNumber}}
 use Rattle.contract_commands.specs.declared.numbers.VersionNumber.TheVariants.{Old, New}
 
 -- ---- the next number
 
-pub next_of : {X : Type 0} (rows : List X) (count : ℕ) (found : Option ℕ) → IsNextNumber count found → count ≡ length rows → IsNextOf rows found
-next_of rows count (Some n) it is = (room_is rows count true (λ _. it.0, λ _. refl) is, it.1 ∙ ap (λ k. k + 1) is)
-next_of rows count None it is = room_is rows count false (λ h. absurd (true≢false (sym h)), λ has. absurd (it has)) is
+pub IsNextOf-of_number : {X : Type 0} (rows : List X) (count : ℕ) (found : Option ℕ) → IsNextNumber count found → count ≡ length rows → IsNextOf rows found
+IsNextOf-of_number rows count (Some n) it is = (has_room-of_count rows count true (λ _. it.0, λ _. refl) is, it.1 ∙ ap (λ k. k + 1) is)
+IsNextOf-of_number rows count None it is = has_room-of_count rows count false (λ h. absurd (true≢false (sym h)), λ has. absurd (it has)) is
 
 -- ---- a version that is named
 
@@ -20,34 +20,34 @@ module _ (s : State) (v : Version) where
   abbrev named_by : Bool → State
   named_by b = if b then s else record s { versions = s.versions ++ v ∷ [] }
 
-  pub old_named : (n : ℕ) → CanName s v (Old n) → NamesAs v n s s
-  old_named n can = (sym (ap named_by (can.known_is ∙ ap is_some can.number_is)), can.number_is)
+  pub NamesAs-old : (n : ℕ) → CanName s v (Old n) → NamesAs v n s s
+  NamesAs-old n can = (sym (ap named_by (can.known_is ∙ ap is_some can.number_is)), can.number_is)
 
-  pub new_unknown : (n : ℕ) → CanName s v (New n) → is_known s v ≡ false
-  new_unknown n can = can.known_is ∙ ap is_some can.number_is.0
+  pub CanName-new_unknown : (n : ℕ) → CanName s v (New n) → is_known s v ≡ false
+  CanName-new_unknown n can = can.known_is ∙ ap is_some can.number_is.0
 
-  pub new_allowed : (n : ℕ) → CanName s v (New n) → AllowsVersionAs n v s
-  new_allowed n can = ((new_unknown n can, can.owned, can.number_is.1), can.number_is.2)
+  pub AllowsVersionAs-new : (n : ℕ) → CanName s v (New n) → AllowsVersionAs n v s
+  AllowsVersionAs-new n can = ((CanName-new_unknown n can, can.owned, can.number_is.1), can.number_is.2)
 
-  pub new_named : (n : ℕ) (t : State) → CanName s v (New n) → AddsVersion v n s t → NamesAs v n s t
-  new_named n t can adds = (adds.0 ∙ sym (ap named_by (new_unknown n can)), adds.2)
+  pub NamesAs-new : (n : ℕ) (t : State) → CanName s v (New n) → AddsVersion v n s t → NamesAs v n s t
+  NamesAs-new n t can adds = (adds.0 ∙ sym (ap named_by (CanName-new_unknown n can)), adds.2)
 
-  either : (a b : Bool) → b ≡ true → (a || b) ≡ true
-  either true b is = refl
-  either false b is = is
+  or-right : (a b : Bool) → b ≡ true → (a || b) ≡ true
+  or-right true b is = refl
+  or-right false b is = is
 
   -- it has a number or may get one
-  pub may_be_named : (number : VersionNumber) → CanName s v number → can_name s v ≡ true
-  may_be_named (Old n) can = ap (λ b. b || has_room s.versions) (can.known_is ∙ ap is_some can.number_is)
-  may_be_named (New n) can = either (is_known s v) (has_room s.versions) can.number_is.1
+  pub can_name-true : (number : VersionNumber) → CanName s v number → can_name s v ≡ true
+  can_name-true (Old n) can = ap (λ b. b || has_room s.versions) (can.known_is ∙ ap is_some can.number_is)
+  can_name-true (New n) can = or-right (is_known s v) (has_room s.versions) can.number_is.1
 
   -- it has none, and there is no room for one more
-  pub may_not_be_named : (own : Option ℕ) → is_known s v ≡ is_some own → IsNumberFor s.versions own None → can_name s v ≡ false
-  may_not_be_named own known none = λ i. (known ∙ ap is_some none.0) i || none.1 i
+  pub can_name-false : (own : Option ℕ) → is_known s v ≡ is_some own → IsNumberFor s.versions own None → can_name s v ≡ false
+  can_name-false own known none = λ i. (known ∙ ap is_some none.0) i || none.1 i
 
   -- the version has this number, if it has one, and so it may be named
-  pub as_numbered : (own : Option ℕ) (number : VersionNumber) → number_of s.versions v ≡ own → is_known s v ≡ is_some own → IsTrue (is_some (s.pacticipants v.pacticipant)) → IsNumberFor s.versions own (Some number) → CanName s v number
-  as_numbered own number is known owned it = record {
+  pub CanName-of_number : (own : Option ℕ) (number : VersionNumber) → number_of s.versions v ≡ own → is_known s v ≡ is_some own → IsTrue (is_some (s.pacticipants v.pacticipant)) → IsNumberFor s.versions own (Some number) → CanName s v number
+  CanName-of_number own number is known owned it = record {
     number_is = subst (λ o. IsNumberFor s.versions o (Some number)) (sym is) it;
     known_is = known ∙ ap is_some (sym is);
     owned = owned;

@@ -9,10 +9,10 @@ use Rattle.broker_core.specs.{declared.policy.Rule.TheVariants.{A3, A5}, declare
 use Rattle.broker_core.specs.{declared.command.Command.TheVariants.{PutPact, GetPact}, declared.command.PactPath.{PactPath}, declared.command.Version.{Version}}
 use Rattle.broker_core.specs.{declared.command.FormFault.{FormFault}, declared.answer.Answer.{Answer}, declared.answer.Answer.TheVariants.{Done, Full, BadForm}}
 use Rattle.broker_core.specs.{declared.answer.Detail.TheVariants.{Content}, declared.policy.Rule.{Rule}}
-use Rattle.broker_core.proofs.Effects.{versions_with, contents_with, named_is, stored_is}
-use Rattle.content_store.{specs.Contents.{is_among}, proofs.TextNumbers.{same_itself, none_before}}
+use Rattle.broker_core.proofs.Effects.{versions_with, contents_with, named-versions_with, stored-contents_with}
+use Rattle.content_store.{specs.Contents.{is_among}, proofs.TextNumbers.{same_itself, position_or_len-absent}}
 use Rattle.contract_tables.specs.Verified.{AddsContract}
-use Rattle.command_facts.{specs.{declared.reading.ReadFault.TheVariants.{Form}, Primitives.{broker_primitives}}, proofs.CallerSteps.{refuses, acts}}
+use Rattle.command_facts.{specs.{declared.reading.ReadFault.TheVariants.{Form}, Primitives.{broker_primitives}}, proofs.CallerSteps.{StepOfCaller-refused, StepOfCaller-effect}}
 use Rattle.contract_commands.specs.Numbering.{NamesAs}
 use Rattle.contract_commands.specs.Pacts.{AreSidesRead, missing_side, missing_part, Admits, IsPlaceRead, CanPublish, CanRecord, contracted, Publishes, AsksContract, Reaches, ShowsReached}
 use Rattle.contract_commands.specs.{declared.numbers.VersionNumber.{VersionNumber}, declared.sides.ContractPlace.{ContractPlace}, declared.sides.Sides.{Sides}}
@@ -23,37 +23,37 @@ use Rattle.broker_core.specs.declared.answer.Missing.TheVariants as missing
 
 module _ (s : State) (caller : Caller) (path : PactPath) (text : Text) where
   -- a publication is refused as its two sides say
-  pub publication_refused : (file : Text) (sides : Sides) → AreSidesRead s caller A3 (path.consumer ∷ []) path.provider path.consumer sides
+  pub refusal-put_pact : (file : Text) (sides : Sides) → AreSidesRead s caller A3 (path.consumer ∷ []) path.provider path.consumer sides
       → refusal s caller (PutPact path file) ≡ refused (PutPact path file) (missing_side sides None) sides.is_allowed
-  publication_refused file sides h =
+  refusal-put_pact file sides h =
       λ i. refused (PutPact path file) (unless (h.provider_is i) missing.Pacticipant (unless (h.consumer_is i) missing.Pacticipant None)) (h.may_is (has_grant s caller None) i)
 
-  own_names : (b c : Bool) → b ≡ true → c ≡ true → ◌≡◌ {A = Option FormFault} None (cond (b && c) None (Some fault.Names))
-  own_names b c h k = λ i. cond (sym h i && sym k i) None (Some fault.Names)
+  cond-both_true : (b c : Bool) → b ≡ true → c ≡ true → ◌≡◌ {A = Option FormFault} None (cond (b && c) None (Some fault.Names))
+  cond-both_true b c h k = λ i. cond (sym h i && sym k i) None (Some fault.Names)
 
-  well_formed : (file : Text) → broker_primitives.Reads file (IsPact path.consumer path.provider text) → FindsFault broker_primitives (PutPact path file) None
-  well_formed file reads = (IsPact path.consumer path.provider text, reads, own_names (same_text path.consumer path.consumer) (same_text path.provider path.provider) (same_itself path.consumer) (same_itself path.provider))
+  FindsFault-none : (file : Text) → broker_primitives.Reads file (IsPact path.consumer path.provider text) → FindsFault broker_primitives (PutPact path file) None
+  FindsFault-none file reads = (IsPact path.consumer path.provider text, reads, cond-both_true (same_text path.consumer path.consumer) (same_text path.provider path.provider) (same_itself path.consumer) (same_itself path.provider))
 
-  pub publishes_refused : (answer : Answer) → ((file : Text) → refusal s caller (PutPact path file) ≡ Some answer) → Publishes s caller path text (unchanged_with s answer)
-  publishes_refused answer is file reads = refuses s caller (PutPact path file) (well_formed file reads) answer (is file)
+  pub Publishes-refused : (answer : Answer) → ((file : Text) → refusal s caller (PutPact path file) ≡ Some answer) → Publishes s caller path text (unchanged_with s answer)
+  Publishes-refused answer is file reads = StepOfCaller-refused s caller (PutPact path file) (FindsFault-none file reads) answer (is file)
 
-  pub publishes : (out : Transition) → ((file : Text) → refusal s caller (PutPact path file) ≡ None) → out ≡ put_pact s (consumer_version path) path.provider text → Publishes s caller path text out
-  publishes out none is file reads = acts s caller (PutPact path file) (well_formed file reads) out (none file) (text, reads, is)
+  pub Publishes-put_pact : (out : Transition) → ((file : Text) → refusal s caller (PutPact path file) ≡ None) → out ≡ put_pact s (consumer_version path) path.provider text → Publishes s caller path text out
+  Publishes-put_pact out none is file reads = StepOfCaller-effect s caller (PutPact path file) (FindsFault-none file reads) out (none file) (text, reads, is)
 
 -- the form is at fault
-pub form_fault : (s : State) (caller : Caller) (path : PactPath) (file : Text) (found : FormFault) → FindsFault broker_primitives (PutPact path file) (Some found) → StepOfCaller broker_primitives s caller (PutPact path file) (unchanged_with s (BadForm found))
-form_fault s caller path file found is = (Some found, is, refl)
+pub StepOfCaller-form_fault : (s : State) (caller : Caller) (path : PactPath) (file : Text) (found : FormFault) → FindsFault broker_primitives (PutPact path file) (Some found) → StepOfCaller broker_primitives s caller (PutPact path file) (unchanged_with s (BadForm found))
+StepOfCaller-form_fault s caller path file found is = (Some found, is, refl)
 
--- if nothing refuses, the two sides are there
-pub sides_there : (command : Command) (p c may : Bool) → None ≡ refused command (unless p missing.Pacticipant (unless c missing.Pacticipant None)) may → (p ≡ true) × (c ≡ true)
-sides_there command true true may h = (refl, refl)
-sides_there command false c may h = absurd cc
-sides_there command true false may h = absurd cc
+-- if nothing StepOfCaller-refused, the two sides are there
+pub refused-sides_present : (command : Command) (p c may : Bool) → None ≡ refused command (unless p missing.Pacticipant (unless c missing.Pacticipant None)) may → (p ≡ true) × (c ≡ true)
+refused-sides_present command true true may h = (refl, refl)
+refused-sides_present command false c may h = absurd cc
+refused-sides_present command true false may h = absurd cc
 
 -- ---- the names of a file
 
-pub names_differ : (c p consumer provider text : Text) → (same_text c consumer && same_text p provider) ≡ false → Some fault.Names ≡ fault_of_reading consumer provider (IsPact c p text)
-names_differ c p consumer provider text h = sym (ap (λ b. cond b None (Some fault.Names)) h)
+pub fault_of_reading-names_differ : (c p consumer provider text : Text) → (same_text c consumer && same_text p provider) ≡ false → Some fault.Names ≡ fault_of_reading consumer provider (IsPact c p text)
+fault_of_reading-names_differ c p consumer provider text h = sym (ap (λ b. cond b None (Some fault.Names)) h)
 
 -- ---- the change
 
@@ -68,19 +68,19 @@ first_put s v provider text =
     (record { answer = Done (Content (content_number s text)); state = published s v provider text })
     (unchanged_with s Full)
 
-pub put_first : (s : State) (v : Version) (provider text : Text) (b : Bool) → s.contracts (v, provider) ≡ None → (can_name s v && (is_stored s text || has_room s.contents)) ≡ b
+pub put_pact-first : (s : State) (v : Version) (provider text : Text) (b : Bool) → s.contracts (v, provider) ≡ None → (can_name s v && (is_stored s text || has_room s.contents)) ≡ b
     → cond b (record { answer = Done (Content (content_number s text)); state = published s v provider text }) (unchanged_with s Full) ≡ put_pact s v provider text
-put_first s v provider text b none is =
+put_pact-first s v provider text b none is =
     sym (ap (λ (q : Option ℕ). option_map_or (λ n. unchanged_with s (republished s text n)) q (first_put s v provider text)) none
     ∙ ap (λ t. cond t (record { answer = Done (Content (content_number s text)); state = published s v provider text }) (unchanged_with s Full)) is)
 
-pub put_again : (s : State) (v : Version) (provider text : Text) (content : ℕ) (answer : Answer) → s.contracts (v, provider) ≡ Some content → answer ≡ republished s text content → unchanged_with s answer ≡ put_pact s v provider text
-put_again s v provider text content answer is told = ap (unchanged_with s) told ∙ sym (ap (λ (q : Option ℕ). option_map_or (λ n. unchanged_with s (republished s text n)) q (first_put s v provider text)) is)
+pub put_pact-again : (s : State) (v : Version) (provider text : Text) (content : ℕ) (answer : Answer) → s.contracts (v, provider) ≡ Some content → answer ≡ republished s text content → unchanged_with s answer ≡ put_pact s v provider text
+put_pact-again s v provider text content answer is told = ap (unchanged_with s) told ∙ sym (ap (λ (q : Option ℕ). option_map_or (λ n. unchanged_with s (republished s text n)) q (first_put s v provider text)) is)
 
 -- the number of a text that is stored is one of those that there are
-position_below : (texts : List Text) (body : Text) → is_among texts body ≡ true → position_or_len (same_text body) texts + 1 ≤ length texts
-position_below [] body e = absurd cc
-position_below (t ∷ texts) body e = go (same_text body t) refl e (position_below texts body) where
+position_or_len-below_length : (texts : List Text) (body : Text) → is_among texts body ≡ true → position_or_len (same_text body) texts + 1 ≤ length texts
+position_or_len-below_length [] body e = absurd cc
+position_or_len-below_length (t ∷ texts) body e = go (same_text body t) refl e (position_or_len-below_length texts body) where
   go : (b : Bool) → same_text body t ≡ b → (b || is_among texts body) ≡ true → (is_among texts body ≡ true → position_or_len (same_text body) texts + 1 ≤ length texts) → cond (not b) (1 + position_or_len (same_text body) texts) 0 + 1 ≤ length (t ∷ texts)
   go true f h more = omega arith
   go false f h more = let low = more h in omega (arith, low)
@@ -88,93 +88,93 @@ position_below (t ∷ texts) body e = go (same_text body t) refl e (position_bel
 -- ---- a contract that is asked for
 
 module _ (s : State) (caller : Caller) (path : PactPath) (rule : Rule) (owned : List Text) (place : ContractPlace) (h : IsPlaceRead s caller rule owned path place) where
-  what_lacks : first_absent s (contract_of path) ≡ missing_part place
-  what_lacks = λ i. unless (h.0.provider_is i) missing.Pacticipant (unless (h.0.consumer_is i) missing.Pacticipant (unless (h.1.known_is i) missing.Version (unless (is_some (h.1.content_is i)) missing.Contract None)))
+  first_absent-missing_part : first_absent s (contract_of path) ≡ missing_part place
+  first_absent-missing_part = λ i. unless (h.0.provider_is i) missing.Pacticipant (unless (h.0.consumer_is i) missing.Pacticipant (unless (h.1.known_is i) missing.Version (unless (is_some (h.1.content_is i)) missing.Contract None)))
 
   -- a command that asks for the contract is refused as its sides and its contract say
-  asker_refused : (command : Command) → AsksContract path rule owned command → refusal s caller command ≡ refused command (missing_part place) place.sides.is_allowed
-  asker_refused command is =
+  refusal-asks_contract : (command : Command) → AsksContract path rule owned command → refusal s caller command ≡ refused command (missing_part place) place.sides.is_allowed
+  refusal-asks_contract command is =
       let lets = λ (a : Asked). allows a.rule caller (filter_map s.pacticipants a.sides) (has_grant s caller a.target) in
       let may : is_allowed s caller command ≡ place.sides.is_allowed = ap lets is ∙ h.0.may_is (has_grant s caller None) in
-      let lacks : first_missing s command ≡ missing_part place = ap (λ (a : Asked). first_absent s a.wanted) is ∙ what_lacks in
+      let lacks : first_missing s command ≡ missing_part place = ap (λ (a : Asked). first_absent s a.wanted) is ∙ first_absent-missing_part in
       λ i. refused command (lacks i) (may i)
 
-  pub asker_reaches : (r : Result ℕ Answer) → Admits rule place.contract.content (missing_part place) place.sides.is_allowed r → Reaches s caller path rule owned r
-  asker_reaches (Ok found) is = (h.1.content_is ∙ is.0, λ command asking. asker_refused command asking ∙ is.1 command (ap (λ (a : Asked). a.rule) asking))
-  asker_reaches (Err answer) is = λ command asking. asker_refused command asking ∙ is command (ap (λ (a : Asked). a.rule) asking)
+  pub Reaches-of_admits : (r : Result ℕ Answer) → Admits rule place.contract.content (missing_part place) place.sides.is_allowed r → Reaches s caller path rule owned r
+  Reaches-of_admits (Ok found) is = (h.1.content_is ∙ is.0, λ command asking. refusal-asks_contract command asking ∙ is.1 command (ap (λ (a : Asked). a.rule) asking))
+  Reaches-of_admits (Err answer) is = λ command asking. refusal-asks_contract command asking ∙ is command (ap (λ (a : Asked). a.rule) asking)
 
 -- ---- what naming a version and storing a text leave
 
 module _ (s : State) (v : Version) where
-  pub named_contracts : (named s v).contracts ≡ s.contracts
-  named_contracts = ap (λ t. t.contracts) (named_is s v)
+  pub named-contracts : (named s v).contracts ≡ s.contracts
+  named-contracts = ap (λ t. t.contracts) (named-versions_with s v)
 
-  pub named_pacticipants : (named s v).pacticipants ≡ s.pacticipants
-  named_pacticipants = ap (λ t. t.pacticipants) (named_is s v)
+  pub named-pacticipants : (named s v).pacticipants ≡ s.pacticipants
+  named-pacticipants = ap (λ t. t.pacticipants) (named-versions_with s v)
 
-  pub named_contents : (named s v).contents ≡ s.contents
-  named_contents = ap (λ t. t.contents) (named_is s v)
+  pub named-contents : (named s v).contents ≡ s.contents
+  named-contents = ap (λ t. t.contents) (named-versions_with s v)
 
-  pub named_results : (named s v).results ≡ s.results
-  named_results = ap (λ t. t.results) (named_is s v)
+  pub named-results : (named s v).results ≡ s.results
+  named-results = ap (λ t. t.results) (named-versions_with s v)
 
-longer : (xs : List Text) (x : Text) → length xs + 1 ≤ length (xs ++ x ∷ [])
-longer [] x = omega arith
-longer (y ∷ xs) x = let more = longer xs x in omega (arith, more)
+length-append_longer : (xs : List Text) (x : Text) → length xs + 1 ≤ length (xs ++ x ∷ [])
+length-append_longer [] x = omega arith
+length-append_longer (y ∷ xs) x = let more = length-append_longer xs x in omega (arith, more)
 
 module _ (s : State) (text : Text) where
-  fits : (b : Bool) → is_stored s text ≡ b → content_number s text ≤ length (if b then s.contents else s.contents ++ text ∷ [])
-  fits true e = position_below s.contents text e
-  fits false e =
-      let last : content_number s text ≡ length s.contents + 1 = ap (λ n. n + 1) (none_before s.contents text e) in
-      subst (λ n. n ≤ length (s.contents ++ text ∷ [])) (sym last) (longer s.contents text)
+  content_number-le_length : (b : Bool) → is_stored s text ≡ b → content_number s text ≤ length (if b then s.contents else s.contents ++ text ∷ [])
+  content_number-le_length true e = position_or_len-below_length s.contents text e
+  content_number-le_length false e =
+      let last : content_number s text ≡ length s.contents + 1 = ap (λ n. n + 1) (position_or_len-absent s.contents text e) in
+      subst (λ n. n ≤ length (s.contents ++ text ∷ [])) (sym last) (length-append_longer s.contents text)
 
   -- once the text is stored, its contract may be recorded
-  pub can_record : (path : PactPath) (version : VersionNumber) (content : ℕ) → content ≡ content_number s text → CanPublish path version s → CanRecord path version content (stored s text)
-  can_record path version content is can =
+  pub CanRecord-after_stored : (path : PactPath) (version : VersionNumber) (content : ℕ) → content ≡ content_number s text → CanPublish path version s → CanRecord path version content (stored s text)
+  CanRecord-after_stored path version content is can =
       let low : 1 ≤ content_number s text = omega arith in
-      subst (CanRecord path version content) (sym (stored_is s text)) (
+      subst (CanRecord path version content) (sym (stored-contents_with s text)) (
         (record { number_is = can.0.number_is; known_is = can.0.known_is; owned = can.0.owned }, can.1, can.2),
         subst (λ n. 1 ≤ n) (sym is) low,
-        subst (λ n. n ≤ length (contents_with s.contents text)) (sym is) (fits (is_stored s text) refl),
+        subst (λ n. n ≤ length (contents_with s.contents text)) (sym is) (content_number-le_length (is_stored s text) refl),
       )
 
   module _ (v : Version) where
     -- storing a text and naming a version give the same state in either order
     commutes : named (stored s text) v ≡ stored (named s v) text
     commutes =
-        ap (λ t. named t v) (stored_is s text) ∙ named_is (record s { contents = contents_with s.contents text }) v
-        ∙ sym (ap (λ t. stored t text) (named_is s v) ∙ stored_is (record s { versions = versions_with s v }) text)
+        ap (λ t. named t v) (stored-contents_with s text) ∙ named-versions_with (record s { contents = contents_with s.contents text }) v
+        ∙ sym (ap (λ t. stored t text) (named-versions_with s v) ∙ stored-contents_with (record s { versions = versions_with s v }) text)
 
     pub now_published : (provider : Text) (content : ℕ) → content ≡ content_number s text → contracted (named (stored s text) v) v provider content ≡ published s v provider text
     now_published provider content is =
-        let contracts_are : (named (stored s text) v).contracts ≡ s.contracts = named_contracts (stored s text) v ∙ ap (λ t. t.contracts) (stored_is s text) in
+        let contracts_are : (named (stored s text) v).contracts ≡ s.contracts = named-contracts (stored s text) v ∙ ap (λ t. t.contracts) (stored-contents_with s text) in
         λ i. record (commutes i) { contracts = put_at (same_pair same_version same_text) (contracts_are i) (v, provider) (Some (is i)) }
 
 -- if its version was named, a contract is added
-pub adds_contract : (s t : State) (path : PactPath) (provider : Text) (version : VersionNumber) (number content : ℕ) → provider ≡ path.provider → CanRecord path version content s → NamesAs (consumer_version path) number s t
+pub AddsContract-contracted : (s t : State) (path : PactPath) (provider : Text) (version : VersionNumber) (number content : ℕ) → provider ≡ path.provider → CanRecord path version content s → NamesAs (consumer_version path) number s t
     → AddsContract number provider content t (contracted t (consumer_version path) provider content)
-adds_contract s t path provider version number content is can names =
+AddsContract-contracted s t path provider version number content is can names =
     let v = consumer_version path in (
       v,
       names.1,
-      (λ i. (names.0 i).contracts (v, is i)) ∙ ap (λ contracts. contracts (v, path.provider)) (named_contracts s v) ∙ can.0.1,
-      (λ i. is_some ((names.0 i).pacticipants (is i))) ∙ ap (λ table. is_some (table path.provider)) (named_pacticipants s v) ∙ can.0.2.0,
+      (λ i. (names.0 i).contracts (v, is i)) ∙ ap (λ contracts. contracts (v, path.provider)) (named-contracts s v) ∙ can.0.1,
+      (λ i. is_some ((names.0 i).pacticipants (is i))) ∙ ap (λ table. is_some (table path.provider)) (named-pacticipants s v) ∙ can.0.2.0,
       can.1,
-      subst (λ (texts : List Text). content ≤ length texts) (sym (ap (λ (u : State). u.contents) names.0 ∙ named_contents s v)) can.2,
+      subst (λ (texts : List Text). content ≤ length texts) (sym (ap (λ (u : State). u.contents) names.0 ∙ named-contents s v)) can.2,
       refl,
     )
 
 -- ---- small tests
 
-pub form_same : (f e : FormFault) → Form f ≡ Form e → f ≡ e
-form_same f e h = cc
+pub Form-injective : (f e : FormFault) → Form f ≡ Form e → f ≡ e
+Form-injective f e h = cc
 
 -- ---- what is shown of a contract that was reached
 
-pub shown_reached : (s : State) (caller : Caller) (path : PactPath) (place : Result ℕ Answer) (answer : Answer) → Reaches s caller path A5 (path.provider ∷ path.consumer ∷ []) place → ShowsReached s place answer
+pub StepOfCaller-get_pact : (s : State) (caller : Caller) (path : PactPath) (place : Result ℕ Answer) (answer : Answer) → Reaches s caller path A5 (path.provider ∷ path.consumer ∷ []) place → ShowsReached s place answer
     → StepOfCaller broker_primitives s caller (GetPact path) (unchanged_with s answer)
-shown_reached s caller path (Ok content) answer reach it =
-    acts s caller (GetPact path) refl (unchanged_with s answer) (reach.1 (GetPact path) refl) (it.0, ap (option_and_then (text_of s)) reach.0 ∙ it.1, ap (unchanged_with s) it.2)
-shown_reached s caller path (Err refusal) answer reach it =
-    subst (λ a. StepOfCaller broker_primitives s caller (GetPact path) (unchanged_with s a)) (sym it) (refuses s caller (GetPact path) refl refusal (reach (GetPact path) refl))
+StepOfCaller-get_pact s caller path (Ok content) answer reach it =
+    StepOfCaller-effect s caller (GetPact path) refl (unchanged_with s answer) (reach.1 (GetPact path) refl) (it.0, ap (option_and_then (text_of s)) reach.0 ∙ it.1, ap (unchanged_with s) it.2)
+StepOfCaller-get_pact s caller path (Err refusal) answer reach it =
+    subst (λ a. StepOfCaller broker_primitives s caller (GetPact path) (unchanged_with s a)) (sym it) (StepOfCaller-refused s caller (GetPact path) refl refusal (reach (GetPact path) refl))

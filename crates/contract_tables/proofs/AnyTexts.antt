@@ -9,7 +9,7 @@ use Rattle.sqlite_schema.specs.declared.schema.Column.{Column}
 use Rattle.sqlite_tied.specs.Compute.{everything}
 use Rattle.table_access.specs.Statements.{from_table, from_both}
 use Rattle.broker_tables.specs.Schema.{broker_schema, numbers, results, latest, checked_results, in_results, in_latest, in_checked_results}
-use Rattle.broker_tables.{specs.Asking.{HasColumns, HasBrokerTables}, proofs.AnyTables.{laid_out, lays, named_as, set_out, sets_out, AsksOf}}
+use Rattle.broker_tables.{specs.Asking.{HasColumns, HasBrokerTables}, proofs.AnyTables.{laid_out, laid_out-of_HasColumns, named_as, set_out, set_out-of_IsColumnLike, AsksOf}}
 use Rattle.contract_tables.proofs.VersionResults.{passes_project, marks_project, order}
 
 -- ---- the schema
@@ -33,14 +33,14 @@ declared s given rs ls cs x y z = with_results s given
     (record (given 13) { columns = set_out checked_results.columns cs; key = Some 0 })
 
 -- a schema that has the tables is such a one
-pub is_declared : (s : Schema) → HasBrokerTables s → (given : ℕ → Table) × (rs ls cs : ℕ → Column)
+pub HasBrokerTables-declared_results : (s : Schema) → HasBrokerTables s → (given : ℕ → Table) × (rs ls cs : ℕ → Column)
     × (s ≡ declared s given rs ls cs (ls 0).is_strict (ls 1).is_strict (ls 2).is_strict)
-is_declared s h =
-    let all = lays broker_schema.tables s.tables h in
+HasBrokerTables-declared_results s h =
+    let all = laid_out-of_HasColumns broker_schema.tables s.tables h in
     let from_results = (subst (AllZip HasColumns broker_schema.tables) all.1 h).1.1.1.1.1.1.1.1.1 in
-    let rs = sets_out results.columns (all.0 9).columns from_results.0.3 in
-    let ls = sets_out latest.columns (all.0 10).columns from_results.1.0.3 in
-    let cs = sets_out checked_results.columns (all.0 13).columns from_results.1.1.1.1.0.3 in (
+    let rs = set_out-of_IsColumnLike results.columns (all.0 9).columns from_results.0.3 in
+    let ls = set_out-of_IsColumnLike latest.columns (all.0 10).columns from_results.1.0.3 in
+    let cs = set_out-of_IsColumnLike checked_results.columns (all.0 13).columns from_results.1.1.1.1.0.3 in (
       all.0,
       rs.0,
       ls.0,
@@ -100,58 +100,58 @@ abbrev pub checked_query : Query
 checked_query = from_table in_checked_results.tree (op2 (Compare Eq Binary) (col 1 0) (col 0 0) ∷ []) (col 1 0 ∷ []) []
 
 module _ (s : Schema) (given : ℕ → Table) (rs ls cs : ℕ → Column) where
-  pair_declared : (x y z : Bool) (c n : ℕ) → AsksOf (declared s given rs ls cs x y z) pair_sql (pair_params c n) (pair_query x y)
+  declared-pair_sql : (x y z : Bool) (c n : ℕ) → AsksOf (declared s given rs ls cs x y z) pair_sql (pair_params c n) (pair_query x y)
   unfolding understood everything
-  pair_declared true true true c n = record { names = _; means = record { is = refl; plain = (refl, refl); unlisted = refl }; runs = record { whole = refl; typed = refl; sumless = refl } }
-  pair_declared true true false c n = record { names = _; means = record { is = refl; plain = (refl, refl); unlisted = refl }; runs = record { whole = refl; typed = refl; sumless = refl } }
-  pair_declared true false true c n = record { names = _; means = record { is = refl; plain = (refl, refl); unlisted = refl }; runs = record { whole = refl; typed = refl; sumless = refl } }
-  pair_declared true false false c n = record { names = _; means = record { is = refl; plain = (refl, refl); unlisted = refl }; runs = record { whole = refl; typed = refl; sumless = refl } }
-  pair_declared false true true c n = record { names = _; means = record { is = refl; plain = (refl, refl); unlisted = refl }; runs = record { whole = refl; typed = refl; sumless = refl } }
-  pair_declared false true false c n = record { names = _; means = record { is = refl; plain = (refl, refl); unlisted = refl }; runs = record { whole = refl; typed = refl; sumless = refl } }
-  pair_declared false false true c n = record { names = _; means = record { is = refl; plain = (refl, refl); unlisted = refl }; runs = record { whole = refl; typed = refl; sumless = refl } }
-  pair_declared false false false c n = record { names = _; means = record { is = refl; plain = (refl, refl); unlisted = refl }; runs = record { whole = refl; typed = refl; sumless = refl } }
+  declared-pair_sql true true true c n = record { names = _; means = record { is = refl; plain = (refl, refl); unlisted = refl }; runs = record { whole = refl; typed = refl; sumless = refl } }
+  declared-pair_sql true true false c n = record { names = _; means = record { is = refl; plain = (refl, refl); unlisted = refl }; runs = record { whole = refl; typed = refl; sumless = refl } }
+  declared-pair_sql true false true c n = record { names = _; means = record { is = refl; plain = (refl, refl); unlisted = refl }; runs = record { whole = refl; typed = refl; sumless = refl } }
+  declared-pair_sql true false false c n = record { names = _; means = record { is = refl; plain = (refl, refl); unlisted = refl }; runs = record { whole = refl; typed = refl; sumless = refl } }
+  declared-pair_sql false true true c n = record { names = _; means = record { is = refl; plain = (refl, refl); unlisted = refl }; runs = record { whole = refl; typed = refl; sumless = refl } }
+  declared-pair_sql false true false c n = record { names = _; means = record { is = refl; plain = (refl, refl); unlisted = refl }; runs = record { whole = refl; typed = refl; sumless = refl } }
+  declared-pair_sql false false true c n = record { names = _; means = record { is = refl; plain = (refl, refl); unlisted = refl }; runs = record { whole = refl; typed = refl; sumless = refl } }
+  declared-pair_sql false false false c n = record { names = _; means = record { is = refl; plain = (refl, refl); unlisted = refl }; runs = record { whole = refl; typed = refl; sumless = refl } }
 
-  passes_declared : (x y z : Bool) (n : ℕ) → AsksOf (declared s given rs ls cs x y z) passes_sql (one_param n) (passes_query y)
+  declared-passes_sql : (x y z : Bool) (n : ℕ) → AsksOf (declared s given rs ls cs x y z) passes_sql (one_param n) (passes_query y)
   unfolding understood everything
-  passes_declared x true true n = record { names = _; means = record { is = refl; plain = (refl, refl); unlisted = refl }; runs = record { whole = refl; typed = refl; sumless = refl } }
-  passes_declared x true false n = record { names = _; means = record { is = refl; plain = (refl, refl); unlisted = refl }; runs = record { whole = refl; typed = refl; sumless = refl } }
-  passes_declared x false true n = record { names = _; means = record { is = refl; plain = (refl, refl); unlisted = refl }; runs = record { whole = refl; typed = refl; sumless = refl } }
-  passes_declared x false false n = record { names = _; means = record { is = refl; plain = (refl, refl); unlisted = refl }; runs = record { whole = refl; typed = refl; sumless = refl } }
+  declared-passes_sql x true true n = record { names = _; means = record { is = refl; plain = (refl, refl); unlisted = refl }; runs = record { whole = refl; typed = refl; sumless = refl } }
+  declared-passes_sql x true false n = record { names = _; means = record { is = refl; plain = (refl, refl); unlisted = refl }; runs = record { whole = refl; typed = refl; sumless = refl } }
+  declared-passes_sql x false true n = record { names = _; means = record { is = refl; plain = (refl, refl); unlisted = refl }; runs = record { whole = refl; typed = refl; sumless = refl } }
+  declared-passes_sql x false false n = record { names = _; means = record { is = refl; plain = (refl, refl); unlisted = refl }; runs = record { whole = refl; typed = refl; sumless = refl } }
 
-  marks_declared : (x y z : Bool) (n : ℕ) → AsksOf (declared s given rs ls cs x y z) marks_sql (one_param n) (marks_query y)
+  declared-marks_sql : (x y z : Bool) (n : ℕ) → AsksOf (declared s given rs ls cs x y z) marks_sql (one_param n) (marks_query y)
   unfolding understood everything
-  marks_declared x true true n = record { names = _; means = record { is = refl; plain = (refl, refl); unlisted = refl }; runs = record { whole = refl; typed = refl; sumless = refl } }
-  marks_declared x true false n = record { names = _; means = record { is = refl; plain = (refl, refl); unlisted = refl }; runs = record { whole = refl; typed = refl; sumless = refl } }
-  marks_declared x false true n = record { names = _; means = record { is = refl; plain = (refl, refl); unlisted = refl }; runs = record { whole = refl; typed = refl; sumless = refl } }
-  marks_declared x false false n = record { names = _; means = record { is = refl; plain = (refl, refl); unlisted = refl }; runs = record { whole = refl; typed = refl; sumless = refl } }
+  declared-marks_sql x true true n = record { names = _; means = record { is = refl; plain = (refl, refl); unlisted = refl }; runs = record { whole = refl; typed = refl; sumless = refl } }
+  declared-marks_sql x true false n = record { names = _; means = record { is = refl; plain = (refl, refl); unlisted = refl }; runs = record { whole = refl; typed = refl; sumless = refl } }
+  declared-marks_sql x false true n = record { names = _; means = record { is = refl; plain = (refl, refl); unlisted = refl }; runs = record { whole = refl; typed = refl; sumless = refl } }
+  declared-marks_sql x false false n = record { names = _; means = record { is = refl; plain = (refl, refl); unlisted = refl }; runs = record { whole = refl; typed = refl; sumless = refl } }
 
-  checked_declared : (x y z : Bool) (n : ℕ) → AsksOf (declared s given rs ls cs x y z) checked_sql (one_param n) checked_query
+  declared-checked_sql : (x y z : Bool) (n : ℕ) → AsksOf (declared s given rs ls cs x y z) checked_sql (one_param n) checked_query
   unfolding understood everything
-  checked_declared x y z n = record { names = _; means = record { is = refl; plain = (refl, refl); unlisted = refl }; runs = record { whole = refl; typed = refl; sumless = refl } }
+  declared-checked_sql x y z n = record { names = _; means = record { is = refl; plain = (refl, refl); unlisted = refl }; runs = record { whole = refl; typed = refl; sumless = refl } }
 
 -- ---- what they ask
 
 module _ (s : Schema) (h : HasBrokerTables s) where
   -- whether a column of latest is STRICT
   abbrev pub is_strict : ℕ → Bool
-  is_strict n = ((is_declared s h).2 n).is_strict
+  is_strict n = ((HasBrokerTables-declared_results s h).2 n).is_strict
 
-  pub pair_asks : (c n : ℕ) → AsksOf s pair_sql (pair_params c n) (pair_query (is_strict 0) (is_strict 1))
-  pair_asks c n =
-      let it = is_declared s h in
-      subst (λ t. AsksOf t pair_sql (pair_params c n) (pair_query (is_strict 0) (is_strict 1))) (sym it.4) (pair_declared s it.0 it.1 it.2 it.3 _ _ _ c n)
+  pub AsksOf-pair_sql : (c n : ℕ) → AsksOf s pair_sql (pair_params c n) (pair_query (is_strict 0) (is_strict 1))
+  AsksOf-pair_sql c n =
+      let it = HasBrokerTables-declared_results s h in
+      subst (λ t. AsksOf t pair_sql (pair_params c n) (pair_query (is_strict 0) (is_strict 1))) (sym it.4) (declared-pair_sql s it.0 it.1 it.2 it.3 _ _ _ c n)
 
-  pub passes_asks : (n : ℕ) → AsksOf s passes_sql (one_param n) (passes_query (is_strict 1))
-  passes_asks n =
-      let it = is_declared s h in
-      subst (λ t. AsksOf t passes_sql (one_param n) (passes_query (is_strict 1))) (sym it.4) (passes_declared s it.0 it.1 it.2 it.3 _ _ _ n)
+  pub AsksOf-passes_sql : (n : ℕ) → AsksOf s passes_sql (one_param n) (passes_query (is_strict 1))
+  AsksOf-passes_sql n =
+      let it = HasBrokerTables-declared_results s h in
+      subst (λ t. AsksOf t passes_sql (one_param n) (passes_query (is_strict 1))) (sym it.4) (declared-passes_sql s it.0 it.1 it.2 it.3 _ _ _ n)
 
-  pub marks_asks : (n : ℕ) → AsksOf s marks_sql (one_param n) (marks_query (is_strict 1))
-  marks_asks n =
-      let it = is_declared s h in
-      subst (λ t. AsksOf t marks_sql (one_param n) (marks_query (is_strict 1))) (sym it.4) (marks_declared s it.0 it.1 it.2 it.3 _ _ _ n)
+  pub AsksOf-marks_sql : (n : ℕ) → AsksOf s marks_sql (one_param n) (marks_query (is_strict 1))
+  AsksOf-marks_sql n =
+      let it = HasBrokerTables-declared_results s h in
+      subst (λ t. AsksOf t marks_sql (one_param n) (marks_query (is_strict 1))) (sym it.4) (declared-marks_sql s it.0 it.1 it.2 it.3 _ _ _ n)
 
-  pub checked_asks : (n : ℕ) → AsksOf s checked_sql (one_param n) checked_query
-  checked_asks n =
-      let it = is_declared s h in
-      subst (λ t. AsksOf t checked_sql (one_param n) checked_query) (sym it.4) (checked_declared s it.0 it.1 it.2 it.3 _ _ _ n)
+  pub AsksOf-checked_sql : (n : ℕ) → AsksOf s checked_sql (one_param n) checked_query
+  AsksOf-checked_sql n =
+      let it = HasBrokerTables-declared_results s h in
+      subst (λ t. AsksOf t checked_sql (one_param n) checked_query) (sym it.4) (declared-checked_sql s it.0 it.1 it.2 it.3 _ _ _ n)

@@ -11,15 +11,15 @@ use Rattle.table_access.{specs.{Columns.{text, whole_at}, Reading.{IsNumberRow},
 use Rattle.table_access.proofs.Keys.{is_param}
 use Rattle.broker_core.specs.{State.{State as Broker}, declared.command.Version.{Version}}
 use Rattle.broker_tables.specs.{Schema.{in_versions, in_contracts, in_results, in_latest}, Holds.{Holds}, Readable.{IsReadable}, Numbers.{number_of}}
-use Rattle.broker_tables.proofs.ReadableRows.{IsLow, number_cell, name_cell, truth_cell, result_low, to_version_low, to_content_low, to_result_low, version_named, to_pacticipant_named, pass_low}
-use Rattle.broker_tables.proofs.{Placed.{contracts, at_contracts, results, at_results, latest, at_latest, listed, wholes_in}, NoVersion.{no_row}}
-use Rattle.broker_tables.proofs.{VersionRows.{owners, names, whole_test}, Asked.{Asked, EachReads, NoneFor, of_table, of_both, of_first, number_reads}}
+use Rattle.broker_tables.proofs.ReadableRows.{IsLow, IsNumberAt-of_column, IsNameAt-of_column, IsTruthAt-of_column, IsLow-result, to_version_low, to_content_low, to_result_low, IsNamed-version, IsNamed-reference, whole_at-pass_low}
+use Rattle.broker_tables.proofs.{Placed.{contracts, at_contracts, results, at_results, latest, at_latest, listed, column-whole_numbers}, NoVersion.{references-not_unknown_version}}
+use Rattle.broker_tables.proofs.{VersionRows.{column-version_pacticipant, names, binary-Eq_same_Int}, Asked.{Asked, EachReads, NoneFor, EachShown-of_table, EachShown-of_both, EachShown-up_to, EachShown-IsNumberRow}}
 use Rattle.contract_tables.specs.{Listings.{ReadsAsMarked, ReadsAsNames}, VersionResults.{ReadsAsLatest}, Verified.{ReadsAsResult}}
-use Rattle.contract_tables.proofs.ContractRows.{numbers, contents, providers, content, project, own, users_project, users}
+use Rattle.contract_tables.proofs.ContractRows.{column-contract_version_number, contents, column-contract_provider, content, project, own, users_project, users}
 use Rattle.contract_tables.proofs.ResultRows.{contents as latest_contents, versions, numbers as latest_numbers}
 use Rattle.contract_tables.proofs.{VerifiedList.{project as verified_project, verifiers}, ToldResults.{told_marks, told_marks_project}}
-use Rattle.contract_tables.proofs.VersionResults.{terms, order, passes_project, marks_project, marks, join, of_its_pair}
-use Rattle.contract_tables.proofs.ResultLookups.{numbered_rows, count, run_project, run}
+use Rattle.contract_tables.proofs.VersionResults.{terms, order, passes_project, marks_project, marks, join, latest-pair_of_its_result}
+use Rattle.contract_tables.proofs.ResultLookups.{IsNumbered-results, count, run_project, run}
 
 -- ---- the columns of the tables
 
@@ -28,118 +28,118 @@ abbrev pub IsLowAt : Database → ℕ → ℕ → Type 0
 IsLowAt db tree place = (r : Row) → Has (db.trees tree) r → (column r place ≡ Int (whole_at place r)) × IsLow (whole_at place r)
 
 module _ (db : Database) (s : Broker) (held : Holds db s) (readable : IsReadable s) where
-  pub contract_content : IsLowAt db in_contracts.tree in_contracts.content
-  contract_content r has = let it = contents db held.broker r has in (it, to_content_low db s held readable contracts (listed at_contracts db held.broker) 3 r has it (inr (inr (inl refl))))
+  pub IsLowAt-contract_content : IsLowAt db in_contracts.tree in_contracts.content
+  IsLowAt-contract_content r has = let it = contents db held.broker r has in (it, to_content_low db s held readable contracts (listed at_contracts db held.broker) 3 r has it (inr (inr (inl refl))))
 
-  result_number : IsLowAt db in_results.tree 0
-  result_number r has = (int_is (column r 0) (at_has _ (db.trees in_results.tree) r (numbered_rows db held.broker).1 has), result_low db s held readable r has)
+  IsLowAt-result_number : IsLowAt db in_results.tree 0
+  IsLowAt-result_number r has = (int_is (column r 0) (at_has _ (db.trees in_results.tree) r (IsNumbered-results db held.broker).1 has), IsLow-result db s held readable r has)
 
-  result_content : IsLowAt db in_results.tree in_results.content
-  result_content r has =
-      let it : column r in_results.content ≡ Int (whole_at in_results.content r) = wholes_in at_results db held.broker in_results.content refl r has in
+  IsLowAt-result_content : IsLowAt db in_results.tree in_results.content
+  IsLowAt-result_content r has =
+      let it : column r in_results.content ≡ Int (whole_at in_results.content r) = column-whole_numbers at_results db held.broker in_results.content refl r has in
       (it, to_content_low db s held readable results (listed at_results db held.broker) 2 r has it (inl refl))
 
-  result_version : IsLowAt db in_results.tree in_results.provider_version
-  result_version r has =
-      let it : column r in_results.provider_version ≡ Int (whole_at in_results.provider_version r) = wholes_in at_results db held.broker in_results.provider_version refl r has in
+  IsLowAt-result_version : IsLowAt db in_results.tree in_results.provider_version
+  IsLowAt-result_version r has =
+      let it : column r in_results.provider_version ≡ Int (whole_at in_results.provider_version r) = column-whole_numbers at_results db held.broker in_results.provider_version refl r has in
       (it, to_version_low db s held readable results (listed at_results db held.broker) in_results.provider_version r has it (inr (inr (inl refl))))
 
-  result_pass : (r : Row) → Has (db.trees in_results.tree) r
+  column-result_pass : (r : Row) → Has (db.trees in_results.tree) r
       → (column r in_results.pass ≡ Int (whole_at in_results.pass r)) × ((n : ℕ) × (whole_at in_results.pass r ≡ pos n) × (n ≤ 1))
-  result_pass r has = (wholes_in at_results db held.broker in_results.pass refl r has, pass_low db s held readable r has)
+  column-result_pass r has = (column-whole_numbers at_results db held.broker in_results.pass refl r has, whole_at-pass_low db s held readable r has)
 
-  latest_content : IsLowAt db in_latest.tree in_latest.content
-  latest_content r has = let it = latest_contents db held.broker r has in (it, to_content_low db s held readable latest (listed at_latest db held.broker) 1 r has it (inl refl))
+  IsLowAt-latest_content : IsLowAt db in_latest.tree in_latest.content
+  IsLowAt-latest_content r has = let it = latest_contents db held.broker r has in (it, to_content_low db s held readable latest (listed at_latest db held.broker) 1 r has it (inl refl))
 
-  latest_result : IsLowAt db in_latest.tree in_latest.result
-  latest_result r has = let it = latest_numbers db held.broker r has in (it, to_result_low db s held readable latest (listed at_latest db held.broker) 3 r has it (inr (inr (inl refl))))
+  IsLowAt-latest_result : IsLowAt db in_latest.tree in_latest.result
+  IsLowAt-latest_result r has = let it = latest_numbers db held.broker r has in (it, to_result_low db s held readable latest (listed at_latest db held.broker) 3 r has it (inr (inr (inl refl))))
 
 -- ---- contracts
 
-pub content_reads : (n : ℕ) (p : List ℕ) (db : Database) → EachReads (content n p) db IsNumberRow
-content_reads n p db s held readable = number_reads (content n p) db (contract_content db s held readable)
+pub EachReads-contract_content : (n : ℕ) (p : List ℕ) (db : Database) → EachReads (content n p) db IsNumberRow
+EachReads-contract_content n p db s held readable = EachShown-IsNumberRow (content n p) db (IsLowAt-contract_content db s held readable)
 
-pub own_reads : (n : ℕ) (db : Database) → EachReads (own n) db ReadsAsMarked
-own_reads n db s held readable = of_table (own n) db _ (λ r has kept.
-    let it = contract_content db s held readable r has in
-    let provider = providers db held.broker r has in
+pub EachReads-own_contracts : (n : ℕ) (db : Database) → EachReads (own n) db ReadsAsMarked
+EachReads-own_contracts n db s held readable = EachShown-of_table (own n) db _ (λ r has kept.
+    let it = IsLowAt-contract_content db s held readable r has in
+    let provider = column-contract_provider db held.broker r has in
     let shown : Row = shows project [] r in (
-      number_cell shown 0 (whole_at in_contracts.content r) (omega arith) it.0 it.1,
-      name_cell shown 1 (text in_contracts.provider r) (omega arith) provider (to_pacticipant_named db s held readable contracts (listed at_contracts db held.broker) in_contracts.provider (inr (inl refl)) r has provider),
+      IsNumberAt-of_column shown 0 (whole_at in_contracts.content r) (omega arith) it.0 it.1,
+      IsNameAt-of_column shown 1 (text in_contracts.provider r) (omega arith) provider (IsNamed-reference db s held readable contracts (listed at_contracts db held.broker) in_contracts.provider (inr (inl refl)) r has provider),
     ))
 
-pub users_reads : (n : ℕ) (p : List ℕ) (db : Database) → EachReads (users n p) db ReadsAsNames
-users_reads n p db s held readable = of_both (users n p) db _ (λ c v hc hv kept.
-    let named = version_named db s held readable v hv in
+pub EachReads-users : (n : ℕ) (p : List ℕ) (db : Database) → EachReads (users n p) db ReadsAsNames
+EachReads-users n p db s held readable = EachShown-of_both (users n p) db _ (λ c v hc hv kept.
+    let named = IsNamed-version db s held readable v hv in
     let shown : Row = eval_all users_project ([] ∷ c ∷ v ∷ []) in (
-      name_cell shown 0 (text in_versions.pacticipant v) (omega arith) (owners db held.broker v hv) named.0,
-      name_cell shown 1 (text in_versions.version v) (omega arith) (names db held.broker v hv) named.1,
+      IsNameAt-of_column shown 0 (text in_versions.pacticipant v) (omega arith) (column-version_pacticipant db held.broker v hv) named.0,
+      IsNameAt-of_column shown 1 (text in_versions.version v) (omega arith) (names db held.broker v hv) named.1,
     ))
 
 -- ---- the latest results
 
 -- a latest result with what it is said to be of, each joined row reads
 module _ (db : Database) (s : Broker) (held : Holds db s) (readable : IsReadable s) where
-  pair_reads : (l r : Row) → Has (db.trees in_latest.tree) l → Has (db.trees in_results.tree) r
+  ReadsAsLatest-pair : (l r : Row) → Has (db.trees in_latest.tree) l → Has (db.trees in_results.tree) r
       → is_true (binary (Compare Eq Binary) (column r 0) (column l in_latest.result)) ≡ true → ReadsAsLatest (eval_all passes_project ([] ∷ l ∷ r ∷ []))
-  pair_reads l r hl hr test =
-      let number = result_number db s held readable r hr in
-      let truth = result_pass db s held readable r hr in
-      let of_latest = latest_content db s held readable l hl in
-      let of_content = result_content db s held readable r hr in
-      let of_version = result_version db s held readable r hr in
-      let joined = (whole_test (column r 0) (column l in_latest.result) (whole_at 0 r) (whole_at in_latest.result l) number.0 (latest_numbers db held.broker l hl)).0 test in
-      let pair = of_its_pair db s held l r hl hr of_latest.1.0 of_latest.1.1 joined in
+  ReadsAsLatest-pair l r hl hr test =
+      let number = IsLowAt-result_number db s held readable r hr in
+      let truth = column-result_pass db s held readable r hr in
+      let of_latest = IsLowAt-latest_content db s held readable l hl in
+      let of_content = IsLowAt-result_content db s held readable r hr in
+      let of_version = IsLowAt-result_version db s held readable r hr in
+      let joined = (binary-Eq_same_Int (column r 0) (column l in_latest.result) (whole_at 0 r) (whole_at in_latest.result l) number.0 (latest_numbers db held.broker l hl)).0 test in
+      let pair = latest-pair_of_its_result db s held l r hl hr of_latest.1.0 of_latest.1.1 joined in
       let content = of_latest.0 ∙ ap Int (sym pair.0) ∙ sym of_content.0 in
       let named = versions db held.broker l hl in
       let version = named ∙ ap Int (sym pair.1) ∙ sym of_version.0 in
       let shown : Row = eval_all passes_project ([] ∷ l ∷ r ∷ []) in (
-        (number_cell shown 0 (whole_at 0 r) (omega arith) number.0 number.1, truth_cell shown 1 (whole_at in_results.pass r) (omega arith) truth.0 truth.1),
-        (number_cell shown 2 (whole_at in_latest.content l) (omega arith) of_latest.0 of_latest.1, number_cell shown 3 (whole_at in_results.content r) (omega arith) of_content.0 of_content.1, content),
+        (IsNumberAt-of_column shown 0 (whole_at 0 r) (omega arith) number.0 number.1, IsTruthAt-of_column shown 1 (whole_at in_results.pass r) (omega arith) truth.0 truth.1),
+        (IsNumberAt-of_column shown 2 (whole_at in_latest.content l) (omega arith) of_latest.0 of_latest.1, IsNumberAt-of_column shown 3 (whole_at in_results.content r) (omega arith) of_content.0 of_content.1, content),
         (
-          number_cell shown 4 (whole_at in_latest.provider_version l) (omega arith) named (subst IsLow pair.1 of_version.1),
-          number_cell shown 5 (whole_at in_results.provider_version r) (omega arith) of_version.0 of_version.1,
+          IsNumberAt-of_column shown 4 (whole_at in_latest.provider_version l) (omega arith) named (subst IsLow pair.1 of_version.1),
+          IsNumberAt-of_column shown 5 (whole_at in_results.provider_version r) (omega arith) of_version.0 of_version.1,
           version,
         ),
       )
 
-pub pairs_read : {sql : List ℕ} {params : Row} {more : List Term} {by : List (Term × Key)}
+pub EachReads-pairs : {sql : List ℕ} {params : Row} {more : List Term} {by : List (Term × Key)}
     (asked : Asked sql params (from_both in_latest.tree in_results.tree (op2 (Compare Eq Binary) (col 2 0) (col 1 in_latest.result) ∷ more) passes_project by))
     (db : Database) → EachReads asked db ReadsAsLatest
-pairs_read asked db s held readable = of_both asked db _ (λ l r hl hr kept. pair_reads db s held readable l r hl hr (first_of_both _ _ kept))
+EachReads-pairs asked db s held readable = EachShown-of_both asked db _ (λ l r hl hr kept. ReadsAsLatest-pair db s held readable l r hl hr (first_of_both _ _ kept))
 
-pub verifiers_reads : (c : ℕ) (p : List ℕ) (db : Database) → EachReads (verifiers c p) db ReadsAsMarked
-verifiers_reads c p db s held readable = of_both (verifiers c p) db _ (λ l v hl hv kept.
-    let number = latest_result db s held readable l hl in
+pub EachReads-verifiers : (c : ℕ) (p : List ℕ) (db : Database) → EachReads (verifiers c p) db ReadsAsMarked
+EachReads-verifiers c p db s held readable = EachShown-of_both (verifiers c p) db _ (λ l v hl hv kept.
+    let number = IsLowAt-latest_result db s held readable l hl in
     let shown : Row = eval_all verified_project ([] ∷ l ∷ v ∷ []) in
-    (number_cell shown 0 (whole_at in_latest.result l) (omega arith) number.0 number.1, name_cell shown 1 (text in_versions.version v) (omega arith) (names db held.broker v hv) (version_named db s held readable v hv).1))
+    (IsNumberAt-of_column shown 0 (whole_at in_latest.result l) (omega arith) number.0 number.1, IsNameAt-of_column shown 1 (text in_versions.version v) (omega arith) (names db held.broker v hv) (IsNamed-version db s held readable v hv).1))
 
-pub marks_reads : (n : ℕ) (db : Database) → EachReads (marks n) db IsNumberRow
-marks_reads n db s held readable = of_both (marks n) db _ (λ l r hl hr kept.
-    let content = latest_content db s held readable l hl in
-    number_cell (eval_all marks_project ([] ∷ l ∷ r ∷ [])) 0 (whole_at in_latest.content l) (omega arith) content.0 content.1)
+pub EachReads-marks : (n : ℕ) (db : Database) → EachReads (marks n) db IsNumberRow
+EachReads-marks n db s held readable = EachShown-of_both (marks n) db _ (λ l r hl hr kept.
+    let content = IsLowAt-latest_content db s held readable l hl in
+    IsNumberAt-of_column (eval_all marks_project ([] ∷ l ∷ r ∷ [])) 0 (whole_at in_latest.content l) (omega arith) content.0 content.1)
 
-pub told_marks_reads : (c : ℕ) (db : Database) → EachReads (told_marks c) db IsNumberRow
-told_marks_reads c db s held readable = of_both (told_marks c) db _ (λ l r hl hr kept.
-    let number = latest_result db s held readable l hl in
-    number_cell (eval_all told_marks_project ([] ∷ l ∷ r ∷ [])) 0 (whole_at in_latest.result l) (omega arith) number.0 number.1)
+pub EachReads-told_marks : (c : ℕ) (db : Database) → EachReads (told_marks c) db IsNumberRow
+EachReads-told_marks c db s held readable = EachShown-of_both (told_marks c) db _ (λ l r hl hr kept.
+    let number = IsLowAt-latest_result db s held readable l hl in
+    IsNumberAt-of_column (eval_all told_marks_project ([] ∷ l ∷ r ∷ [])) 0 (whole_at in_latest.result l) (omega arith) number.0 number.1)
 
 -- ---- results
 
-pub count_reads : (db : Database) → EachReads count db IsNumberRow
-count_reads db s held readable = of_first count db _ (λ r has kept. let it = result_number db s held readable r has in number_cell (shows (col 1 0 ∷ []) [] r) 0 (whole_at 0 r) (omega arith) it.0 it.1)
+pub EachReads-result_count : (db : Database) → EachReads count db IsNumberRow
+EachReads-result_count db s held readable = EachShown-up_to count db _ (λ r has kept. let it = IsLowAt-result_number db s held readable r has in IsNumberAt-of_column (shows (col 1 0 ∷ []) [] r) 0 (whole_at 0 r) (omega arith) it.0 it.1)
 
-pub run_reads : (p u : List ℕ) (db : Database) → EachReads (run p u) db ReadsAsResult
-run_reads p u db s held readable = of_table (run p u) db _ (λ r has kept.
-    let number = result_number db s held readable r has in
-    let of_content = result_content db s held readable r has in
-    let of_version = result_version db s held readable r has in
-    let truth = result_pass db s held readable r has in
+pub EachReads-run : (p u : List ℕ) (db : Database) → EachReads (run p u) db ReadsAsResult
+EachReads-run p u db s held readable = EachShown-of_table (run p u) db _ (λ r has kept.
+    let number = IsLowAt-result_number db s held readable r has in
+    let of_content = IsLowAt-result_content db s held readable r has in
+    let of_version = IsLowAt-result_version db s held readable r has in
+    let truth = column-result_pass db s held readable r has in
     let shown : Row = shows run_project [] r in (
-      number_cell shown 0 (whole_at 0 r) (omega arith) number.0 number.1,
-      number_cell shown 1 (whole_at in_results.content r) (omega arith) of_content.0 of_content.1,
-      number_cell shown 2 (whole_at in_results.provider_version r) (omega arith) of_version.0 of_version.1,
-      truth_cell shown 3 (whole_at in_results.pass r) (omega arith) truth.0 truth.1,
+      IsNumberAt-of_column shown 0 (whole_at 0 r) (omega arith) number.0 number.1,
+      IsNumberAt-of_column shown 1 (whole_at in_results.content r) (omega arith) of_content.0 of_content.1,
+      IsNumberAt-of_column shown 2 (whole_at in_results.provider_version r) (omega arith) of_version.0 of_version.1,
+      IsTruthAt-of_column shown 3 (whole_at in_results.pass r) (omega arith) truth.0 truth.1,
     ))
 
 -- ---- no row is shown for a number that no version has
@@ -147,20 +147,20 @@ run_reads p u db s held readable = of_table (run p u) db _ (λ r has kept.
 module _ (db : Database) (s : Broker) (held : Holds db s) (n : ℕ) (none : (v : Version) → ¬ (number_of s.versions v ≡ Some n)) where
   of_version : (r : Row) → Has (db.trees in_contracts.tree) r → is_true (binary (Compare Eq Binary) (column r in_contracts.version_number) (Int (pos n))) ≡ true
       → ⊥
-  of_version r has = no_row db s held n none contracts (listed at_contracts db held.broker) in_contracts.version_number (inl refl) r has (numbers db held.broker r has)
+  of_version r has = references-not_unknown_version db s held n none contracts (listed at_contracts db held.broker) in_contracts.version_number (inl refl) r has (column-contract_version_number db held.broker r has)
 
   of_latest : (r : Row) → Has (db.trees in_latest.tree) r → is_true (binary (Compare Eq Binary) (column r in_latest.provider_version) (Int (pos n))) ≡ true → ⊥
-  of_latest r has = no_row db s held n none latest (listed at_latest db held.broker) in_latest.provider_version (inr (inl refl)) r has (versions db held.broker r has)
+  of_latest r has = references-not_unknown_version db s held n none latest (listed at_latest db held.broker) in_latest.provider_version (inr (inl refl)) r has (versions db held.broker r has)
 
-pub contract_none : {sql : List ℕ} {params : Row} {n : ℕ} {more project : List Term} {by : List (Term × Key)}
+pub NoneFor-contracts : {sql : List ℕ} {params : Row} {n : ℕ} {more project : List Term} {by : List (Term × Key)}
     (asked : Asked sql (Int (pos n) ∷ params) (from_table in_contracts.tree (is_param in_contracts.version_number 0 ∷ more) project by)) (db : Database) → NoneFor asked db n
-contract_none {n = n} asked db s held none = of_table asked db _ (λ r has kept. of_version db s held n none r has (first_of_both _ _ kept))
+NoneFor-contracts {n = n} asked db s held none = EachShown-of_table asked db _ (λ r has kept. of_version db s held n none r has (first_of_both _ _ kept))
 
-pub join_none : (c n : ℕ) (db : Database) → NoneFor (join c n) db n
-join_none c n db s held none =
-    of_both (join c n) db _ (λ l r hl hr kept. of_latest db s held n none l hl (first_of_both _ _ (second_of_both _ _ (second_of_both _ _ kept))))
+pub NoneFor-join : (c n : ℕ) (db : Database) → NoneFor (join c n) db n
+NoneFor-join c n db s held none =
+    EachShown-of_both (join c n) db _ (λ l r hl hr kept. of_latest db s held n none l hl (first_of_both _ _ (second_of_both _ _ (second_of_both _ _ kept))))
 
-pub version_none : {sql : List ℕ} {u n : ℕ} {project : List Term} (asked : Asked sql (Int (pos n) ∷ []) (from_both in_latest.tree u terms project order))
+pub NoneFor-version_results : {sql : List ℕ} {u n : ℕ} {project : List Term} (asked : Asked sql (Int (pos n) ∷ []) (from_both in_latest.tree u terms project order))
     (db : Database) → NoneFor asked db n
-version_none {n = n} asked db s held none =
-    of_both asked db _ (λ l r hl hr kept. of_latest db s held n none l hl (first_of_both _ _ (second_of_both _ _ kept)))
+NoneFor-version_results {n = n} asked db s held none =
+    EachShown-of_both asked db _ (λ l r hl hr kept. of_latest db s held n none l hl (first_of_both _ _ (second_of_both _ _ kept)))

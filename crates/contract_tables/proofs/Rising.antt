@@ -3,7 +3,7 @@ use Rattle.std.specs.{Prelude.{is_ok, Contains}, List.{list_any}, List.Sorted.{I
 use Rattle.std.specs.{Ordering.{nat_cmp, ordering_reverse, is_lt}, Cmp.{nat_cmp_total, ranked}}
 use Rattle.std.proofs.Common.{◌≡◌, ◌==◌, ◌<◌, ◌+◌, inl, inr, ℕ, zero, suc, List, [], ◌∷◌, length, get_or, sym, ap, ◌∙◌, Result, Ok, Err, Less, Equal, Greater, arith}
 use Rattle.std.proofs.{lemmas.Bool.{eq-eqb, eqb-true, cases_lt, false_from_ne_true}, lemmas.List.Sorted.{searchable_from_sorted}}
-use Rattle.table_access.proofs.{Members.{has_contains, any_has}, ReadLemmas.{has_get}, SoundLemmas.{any_of}}
+use Rattle.table_access.proofs.{Members.{has_contains, any_has}, ReadLemmas.{get_or-has}, SoundLemmas.{any_of}}
 
 module _ {X : Type 0} (key : X → ℕ) where
   abbrev pub rises : List X → Type 0
@@ -18,12 +18,12 @@ module _ {X : Type 0} (key : X → ℕ) where
   sorted _ up k d low high = absurd (omega arith)
 
   -- if a key is found, the element there has it
-  pub found_at : (k : ℕ) (xs : List X) (i : ℕ) (d : X) → IsBinarySearchResult (λ y. nat_cmp (key y) k) xs (Ok i) → key (get_or xs i d) ≡ k
-  found_at k xs i d at = ranked (key (get_or xs i d)) k Equal (sym (at d))
+  pub IsBinarySearchResult-Ok : (k : ℕ) (xs : List X) (i : ℕ) (d : X) → IsBinarySearchResult (λ y. nat_cmp (key y) k) xs (Ok i) → key (get_or xs i d) ≡ k
+  IsBinarySearchResult-Ok k xs i d at = ranked (key (get_or xs i d)) k Equal (sym (at d))
 
   -- if it isn't found, no element has it
-  pub missing : (k : ℕ) (xs : List X) (i : ℕ) → IsBinarySearchResult (λ y. nat_cmp (key y) k) xs (Err i) → IsSortedBy (λ x y. is_lt (nat_cmp (key x) (key y))) xs → (y : X) → Contains xs y → key y ≡ k → ⊥
-  missing k xs i parts up y at same =
+  pub IsBinarySearchResult-Err : (k : ℕ) (xs : List X) (i : ℕ) → IsBinarySearchResult (λ y. nat_cmp (key y) k) xs (Err i) → IsSortedBy (λ x y. is_lt (nat_cmp (key x) (key y))) xs → (y : X) → Contains xs y → key y ≡ k → ⊥
+  IsBinarySearchResult-Err k xs i parts up y at same =
       let parted = parts (searchable_from_sorted nat_cmp_total key xs k up) in
       elim (cases_lt at.0 i) [
         | inl before ↦ let less : key (get_or xs at.0 y) < k = ranked (key (get_or xs at.0 y)) k Less (sym (parted.0 at.0 y (omega arith) before)) in omega (arith, less, ap key at.2, same)
@@ -31,10 +31,10 @@ module _ {X : Type 0} (key : X → ℕ) where
       ]
 
   -- whether a key is found is whether some element has it
-  pub searched : (k : ℕ) (xs : List X) (r : Result ℕ ℕ) → IsSearchInRange r (length xs) → IsBinarySearchResult (λ y. nat_cmp (key y) k) xs r → IsSortedBy (λ x y. is_lt (nat_cmp (key x) (key y))) xs → is_ok r ≡ list_any (λ y. key y == k) xs
-  searched k [] (Ok i) low at up = absurd (omega (arith, low))
-  searched k (x ∷ xs) (Ok i) low at up =
-      sym (any_of (λ y. key y == k) (x ∷ xs) (get_or (x ∷ xs) i x) (has_get (x ∷ xs) i x low) (eq-eqb (key (get_or (x ∷ xs) i x)) k (found_at k (x ∷ xs) i x at)))
-  searched k xs (Err i) low parts up = sym (false_from_ne_true _ (λ found.
+  pub IsBinarySearchResult-is_ok : (k : ℕ) (xs : List X) (r : Result ℕ ℕ) → IsSearchInRange r (length xs) → IsBinarySearchResult (λ y. nat_cmp (key y) k) xs r → IsSortedBy (λ x y. is_lt (nat_cmp (key x) (key y))) xs → is_ok r ≡ list_any (λ y. key y == k) xs
+  IsBinarySearchResult-is_ok k [] (Ok i) low at up = absurd (omega (arith, low))
+  IsBinarySearchResult-is_ok k (x ∷ xs) (Ok i) low at up =
+      sym (any_of (λ y. key y == k) (x ∷ xs) (get_or (x ∷ xs) i x) (get_or-has (x ∷ xs) i x low) (eq-eqb (key (get_or (x ∷ xs) i x)) k (IsBinarySearchResult-Ok k (x ∷ xs) i x at)))
+  IsBinarySearchResult-is_ok k xs (Err i) low parts up = sym (false_from_ne_true _ (λ found.
       let it = any_has (λ y. key y == k) xs found in
-      missing k xs i parts up it.0 (has_contains xs it.0 it.1) (eqb-true (key it.0) k it.2)))
+      IsBinarySearchResult-Err k xs i parts up it.0 (has_contains xs it.0 it.1) (eqb-true (key it.0) k it.2)))

@@ -6,15 +6,15 @@ use Rattle.std.proofs.{lemmas.Bool.{eq-eqb, eqb-true}, lemmas.List.Sorted.{Conta
 use Rattle.sqlite_rules.{specs.Lists.{Has}, proofs.TableLemmas.{int_is}}
 use Rattle.sqlite_tied.specs.Compute.{everything}
 use Rattle.table_access.specs.{Columns.{whole_at}, Sound.{IsNumbered, whole}, Statements.{from_both, keeps_both}, Reading.{AreRead}}
-use Rattle.table_access.proofs.{SoundLemmas.{any_of, at_has}, Members.{has_pair, pair_has, any_has, contains_has, has_contains}}
+use Rattle.table_access.proofs.{SoundLemmas.{any_of, at_has}, Members.{pairs-complete, pairs-sound, any_has, contains_has, has_contains}}
 use Rattle.broker_tables.specs.{Schema.{in_results, in_latest, in_checked_results}, Numbers.{number_of}, Holds.{Holds, ResultRow}}
-use Rattle.broker_tables.proofs.{VersionRows.{whole_test, by_number}, Asked.{Asked, IsShown}, Listed.{lists_read}}
+use Rattle.broker_tables.proofs.{VersionRows.{binary-Eq_same_Int, option_and_then-Some}, Asked.{Asked, IsShown}, Listed.{Lists-AreRead}}
 use Rattle.contract_tables.specs.{declared.version_results.ContentPass.{ContentPass}, declared.listings.NumberedName.{NumberedName}}
 use Rattle.contract_tables.specs.{Verified.{result_with, latest_at}, VersionResults.{is_among, IsPassRow}}
 use Rattle.contract_tables.specs.ToldVersions.{verified_cmp, named_cmp, Tell, TellPasses, TellChecked, IsUntold, IsToldBy, IsTold}
-use Rattle.contract_tables.proofs.{ItemLists.{and_tests, last_test}, JoinRows.{pair_of, item_of_pair}, LastRow.{latest_with}}
-use Rattle.contract_tables.proofs.{ResultLookups.{numbered_rows, marked_rows}, ResultRows.{contents, numbers}, VerifiedList.{told_as, tells_row}}
-use Rattle.contract_tables.proofs.VersionResults.{passes_project, result_row, row_result, mark_says, says_mark}
+use Rattle.contract_tables.proofs.{ItemLists.{and-two_tests, and-true_test}, JoinRows.{items-of_kept_pair, items-has_kept_pair}, LastRow.{latest_result-result_with}}
+use Rattle.contract_tables.proofs.{ResultLookups.{IsNumbered-results, IsNumbered-checked_results}, ResultRows.{contents, numbers}, VerifiedList.{option_map-Some_sound, latest_result-has_row}}
+use Rattle.contract_tables.proofs.VersionResults.{passes_project, result_with-has_row, result_with-of_row, checked-of_mark, checked-has_mark}
 use Rattle.broker_core.specs.{declared.command.Version.{Version}, declared.answer.Verified.{Verified}, Listing.{Lists}, Machine.{IsLatest}}
 use Rattle.broker_core.specs.{State.{State as Broker, Verification, latest_result, said_by}, Text.{Text, text_cmp, version}}
 use Rattle.sqlite.specs.{Tree.{rowid}, Edit.{id_in}, declared.types.Value.TheVariants.{Int}, Order.{Row, column}, Term.{Term, col, op2, eval_all}}
@@ -64,32 +64,32 @@ module _ (db : Database) (s : Broker) (held : Holds db s) (k : ℕ) where
         → (keeps_both terms params l r ≡ true) ↔ ((whole_at 0 r ≡ whole_at in_latest.result l) × (whole_at in_latest.content l ≡ pos k))
     parts_of l r hl hr =
         let number : column r 0 ≡ Int (whole_at 0 r) = int_is (rowid r) (at_has _ (db.trees u) r rising.1 hr) in
-        and_tests (whole_test (column r 0) (column l in_latest.result) (whole_at 0 r) (whole_at in_latest.result l) number (numbers db held.broker l hl))
-        (last_test (whole_test (column l in_latest.content) (Int (pos k)) (whole_at in_latest.content l) (pos k) (contents db held.broker l hl) refl))
+        and-two_tests (binary-Eq_same_Int (column r 0) (column l in_latest.result) (whole_at 0 r) (whole_at in_latest.result l) number (numbers db held.broker l hl))
+        (and-true_test (binary-Eq_same_Int (column l in_latest.content) (Int (pos k)) (whole_at in_latest.content l) (pos k) (contents db held.broker l hl) refl))
 
     told : (rows : List Row) (items : List X) → Answers db (record { lets = []; body = from_both in_latest.tree u terms project [] }) params rows
         → AreRead reads rows items → Tell number Says item Meets s k items
     told rows items h read = (
       λ x v c is.
-          let q = pair_of db params terms project reads rows items read in_latest.tree u h x c in
-          let it = pair_has (keeps_both terms params) (db.trees u) (db.trees in_latest.tree) q.0 q.1 in
+          let q = items-of_kept_pair db params terms project reads rows items read in_latest.tree u h x c in
+          let it = pairs-sound (keeps_both terms params) (db.trees u) (db.trees in_latest.tree) q.0 q.1 in
           says q.0.0 q.0.1 x v it.1 ((parts_of q.0.0 q.0.1 it.0 it.1).0 it.2).0 q.2 is,
       λ w e found meets.
-          let at = by_number (number_of s.versions w) (λ n. latest_at (db.trees in_latest.tree) k n) (pos e.0) (held.latest k w ∙ ap (option_map (λ (e : ℕ × Verification). pos e.0)) found) in
-          let l = tells_row db s held w at.0 at.1 k e found in
-          let r = said e (latest_with s k w e found) meets in
-          let kept = has_pair (keeps_both terms params) (db.trees u) (db.trees in_latest.tree) l.0 r.0 l.1 r.1 ((parts_of l.0 r.0 l.1 r.1).1 (r.2 ∙ sym l.4, l.2)) in
-          let y = item_of_pair db params terms project reads rows items read in_latest.tree u h (l.0, r.0) kept in
+          let at = option_and_then-Some (number_of s.versions w) (λ n. latest_at (db.trees in_latest.tree) k n) (pos e.0) (held.latest k w ∙ ap (option_map (λ (e : ℕ × Verification). pos e.0)) found) in
+          let l = latest_result-has_row db s held w at.0 at.1 k e found in
+          let r = said e (latest_result-result_with s k w e found) meets in
+          let kept = pairs-complete (keeps_both terms params) (db.trees u) (db.trees in_latest.tree) l.0 r.0 l.1 r.1 ((parts_of l.0 r.0 l.1 r.1).1 (r.2 ∙ sym l.4, l.2)) in
+          let y = items-has_kept_pair db params terms project reads rows items read in_latest.tree u h (l.0, r.0) kept in
           subst (Contains items) (r.3 l.0 y.0 l.2 l.4 y.2) y.1,
     )
 
-  pub passes_told : (rows : List Row) (items : List ContentPass) → IsShown (told_passes k) db rows → AreRead IsPassRow rows items → TellPasses s k items
-  passes_told =
-      told in_results.tree (numbered_rows db held.broker) passes_project IsPassRow (λ x. x.result) (λ x r. x.pass ≡ r.pass)
+  pub TellPasses-of_shown_rows : (rows : List Row) (items : List ContentPass) → IsShown (told_passes k) db rows → AreRead IsPassRow rows items → TellPasses s k items
+  TellPasses-of_shown_rows =
+      told in_results.tree (IsNumbered-results db held.broker) passes_project IsPassRow (λ x. x.result) (λ x r. x.pass ≡ r.pass)
       (λ e. record { content = k; result = e.0; pass = e.1.pass }) (λ r. ⊤)
-      (λ l r x v has same shown is. sym shown.2 ∙ ap (λ (y : ResultRow). y.pass) (row_result db s held x.result v is r has (ap id_in shown.1)))
+      (λ l r x v has same shown is. sym shown.2 ∙ ap (λ (y : ResultRow). y.pass) (result_with-of_row db s held x.result v is r has (ap id_in shown.1)))
       (λ e is _.
-      let r = result_row db s held e.0 e.1 is in
+      let r = result_with-has_row db s held e.0 e.1 is in
       let pass = ap (λ (z : ResultRow). z.pass) r.3 in (
         r.0,
         r.1,
@@ -98,26 +98,26 @@ module _ (db : Database) (s : Broker) (held : Holds db s) (k : ℕ) where
             record { content = whole ((sym (ap id_in shown.0) ∙ content) i); result = whole ((sym (ap id_in shown.1) ∙ r.2) i); pass = (sym shown.2 ∙ pass) i },
       ))
 
-  pub checked_told : (rows : List Row) (items : List ℕ) → IsShown (told_marks k) db rows → AreRead IsNumber rows items → TellChecked s k items
-  checked_told =
-      told in_checked_results.tree (marked_rows db held.broker) told_marks_project IsNumber (λ n. n) (λ n r. r.checked ≡ true) (λ e. e.0) (λ r. r.checked ≡ true)
-      (λ l r n v has same shown is. mark_says db s held n v is r has (same ∙ ap id_in shown))
-      (λ e is so. let r = says_mark db s held e.0 e.1 is so in (r.0, r.1, r.2, λ l y content number shown. ap whole (sym (ap id_in shown) ∙ number)))
+  pub TellChecked-of_shown_rows : (rows : List Row) (items : List ℕ) → IsShown (told_marks k) db rows → AreRead IsNumber rows items → TellChecked s k items
+  TellChecked-of_shown_rows =
+      told in_checked_results.tree (IsNumbered-checked_results db held.broker) told_marks_project IsNumber (λ n. n) (λ n r. r.checked ≡ true) (λ e. e.0) (λ r. r.checked ≡ true)
+      (λ l r n v has same shown is. checked-of_mark db s held n v is r has (same ∙ ap id_in shown))
+      (λ e is so. let r = checked-has_mark db s held e.0 e.1 is so in (r.0, r.1, r.2, λ l y content number shown. ap whole (sym (ap id_in shown) ∙ number)))
 
 -- the same in another order
-pub told_moved : {X : Type 0} (number : X → ℕ) (Says : X → Verification → Type 0) (item : ℕ × Verification → X) (Meets : Verification → Type 0) (s : Broker) (k : ℕ)
+pub Tell-permutation : {X : Type 0} (number : X → ℕ) (Says : X → Verification → Type 0) (item : ℕ × Verification → X) (Meets : Verification → Type 0) (s : Broker) (k : ℕ)
     (xs ys : List X) → IsPermutation xs ys → Tell number Says item Meets s k xs → Tell number Says item Meets s k ys
-told_moved number Says item Meets s k xs ys moved tell = (
-  λ x r there is. tell.0 x r (Contains-permutation ys xs x (IsPermutation-sym xs ys moved) there) is,
-  λ w e found meets. Contains-permutation xs ys (item e) moved (tell.1 w e found meets),
+Tell-permutation number Says item Meets s k xs ys moved agree = (
+  λ x r there is. agree.0 x r (Contains-permutation ys xs x (IsPermutation-sym xs ys moved) there) is,
+  λ w e found meets. Contains-permutation xs ys (item e) moved (agree.1 w e found meets),
 )
 
 -- ---- the versions that are listed with them
 
-module _ (s : Broker) (content : ℕ) (passes : List ContentPass) (checked : List ℕ) (tell : TellPasses s content passes) (are_checked : TellChecked s content checked) where
+module _ (s : Broker) (content : ℕ) (passes : List ContentPass) (checked : List ℕ) (agree : TellPasses s content passes) (are_checked : TellChecked s content checked) where
   -- whether a latest result was checked is whether its number is there
-  checked_is : (w : Version) (e : ℕ × Verification) → latest_result s content w ≡ Some e → is_among checked e.0 ≡ e.1.checked
-  checked_is w e is = go (is_among checked e.0) e.1.checked refl refl
+  is_among-latest_checked : (w : Version) (e : ℕ × Verification) → latest_result s content w ≡ Some e → is_among checked e.0 ≡ e.1.checked
+  is_among-latest_checked w e is = go (is_among checked e.0) e.1.checked refl refl
     where
       go : (a b : Bool) → is_among checked e.0 ≡ a → e.1.checked ≡ b → a ≡ b
       go true true here so = refl
@@ -125,15 +125,15 @@ module _ (s : Broker) (content : ℕ) (passes : List ContentPass) (checked : Lis
       go true false here so =
           let it = any_has (λ c. c == e.0) checked here in
           let there : Contains checked e.0 = subst (Contains checked) (eqb-true it.0 e.0 it.2) (has_contains checked it.0 it.1) in
-          absurd (true≢false (sym (are_checked.0 e.0 e.1 there (latest_with s content w e is)) ∙ so))
+          absurd (true≢false (sym (are_checked.0 e.0 e.1 there (latest_result-result_with s content w e is)) ∙ so))
       go false true here so = absurd (true≢false (sym (any_of (λ c. c == e.0) checked e.0 (contains_has checked e.0 (are_checked.1 w e is so))
           (eq-eqb e.0 e.0 refl)) ∙ here))
 
   -- what both lists say of a latest result is what it says
-  told_is : (w : Version) (e : ℕ × Verification) → latest_result s content w ≡ Some e → (r : Verified) → r.result ≡ e.0 → IsToldBy passes checked r → r.latest ≡ said_by e.1
-  told_is w e is r number by =
-      let pass : r.latest.pass ≡ e.1.pass = sym by.1.3 ∙ tell.0 by.1.0 e.1 by.1.1 (ap (result_with s) (by.1.2 ∙ number) ∙ latest_with s content w e is) in
-      let mark : r.latest.checked ≡ e.1.checked = by.0 ∙ ap (is_among checked) number ∙ checked_is w e is in
+  IsToldBy-latest : (w : Version) (e : ℕ × Verification) → latest_result s content w ≡ Some e → (r : Verified) → r.result ≡ e.0 → IsToldBy passes checked r → r.latest ≡ said_by e.1
+  IsToldBy-latest w e is r number by =
+      let pass : r.latest.pass ≡ e.1.pass = sym by.1.3 ∙ agree.0 by.1.0 e.1 by.1.1 (ap (result_with s) (by.1.2 ∙ number) ∙ latest_result-result_with s content w e is) in
+      let mark : r.latest.checked ≡ e.1.checked = by.0 ∙ ap (is_among checked) number ∙ is_among-latest_checked w e is in
       λ i. record { pass = pass i; checked = mark i }
 
   module _ (p : Text) where
@@ -149,21 +149,21 @@ module _ (s : Broker) (content : ℕ) (passes : List ContentPass) (checked : Lis
     latest_is (Some e) r h = (e, refl, h.0, h.1)
 
     pub versions_told : (named : List NumberedName) (found : List Verified) → Lists named_cmp IsNamed named → AreRead (IsTold passes checked) named found → Lists verified_cmp IsVerified found
-    versions_told = lists_read named_cmp IsNamed (IsTold passes checked) verified_cmp IsVerified
+    versions_told = Lists-AreRead named_cmp IsNamed (IsTold passes checked) verified_cmp IsVerified
         (λ a b x y ha hb is_x is_y less. (λ i. text_cmp (is_x.0 i) (is_y.0 i)) ∙ less)
         (λ x r named is.
         let w = version p x.name in
-        let e = told_as (λ e. e.0) (latest_result s content w) x.number named in
+        let e = option_map-Some_sound (λ e. e.0) (latest_result s content w) x.number named in
         let number : r.result ≡ e.0.0 = is.1 ∙ sym e.2 in
         let found : latest_result s content (version p r.provider_version) ≡ Some e.0 = ap (λ n. latest_result s content (version p n)) is.0 ∙ e.1 in
-        subst (λ o. IsSomeAnd o (λ e. (r.result ≡ e.0) × (r.latest ≡ said_by e.1))) (sym found) (number, told_is w e.0 e.1 r number is.2))
+        subst (λ o. IsSomeAnd o (λ e. (r.result ≡ e.0) × (r.latest ≡ said_by e.1))) (sym found) (number, IsToldBy-latest w e.0 e.1 r number is.2))
         (λ r there.
         let w = version p r.provider_version in
         let e = latest_is (latest_result s content w) r there in (
           record { name = r.provider_version; number = r.result },
           ap (option_map (λ (e : ℕ × Verification). e.0)) e.1 ∙ ap Some (sym e.2),
           λ y is.
-              let latest : y.latest ≡ r.latest = told_is w e.0 e.1 y (is.1 ∙ e.2) is.2 ∙ sym e.3 in
+              let latest : y.latest ≡ r.latest = IsToldBy-latest w e.0 e.1 y (is.1 ∙ e.2) is.2 ∙ sym e.3 in
               λ i. record { provider_version = is.0 i; result = is.1 i; latest = latest i },
         ))
 
@@ -171,5 +171,5 @@ module _ (s : Broker) (content : ℕ) (passes : List ContentPass) (checked : Lis
     pub none_untold : (named : List NumberedName) → Lists named_cmp IsNamed named → ¬ ((x : NumberedName) × Contains named x × IsUntold passes x.number)
     none_untold named listed (x, there, untold) =
         let w = version p x.name in
-        let e = told_as (λ e. e.0) (latest_result s content w) x.number ((listed.exactly x).0 there) in
-        untold (record { content = content; result = e.0.0; pass = e.0.1.pass }, tell.1 w e.0 e.1 tt, e.2)
+        let e = option_map-Some_sound (λ e. e.0) (latest_result s content w) x.number ((listed.exactly x).0 there) in
+        untold (record { content = content; result = e.0.0; pass = e.0.1.pass }, agree.1 w e.0 e.1 tt, e.2)

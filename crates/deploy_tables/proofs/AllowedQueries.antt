@@ -2,39 +2,39 @@
 -- `QueryLemmas` of broker_tables has it of those that each state allows.
 use Rattle.std.{specs.Prelude.{⊤}, proofs.Common.{Bool, Ok, Err, Result, true}}
 use Rattle.sqlite.specs.State.{State}
-use Rattle.table_access.{specs.declared.StoreFault.{StoreFault}, proofs.CallLemmas.{may_take, seq, then_err}}
+use Rattle.table_access.{specs.declared.StoreFault.{StoreFault}, proofs.CallLemmas.{CallsBetween-may_take_memory, CallsBetween-then_call, CallsBetween-pass_Err}}
 use Rattle.broker_core.specs.State.{State as Broker}
-use Rattle.broker_tables.{specs.{Calm.{CalmQueriesBetween, IsCalmFromBetween}, Holds.{IsRead, QueriesBetween}}, proofs.FailLemmas.{calm_after}}
-use Rattle.broker_tables.proofs.QueryLemmas.{both_read, calm_answers, calm_both, placed}
+use Rattle.broker_tables.{specs.{Calm.{CalmQueriesBetween, IsCalmFromBetween}, Holds.{IsRead, QueriesBetween}}, proofs.FailLemmas.{IsCalmFromBetween-after_query}}
+use Rattle.broker_tables.proofs.QueryLemmas.{IsRead-both, CalmQueriesBetween-other_answer, CalmQueriesBetween-from_both, CalmQueriesBetween-Ok}
 
 -- another answer
-pub answers_more : {A B : Type 0} {any takes : Bool} (old new : State) (x : A) (y : B) (P : A → Broker → Type 0) (Q : B → Broker → Type 0)
+pub QueriesBetween-answers_more : {A B : Type 0} {any takes : Bool} (old new : State) (x : A) (y : B) (P : A → Broker → Type 0) (Q : B → Broker → Type 0)
     → ((s : Broker) → P x s → Q y s) → QueriesBetween any old new (Ok x) P → QueriesBetween takes old new (Ok y) Q
-answers_more {any} {takes} old new x y P Q f one = (calm_answers {takes = takes} old new x y P Q f (placed old new x P one)).call
+QueriesBetween-answers_more {any} {takes} old new x y P Q f one = (CalmQueriesBetween-other_answer {takes = takes} old new x y P Q f (CalmQueriesBetween-Ok old new x P one)).call
 
 -- an answer from two
-pub answers_both : {A B C : Type 0} {any also takes : Bool} (old mid new : State) (x : A) (y : B) (z : C) (P : A → Broker → Type 0) (Q : B → Broker → Type 0) (R : C → Broker → Type 0)
+pub QueriesBetween-answers_both : {A B C : Type 0} {any also takes : Bool} (old mid new : State) (x : A) (y : B) (z : C) (P : A → Broker → Type 0) (Q : B → Broker → Type 0) (R : C → Broker → Type 0)
     → ((s : Broker) → P x s → Q y s → R z s) → QueriesBetween any old mid (Ok x) P → QueriesBetween also mid new (Ok y) Q → QueriesBetween takes old new (Ok z) R
-answers_both {takes} old mid new x y z P Q R f one two =
-    (calm_both {takes = takes} old mid new x y z P Q R f (placed old mid x P one) (placed mid new y Q two)).call
+QueriesBetween-answers_both {takes} old mid new x y z P Q R f one two =
+    (CalmQueriesBetween-from_both {takes = takes} old mid new x y z P Q R f (CalmQueriesBetween-Ok old mid x P one) (CalmQueriesBetween-Ok mid new y Q two)).call
 
 -- the failure of one after another
-pub failed_after : {A B C : Type 0} {any takes : Bool} (old mid new : State) (a : A) (e : StoreFault) (P : A → Broker → Type 0) (Q : B → Broker → Type 0) (R : C → Broker → Type 0)
+pub QueriesBetween-failed_after : {A B C : Type 0} {any takes : Bool} (old mid new : State) (a : A) (e : StoreFault) (P : A → Broker → Type 0) (Q : B → Broker → Type 0) (R : C → Broker → Type 0)
     → QueriesBetween any old mid (Ok a) P → QueriesBetween takes mid new (Err e) Q → QueriesBetween takes old new (Err e) R
-failed_after {B} old mid new a e P Q R one two =
-    then_err old new e (λ (b : B). IsRead mid new Q b) (IsRead old new R) (seq old mid new a (Err e) (IsRead old mid P) (IsRead mid new Q) (IsRead mid new Q) (λ p b q. q) one two)
+QueriesBetween-failed_after {B} old mid new a e P Q R one two =
+    CallsBetween-pass_Err old new e (λ (b : B). IsRead mid new Q b) (IsRead old new R) (CallsBetween-then_call old mid new a (Err e) (IsRead old mid P) (IsRead mid new Q) (IsRead mid new Q) (λ p b q. q) one two)
 
 -- one after another
-pub answers_then : {A B : Type 0} {any takes : Bool} (old mid new : State) (x : A) (r : Result B StoreFault) (P : A → Broker → Type 0) (Q R : B → Broker → Type 0)
+pub QueriesBetween-answers_then : {A B : Type 0} {any takes : Bool} (old mid new : State) (x : A) (r : Result B StoreFault) (P : A → Broker → Type 0) (Q R : B → Broker → Type 0)
     → ((s : Broker) → P x s → (b : B) → Q b s → R b s) → QueriesBetween any old mid (Ok x) P → QueriesBetween takes mid new r Q → QueriesBetween takes old new r R
-answers_then old mid new x r P Q R f one two =
-    seq old mid new x r (IsRead old mid P) (IsRead mid new Q) (IsRead old new R) (λ p b. both_read old mid new x b b P Q R (λ s one two. f s one b two) p) one two
+QueriesBetween-answers_then old mid new x r P Q R f one two =
+    CallsBetween-then_call old mid new x r (IsRead old mid P) (IsRead mid new Q) (IsRead old new R) (λ p b. IsRead-both old mid new x b b P Q R (λ s one two. f s one b two) p) one two
 
 -- a query after another, whose answer shows that the state allows it
-pub calm_allowed : {A B : Type 0} {any takes : Bool} (old mid new : State) (x : A) (r : Result B StoreFault) (P : A → Broker → Type 0) (Q R : B → Broker → Type 0) (Allows : Broker → Type 0)
+pub CalmQueriesBetween-allowed : {A B : Type 0} {any takes : Bool} (old mid new : State) (x : A) (r : Result B StoreFault) (P : A → Broker → Type 0) (Q R : B → Broker → Type 0) (Allows : Broker → Type 0)
     → ((s : Broker) → P x s → Allows s) → ((s : Broker) → P x s → (b : B) → Q b s → R b s)
     → CalmQueriesBetween any old mid (Ok x) P → QueriesBetween takes mid new r Q → IsCalmFromBetween mid new r Allows → CalmQueriesBetween true old new r R
-calm_allowed old mid new x r P Q R Allows allow f one two calm = record {
-  call = may_take old new r _ (answers_then old mid new x r P Q R f one.call two);
-  calm = λ clean s here. calm_after old mid new x r P (IsRead mid new Q) (λ s. ⊤) Allows (λ s held free read. allow s read) one.call two calm clean s here tt;
+CalmQueriesBetween-allowed old mid new x r P Q R Allows allow f one two calm = record {
+  call = CallsBetween-may_take_memory old new r _ (QueriesBetween-answers_then old mid new x r P Q R f one.call two);
+  calm = λ clean s here. IsCalmFromBetween-after_query old mid new x r P (IsRead mid new Q) (λ s. ⊤) Allows (λ s held free read. allow s read) one.call two calm clean s here tt;
 }

@@ -6,12 +6,12 @@ use Rattle.sqlite_value.specs.Keys.{plain}
 use Rattle.sqlite_catalog.proofs.ListFacts.{filter_all}
 use Rattle.sqlite_tied.specs.Compute.{everything}
 use Rattle.table_access.specs.{Columns.{text, text_cmp, whole_at, by_both}, Statements.{from_table, keeps, ChangesOnly}}
-use Rattle.table_access.proofs.{Keys.{is_param, keeps_key, whole_key}, CountLemmas.{some_counted, same_any, any_never}, Maps.{has_find}, SoundLemmas.{all_of}}
-use Rattle.table_access.proofs.Values.{cast_int}
-use Rattle.broker_tables.{specs.{Schema.{in_deployed}, Rows.{value_at}, Holds.{IsBroker}}, proofs.Keyed.{deployed_by_place, finds, keys_of}}
-use Rattle.broker_tables.proofs.{Asked.{Asked, IsShown}, Orders.{triples_total, exact_triple}, Standing.{stands_found, takes_at}}
-use Rattle.broker_tables.proofs.{Placed.{at_deployed, texts_in, wholes_in}, RoomLemmas.{Grows, grows_kept}, Upserted.{PutsOver, PutsAt}}
-use Rattle.broker_tables.proofs.Removed.{TakesFrom, taken_from}
+use Rattle.table_access.proofs.{Keys.{is_param, keeps-one_key, whole_key}, CountLemmas.{length-filter-list_any, list_any-same_tests, list_any-false}, Maps.{find-of_row}, SoundLemmas.{all_of}}
+use Rattle.table_access.proofs.Values.{cast-Int}
+use Rattle.broker_tables.{specs.{Schema.{in_deployed}, Rows.{value_at}, Holds.{IsBroker}}, proofs.Keyed.{deployed_by_place, finds, IsAscending-keys_of_table}}
+use Rattle.broker_tables.proofs.{Asked.{Asked, IsShown}, Orders.{by_both-total_texts, by_both-exact_texts}, Standing.{value_at-is_some, value_at-removed}}
+use Rattle.broker_tables.proofs.{Placed.{at_deployed, column-texts, column-whole_numbers}, RoomLemmas.{Grows, Grows-filter}, Upserted.{PutsOver, PutsAt}}
+use Rattle.broker_tables.proofs.Removed.{TakesFrom, Executes-delete_rows}
 use Rattle.sqlite.specs.{declared.types.Value.TheVariants.{Null, Int, Text}, Order.{Row, column}, Term.{Term, col, lit, holds}, Effect.{Database}}
 use Rattle.sqlite.specs.{State.{State, Executes}, Listing.{understood}}
 use Rattle.sqlite_rules.specs.Lists.{Has}
@@ -32,16 +32,16 @@ number_in = value_at place_cmp place_of (whole_at in_deployed.version_number)
 
 module _ (db : Database) (broker : IsBroker db) where
   pub environments : (r : Row) → Has (db.trees in_deployed.tree) r → column r in_deployed.environment ≡ Text (text in_deployed.environment r)
-  environments = texts_in at_deployed db broker in_deployed.environment refl
+  environments = column-texts at_deployed db broker in_deployed.environment refl
 
   pub pacticipants : (r : Row) → Has (db.trees in_deployed.tree) r → column r in_deployed.pacticipant ≡ Text (text in_deployed.pacticipant r)
-  pacticipants = texts_in at_deployed db broker in_deployed.pacticipant refl
+  pacticipants = column-texts at_deployed db broker in_deployed.pacticipant refl
 
-  pub instances : (r : Row) → Has (db.trees in_deployed.tree) r → column r in_deployed.instance ≡ Text (text in_deployed.instance r)
-  instances = texts_in at_deployed db broker in_deployed.instance refl
+  pub column-deployed_instance : (r : Row) → Has (db.trees in_deployed.tree) r → column r in_deployed.instance ≡ Text (text in_deployed.instance r)
+  column-deployed_instance = column-texts at_deployed db broker in_deployed.instance refl
 
   pub numbers : (r : Row) → Has (db.trees in_deployed.tree) r → column r in_deployed.version_number ≡ Int (whole_at in_deployed.version_number r)
-  numbers = wholes_in at_deployed db broker in_deployed.version_number refl
+  numbers = column-whole_numbers at_deployed db broker in_deployed.version_number refl
 
 -- ---- the version at a place
 
@@ -89,11 +89,11 @@ recording e p i n = record {
   no_first = λ v w r. refl;
   alone = refl;
   fits = refl;
-  stored = λ j. Text e ∷ Text p ∷ Text i ∷ cast_int (pos n) j ∷ [];
+  stored = λ j. Text e ∷ Text p ∷ Text i ∷ cast-Int (pos n) j ∷ [];
 }
 
-pub deploying : (e p i : List ℕ) (n : ℕ) → PutsAt deployed_by_place (whole_at in_deployed.version_number) (row_for e p i n) 4 update_project (row_for e p i n) (e, (p, i)) (pos n)
-deploying e p i n = record { keyed = λ id. refl; valued = λ id. refl; cells = λ id. refl; last = Int (pos n) ∷ []; whole = refl; sets = λ z r. refl }
+pub PutsAt-deployed : (e p i : List ℕ) (n : ℕ) → PutsAt deployed_by_place (whole_at in_deployed.version_number) (row_for e p i n) 4 update_project (row_for e p i n) (e, (p, i)) (pos n)
+PutsAt-deployed e p i n = record { keyed = λ id. refl; valued = λ id. refl; cells = λ id. refl; last = Int (pos n) ∷ []; whole = refl; sets = λ z r. refl }
 
 -- ---- the end of a deployment
 
@@ -123,60 +123,60 @@ module _ (db : Database) (broker : IsBroker db) (e p i : List ℕ) (n : ℕ) whe
   at_place = number_in (db.trees in_deployed.tree) place
 
   -- WHERE keeps the row of the place, if it has the number
-  where_version : (r : Row) → Has (db.trees in_deployed.tree) r → keeps by_version params r ≡ (eq_by_cmp place_cmp place (place_of r) && eq_by_cmp int_cmp (pos n) (whole_at in_deployed.version_number r))
-  where_version r has =
+  keeps-by_version : (r : Row) → Has (db.trees in_deployed.tree) r → keeps by_version params r ≡ (eq_by_cmp place_cmp place (place_of r) && eq_by_cmp int_cmp (pos n) (whole_at in_deployed.version_number r))
+  keeps-by_version r has =
       list_all-append (holds (params ∷ r ∷ [])) by_place (is_param 4 3 ∷ [])
-      ∙ (λ j. keeps_key deployed_by_place.columns.of 0 params place refl r (deployed_by_place.columns.typed db broker r has) j && keeps_key (whole_key in_deployed.version_number) 3 params (pos n) refl r (λ k. numbers db broker r has k ∷ []) j)
+      ∙ (λ j. keeps-one_key deployed_by_place.columns.of 0 params place refl r (deployed_by_place.columns.typed db broker r has) j && keeps-one_key (whole_key in_deployed.version_number) 3 params (pos n) refl r (λ k. numbers db broker r has k ∷ []) j)
 
   -- the number at the place decides for each row of it
-  kept_at : (r : Row) → Has (db.trees in_deployed.tree) r → keeps by_version params r ≡ (eq_by_cmp place_cmp place (place_of r) && is_number n at_place)
-  kept_at r has = where_version r has ∙ go (eq_by_cmp place_cmp place (place_of r)) refl
+  keeps-at_place : (r : Row) → Has (db.trees in_deployed.tree) r → keeps by_version params r ≡ (eq_by_cmp place_cmp place (place_of r) && is_number n at_place)
+  keeps-at_place r has = keeps-by_version r has ∙ go (eq_by_cmp place_cmp place (place_of r)) refl
     where
       go : (b : Bool) → eq_by_cmp place_cmp place (place_of r) ≡ b
           → (b && eq_by_cmp int_cmp (pos n) (whole_at in_deployed.version_number r)) ≡ (b && is_number n at_place)
       go false miss = refl
       go true hit =
-          let same : place ≡ place_of r = exact_triple place (place_of r) ((Equal-is (place_cmp place (place_of r))).0 hit) in
-          let there : at_place ≡ Some (whole_at in_deployed.version_number r) = ap (number_in (db.trees in_deployed.tree)) same ∙ has_find triples_total exact_triple place_of (whole_at in_deployed.version_number) (db.trees in_deployed.tree) r (keys_of deployed_by_place db broker) has in
+          let same : place ≡ place_of r = by_both-exact_texts place (place_of r) ((Equal-is (place_cmp place (place_of r))).0 hit) in
+          let there : at_place ≡ Some (whole_at in_deployed.version_number r) = ap (number_in (db.trees in_deployed.tree)) same ∙ find-of_row by_both-total_texts by_both-exact_texts place_of (whole_at in_deployed.version_number) (db.trees in_deployed.tree) r (IsAscending-keys_of_table deployed_by_place db broker) has in
           sym (ap (is_number n) there)
 
-  kept_if : (b : Bool) → is_number n at_place ≡ b → (r : Row) → Has (db.trees in_deployed.tree) r
+  keeps-if_number_at_place : (b : Bool) → is_number n at_place ≡ b → (r : Row) → Has (db.trees in_deployed.tree) r
       → keeps by_version params r ≡ (eq_by_cmp place_cmp place (place_of r) && b)
-  kept_if b is r has = kept_at r has ∙ ap (λ c. eq_by_cmp place_cmp place (place_of r) && c) is
+  keeps-if_number_at_place b is r has = keeps-at_place r has ∙ ap (λ c. eq_by_cmp place_cmp place (place_of r) && c) is
 
-  found_some : (o : Option ℤ) → is_number n o ≡ true → is_some o ≡ true
-  found_some None h = absurd cc
-  found_some (Some z) h = refl
+  is_number-is_some : (o : Option ℤ) → is_number n o ≡ true → is_some o ≡ true
+  is_number-is_some None h = absurd cc
+  is_number-is_some (Some z) h = refl
 
   -- whether a row is kept
-  any_kept : (b : Bool) → is_number n at_place ≡ b → list_any (keeps by_version params) (db.trees in_deployed.tree) ≡ b
-  any_kept true hit =
-      same_any (keeps by_version params) (λ r. eq_by_cmp place_cmp place (place_of r)) (db.trees in_deployed.tree) (λ r has. kept_if true hit r has ∙ and-true _)
-      ∙ sym (stands_found place_cmp place_of (whole_at in_deployed.version_number) (db.trees in_deployed.tree) place) ∙ found_some at_place hit
-  any_kept false miss = same_any (keeps by_version params) (λ r. false) (db.trees in_deployed.tree) (λ r has. kept_if false miss r has ∙ and-false _)
-      ∙ any_never (db.trees in_deployed.tree)
+  list_any-keeps_by_version : (b : Bool) → is_number n at_place ≡ b → list_any (keeps by_version params) (db.trees in_deployed.tree) ≡ b
+  list_any-keeps_by_version true hit =
+      list_any-same_tests (keeps by_version params) (λ r. eq_by_cmp place_cmp place (place_of r)) (db.trees in_deployed.tree) (λ r has. keeps-if_number_at_place true hit r has ∙ and-true _)
+      ∙ sym (value_at-is_some place_cmp place_of (whole_at in_deployed.version_number) (db.trees in_deployed.tree) place) ∙ is_number-is_some at_place hit
+  list_any-keeps_by_version false miss = list_any-same_tests (keeps by_version params) (λ r. false) (db.trees in_deployed.tree) (λ r has. keeps-if_number_at_place false miss r has ∙ and-false _)
+      ∙ list_any-false (db.trees in_deployed.tree)
 
   -- what is left at each place
-  left_at : (b : Bool) → is_number n at_place ≡ b → (rows : List Row) → rows ≡ filter (λ r. not (keeps by_version params r)) (db.trees in_deployed.tree)
+  number_in-after_removal : (b : Bool) → is_number n at_place ≡ b → (rows : List Row) → rows ≡ filter (λ r. not (keeps by_version params r)) (db.trees in_deployed.tree)
       → (q : Place)
       → number_in rows q ≡ cond (b && eq_by_cmp place_cmp q place) None (number_in (db.trees in_deployed.tree) q)
-  left_at true hit rows is q =
-      takes_at triples_total exact_triple place_of (whole_at in_deployed.version_number) place (keeps by_version params) (db.trees in_deployed.tree) rows
-      (all_of _ (db.trees in_deployed.tree) (λ r has. kept_if true hit r has ∙ and-true _)) is q
-  left_at false miss rows is q = ap (λ xs. number_in xs q) (is
-      ∙ filter_all (λ r. not (keeps by_version params r)) (db.trees in_deployed.tree) (λ r has. ap not (kept_if false miss r has ∙ and-false _)))
+  number_in-after_removal true hit rows is q =
+      value_at-removed by_both-total_texts by_both-exact_texts place_of (whole_at in_deployed.version_number) place (keeps by_version params) (db.trees in_deployed.tree) rows
+      (all_of _ (db.trees in_deployed.tree) (λ r has. keeps-if_number_at_place true hit r has ∙ and-true _)) is q
+  number_in-after_removal false miss rows is q = ap (λ xs. number_in xs q) (is
+      ∙ filter_all (λ r. not (keeps by_version params r)) (db.trees in_deployed.tree) (λ r has. ap not (keeps-if_number_at_place false miss r has ∙ and-false _)))
 
 -- the row of the place goes if it has the number, and the count says whether it did
-pub ended : (e p i : List ℕ) (n : ℕ) (old new : State) (count : ℕ) → (broker : IsBroker old.now) → Executes end_sql (Text e ∷ Text p ∷ Text i ∷ Int (pos n) ∷ []) old new (Ok count)
+pub Executes-end_deployment : (e p i : List ℕ) (n : ℕ) (old new : State) (count : ℕ) → (broker : IsBroker old.now) → Executes end_sql (Text e ∷ Text p ∷ Text i ∷ Int (pos n) ∷ []) old new (Ok count)
     → ChangesOnly in_deployed.tree old new × Grows (old.now.trees in_deployed.tree) (new.now.trees in_deployed.tree) × ((b : Bool) → is_number n (at_place old.now broker e p i n) ≡ b → (q : Place) → number_in (new.now.trees in_deployed.tree) q ≡ cond (b && eq_by_cmp place_cmp q (e, (p, i))) None (number_in (old.now.trees in_deployed.tree) q))
     × (nat_lt 0 count ≡ is_number n (at_place old.now broker e p i n))
-ended e p i n old new count broker h =
+Executes-end_deployment e p i n old new count broker h =
     let db = old.now in
     let params = Text e ∷ Text p ∷ Text i ∷ Int (pos n) ∷ [] in
-    let it = taken_from (ending e p i n) old new broker count h in (
+    let it = Executes-delete_rows (ending e p i n) old new broker count h in (
       it.0,
-      grows_kept (db.trees in_deployed.tree) (new.now.trees in_deployed.tree) _ it.1,
-      λ b is q. left_at db broker e p i n b is (new.now.trees in_deployed.tree) it.1 q,
-      ap (nat_lt 0) it.2 ∙ some_counted (keeps by_version params) (db.trees in_deployed.tree)
-          ∙ any_kept db broker e p i n (is_number n (at_place db broker e p i n)) refl,
+      Grows-filter (db.trees in_deployed.tree) (new.now.trees in_deployed.tree) _ it.1,
+      λ b is q. number_in-after_removal db broker e p i n b is (new.now.trees in_deployed.tree) it.1 q,
+      ap (nat_lt 0) it.2 ∙ length-filter-list_any (keeps by_version params) (db.trees in_deployed.tree)
+          ∙ list_any-keeps_by_version db broker e p i n (is_number n (at_place db broker e p i n)) refl,
     )

@@ -1,4 +1,4 @@
--- The rows of both sides, each once, are the matrix.
+-- The rows of both sides, each Lists-dedup, are the matrix.
 use Rattle.std.specs.Cmp.{IsTotalOrder, IsEquivalence, eq_by_cmp_equiv, Equal-is}
 use Rattle.std.specs.{Prelude.{Option, Some, None, option_map, Contains, IsSomeAnd, MatchOption, ◌↔◌, IsPermutation, IsSorted}, Ordering.{eq_by_cmp}}
 use Rattle.std.specs.{List.{dedup}, declared.cmp.Ordering.{Ordering}, declared.cmp.Ordering.TheVariants.{Equal}}
@@ -7,34 +7,34 @@ use Rattle.std.proofs.lemmas.List.Sorted.{Contains-permutation, IsPermutation-sy
 use Rattle.std.proofs.lemmas.List.Kept.{Any-dedup, Contains-from_dedup, IsStrictlySortedBy-dedup}
 use Rattle.table_access.proofs.Members.{contains_has, has_contains, has_map, map_has}
 use Rattle.deploy_tables.specs.Matrix.{HasNone, IsOfContract, IsOfSome, IsConsumed, IsProvided, row_with, row_without, rows_with, or_one}
-use Rattle.deploy_tables.proofs.MatrixLoop.{both_ways, both_of}
+use Rattle.deploy_tables.proofs.MatrixLoop.{iff-trans, Contains-append}
 use Rattle.broker_core.specs.{Listing.{Lists}, declared.command.Version.{Version}, declared.need.Latest.{Latest}, declared.answer.MatrixRow.{MatrixRow}}
 use Rattle.broker_core.specs.{declared.answer.Verified.{Verified}, Text.{Text, version}, State.{State, Verification, latest_result, said_by}}
-use Rattle.broker_core.{specs.Machine.{matrix_cmp, verified_version, IsLatest, IsMatrixRow}, proofs.Order.{text_tied, option_tied, both_equal}}
-use Rattle.broker_core.proofs.Lists.{some_is, contains_none, contains_cases, contains_here}
+use Rattle.broker_core.{specs.Machine.{matrix_cmp, verified_version, IsLatest, IsMatrixRow}, proofs.Order.{text_cmp-equal, option_cmp-equal, ordering_then-equal}}
+use Rattle.broker_core.proofs.Lists.{Some-injective, Contains-empty, Contains-cons_cases, Contains-here}
 use Rattle.contract_tables.specs.{declared.listings.Contract.{Contract}, ToldVersions.{verified_cmp}, VersionResults.{said_of}}
 
 -- ---- lists
 
 -- what is made of those that are listed
-pub mapped_is : {A B : Type 0} (f : A → B) {cmp : A → A → Ordering} {P : A → Type 0} (xs : List A) → Lists cmp P xs → (y : B)
+pub Contains-map_listed : {A B : Type 0} (f : A → B) {cmp : A → A → Ordering} {P : A → Type 0} (xs : List A) → Lists cmp P xs → (y : B)
     → Contains (map f xs) y ↔ ((x : A) × P x × (y ≡ f x))
-mapped_is f xs listed y = (
+Contains-map_listed f xs listed y = (
   λ c. let it = map_has f xs y (contains_has (map f xs) y c) in (it.0, (listed.exactly it.0).0 (has_contains xs it.0 it.1), it.2),
   λ is. subst (Contains (map f xs)) (sym is.2) (has_contains (map f xs) (f is.0) (has_map f xs is.0 (contains_has xs is.0 ((listed.exactly is.0).1 is.1)))),
 )
 
 -- a member of a list, or the one that is taken if the list is empty
-or_one_is : {X : Type 0} (xs : List X) (z y : X) → Contains (or_one xs z) y ↔ (Contains xs y ⊎ (((x : X) → ¬ (Contains xs x)) × (y ≡ z)))
-or_one_is [] z y = (
-  λ c. elim (contains_cases z [] y c) [ inl same ↦ inr (contains_none, sym same) | inr none ↦ inl none ],
-  λ is. elim is [ inl none ↦ absurd (contains_none y none) | inr alone ↦ subst (Contains (z ∷ [])) (sym alone.1) (contains_here z []) ],
+Contains-or_one : {X : Type 0} (xs : List X) (z y : X) → Contains (or_one xs z) y ↔ (Contains xs y ⊎ (((x : X) → ¬ (Contains xs x)) × (y ≡ z)))
+Contains-or_one [] z y = (
+  λ c. elim (Contains-cons_cases z [] y c) [ inl same ↦ inr (Contains-empty, sym same) | inr none ↦ inl none ],
+  λ is. elim is [ inl none ↦ absurd (Contains-empty y none) | inr alone ↦ subst (Contains (z ∷ [])) (sym alone.1) (Contains-here z []) ],
 )
-or_one_is (x ∷ xs) z y = (λ c. inl c, λ is. elim is [ inl c ↦ c | inr alone ↦ absurd (alone.0 x (contains_here x xs)) ])
+Contains-or_one (x ∷ xs) z y = (λ c. inl c, λ is. elim is [ inl c ↦ c | inr alone ↦ absurd (alone.0 x (Contains-here x xs)) ])
 
 -- what holds of some that are listed
-pub of_listed : {C : Type 0} (Is P : C → Type 0) (cmp : C → C → Ordering) (cs ds : List C) → Lists cmp P cs → ds ≡ cs → (A : Type 0) → A ↔ IsOfSome Is ds → A ↔ ((c : C) × P c × Is c)
-of_listed Is P cmp cs ds listed same A both = (
+pub IsOfSome-listed : {C : Type 0} (Is P : C → Type 0) (cmp : C → C → Ordering) (cs ds : List C) → Lists cmp P cs → ds ≡ cs → (A : Type 0) → A ↔ IsOfSome Is ds → A ↔ ((c : C) × P c × Is c)
+IsOfSome-listed Is P cmp cs ds listed same A both = (
   λ a. let it = both.0 a in (it.0, (listed.exactly it.0).0 (subst (λ xs. Contains xs it.0) same it.1), it.2),
   λ some. both.1 (some.0, subst (λ xs. Contains xs some.0) (sym same) ((listed.exactly some.0).1 some.1), some.2),
 )
@@ -44,33 +44,33 @@ of_listed Is P cmp cs ds listed same A both = (
 abbrev Says : Option (ℕ × Verification) → ℕ → Latest → Type 0
 Says o n l = IsSomeAnd o (λ e. (n ≡ e.0) × (l ≡ said_by e.1))
 
-none_says : (o : Option (ℕ × Verification)) → ((n : ℕ) (l : Latest) → ¬ (Says o n l)) → o ≡ None
-none_says None never = refl
-none_says (Some e) never = absurd (never e.0 (said_by e.1) (refl, refl))
+Says-None : (o : Option (ℕ × Verification)) → ((n : ℕ) (l : Latest) → ¬ (Says o n l)) → o ≡ None
+Says-None None never = refl
+Says-None (Some e) never = absurd (never e.0 (said_by e.1) (refl, refl))
 
-told_says : (o : Option (ℕ × Verification)) (n : ℕ) (l : Latest) → option_map said_of o ≡ Some (n, l) → Says o n l
-told_says None n l h = absurd cc
-told_says (Some e) n l h = let it = some_is (said_of e) (n, l) h in (sym (ap (λ (p : ℕ × Latest). p.0) it), sym (ap (λ (p : ℕ × Latest). p.1) it))
+Says-of_Some : (o : Option (ℕ × Verification)) (n : ℕ) (l : Latest) → option_map said_of o ≡ Some (n, l) → Says o n l
+Says-of_Some None n l h = absurd cc
+Says-of_Some (Some e) n l h = let it = Some-injective (said_of e) (n, l) h in (sym (ap (λ (p : ℕ × Latest). p.0) it), sym (ap (λ (p : ℕ × Latest). p.1) it))
 
-says_told : (o : Option (ℕ × Verification)) (n : ℕ) (l : Latest) → Says o n l → option_map said_of o ≡ Some (n, l)
-says_told None n l h = absurd h
-says_told (Some e) n l h = λ i. Some (sym h.0 i, sym h.1 i)
+Says-Some : (o : Option (ℕ × Verification)) (n : ℕ) (l : Latest) → Says o n l → option_map said_of o ≡ Some (n, l)
+Says-Some None n l h = absurd h
+Says-Some (Some e) n l h = λ i. Some (sym h.0 i, sym h.1 i)
 
-one_said : (o : Option (ℕ × Verification)) (n m : ℕ) (l k : Latest) → Says o n l → Says o m k → (n ≡ m) × (l ≡ k)
-one_said None n m l k h h2 = absurd h
-one_said (Some e) n m l k h h2 = (h.0 ∙ sym h2.0, h.1 ∙ sym h2.1)
+Says-unique : (o : Option (ℕ × Verification)) (n m : ℕ) (l k : Latest) → Says o n l → Says o m k → (n ≡ m) × (l ≡ k)
+Says-unique None n m l k h h2 = absurd h
+Says-unique (Some e) n m l k h h2 = (h.0 ∙ sym h2.0, h.1 ∙ sym h2.1)
 
 -- ---- the parts as they are paired
 
 -- a contract with the versions that have a result for it
-pub contract_rows : (s : State) (v : Version) (c : Contract) (verified : List Verified)
+pub Contains-rows_with : (s : State) (v : Version) (c : Contract) (verified : List Verified)
     → Lists verified_cmp (λ r. IsLatest s c.content (version c.provider r.provider_version) r) verified
     → (x : MatrixRow) → Contains (rows_with v c verified) x ↔ IsOfContract s v c x
-contract_rows s v c verified listed x = (
+Contains-rows_with s v c verified listed x = (
   λ there. elim (either.0 there) [
     | inl some ↦ inl ((paired x).0 some)
     | inr alone ↦ inr (
-      λ w. none_says (latest_result s c.content (version c.provider w)) (λ n l says.
+      λ w. Says-None (latest_result s c.content (version c.provider w)) (λ n l says.
           let r : Verified = record { provider_version = w; result = n; latest = l } in alone.0 (row_with v c r) ((paired (row_with v c r)).1 (r, says, refl))),
       alone.1,
     )
@@ -86,28 +86,28 @@ contract_rows s v c verified listed x = (
   where
     either : Contains (rows_with v c verified) x ↔ (Contains (map (row_with v c) verified) x
         ⊎ (((y : MatrixRow) → ¬ (Contains (map (row_with v c) verified) y)) × (x ≡ row_without v c)))
-    either = or_one_is (map (row_with v c) verified) (row_without v c) x
+    either = Contains-or_one (map (row_with v c) verified) (row_without v c) x
 
     paired : (y : MatrixRow) → Contains (map (row_with v c) verified) y
         ↔ ((r : Verified) × IsLatest s c.content (version c.provider r.provider_version) r × (y ≡ row_with v c r))
-    paired = mapped_is (row_with v c) verified listed
+    paired = Contains-map_listed (row_with v c) verified listed
 
 -- ---- both sides are the matrix
 
 module _ (s : State) (v : Version) where
-  consumed_row : (x : MatrixRow) → IsConsumed s v x → IsMatrixRow s v x
-  consumed_row x (c, contract, inl (r, says, same)) =
+  IsConsumed-IsMatrixRow : (x : MatrixRow) → IsConsumed s v x → IsMatrixRow s v x
+  IsConsumed-IsMatrixRow x (c, contract, inl (r, says, same)) =
       subst (IsMatrixRow s v) (sym same) (record { content = c.content; contract = contract; verified = (inl refl, says) })
-  consumed_row x (c, contract, inr (none, same)) =
+  IsConsumed-IsMatrixRow x (c, contract, inr (none, same)) =
       subst (IsMatrixRow s v) (sym same) (record { content = c.content; contract = contract; verified = (refl, none) })
 
-  provided_row : (x : MatrixRow) → IsProvided s v x → IsMatrixRow s v x
-  provided_row x (c, latest, (w, contract, same)) =
-      let says = told_says (latest_result s c.content v) c.result c.latest latest in
+  IsProvided-IsMatrixRow : (x : MatrixRow) → IsProvided s v x → IsMatrixRow s v x
+  IsProvided-IsMatrixRow x (c, latest, (w, contract, same)) =
+      let says = Says-of_Some (latest_result s c.content v) c.result c.latest latest in
       subst (IsMatrixRow s v) (sym same) (record { content = c.content; contract = contract; verified = (inr refl, says) })
 
-  pub either_side : (x : MatrixRow) → IsMatrixRow s v x → IsConsumed s v x ⊎ IsProvided s v x
-  either_side x is = go x.verified is.verified
+  pub IsMatrixRow-either_side : (x : MatrixRow) → IsMatrixRow s v x → IsConsumed s v x ⊎ IsProvided s v x
+  IsMatrixRow-either_side x is = go x.verified is.verified
     where
       w : Version
       w = version x.consumer x.consumer_version
@@ -128,7 +128,7 @@ module _ (s : State) (v : Version) where
       go (Some r) (inl mine, says) = inl (record { provider = x.provider; content = is.content }, contract mine, inl (r, says, own mine (Some r)))
       go (Some r) (inr theirs, says) = inr (
         record { content = is.content; result = r.result; latest = r.latest },
-        subst (λ u. option_map said_of (latest_result s is.content u) ≡ Some (r.result, r.latest)) theirs (says_told _ r.result r.latest says),
+        subst (λ u. option_map said_of (latest_result s is.content u) ≡ Some (r.result, r.latest)) theirs (Says-Some _ r.result r.latest says),
         (
           w,
           subst (λ (u : Version). s.contracts (w, u.pacticipant) ≡ Some is.content) theirs is.contract,
@@ -142,48 +142,48 @@ module _ (s : State) (v : Version) where
       )
 
   -- what both sides list is the matrix
-  pub both_sides : (own others all : List MatrixRow) → all ≡ own ++ others → ((x : MatrixRow) → Contains own x ↔ IsConsumed s v x)
+  pub IsMatrixRow-both_sides : (own others all : List MatrixRow) → all ≡ own ++ others → ((x : MatrixRow) → Contains own x ↔ IsConsumed s v x)
       → ((x : MatrixRow) → Contains others x ↔ IsProvided s v x) → (x : MatrixRow) → Contains all x ↔ IsMatrixRow s v x
-  both_sides own others all is mine theirs x = both_ways (both_of own others all is x (mine x) (theirs x))
-      (λ found. elim found [ inl one ↦ consumed_row x one | inr two ↦ provided_row x two ], either_side x)
+  IsMatrixRow-both_sides own others all is mine theirs x = iff-trans (Contains-append own others all is x (mine x) (theirs x))
+      (λ found. elim found [ inl one ↦ IsConsumed-IsMatrixRow x one | inr two ↦ IsProvided-IsMatrixRow x two ], IsMatrixRow-either_side x)
 
   -- a version of the provider has one result for a content
-  one_verified : (content : ℕ) (p : Text) (none : Type 0) (side : Text → Type 0) (o u : Option Verified)
+  IsLatest-one_verified : (content : ℕ) (p : Text) (none : Type 0) (side : Text → Type 0) (o u : Option Verified)
       → MatchOption o none (λ r. side r.provider_version × IsLatest s content (version p r.provider_version) r)
       → MatchOption u none (λ r. side r.provider_version × IsLatest s content (version p r.provider_version) r) → verified_version o ≡ verified_version u → o ≡ u
-  one_verified content p none side None None h k same = refl
-  one_verified content p none side (Some r) (Some q) h k same =
-      let name = some_is r.provider_version q.provider_version same in
+  IsLatest-one_verified content p none side None None h k same = refl
+  IsLatest-one_verified content p none side (Some r) (Some q) h k same =
+      let name = Some-injective r.provider_version q.provider_version same in
       let there = subst (λ w. Says (latest_result s content (version p w)) q.result q.latest) (sym name) k.1 in
-      let one = one_said (latest_result s content (version p r.provider_version)) r.result q.result r.latest q.latest h.1 there in
+      let one = Says-unique (latest_result s content (version p r.provider_version)) r.result q.result r.latest q.latest h.1 there in
       λ i. Some (record { provider_version = name i; result = one.0 i; latest = one.1 i })
-  one_verified content p none side _ _ h k same = absurd cc
+  IsLatest-one_verified content p none side _ _ h k same = absurd cc
 
   -- so two rows of the same names are one
-  pub one_row : (x y : MatrixRow) → IsMatrixRow s v x → IsMatrixRow s v y → matrix_cmp x y ≡ Equal → x ≡ y
-  one_row x y is are tied =
-      let a = both_equal _ _ tied in
-      let b = both_equal _ _ a.1 in
-      let d = both_equal _ _ b.1 in
-      let c = text_tied x.consumer y.consumer a.0 in
-      let cv = text_tied x.consumer_version y.consumer_version b.0 in
-      let p = text_tied x.provider y.provider d.0 in
+  pub IsMatrixRow-one_row : (x y : MatrixRow) → IsMatrixRow s v x → IsMatrixRow s v y → matrix_cmp x y ≡ Equal → x ≡ y
+  IsMatrixRow-one_row x y is are tied =
+      let a = ordering_then-equal _ _ tied in
+      let b = ordering_then-equal _ _ a.1 in
+      let d = ordering_then-equal _ _ b.1 in
+      let c = text_cmp-equal x.consumer y.consumer a.0 in
+      let cv = text_cmp-equal x.consumer_version y.consumer_version b.0 in
+      let p = text_cmp-equal x.provider y.provider d.0 in
       let moved : MatrixRow = record { consumer = x.consumer; consumer_version = x.consumer_version; provider = x.provider; verified = y.verified } in
       let path : y ≡ moved = λ i. record { consumer = sym c i; consumer_version = sym cv i; provider = sym p i; verified = y.verified } in
       let there : IsMatrixRow s v moved = subst (IsMatrixRow s v) path are in
-      let content : there.content ≡ is.content = some_is _ _ (sym there.contract ∙ is.contract) in
+      let content : there.content ≡ is.content = Some-injective _ _ (sym there.contract ∙ is.contract) in
       let here = subst (λ n. MatchOption y.verified ((version x.consumer x.consumer_version ≡ v) × HasNone s n x.provider)
       (λ r. ((version x.consumer x.consumer_version ≡ v) ⊎ (version x.provider r.provider_version ≡ v)) × IsLatest s n (version x.provider r.provider_version) r)) content there.verified in
-      let verified = one_verified is.content x.provider _ (λ w. (version x.consumer x.consumer_version ≡ v) ⊎ (version x.provider w ≡ v)) x.verified y.verified is.verified here
-      (option_tied _ _ d.1) in
+      let verified = IsLatest-one_verified is.content x.provider _ (λ w. (version x.consumer x.consumer_version ≡ v) ⊎ (version x.provider w ≡ v)) x.verified y.verified is.verified here
+      (option_cmp-equal _ _ d.1) in
       (λ i. record { consumer = x.consumer; consumer_version = x.consumer_version; provider = x.provider; verified = verified i }) ∙ sym path
 
--- ---- each once
+-- ---- each Lists-dedup
 
 -- a list that is sorted and then loses what is in it twice, if those that tie are one
-pub once : {X : Type 0} {R : X → X → Ordering} {E : X → X → Bool} (o : IsTotalOrder R) (ties : (x y : X) → E x y ≡ eq_by_cmp R x y) (Is : X → Type 0)
+pub Lists-dedup : {X : Type 0} {R : X → X → Ordering} {E : X → X → Bool} (o : IsTotalOrder R) (ties : (x y : X) → E x y ≡ eq_by_cmp R x y) (Is : X → Type 0)
     (tied : (x y : X) → Is x → Is y → R x y ≡ Equal → x ≡ y) (xs ys : List X) → ((x : X) → Contains xs x ↔ Is x) → IsPermutation xs ys → IsSorted R ys → Lists R Is (dedup E ys)
-once {X} {R} {E} o ties Is tied xs ys are moved sorted = record {
+Lists-dedup {X} {R} {E} o ties Is tied xs ys are moved sorted = record {
   sorted = IsStrictlySortedBy-dedup o ties ys sorted;
   exactly = λ x. (
     λ there. is x there,

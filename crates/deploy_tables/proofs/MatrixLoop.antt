@@ -2,45 +2,45 @@
 use Rattle.std.{specs.Prelude.{Contains, ◌↔◌}, proofs.Common.{◌≡◌, ◌<◌, ◌≤◌, ◌+◌, ◌⊎◌, inl, inr, ℕ, List, [], ◌∷◌, ◌++◌, length, take, get_or, sym, subst, ◌∙◌}}
 use Rattle.std.proofs.lemmas.List.{get_or_default, take_more, take_all}
 use Rattle.std.proofs.lemmas.List.Elements.{Contains-append_cases, Contains-append_left, Contains-append_right}
-use Rattle.broker_core.proofs.Lists.{contains_none, contains_cases, contains_here}
+use Rattle.broker_core.proofs.Lists.{Contains-empty, Contains-cons_cases, Contains-here}
 use Rattle.deploy_tables.specs.Matrix.{IsOfSome}
-pub use Rattle.broker_tables.proofs.QueryLemmas.{query_failed, calm_then, both_told, calm_answers, calm_both}
+pub use Rattle.broker_tables.proofs.QueryLemmas.{CalmQueriesBetween-then_failed, CalmQueriesBetween-then, CalmQueriesBetween-both, CalmQueriesBetween-other_answer, CalmQueriesBetween-from_both}
 
 -- ---- lists that are put together
 
-pub both_ways : {A B C : Type 0} → A ↔ B → B ↔ C → A ↔ C
-both_ways one two = (λ a. two.0 (one.0 a), λ c. one.1 (two.1 c))
+pub iff-trans : {A B C : Type 0} → A ↔ B → B ↔ C → A ↔ C
+iff-trans one two = (λ a. two.0 (one.0 a), λ c. one.1 (two.1 c))
 
-pub one_is : {A : Type 0} (x y : A) → Contains (x ∷ []) y ↔ (y ≡ x)
-one_is x y = (λ c. elim (contains_cases x [] y c) [ inl same ↦ sym same | inr none ↦ absurd (contains_none y none) ], λ same. subst (Contains (x ∷ [])) (sym same) (contains_here x []))
+pub Contains-one : {A : Type 0} (x y : A) → Contains (x ∷ []) y ↔ (y ≡ x)
+Contains-one x y = (λ c. elim (Contains-cons_cases x [] y c) [ inl same ↦ sym same | inr none ↦ absurd (Contains-empty y none) ], λ same. subst (Contains (x ∷ [])) (sym same) (Contains-here x []))
 
-pub one_of : {A : Type 0} (xs : List A) (x : A) → xs ≡ x ∷ [] → (y : A) → Contains xs y ↔ (y ≡ x)
-one_of xs x is y = subst (λ ys. Contains ys y ↔ (y ≡ x)) (sym is) (one_is x y)
+pub Contains-single : {A : Type 0} (xs : List A) (x : A) → xs ≡ x ∷ [] → (y : A) → Contains xs y ↔ (y ≡ x)
+Contains-single xs x is y = subst (λ ys. Contains ys y ↔ (y ≡ x)) (sym is) (Contains-one x y)
 
 -- the members of two lists
-pub both_of : {X A B : Type 0} (a b all : List X) → all ≡ a ++ b → (x : X) → Contains a x ↔ A → Contains b x ↔ B → Contains all x ↔ (A ⊎ B)
-both_of a b all is x one two = (
+pub Contains-append : {X A B : Type 0} (a b all : List X) → all ≡ a ++ b → (x : X) → Contains a x ↔ A → Contains b x ↔ B → Contains all x ↔ (A ⊎ B)
+Contains-append a b all is x one two = (
   λ c. elim (Contains-append_cases a b x (subst (λ xs. Contains xs x) is c)) [ inl first ↦ inl (one.0 first) | inr second ↦ inr (two.0 second) ],
   λ h. subst (λ xs. Contains xs x) (sym is) (elim h [ inl c ↦ Contains-append_left a b x (one.1 c) | inr c ↦ Contains-append_right a b x (two.1 c) ]),
 )
 
 -- one member more
-pub turn : {C : Type 0} (cs : List C) (at : ℕ) (c d : C) → at < length cs → Contains (take (at + 1) cs) d ↔ (Contains (take at cs) d ⊎ (d ≡ get_or cs at c))
-turn cs at c d low = both_of (take at cs) (get_or cs at c ∷ []) (take (at + 1) cs) (take_more cs at c low) d (λ h. h, λ h. h) (one_is (get_or cs at c) d)
+pub Contains-take_next : {C : Type 0} (cs : List C) (at : ℕ) (c d : C) → at < length cs → Contains (take (at + 1) cs) d ↔ (Contains (take at cs) d ⊎ (d ≡ get_or cs at c))
+Contains-take_next cs at c d low = Contains-append (take at cs) (get_or cs at c ∷ []) (take (at + 1) cs) (take_more cs at c low) d (λ h. h, λ h. h) (Contains-one (get_or cs at c) d)
 
 -- what is found of each member so far
 module _ {C Y : Type 0} (Is : C → Y → Type 0) (cs : List C) where
-  pub of_more : (at : ℕ) (c : C) (a more b : List Y) → at < length cs → c ≡ get_or cs at c → b ≡ a ++ more → ((x : Y) → Contains a x ↔ IsOfSome (λ c. Is c x) (take at cs)) → ((x : Y) → Contains more x ↔ Is c x)
+  pub IsOfSome-take_next : (at : ℕ) (c : C) (a more b : List Y) → at < length cs → c ≡ get_or cs at c → b ≡ a ++ more → ((x : Y) → Contains a x ↔ IsOfSome (λ c. Is c x) (take at cs)) → ((x : Y) → Contains more x ↔ Is c x)
       → (x : Y) → Contains b x ↔ IsOfSome (λ c. Is c x) (take (at + 1) cs)
-  of_more at c a more b low is grown was here x = both_ways (both_of a more b grown x (was x) (here x)) (
-    λ found. elim found [ inl old ↦ (old.0, (turn cs at c old.0 low).1 (inl old.1), old.2) | inr new ↦ (c, (turn cs at c c low).1 (inr is), new) ],
-    λ some. elim ((turn cs at c some.0 low).0 some.1) [ inl old ↦ inl (some.0, old, some.2) | inr new ↦ inr (subst (λ d. Is d x) (new ∙ sym is) some.2) ],
+  IsOfSome-take_next at c a more b low is grown was here x = iff-trans (Contains-append a more b grown x (was x) (here x)) (
+    λ found. elim found [ inl old ↦ (old.0, (Contains-take_next cs at c old.0 low).1 (inl old.1), old.2) | inr new ↦ (c, (Contains-take_next cs at c c low).1 (inr is), new) ],
+    λ some. elim ((Contains-take_next cs at c some.0 low).0 some.1) [ inl old ↦ inl (some.0, old, some.2) | inr new ↦ inr (subst (λ d. Is d x) (new ∙ sym is) some.2) ],
   )
 
   -- the same, with the member given by its place
-  pub of_more_at : (at : ℕ) (d : C) (a more b : List Y) → at < length cs → b ≡ a ++ more → ((x : Y) → Contains a x ↔ IsOfSome (λ c. Is c x) (take at cs)) → ((x : Y) → Contains more x ↔ Is (get_or cs at d) x)
+  pub IsOfSome-take_next_at : (at : ℕ) (d : C) (a more b : List Y) → at < length cs → b ≡ a ++ more → ((x : Y) → Contains a x ↔ IsOfSome (λ c. Is c x) (take at cs)) → ((x : Y) → Contains more x ↔ Is (get_or cs at d) x)
       → (x : Y) → Contains b x ↔ IsOfSome (λ c. Is c x) (take (at + 1) cs)
-  of_more_at at d a more b low grown was here = of_more at (get_or cs at d) a more b low (get_or_default cs at d (get_or cs at d) low) grown was here
+  IsOfSome-take_next_at at d a more b low grown was here = IsOfSome-take_next at (get_or cs at d) a more b low (get_or_default cs at d (get_or cs at d) low) grown was here
 
-  pub of_all : (at : ℕ) (a : List Y) → length cs ≤ at → ((x : Y) → Contains a x ↔ IsOfSome (λ c. Is c x) (take at cs)) → (x : Y) → Contains a x ↔ IsOfSome (λ c. Is c x) cs
-  of_all at a past was x = subst (λ ds. Contains a x ↔ IsOfSome (λ c. Is c x) ds) (take_all at cs past) (was x)
+  pub IsOfSome-take_all : (at : ℕ) (a : List Y) → length cs ≤ at → ((x : Y) → Contains a x ↔ IsOfSome (λ c. Is c x) (take at cs)) → (x : Y) → Contains a x ↔ IsOfSome (λ c. Is c x) cs
+  IsOfSome-take_all at a past was x = subst (λ ds. Contains a x ↔ IsOfSome (λ c. Is c x) ds) (take_all at cs past) (was x)

@@ -4,23 +4,23 @@ use Rattle.std.specs.{Cmp.{IsTotalOrder, on_total, then_total}, Cmp.Lexicographi
 use Rattle.std.specs.declared.cmp.Ordering.TheVariants.{Equal}
 use Rattle.std.proofs.Common.{◌≡◌, ◌≢◌, ◌⊎◌, ℕ, List, [], ◌∷◌, ◌++◌, refl, sym, ◌∙◌, ap, subst, inl, inr, Bool, true, false, true≢false, not, ◌&&◌, ◌||◌, ◌==◌, length, arith}
 use Rattle.std.proofs.lemmas.Bool.{eqb-true}
-use Rattle.broker_tables.{specs.Numbers.{number_of}, proofs.NumberLemmas.{one_version}}
+use Rattle.broker_tables.{specs.Numbers.{number_of}, proofs.NumberLemmas.{number_of-injective}}
 use Rattle.contract_tables.specs.declared.listings.Contract.{Contract}
 use Rattle.deploy_tables.specs.Needs.{AreFaults, need_cmp, is_good, is_wanted, is_left_out, need_with, need_used, IsWanted, IsWithPartner, IsNeedOfContract, IsOwnNeed, IsUsed, IsNeedOfOthers}
 use Rattle.deploy_tables.specs.{declared.contracts_there.NumberedContract.{NumberedContract}, Matrix.{IsOfSome}, ContractsThere.{TellsContracts}}
 use Rattle.deploy_tables.specs.{declared.wanted_needs.Wanted.{Wanted}, declared.wanted_needs.Wanted.TheVariants.{All, Open}}
-use Rattle.deploy_tables.{specs.Partners.{ArePartners, AreNumbered}, proofs.MatrixLoop.{both_ways, both_of, one_is, one_of}}
+use Rattle.deploy_tables.{specs.Partners.{ArePartners, AreNumbered}, proofs.MatrixLoop.{iff-trans, Contains-append, Contains-one, Contains-single}}
 use Rattle.broker_core.specs.{declared.command.Version.{Version}, declared.need.Need.{Need}, declared.need.Latest.{Latest}, declared.need.Kind.{Kind}}
 use Rattle.broker_core.specs.{declared.need.PairFault.{PairFault}, Text.{Text, same_text, version}, State.{State, latest}, Gate.{Stands, consumer_of, IsNeed}}
-use Rattle.broker_core.{specs.{Faults.{fault_of, fault_cmp, kind_of, IsFaultAmong}, Listing.{Lists}}, proofs.Lists.{some_is, contains_none, contains_here}}
-use Rattle.broker_core.proofs.{Order.{text_tied, option_tied, both_equal}, Judgement.{text_is, text_refl}}
+use Rattle.broker_core.{specs.{Faults.{fault_of, fault_cmp, kind_of, IsFaultAmong}, Listing.{Lists}}, proofs.Lists.{Some-injective, Contains-empty, Contains-here}}
+use Rattle.broker_core.proofs.{Order.{text_cmp-equal, option_cmp-equal, ordering_then-equal}, Judgement.{same_text-equal, same_text-refl}}
 
 -- ---- a latest result, and lists of at most one
 
 -- something is lacking if and only if the need isn't good
-lacking_is : (strict : Bool) (w : Text) (said : Option Latest) → is_some (kind_of strict (Some w) said) ≡ not (is_good strict said)
-lacking_is strict w None = refl
-lacking_is strict w (Some l) = go l.pass l.checked strict
+kind_of-is_good : (strict : Bool) (w : Text) (said : Option Latest) → is_some (kind_of strict (Some w) said) ≡ not (is_good strict said)
+kind_of-is_good strict w None = refl
+kind_of-is_good strict w (Some l) = go l.pass l.checked strict
   where
     go : (pass checked strict : Bool) → is_some (kind_of strict (Some w) (Some (record { pass = pass; checked = checked }))) ≡ not (pass && (checked || not strict))
     go true true true = refl
@@ -28,56 +28,56 @@ lacking_is strict w (Some l) = go l.pass l.checked strict
     go _ _ _ = refl
 
 -- so what is left out isn't wanted
-left_out_is : (wanted : Wanted) (u : Version) (p w : Text) (said : Option Latest) → is_wanted wanted (need_with u p (Some w) said) ≡ not (is_left_out wanted said)
-left_out_is All u p w said = refl
-left_out_is (Open strict) u p w said = lacking_is strict w said
+is_wanted-is_left_out : (wanted : Wanted) (u : Version) (p w : Text) (said : Option Latest) → is_wanted wanted (need_with u p (Some w) said) ≡ not (is_left_out wanted said)
+is_wanted-is_left_out All u p w said = refl
+is_wanted-is_left_out (Open strict) u p w said = kind_of-is_good strict w said
 
 -- and a provider that isn't there always is
-absent_wanted : (wanted : Wanted) (v : Version) (p : Text) → IsWanted wanted (need_with v p None None)
-absent_wanted All v p = refl
-absent_wanted (Open strict) v p = refl
+IsWanted-absent : (wanted : Wanted) (v : Version) (p : Text) → IsWanted wanted (need_with v p None None)
+IsWanted-absent All v p = refl
+IsWanted-absent (Open strict) v p = refl
 
 -- ---- a contract with one version, and one with the pacticipant of v, by what the latest result says
 
 module _ (s : State) (v : Version) (wanted : Wanted) (said : Option Latest) (good : Bool) (says_good : good ≡ is_left_out wanted said) where
-  lacks : (x : Need) (u : Version) (p w : Text) → x ≡ need_with u p (Some w) said → is_wanted wanted x ≡ not good
-  lacks x u p w is = ap (is_wanted wanted) is ∙ left_out_is wanted u p w said ∙ ap not (sym says_good)
+  is_wanted-not_good : (x : Need) (u : Version) (p w : Text) → x ≡ need_with u p (Some w) said → is_wanted wanted x ≡ not good
+  is_wanted-not_good x u p w is = ap (is_wanted wanted) is ∙ is_wanted-is_left_out wanted u p w said ∙ ap not (sym says_good)
 
   -- one that isn't left out is in the answer, with the version of this number
-  pub open_with : (c : Contract) (n : ℕ) → good ≡ false → ((w : Version) → number_of s.versions w ≡ Some n → said ≡ latest s c.content w)
+  pub IsWithPartner-open : (c : Contract) (n : ℕ) → good ≡ false → ((w : Version) → number_of s.versions w ≡ Some n → said ≡ latest s c.content w)
       → (w : Version) → number_of s.versions w ≡ Some n → (found : List Need) → found ≡ need_with v c.provider (Some w.name) said ∷ [] → (x : Need)
       → Contains found x ↔ IsWithPartner s v c wanted n x
-  open_with c n otherwise says w known found is x =
-      both_ways (one_of found (need_with v c.provider (Some w.name) said) is x) (
-        λ same. (w, known, lacks x v c.provider w.name same ∙ ap not otherwise, same ∙ ap (need_with v c.provider (Some w.name)) (says w known)),
+  IsWithPartner-open c n otherwise says w known found is x =
+      iff-trans (Contains-single found (need_with v c.provider (Some w.name) said) is x) (
+        λ same. (w, known, is_wanted-not_good x v c.provider w.name same ∙ ap not otherwise, same ∙ ap (need_with v c.provider (Some w.name)) (says w known)),
         λ is.
-            let alike : is.0 ≡ w = one_version s.versions is.0 w n is.1 known in
+            let alike : is.0 ≡ w = number_of-injective s.versions is.0 w n is.1 known in
             is.3 ∙ (λ i. need_with v c.provider (Some (alike i).name) (latest s c.content (alike i))) ∙ ap (need_with v c.provider (Some w.name)) (sym (says w known)),
       )
 
-  unless_same : (p q : Text) (b : Bool) → same_text p q ≡ b → (y x : Need) → Contains (option_to_list (if b then None else Some y)) x ↔ ((p ≢ q) × (x ≡ y))
-  unless_same p q true is y x = (λ none. absurd (contains_none x none), λ both. absurd (both.0 (text_is p q is)))
-  unless_same p q false is y x = (λ c. (λ same. true≢false (sym (ap (same_text p) (sym same) ∙ text_refl p) ∙ is), (one_is y x).0 c), λ h. (one_is y x).1 h.1)
+  option_to_list-unless_same : (p q : Text) (b : Bool) → same_text p q ≡ b → (y x : Need) → Contains (option_to_list (if b then None else Some y)) x ↔ ((p ≢ q) × (x ≡ y))
+  option_to_list-unless_same p q true is y x = (λ none. absurd (Contains-empty x none), λ both. absurd (both.0 (same_text-equal p q is)))
+  option_to_list-unless_same p q false is y x = (λ c. (λ same. true≢false (sym (ap (same_text p) (sym same) ∙ same_text-refl p) ∙ is), (Contains-one y x).0 c), λ h. (Contains-one y x).1 h.1)
 
-  pub open_used : (c : NumberedContract) → good ≡ false → said ≡ latest s c.content v → (w : Version) → number_of s.versions w ≡ Some c.number
+  pub IsUsed-open : (c : NumberedContract) → good ≡ false → said ≡ latest s c.content v → (w : Version) → number_of s.versions w ≡ Some c.number
       → (x : Need) → Contains (option_to_list (need_used v said w)) x ↔ IsUsed s v wanted c x
-  open_used c otherwise says w known x =
-      both_ways (unless_same w.pacticipant v.pacticipant (same_text w.pacticipant v.pacticipant) refl (need_with w v.pacticipant (Some v.name) said) x) (
-        λ it. (w, known, it.0, lacks x w v.pacticipant v.name it.1 ∙ ap not otherwise, it.1 ∙ ap (need_with w v.pacticipant (Some v.name)) says),
+  IsUsed-open c otherwise says w known x =
+      iff-trans (option_to_list-unless_same w.pacticipant v.pacticipant (same_text w.pacticipant v.pacticipant) refl (need_with w v.pacticipant (Some v.name) said) x) (
+        λ it. (w, known, it.0, is_wanted-not_good x w v.pacticipant v.name it.1 ∙ ap not otherwise, it.1 ∙ ap (need_with w v.pacticipant (Some v.name)) says),
         λ is.
-            let alike : is.0 ≡ w = one_version s.versions is.0 w c.number is.1 known in
+            let alike : is.0 ≡ w = number_of-injective s.versions is.0 w c.number is.1 known in
             (subst (λ (u : Version). u.pacticipant ≢ v.pacticipant) alike is.2, is.4 ∙ (λ i. need_with (alike i) v.pacticipant (Some v.name) (sym says i))),
       )
 
 -- ---- a contract with all versions that are there
 
 module _ (s : State) (v : Version) (e : Text) (wanted : Wanted) (c : Contract) (numbered : AreNumbered s e) where
-  pub with_some : (there : List ℕ) → ArePartners s c.provider (Stands s e) there → (length there == 0) ≡ false → (x : Need) → IsOfSome (λ n. IsWithPartner s v c wanted n x) there ↔ IsNeedOfContract s v e wanted c x
-  with_some there are some x = (
+  pub IsNeedOfContract-with_some : (there : List ℕ) → ArePartners s c.provider (Stands s e) there → (length there == 0) ≡ false → (x : Need) → IsOfSome (λ n. IsWithPartner s v c wanted n x) there ↔ IsNeedOfContract s v e wanted c x
+  IsNeedOfContract-with_some there are some x = (
     λ is.
         let it = (are is.0).0 is.1 in
         let w = is.2.0 in
-        let alike : w ≡ version c.provider it.0 = one_version s.versions w (version c.provider it.0) is.0 is.2.1 it.2 in
+        let alike : w ≡ version c.provider it.0 = number_of-injective s.versions w (version c.provider it.0) is.0 is.2.1 it.2 in
         inl (it.0, it.1, is.2.2, is.2.3 ∙ (λ i. need_with v c.provider (Some (alike i).name) (latest s c.content (alike i)))),
     λ is. elim is [
       | inl one ↦ let it = numbered (version c.provider one.0) one.1 in (it.0, (are it.0).1 (one.0, one.1, it.1), (version c.provider one.0, it.1, one.2, one.3))
@@ -87,11 +87,11 @@ module _ (s : State) (v : Version) (e : Text) (wanted : Wanted) (c : Contract) (
     where
       never : (ns : List ℕ) → (length ns == 0) ≡ false → ArePartners s c.provider (Stands s e) ns → ((w : Text) → ¬ (Stands s e (version c.provider w))) → ⊥
       never [] some are none = absurd cc
-      never (n ∷ ns) some are none = let it = (are n).0 (contains_here n ns) in none it.0 it.1
+      never (n ∷ ns) some are none = let it = (are n).0 (Contains-here n ns) in none it.0 it.1
 
-  pub with_none : (there : List ℕ) → ArePartners s c.provider (Stands s e) there → (length there == 0) ≡ true → (found : List Need)
+  pub IsNeedOfContract-with_none : (there : List ℕ) → ArePartners s c.provider (Stands s e) there → (length there == 0) ≡ true → (found : List Need)
       → found ≡ need_with v c.provider None None ∷ [] → (x : Need) → Contains found x ↔ IsNeedOfContract s v e wanted c x
-  with_none there are none found is x = both_ways (one_of found (need_with v c.provider None None) is x)
+  IsNeedOfContract-with_none there are none found is x = iff-trans (Contains-single found (need_with v c.provider None None) is x)
       (λ same. inr (nobody, same), λ is. elim is [ inl one ↦ absurd (nobody one.0 one.1) | inr none ↦ none.1 ])
     where
       nobody : (w : Text) → Stands s e (version c.provider w) → ⊥
@@ -107,15 +107,15 @@ IsWantedNeed s v e wanted x = IsNeed s v e x × IsWanted wanted x
 
 module _ (s : State) (v : Version) (e : Text) (wanted : Wanted) where
   -- what the contract of v gives is a need
-  consumed_is : (x : Need) → IsOwnNeed s v e wanted x → IsWantedNeed s v e wanted x
-  consumed_is x (c, mine, inl (w, stands, lacking, is)) =
+  IsOwnNeed-IsWantedNeed : (x : Need) → IsOwnNeed s v e wanted x → IsWantedNeed s v e wanted x
+  IsOwnNeed-IsWantedNeed x (c, mine, inl (w, stands, lacking, is)) =
       subst (λ y. IsWantedNeed s v e wanted y) (sym is) (record { content = c.content; contract = mine; between = inl (refl, stands); result = refl }, subst (IsWanted wanted) is lacking)
-  consumed_is x (c, mine, inr (none, is)) =
-      subst (λ y. IsWantedNeed s v e wanted y) (sym is) (record { content = c.content; contract = mine; between = inr (inl (refl, refl, none)); result = refl }, absent_wanted wanted v c.provider)
+  IsOwnNeed-IsWantedNeed x (c, mine, inr (none, is)) =
+      subst (λ y. IsWantedNeed s v e wanted y) (sym is) (record { content = c.content; contract = mine; between = inr (inl (refl, refl, none)); result = refl }, IsWanted-absent wanted v c.provider)
 
-  provided_is : (x : Need) → IsNeedOfOthers s v e wanted x → IsWantedNeed s v e wanted x
-  provided_is x (c, (u, stands, numbered, uses), (w, number, other, lacking, is)) =
-      let alike : u ≡ w = one_version s.versions u w c.number numbered number in
+  IsNeedOfOthers-IsWantedNeed : (x : Need) → IsNeedOfOthers s v e wanted x → IsWantedNeed s v e wanted x
+  IsNeedOfOthers-IsWantedNeed x (c, (u, stands, numbered, uses), (w, number, other, lacking, is)) =
+      let alike : u ≡ w = number_of-injective s.versions u w c.number numbered number in
       subst (λ y. IsWantedNeed s v e wanted y) (sym is) (
         record {
           content = c.content;
@@ -129,19 +129,19 @@ module _ (s : State) (v : Version) (e : Text) (wanted : Wanted) where
   alike : (a b : Need) → a.consumer ≡ b.consumer → a.consumer_version ≡ b.consumer_version → a.provider ≡ b.provider → a.provider_version ≡ b.provider_version → a.latest ≡ b.latest → a ≡ b
   alike a b one two three four five = λ i. record { consumer = one i; consumer_version = two i; provider = three i; provider_version = four i; latest = five i }
 
-  from_standing : (x : Need) (content : ℕ) → s.contracts (consumer_of x, x.provider) ≡ Some content → consumer_of x ≡ v → (o : Option Text) → x.provider_version ≡ o → IsSomeAnd o (λ w. Stands s e (version x.provider w))
+  IsOwnNeed-complete : (x : Need) (content : ℕ) → s.contracts (consumer_of x, x.provider) ≡ Some content → consumer_of x ≡ v → (o : Option Text) → x.provider_version ≡ o → IsSomeAnd o (λ w. Stands s e (version x.provider w))
       → x.latest ≡ option_and_then (λ w. latest s content (version x.provider w)) o → IsWanted wanted x → IsOwnNeed s v e wanted x
-  from_standing x content contract mine None is there result lacking = absurd there
-  from_standing x content contract mine (Some w) is there result lacking = (
+  IsOwnNeed-complete x content contract mine None is there result lacking = absurd there
+  IsOwnNeed-complete x content contract mine (Some w) is there result lacking = (
     record { provider = x.provider; content = content },
     subst (λ u. s.contracts (u, x.provider) ≡ Some content) mine contract,
     inl (w, there, lacking, alike x (need_with v x.provider (Some w) (latest s content (version x.provider w))) (ap (λ (u : Version). u.pacticipant) mine) (ap (λ (u : Version). u.name) mine) refl is result),
   )
 
   -- and each need that is wanted is found
-  from_need : (x : Need) → AreNumbered s e → IsNeed s v e x → IsWanted wanted x → IsOwnNeed s v e wanted x ⊎ IsNeedOfOthers s v e wanted x
-  from_need x numbered is lacking = elim is.between [
-    | inl there ↦ inl (from_standing x is.content is.contract there.0 x.provider_version refl there.1 is.result lacking)
+  IsNeed-own_or_of_others : (x : Need) → AreNumbered s e → IsNeed s v e x → IsWanted wanted x → IsOwnNeed s v e wanted x ⊎ IsNeedOfOthers s v e wanted x
+  IsNeed-own_or_of_others x numbered is lacking = elim is.between [
+    | inl there ↦ inl (IsOwnNeed-complete x is.content is.contract there.0 x.provider_version refl there.1 is.result lacking)
     | inr (inl none) ↦ inl (
       record { provider = x.provider; content = is.content },
       subst (λ u. s.contracts (u, x.provider) ≡ Some is.content) none.0 is.contract,
@@ -168,58 +168,58 @@ module _ (s : State) (v : Version) (e : Text) (wanted : Wanted) where
   ]
 
   -- what is found of the contracts that are there
-  pub provided_are : (there : List NumberedContract) (found : List Need) → TellsContracts s v.pacticipant (Stands s e) there → ((x : Need) → Contains found x ↔ IsOfSome (λ c. IsUsed s v wanted c x) there) → (x : Need) → Contains found x ↔ IsNeedOfOthers s v e wanted x
-  provided_are there found told here x = (
+  pub IsNeedOfOthers-found : (there : List NumberedContract) (found : List Need) → TellsContracts s v.pacticipant (Stands s e) there → ((x : Need) → Contains found x ↔ IsOfSome (λ c. IsUsed s v wanted c x) there) → (x : Need) → Contains found x ↔ IsNeedOfOthers s v e wanted x
+  IsNeedOfOthers-found there found told here x = (
     λ c. let it = (here x).0 c in (it.0, (told it.0).0 it.1, it.2),
     λ is. (here x).1 (is.0, (told is.0).1 is.1, is.2),
   )
 
-  pub both_are : AreNumbered s e → (mine theirs all : List Need) → all ≡ mine ++ theirs → ((x : Need) → Contains mine x ↔ IsOwnNeed s v e wanted x)
+  pub IsWantedNeed-append : AreNumbered s e → (mine theirs all : List Need) → all ≡ mine ++ theirs → ((x : Need) → Contains mine x ↔ IsOwnNeed s v e wanted x)
       → ((x : Need) → Contains theirs x ↔ IsNeedOfOthers s v e wanted x)
       → (x : Need) → Contains all x ↔ IsWantedNeed s v e wanted x
-  both_are numbered mine theirs all same are_mine are_theirs x = both_ways (both_of mine theirs all same x (are_mine x) (are_theirs x)) (
-    λ found. elim found [ inl one ↦ consumed_is x one | inr two ↦ provided_is x two ],
-    λ is. from_need x numbered is.0 is.1,
+  IsWantedNeed-append numbered mine theirs all same are_mine are_theirs x = iff-trans (Contains-append mine theirs all same x (are_mine x) (are_theirs x)) (
+    λ found. elim found [ inl one ↦ IsOwnNeed-IsWantedNeed x one | inr two ↦ IsNeedOfOthers-IsWantedNeed x two ],
+    λ is. IsNeed-own_or_of_others x numbered is.0 is.1,
   )
 
 -- ---- all of them, each once
 
-pub need_cmp_total : IsTotalOrder need_cmp
-need_cmp_total = then_total (on_total (λ (x : Need). x.consumer) nat_list_cmp_total)
+pub need_cmp-IsTotalOrder : IsTotalOrder need_cmp
+need_cmp-IsTotalOrder = then_total (on_total (λ (x : Need). x.consumer) nat_list_cmp_total)
     (then_total (on_total (λ (x : Need). x.consumer_version) nat_list_cmp_total)
     (then_total (on_total (λ (x : Need). x.provider) nat_list_cmp_total) (on_total (λ (x : Need). x.provider_version) (options_total nat_list_cmp_total))))
 
 -- two needs of the same names are one
-pub one_need : (s : State) (v : Version) (e : Text) (x y : Need) → IsNeed s v e x → IsNeed s v e y → need_cmp x y ≡ Equal → x ≡ y
-one_need s v e x y is are tied =
-    let a = both_equal _ _ tied in
-    let b = both_equal _ _ a.1 in
-    let d = both_equal _ _ b.1 in
-    let c = text_tied x.consumer y.consumer a.0 in
-    let cv = text_tied x.consumer_version y.consumer_version b.0 in
-    let p = text_tied x.provider y.provider d.0 in
-    let pv = option_tied x.provider_version y.provider_version d.1 in
-    let content : is.content ≡ are.content = some_is _ _ (sym is.contract ∙ (λ i. s.contracts (version (c i) (cv i), p i)) ∙ are.contract) in
+pub IsNeed-one_need : (s : State) (v : Version) (e : Text) (x y : Need) → IsNeed s v e x → IsNeed s v e y → need_cmp x y ≡ Equal → x ≡ y
+IsNeed-one_need s v e x y is are tied =
+    let a = ordering_then-equal _ _ tied in
+    let b = ordering_then-equal _ _ a.1 in
+    let d = ordering_then-equal _ _ b.1 in
+    let c = text_cmp-equal x.consumer y.consumer a.0 in
+    let cv = text_cmp-equal x.consumer_version y.consumer_version b.0 in
+    let p = text_cmp-equal x.provider y.provider d.0 in
+    let pv = option_cmp-equal x.provider_version y.provider_version d.1 in
+    let content : is.content ≡ are.content = Some-injective _ _ (sym is.contract ∙ (λ i. s.contracts (version (c i) (cv i), p i)) ∙ are.contract) in
     let said : x.latest ≡ y.latest = is.result ∙ (λ i. option_and_then (λ w. latest s (content i) (version (p i) w)) (pv i)) ∙ sym are.result in
     λ i. record { consumer = c i; consumer_version = cv i; provider = p i; provider_version = pv i; latest = said i }
 
 -- ---- their faults
 
 -- a need that has a fault isn't good
-faulty : (strict : Bool) (x : Need) (f : PairFault) → fault_of strict x ≡ Some f → IsWanted (Open strict) x
-faulty strict x f is = go _ (kind_of strict x.provider_version x.latest) is
+fault_of-IsWanted : (strict : Bool) (x : Need) (f : PairFault) → fault_of strict x ≡ Some f → IsWanted (Open strict) x
+fault_of-IsWanted strict x f is = go _ (kind_of strict x.provider_version x.latest) is
   where
     go : (fault : Kind → PairFault) (o : Option Kind) → option_map fault o ≡ Some f → is_some o ≡ true
     go fault None none = absurd cc
     go fault (Some k) some = refl
 
-pub faults_are : (s : State) (v : Version) (e : Text) (strict : Bool) (needs : List Need) (faults : List PairFault) → ((x : Need) → Contains needs x ↔ IsWantedNeed s v e (Open strict) x) → Lists fault_cmp (IsFaultAmong strict needs) faults → AreFaults s v e strict faults
-faults_are s v e strict needs faults are listed same = record {
+pub AreFaults-listed : (s : State) (v : Version) (e : Text) (strict : Bool) (needs : List Need) (faults : List PairFault) → ((x : Need) → Contains needs x ↔ IsWantedNeed s v e (Open strict) x) → Lists fault_cmp (IsFaultAmong strict needs) faults → AreFaults s v e strict faults
+AreFaults-listed s v e strict needs faults are listed same = record {
   sorted = listed.sorted;
   exactly = λ f. (
     λ c. let it = (listed.exactly f).0 c in (it.0, ((are it.0).0 it.1).0, ap (λ b. fault_of b it.0) same ∙ it.2),
     λ is.
         let fault : fault_of strict is.0 ≡ Some f = ap (λ b. fault_of b is.0) (sym same) ∙ is.2 in
-        (listed.exactly f).1 (is.0, (are is.0).1 (is.1, faulty strict is.0 f fault), fault),
+        (listed.exactly f).1 (is.0, (are is.0).1 (is.1, fault_of-IsWanted strict is.0 f fault), fault),
   );
 }

@@ -6,15 +6,15 @@ use Rattle.std.proofs.lemmas.List.Sorted.{Contains-permutation}
 use Rattle.sqlite_value.proofs.OrderLemmas.{value_cmp-Text, then-Equal}
 use Rattle.sqlite_rules.specs.Lists.{Has}
 use Rattle.broker_tables.specs.{Schema.{in_versions, in_deployed, to}, Numbers.{number_of}, Holds.{IsBroker, Holds}}
-use Rattle.broker_tables.proofs.{VersionRows.{whole_test, text_test, row_number, find_version, version_number}, Listed.{read_has, has_read}}
-use Rattle.broker_tables.proofs.References.{refers_version}
-use Rattle.contract_tables.proofs.ItemLists.{and_tests, last_test}
+use Rattle.broker_tables.proofs.{VersionRows.{binary-Eq_same_Int, binary-Eq_same_Text, number_of-version_row, number_of-has_row, version_number}, Listed.{AreRead-sound, AreRead-complete}}
+use Rattle.broker_tables.proofs.References.{references-version}
+use Rattle.contract_tables.proofs.ItemLists.{and-two_tests, and-true_test}
 use Rattle.sqlite.specs.{declared.types.Value.{Value}, declared.types.Value.TheVariants.{Int, Text}, Order.{Row, column, value_cmp}}
 use Rattle.sqlite.specs.{Term.{Term, col, op2, holds}, Table.{Table}, Collation.TheVariants.{Binary}, Effect.{Database, Answers}}
 use Rattle.sqlite_sql.specs.{declared.ops.BinaryOp.TheVariants.{Compare}, declared.ops.CompareOp.TheVariants.{Eq}}
 use Rattle.table_access.specs.{Columns.{text, whole_at, pair_cmp}, Statements.{keeps_both, pairs_kept, from_table, keeps, shows}, Reading.{AreRead}}
-use Rattle.table_access.proofs.{Members.{has_pair, pair_has, contains_has, has_contains, has_map, map_has, has_filter, filter_has}, Steps.{answered}}
-use Rattle.table_access.proofs.Answered.{permuted_has}
+use Rattle.table_access.proofs.{Members.{pairs-complete, pairs-sound, contains_has, has_contains, has_map, map_has, has_filter, filter_has}, Steps.{IsPermutation-kept_rows}}
+use Rattle.table_access.proofs.Answered.{IsPermutation-has_each}
 use Rattle.broker_core.specs.{declared.command.Version.{Version}, Text.{Text as Words, version}, State.{State as Broker}}
 
 module _ {Y : Type 0} (db : Database) (params : Row) (terms project : List Term) (reads : Row → Y → Type 0) (rows : List Row) (items : List Y)
@@ -29,17 +29,17 @@ module _ {Y : Type 0} (db : Database) (params : Row) (terms project : List Term)
         → (x : Y) → Contains items x ↔ Q x
     rows_told Q sound complete x = (
       λ c.
-          let row = read_has reads rows items x read c in
+          let row = AreRead-sound reads rows items x read c in
           let one = map_has (shows project params) (filter (keeps terms params) (db.trees t)) row.0
-          (permuted_has all rows row.0 (answered db params t terms project [] rows h) row.1) in
+          (IsPermutation-has_each all rows row.0 (IsPermutation-kept_rows db params t terms project [] rows h) row.1) in
           let it = filter_has (keeps terms params) (db.trees t) one.0 one.1 in
           sound one.0 x it.0 it.1 (subst (λ y. reads y x) one.2 row.2),
       λ is.
           let r = complete x is in
           let kept = has_filter (keeps terms params) (db.trees t) r.0 r.1 r.2 in
           let there = has_map (shows project params) (filter (keeps terms params) (db.trees t)) r.0 kept in
-          let y = has_read reads rows items (shows project params r.0) read (contains_has rows _
-          (Contains-permutation all rows _ (answered db params t terms project [] rows h) (has_contains all _ there))) in
+          let y = AreRead-complete reads rows items (shows project params r.0) read (contains_has rows _
+          (Contains-permutation all rows _ (IsPermutation-kept_rows db params t terms project [] rows h) (has_contains all _ there))) in
           subst (Contains items) (r.3 y.0 y.2) y.1,
     )
 
@@ -56,18 +56,18 @@ in_environment = op2 (Compare Eq Binary) (col 1 in_deployed.environment) (col 0 
 abbrev pub joined_by : ℕ → List Term
 joined_by place = on_number place ∷ in_environment
 
-pub same_pos : (m n : ℕ) → pos m ≡ pos n → m ≡ n
-same_pos m n h = cc
+pub pos-injective : (m n : ℕ) → pos m ≡ pos n → m ≡ n
+pos-injective m n h = cc
 
-pub still_less : (x y z : Ordering) → ordering_then x y ≡ Less → ordering_then x (ordering_then y z) ≡ Less
-still_less Less y z h = refl
-still_less Equal Less z h = refl
-still_less _ _ z h = absurd cc
+pub ordering_then-still_less : (x y z : Ordering) → ordering_then x y ≡ Less → ordering_then x (ordering_then y z) ≡ Less
+ordering_then-still_less Less y z h = refl
+ordering_then-still_less Equal Less z h = refl
+ordering_then-still_less _ _ z h = absurd cc
 
 -- two columns of texts are sorted as the pairs of these texts
-pub two_texts : (x y z w : Value) (a b c d : Words) → x ≡ Text a → y ≡ Text b → z ≡ Text c → w ≡ Text d
+pub value_cmp-two_texts : (x y z w : Value) (a b c d : Words) → x ≡ Text a → y ≡ Text b → z ≡ Text c → w ≡ Text d
     → ordering_then (value_cmp x y) (ordering_then (value_cmp z w) Equal) ≡ pair_cmp (a, c) (b, d)
-two_texts x y z w a b c d one two three four =
+value_cmp-two_texts x y z w a b c d one two three four =
     (λ i. ordering_then (value_cmp (one i) (two i)) (then-Equal (value_cmp (three i) (four i)) i))
     ∙ (λ i. ordering_then (value_cmp-Text a b i) (value_cmp-Text c d i))
 
@@ -83,21 +83,21 @@ pub record Names (db : Database) (s : Broker) (t place : ℕ) (e : Words) (Is : 
 module _ (db : Database) (broker : IsBroker db) (t place : ℕ) (environments : (r : Row) → Has (db.trees t) r → column r in_deployed.environment ≡ Text (text in_deployed.environment r))
     (numbers : (r : Row) → Has (db.trees t) r → column r place ≡ Int (whole_at place r)) (e : Words) where
   -- each row names a version, if the table has a reference for it
-  pub named_version : (table : Table) → Has db.schema.tables table → table.tree ≡ t → Has table.references (to place (codes "versions") (codes "number"))
+  pub references-named_version : (table : Table) → Has db.schema.tables table → table.tree ≡ t → Has table.references (to place (codes "versions") (codes "number"))
       → (r : Row) → Has (db.trees t) r → (v : Row) × Has (db.trees in_versions.tree) v × (holds ((Text e ∷ []) ∷ r ∷ v ∷ []) (on_number place) ≡ true)
-  named_version table listed here among r has =
-      let v = refers_version db broker table listed place among r (subst (λ n. Has (db.trees n) r) (sym here) has) (numbers r has) in
-      (v.0, v.1, (whole_test (column v.0 0) (column r place) (whole_at 0 v.0) (whole_at place r) (version_number db broker v.0 v.1) (numbers r has)).1 v.2)
+  references-named_version table listed here among r has =
+      let v = references-version db broker table listed place among r (subst (λ n. Has (db.trees n) r) (sym here) has) (numbers r has) in
+      (v.0, v.1, (binary-Eq_same_Int (column v.0 0) (column r place) (whole_at 0 v.0) (whole_at place r) (version_number db broker v.0 v.1) (numbers r has)).1 v.2)
 
   -- a row of the environment, and its version
   abbrev pub IsOf : Row → Row → Type 0
   IsOf d v = (whole_at 0 v ≡ whole_at place d) × (text in_deployed.environment d ≡ e)
 
   -- what ON and WHERE test
-  pub joins : (d v : Row) → Has (db.trees t) d → Has (db.trees in_versions.tree) v → (keeps_both (joined_by place) (Text e ∷ []) d v ≡ true) ↔ IsOf d v
-  joins d v hd hv =
-      and_tests (whole_test (column v 0) (column d place) (whole_at 0 v) (whole_at place d) (version_number db broker v hv) (numbers d hd))
-      (last_test (text_test (column d in_deployed.environment) (Text e) (text in_deployed.environment d) e (environments d hd) refl))
+  pub keeps_both-joined_by : (d v : Row) → Has (db.trees t) d → Has (db.trees in_versions.tree) v → (keeps_both (joined_by place) (Text e ∷ []) d v ≡ true) ↔ IsOf d v
+  keeps_both-joined_by d v hd hv =
+      and-two_tests (binary-Eq_same_Int (column v 0) (column d place) (whole_at 0 v) (whole_at place d) (version_number db broker v hv) (numbers d hd))
+      (and-true_test (binary-Eq_same_Text (column d in_deployed.environment) (Text e) (text in_deployed.environment d) e (environments d hd) refl))
 
   -- the pairs of a row of the environment and its version
   abbrev pub kept : List (Row × Row)
@@ -106,29 +106,29 @@ module _ (db : Database) (broker : IsBroker db) (t place : ℕ) (environments : 
   abbrev pub AreJoined : Row × Row → Type 0
   AreJoined q = Has (db.trees t) q.0 × Has (db.trees in_versions.tree) q.1 × IsOf q.0 q.1
 
-  pub has_kept : (q : Row × Row) → Has kept q → AreJoined q
-  has_kept q h =
-      let it = pair_has (keeps_both (joined_by place) (Text e ∷ [])) (db.trees in_versions.tree) (db.trees t) q h in
-      (it.0, it.1, (joins q.0 q.1 it.0 it.1).0 it.2)
+  pub kept-AreJoined : (q : Row × Row) → Has kept q → AreJoined q
+  kept-AreJoined q h =
+      let it = pairs-sound (keeps_both (joined_by place) (Text e ∷ [])) (db.trees in_versions.tree) (db.trees t) q h in
+      (it.0, it.1, (keeps_both-joined_by q.0 q.1 it.0 it.1).0 it.2)
 
-  pub is_kept : (q : Row × Row) → AreJoined q → Has kept q
-  is_kept q it = has_pair (keeps_both (joined_by place) (Text e ∷ [])) (db.trees in_versions.tree) (db.trees t) q.0 q.1 it.0 it.1 ((joins q.0 q.1 it.0 it.1).1 it.2)
+  pub AreJoined-kept : (q : Row × Row) → AreJoined q → Has kept q
+  AreJoined-kept q it = pairs-complete (keeps_both (joined_by place) (Text e ∷ [])) (db.trees in_versions.tree) (db.trees t) q.0 q.1 it.0 it.1 ((keeps_both-joined_by q.0 q.1 it.0 it.1).1 it.2)
 
 module _ (db : Database) (s : Broker) (held : Holds db s) (t place : ℕ) (e : Words) (Is : Version → Type 0) (names : Names db s t place e Is) where
   -- each pair is that of a version that meets Is
-  pub pair_is : (q : Row × Row) → AreJoined db held.broker t place names.environments names.numbers e q
+  pub AreJoined-of_version : (q : Row × Row) → AreJoined db held.broker t place names.environments names.numbers e q
       → (k : ℕ) × (number_of s.versions (version (text in_versions.pacticipant q.1) (text in_versions.version q.1)) ≡ Some k) × (whole_at place q.0 ≡ pos k)
       × Is (version (text in_versions.pacticipant q.1) (text in_versions.version q.1))
-  pair_is q it =
-      let known = row_number db held.broker s.versions held.versions q.1 it.1 in
+  AreJoined-of_version q it =
+      let known = number_of-version_row db held.broker s.versions held.versions q.1 it.1 in
       let number = sym it.2.0 ∙ known.2 in
       (known.0, known.1, number, names.row_is q.0 (version (text in_versions.pacticipant q.1) (text in_versions.version q.1)) known.0 it.0 it.2.1 known.1 number)
 
   -- and each version that meets Is has a pair
-  pub is_pair : (w : Version) (n : ℕ) → number_of s.versions w ≡ Some n → Is w
+  pub AreJoined-has_version : (w : Version) (n : ℕ) → number_of s.versions w ≡ Some n → Is w
       → (q : Row × Row) × AreJoined db held.broker t place names.environments names.numbers e q
       × (text in_versions.pacticipant q.1 ≡ w.pacticipant) × (text in_versions.version q.1 ≡ w.name) × (whole_at place q.0 ≡ pos n)
-  is_pair w n known is =
+  AreJoined-has_version w n known is =
       let d = names.is_row w n known is in
-      let v = find_version db held.broker s.versions w n held.versions known in
+      let v = number_of-has_row db held.broker s.versions w n held.versions known in
       ((d.0, v.0), (d.1, v.1, (v.4 ∙ sym d.3, d.2)), v.2, v.3, d.3)

@@ -6,12 +6,12 @@ use Rattle.environment_commands.specs.{Places.{HasPlace, IsAdmitted, unless_envi
 use Rattle.broker_core.specs.declared.answer.Missing.TheVariants as missing
 
 -- an environment with these marks is there, or it is what is missing
-pub with_marks : (s : State) (e : Text) (marks : Marks) (rest : Option Missing) → s.environments e ≡ Some marks → unless_environment s e rest ≡ rest
-with_marks s e marks rest is = ap (λ (o : Option Marks). unless (is_some o) missing.Environment rest) is
+pub unless_environment-there : (s : State) (e : Text) (marks : Marks) (rest : Option Missing) → s.environments e ≡ Some marks → unless_environment s e rest ≡ rest
+unless_environment-there s e marks rest is = ap (λ (o : Option Marks). unless (is_some o) missing.Environment rest) is
 
-pub without_marks : (s : State) (e : Text) (rest : Option Missing) → s.environments e ≡ None → unless_environment s e rest ≡ Some missing.Environment
-without_marks s e rest is = ap (λ (o : Option Marks). unless (is_some o) missing.Environment rest) is
+pub unless_environment-missing : (s : State) (e : Text) (rest : Option Missing) → s.environments e ≡ None → unless_environment s e rest ≡ Some missing.Environment
+unless_environment-missing s e rest is = ap (λ (o : Option Marks). unless (is_some o) missing.Environment rest) is
 
 -- what is admitted is there
-pub has_place : (s : State) (e : Text) (v : Version) (place : Admitted) → IsAdmitted e v place s → HasPlace e v place.number s
-has_place s e v place it = (ap is_some it.0, it.1)
+pub HasPlace-of_admitted : (s : State) (e : Text) (v : Version) (place : Admitted) → IsAdmitted e v place s → HasPlace e v place.number s
+HasPlace-of_admitted s e v place it = (ap is_some it.0, it.1)

@@ -23,17 +23,17 @@ pub lines_of-more : (a b : List ℕ) → (more : List (List ℕ)) × (lines_of (
 lines_of-more [] b = (lines_of b, refl)
 lines_of-more (x ∷ a) b = lines_of-byte (x == line_feed) x (lines_of a) (lines_of (a ++ b)) (lines_of-more a b)
 
-map_more : {A B : Type 0} (f : A → B) (old new : Option A) (t : B) → ((u : A) → old ≡ Some u → new ≡ Some u) → option_map f old ≡ Some t
+option_map-more : {A B : Type 0} (f : A → B) (old new : Option A) (t : B) → ((u : A) → old ≡ Some u → new ≡ Some u) → option_map f old ≡ Some t
     → option_map f new ≡ Some t
-map_more f None new t goes p = cc
-map_more f (Some u) new t goes p = rw (goes u refl) p
+option_map-more f None new t goes p = cc
+option_map-more f (Some u) new t goes p = rw (goes u refl) p
 
 through_empty-line : (line : List ℕ) (old new : Option (List (List ℕ))) (t : List (List ℕ)) (test : Bool)
     → ((u : List (List ℕ)) → old ≡ Some u → new ≡ Some u)
     → cond test (Some (line ∷ [])) (option_map (λ rest. line ∷ rest) old) ≡ Some t
     → cond test (Some (line ∷ [])) (option_map (λ rest. line ∷ rest) new) ≡ Some t
 through_empty-line line old new t true goes q = q
-through_empty-line line old new t false goes q = map_more (λ rest. line ∷ rest) old new t goes q
+through_empty-line line old new t false goes q = option_map-more (λ rest. line ∷ rest) old new t goes q
 
 through_empty-more : (lines more : List (List ℕ)) (t : List (List ℕ)) → through_empty lines ≡ Some t → through_empty (lines ++ more) ≡ Some t
 through_empty-more [] more t p = cc
@@ -44,8 +44,8 @@ head_lines-line : (line : List ℕ) (blank blank' full full' : Option (List (Lis
     → ((u : List (List ℕ)) → blank ≡ Some u → blank' ≡ Some u) → ((u : List (List ℕ)) → full ≡ Some u → full' ≡ Some u)
     → option_map (λ rest. line ∷ rest) (cond test blank full) ≡ Some t
     → option_map (λ rest. line ∷ rest) (cond test blank' full') ≡ Some t
-head_lines-line line blank blank' full full' t true goes goes' q = map_more (λ rest. line ∷ rest) blank blank' t goes q
-head_lines-line line blank blank' full full' t false goes goes' q = map_more (λ rest. line ∷ rest) full full' t goes' q
+head_lines-line line blank blank' full full' t true goes goes' q = option_map-more (λ rest. line ∷ rest) blank blank' t goes q
+head_lines-line line blank blank' full full' t false goes goes' q = option_map-more (λ rest. line ∷ rest) full full' t goes' q
 
 head_lines-more : (lines more : List (List ℕ)) (t : List (List ℕ)) → head_lines lines ≡ Some t → head_lines (lines ++ more) ≡ Some t
 head_lines-more [] more t p = cc
@@ -57,12 +57,12 @@ head_lines-more (line ∷ lines) more t p =
 pub head_text-more : (a b t : List ℕ) → head_text a ≡ Some t → head_text (a ++ b) ≡ Some t
 head_text-more a b t p =
     let more = lines_of-more a b in
-    map_more concat (head_lines (lines_of a)) (head_lines (lines_of (a ++ b))) t
+    option_map-more concat (head_lines (lines_of a)) (head_lines (lines_of (a ++ b))) t
     (λ u q. ap head_lines more.1 ∙ head_lines-more (lines_of a) more.0 u q) p
 
 -- two fronts of one length are one, and so is what follows
-pub append_same : (a b x y : List ℕ) → length a ≡ length b → a ++ x ≡ b ++ y → (a ≡ b) × (x ≡ y)
-append_same a b x y n p =
+pub append-cancel_equal_length : (a b x y : List ℕ) → length a ≡ length b → a ++ x ≡ b ++ y → (a ≡ b) × (x ≡ y)
+append-cancel_equal_length a b x y n p =
     (sym (take-append_seam a x) ∙ (λ i. take (n i) (p i)) ∙ take-append_seam b y, sym (drop-append_seam a x) ∙ (λ i. drop (n i) (p i)) ∙ drop-append_seam b y)
 
 -- a head is judged in one way
@@ -84,33 +84,33 @@ unfolding IsBodyLength
 IsBodyLength-unique head m n p q =
     p.2 ∙ ap (λ judged. result_unwrap_or judged.body 0) (IsJudged-unique head p.0 q.0 p.1 q.1) ∙ sym q.2
 
-by_option : (o : Option (List ℕ)) (P : Type 0) (whole a b : List ℕ)
+MatchOption-unique : (o : Option (List ℕ)) (P : Type 0) (whole a b : List ℕ)
     → MatchOption o ((a ≡ whole) × P) (λ t. a ≡ t) → MatchOption o ((b ≡ whole) × P) (λ t. b ≡ t) → a ≡ b
-by_option None P whole a b p q = p.0 ∙ sym q.0
-by_option (Some t) P whole a b p q = p ∙ sym q
+MatchOption-unique None P whole a b p q = p.0 ∙ sym q.0
+MatchOption-unique (Some t) P whole a b p q = p ∙ sym q
 
 -- a stream has one head at its front
 pub IsHeadOf-unique : (stream a b : List ℕ) → IsHeadOf stream a → IsHeadOf stream b → a ≡ b
-IsHeadOf-unique stream a b p q = by_option (head_text (take head_limit stream)) (head_limit ≤ length stream) (take head_limit stream) a b p q
+IsHeadOf-unique stream a b p q = MatchOption-unique (head_text (take head_limit stream)) (head_limit ≤ length stream) (take head_limit stream) a b p q
 
-goes_on : (old new : Option (List ℕ)) (P Q : Type 0) (whole more head : List ℕ)
+MatchOption-more : (old new : Option (List ℕ)) (P Q : Type 0) (whole more head : List ℕ)
     → ((t : List ℕ) → old ≡ Some t → new ≡ Some t) → (P → (new ≡ old) × (more ≡ whole) × Q)
     → MatchOption old ((head ≡ whole) × P) (λ t. head ≡ t) → MatchOption new ((head ≡ more) × Q) (λ t. head ≡ t)
-goes_on None new P Q whole more head some none p =
+MatchOption-more None new P Q whole more head some none p =
     let same = none p.1 in
     rw same.0 (p.0 ∙ sym same.1, same.2)
-goes_on (Some t) new P Q whole more head some none p = rw (some t refl) p
+MatchOption-more (Some t) new P Q whole more head some none p = rw (some t refl) p
 
-take_more : (n : ℕ) (a b : List ℕ) → (more : List ℕ) × (take n (a ++ b) ≡ take n a ++ more)
-take_more zero a b = ([], refl)
-take_more (suc n) [] b = (take (suc n) b, refl)
-take_more (suc n) (x ∷ a) b = let rest = take_more n a b in (rest.0, ap (λ l. x ∷ l) rest.1)
+take-append_prefix : (n : ℕ) (a b : List ℕ) → (more : List ℕ) × (take n (a ++ b) ≡ take n a ++ more)
+take-append_prefix zero a b = ([], refl)
+take-append_prefix (suc n) [] b = (take (suc n) b, refl)
+take-append_prefix (suc n) (x ∷ a) b = let rest = take-append_prefix n a b in (rest.0, ap (λ l. x ∷ l) rest.1)
 
 -- the head at the front stays when more follows
 pub IsHeadOf-more : (stream more head : List ℕ) → IsHeadOf stream head → IsHeadOf (stream ++ more) head
 IsHeadOf-more stream more head p =
-    let grown = take_more head_limit stream more in
-    goes_on (head_text (take head_limit stream)) (head_text (take head_limit (stream ++ more))) (head_limit ≤ length stream) (head_limit ≤ length (stream ++ more))
+    let grown = take-append_prefix head_limit stream more in
+    MatchOption-more (head_text (take head_limit stream)) (head_text (take head_limit (stream ++ more))) (head_limit ≤ length stream) (head_limit ≤ length (stream ++ more))
     (take head_limit stream) (take head_limit (stream ++ more)) head
     (λ t found. ap head_text grown.1 ∙ head_text-more (take head_limit stream) grown.0 t found)
     (λ long.
@@ -130,9 +130,9 @@ BeginsWithMessage-more stream more after m p = record {
 pub BeginsWithMessage-unique : (stream after other : List ℕ) (m n : Message) → BeginsWithMessage stream m after → BeginsWithMessage stream n other → (m.head ≡ n.head) × (m.body ≡ n.body) × (after ≡ other)
 BeginsWithMessage-unique stream after other m n p q =
     let heads : m.head ≡ n.head = IsHeadOf-unique stream m.head n.head p.head q.head in
-    let behind = append_same m.head n.head (m.body ++ after) (n.body ++ other) (ap length heads) (sym p.whole ∙ q.whole) in
+    let behind = append-cancel_equal_length m.head n.head (m.body ++ after) (n.body ++ other) (ap length heads) (sym p.whole ∙ q.whole) in
     let lengths = IsBodyLength-unique n.head (length m.body) (length n.body) (subst (λ head. IsBodyLength head (length m.body)) heads p.body) q.body in
-    let bodies = append_same m.body n.body after other lengths behind.1 in
+    let bodies = append-cancel_equal_length m.body n.body after other lengths behind.1 in
     (heads, bodies.0, bodies.1)
 
 -- so many bytes of head and body are a message
@@ -145,8 +145,8 @@ BeginsWithMessage-of bytes head body within is_head is_body = record {
 }
 
 -- fewer bytes are none
-pub none_short : (bytes : List ℕ) (head body : ℕ) → head ≤ length bytes → length bytes < head + body → IsHeadOf bytes (take head bytes) → IsBodyLength (take head bytes) body → HasNoMessage bytes
-none_short bytes head body within short is_head is_body m after p =
+pub HasNoMessage-too_short : (bytes : List ℕ) (head body : ℕ) → head ≤ length bytes → length bytes < head + body → IsHeadOf bytes (take head bytes) → IsBodyLength (take head bytes) body → HasNoMessage bytes
+HasNoMessage-too_short bytes head body within short is_head is_body m after p =
     let heads = IsHeadOf-unique bytes m.head (take head bytes) p.head is_head in
     let bodies = IsBodyLength-unique (take head bytes) (length m.body) body (subst (λ l. IsBodyLength l (length m.body)) heads p.body) is_body in
     omega (arith, short, bodies, ap length heads, length-take-le head bytes within, ap length p.whole, length-append m.head (m.body ++ after), length-append m.body after)
@@ -165,5 +165,5 @@ module _ (bytes : List ℕ) where
   IsHeadOf-short none short head p = let whole = rw none at p in omega (arith, short, whole.1)
 
 -- nothing is no message
-pub none_in_nothing : HasNoMessage []
-none_in_nothing m after p = IsHeadOf-short [] refl (omega arith) m.head p.head
+pub HasNoMessage-empty : HasNoMessage []
+HasNoMessage-empty m after p = IsHeadOf-short [] refl (omega arith) m.head p.head

@@ -10,16 +10,16 @@ is_comma b = b == comma
 
 module _ (rest : List ℕ) (i : ℕ) (at : position_or_len is_comma rest ≡ i) where
   -- up to a comma and after it
-  parted : i < length rest → has_close rest ≡ (is_close (take i rest) || has_close (drop (i + 1) rest))
-  parted within =
+  has_close-split : i < length rest → has_close rest ≡ (is_close (take i rest) || has_close (drop (i + 1) rest))
+  has_close-split within =
       ap (list_any is_close) (slice_split_first is_comma rest 0 (subst (λ n. n < length rest) (sym at) within))
       ∙ ap (λ n. is_close (take n rest) || has_close (drop (n + 1) rest)) at
 
   pub has_close-first : i < length rest → is_close (take i rest) ≡ true → has_close rest ≡ true
-  has_close-first within e = parted within ∙ or_left (is_close (take i rest)) (has_close (drop (i + 1) rest)) e
+  has_close-first within e = has_close-split within ∙ or_left (is_close (take i rest)) (has_close (drop (i + 1) rest)) e
 
   pub has_close-behind : i < length rest → is_close (take i rest) ≡ false → has_close rest ≡ has_close (drop (i + 1) rest)
-  has_close-behind within e = parted within ∙ ap (λ v. v || has_close (drop (i + 1) rest)) e
+  has_close-behind within e = has_close-split within ∙ ap (λ v. v || has_close (drop (i + 1) rest)) e
 
   pub has_close-last : i ≡ length rest → has_close rest ≡ is_close rest
   has_close-last whole =

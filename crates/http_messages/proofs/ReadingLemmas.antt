@@ -6,7 +6,7 @@ use Rattle.http_messages.specs.{Heads.{IsBodyLength, judge_head}, Messages.{Anno
 use Rattle.http_messages.specs.{Reading.{Gains, LeavesAtFault, IsOutcome}, Views.{judgement_of, IsHeadRead, announced}, declared.head.Head.{Head}}
 use Rattle.http_messages.specs.{declared.head.Refused.{Refused}, declared.reading.ReadFault.{ReadFault}}
 use Rattle.http_messages.specs.{declared.reading.ReadFault.TheVariants.{Reader, Memory}, declared.reading.ReadOutcome.TheVariants.{Message}}
-use Rattle.http_messages.proofs.MessagesLemmas.{IsHeadOf-more, BeginsWithMessage-of, none_short}
+use Rattle.http_messages.proofs.MessagesLemmas.{IsHeadOf-more, BeginsWithMessage-of, HasNoMessage-too_short}
 
 -- one read, and then others
 pub Gains-trans : (a b c : Option (List ℕ)) (old mid new : List ℕ) → Gains a b old mid → Gains b c mid new → Gains a c old new
@@ -34,13 +34,13 @@ Gains-none a b old new n p longer none =
     p.2 ∙ ap (λ l. old ++ l) (nil_from_length p.0 (omega (arith, longer, none, ap length p.2, length-append old p.0))) ∙ append-nil old
 
 -- a head in the slice of a buffer is one in its bytes
-pub head_of_slice : (slice bytes : List ℕ) (n : ℕ) → slice ≡ bytes → n ≤ length slice → IsHeadOf slice (take n slice)
+pub IsHeadOf-of_slice : (slice bytes : List ℕ) (n : ℕ) → slice ≡ bytes → n ≤ length slice → IsHeadOf slice (take n slice)
     → (n ≤ length bytes) × IsHeadOf bytes (take n bytes)
-head_of_slice slice bytes n same within found = subst (λ l. (n ≤ length l) × IsHeadOf l (take n l)) same (within, found)
+IsHeadOf-of_slice slice bytes n same within found = subst (λ l. (n ≤ length l) × IsHeadOf l (take n l)) same (within, found)
 
 -- with none in the slice there is none in the bytes, nor in the same bytes later
-pub no_head_of_slice : (slice bytes later : List ℕ) → slice ≡ bytes → later ≡ bytes → HasNoHead slice → HasNoHead later
-no_head_of_slice slice bytes later same kept none = subst HasNoHead (same ∙ sym kept) none
+pub HasNoHead-of_slice : (slice bytes later : List ℕ) → slice ≡ bytes → later ≡ bytes → HasNoHead slice → HasNoHead later
+HasNoHead-of_slice slice bytes later same kept none = subst HasNoHead (same ∙ sym kept) none
 
 -- what is read of a head says how long its body is
 pub announced-length : (text : List ℕ) (read : Result Head Refused) → IsHeadRead text read → IsBodyLength text (announced read)
@@ -50,47 +50,47 @@ announced-length text (Ok head) p =
 announced-length text (Err refused) p = (judgement_of refused, p, refl)
 
 -- what a fault leaves in the buffer is at its front
-pub grown_at_fault : (a b : Option (List ℕ)) (old new : List ℕ) (fault : ReadFault) → LeavesAtFault a b old new fault
+pub LeavesAtFault-grows : (a b : Option (List ℕ)) (old new : List ℕ) (fault : ReadFault) → LeavesAtFault a b old new fault
     → (more : List ℕ) × (new ≡ old ++ more)
-grown_at_fault a b old new (Reader failed) p = (p.0, p.2)
-grown_at_fault a b old new Memory p = (p.0, p.4)
+LeavesAtFault-grows a b old new (Reader failed) p = (p.0, p.2)
+LeavesAtFault-grows a b old new Memory p = (p.0, p.4)
 
 module _ (old more new : List ℕ) (head_len : ℕ) (read : Result Head Refused) (grown : new ≡ old ++ more)
     (within : head_len ≤ length old) (is_head : IsHeadOf old (take head_len old)) (is_read : IsHeadRead (take head_len old) read) where
   -- the head stays while the body is read
-  same_head : take head_len new ≡ take head_len old
-  same_head = ap (take head_len) grown ∙ take-append-le head_len old more within
+  take-head_same : take head_len new ≡ take head_len old
+  take-head_same = ap (take head_len) grown ∙ take-append-le head_len old more within
 
-  head_now : IsHeadOf new (take head_len new)
-  head_now = subst (λ head. IsHeadOf new head) (sym same_head)
+  IsHeadOf-after_body : IsHeadOf new (take head_len new)
+  IsHeadOf-after_body = subst (λ head. IsHeadOf new head) (sym take-head_same)
       (subst (λ l. IsHeadOf l (take head_len old)) (sym grown) (IsHeadOf-more old more (take head_len old) is_head))
 
-  read_now : IsHeadRead (take head_len new) read
-  read_now = subst (λ text. IsHeadRead text read) (sym same_head) is_read
+  IsHeadRead-after_body : IsHeadRead (take head_len new) read
+  IsHeadRead-after_body = subst (λ text. IsHeadRead text read) (sym take-head_same) is_read
 
   longer : length old ≤ length new
   longer = omega (arith, ap length grown, length-append old more)
 
   -- with so many bytes the message is whole
-  pub is_whole : head_len + announced read ≤ length new → IsOutcome new (Message head_len (announced read) read)
-  is_whole enough =
-      (enough, read_now, BeginsWithMessage-of new head_len (announced read) enough head_now (announced-length (take head_len new) read read_now))
+  pub IsOutcome-whole : head_len + announced read ≤ length new → IsOutcome new (Message head_len (announced read) read)
+  IsOutcome-whole enough =
+      (enough, IsHeadRead-after_body, BeginsWithMessage-of new head_len (announced read) enough IsHeadOf-after_body (announced-length (take head_len new) read IsHeadRead-after_body))
 
   -- with fewer it isn't
-  pub is_short : length new < head_len + announced read → HasNoMessage new
-  is_short fewer =
-      none_short new head_len (announced read) (omega (arith, within, longer)) fewer head_now (announced-length (take head_len new) read read_now)
+  pub HasNoMessage-short_body : length new < head_len + announced read → HasNoMessage new
+  HasNoMessage-short_body fewer =
+      HasNoMessage-too_short new head_len (announced read) (omega (arith, within, longer)) fewer IsHeadOf-after_body (announced-length (take head_len new) read IsHeadRead-after_body)
 
   -- a body is announced
-  pub announces : length new < head_len + announced read → AnnouncesBody new
-  announces fewer =
-      (take head_len new, announced read, head_now, announced-length (take head_len new) read read_now, omega (arith, within, longer, fewer))
+  pub AnnouncesBody-short : length new < head_len + announced read → AnnouncesBody new
+  AnnouncesBody-short fewer =
+      (take head_len new, announced read, IsHeadOf-after_body, announced-length (take head_len new) read IsHeadRead-after_body, omega (arith, within, longer, fewer))
 
 -- with no head there is no message
-pub no_message : (bytes : List ℕ) → HasNoHead bytes → HasNoMessage bytes
-no_message bytes none m after begins = none m.head begins.head
+pub HasNoMessage-of_no_head : (bytes : List ℕ) → HasNoHead bytes → HasNoMessage bytes
+HasNoMessage-of_no_head bytes none m after begins = none m.head begins.head
 
 -- a fact at an error
-pub on_err : {A E : Type 0} (r : Result A E) {P : Type 0} → P → OnErr r P
-on_err (Ok x) p = tt
-on_err (Err e) p = p
+pub OnErr-of_fact : {A E : Type 0} (r : Result A E) {P : Type 0} → P → OnErr r P
+OnErr-of_fact (Ok x) p = tt
+OnErr-of_fact (Err e) p = p

@@ -25,7 +25,7 @@ pub values-without : (key : List ℕ) (pair : List ℕ × List ℕ) (done : List
 values-without key pair done e = values-split key pair done ∙ ap (λ l. values_at key done ++ l) (rw e refl)
 
 -- a second value
-pub several : (values : List (List ℕ)) (value : List ℕ) (found : Values) → found ≢ Absent → AreValues values found → 2 ≤ length (values ++ value ∷ [])
-several values value Absent not p = absurd (not refl)
-several values value (Once text) not p = rw p (omega arith)
-several values value Repeated not p = omega (arith, p, length-append values (value ∷ []))
+pub AreValues-second_value : (values : List (List ℕ)) (value : List ℕ) (found : Values) → found ≢ Absent → AreValues values found → 2 ≤ length (values ++ value ∷ [])
+AreValues-second_value values value Absent not p = absurd (not refl)
+AreValues-second_value values value (Once text) not p = rw p (omega arith)
+AreValues-second_value values value Repeated not p = omega (arith, p, length-append values (value ∷ []))

@@ -46,82 +46,82 @@ parsed = record {
   last = crlf;
 }
 
-in_ascii : (bytes : List ℕ) → list_all (λ b. ltb b 128) bytes ≡ true → IsUtf8 bytes
-in_ascii bytes low =
+IsUtf8-of_ascii : (bytes : List ℕ) → list_all (λ b. ltb b 128) bytes ≡ true → IsUtf8 bytes
+IsUtf8-of_ascii bytes low =
     IsUtf8-from_ascii bytes (IsAscii-from_all bytes (λ k d m. ltb-true _ 128 (AllPass-from_list_all (λ b. ltb b 128) bytes low k d m)))
 
-some_token : (bytes : List ℕ) → 0 < length bytes → list_all is_token_byte bytes ≡ true → IsToken bytes
-some_token bytes some passes = (some, AllPass-from_list_all is_token_byte bytes passes)
+IsToken-of_bytes : (bytes : List ℕ) → 0 < length bytes → list_all is_token_byte bytes ≡ true → IsToken bytes
+IsToken-of_bytes bytes some passes = (some, AllPass-from_list_all is_token_byte bytes passes)
 
-is_field : (name raw : List ℕ) → 0 < length name → list_all is_token_byte name ≡ true → list_all is_value_byte raw ≡ true → IsField (field name raw)
-is_field name raw some named valued = record { name = some_token name some named; raw = AllPass-from_list_all is_value_byte raw valued }
+IsField-of_bytes : (name raw : List ℕ) → 0 < length name → list_all is_token_byte name ≡ true → list_all is_value_byte raw ≡ true → IsField (field name raw)
+IsField-of_bytes name raw some named valued = record { name = IsToken-of_bytes name some named; raw = AllPass-from_list_all is_value_byte raw valued }
 
-are_fields : All IsField fields
+IsField-deployment : All IsField fields
 unfolding httparse_on_literals
-are_fields =
-    let host = is_field (codes "host") (codes " broker") (omega arith) refl refl in
-    let token = is_field (codes "authorization") (codes " Bearer red-team-token-01") (omega arith) refl refl in
-    let size = is_field (codes "content-length") (codes " 36") (omega arith) refl refl in
+IsField-deployment =
+    let host = IsField-of_bytes (codes "host") (codes " broker") (omega arith) refl refl in
+    let token = IsField-of_bytes (codes "authorization") (codes " Bearer red-team-token-01") (omega arith) refl refl in
+    let size = IsField-of_bytes (codes "content-length") (codes " 36") (omega arith) refl refl in
     All-from_recursion IsField fields (host, (token, (size, tt)))
 
-is_head : IsRequestHead parsed
+IsRequestHead-deployment : IsRequestHead parsed
 unfolding httparse_on_literals
-is_head = record {
-  method = some_token (codes "POST") (omega arith) refl;
+IsRequestHead-deployment = record {
+  method = IsToken-of_bytes (codes "POST") (omega arith) refl;
   target = (omega arith, AllPass-from_list_all is_uri_byte (codes "/environments/prod/deployments") refl);
-  target_text = in_ascii (codes "/environments/prod/deployments") refl;
+  target_text = IsUtf8-of_ascii (codes "/environments/prod/deployments") refl;
   minor = omega arith;
-  fields = are_fields;
+  fields = IsField-deployment;
 }
 
-is_head_text : IsHeadText deployment_head parsed
+IsHeadText-deployment : IsHeadText deployment_head parsed
 unfolding print_request
-is_head_text = record { reads = (is_head, refl); few = omega arith }
+IsHeadText-deployment = record { reads = (IsRequestHead-deployment, refl); few = omega arith }
 
-is_judged : IsJudged deployment_head (judge_head parsed)
-is_judged = inr (inr (refl, parsed, is_head_text, refl))
+IsJudged-deployment : IsJudged deployment_head (judge_head parsed)
+IsJudged-deployment = inr (inr (refl, parsed, IsHeadText-deployment, refl))
 
-pub the_stream_begins_with_the_message : BeginsWithMessage (deployment_head ++ deployment_body) deployment_message []
+pub BeginsWithMessage-deployment : BeginsWithMessage (deployment_head ++ deployment_body) deployment_message []
 unfolding IsBodyLength judge body_length served_method same_name httparse_on_literals
-the_stream_begins_with_the_message = record { whole = refl; head = refl; body = (judge_head parsed, is_judged, refl) }
+BeginsWithMessage-deployment = record { whole = refl; head = refl; body = (judge_head parsed, IsJudged-deployment, refl) }
 
 -- ---- what it asks
 
 named : (text : Text) → list_all (λ b. ltb b 128) text ≡ true → IsName text → IsNamed text (Some text)
-named text low name = (refl, in_ascii text low, name)
+named text low name = (refl, IsUtf8-of_ascii text low, name)
 
 abbrev body_fields : Data
 body_fields = object (member (codes "pacticipant") (string (codes "shop")) (member (codes "version") (string (codes "1")) no_members))
 
-environment_named : IsPathName 2 (path_of parsed.target) (Ok (codes "prod"))
+IsPathName-deployment : IsPathName 2 (path_of parsed.target) (Ok (codes "prod"))
 unfolding segment percent_encoding_on_literals is_name
-environment_named = (Some (codes "prod"), named (codes "prod") refl refl, refl)
+IsPathName-deployment = (Some (codes "prod"), named (codes "prod") refl refl, refl)
 
-body_read : IsObject deployment_body (Some body_fields)
+IsObject-deployment : IsObject deployment_body (Some body_fields)
 unfolding serde_json_on_literals
-body_read = (Some body_fields, (in_ascii deployment_body refl, refl), refl)
+IsObject-deployment = (Some body_fields, (IsUtf8-of_ascii deployment_body refl, refl), refl)
 
-version_named : IsVersionFields body_fields (Ok (version (codes "shop") (codes "1")))
+IsVersionFields-deployment : IsVersionFields body_fields (Ok (version (codes "shop") (codes "1")))
 unfolding is_name
-version_named =
+IsVersionFields-deployment =
     let shop = named (codes "shop") refl refl in
     (Ok (codes "shop"), (Some (codes "shop"), shop, refl), (Ok (codes "1"), (Some (codes "1"), named (codes "1") refl refl, refl), refl))
 
-the_command : IsCommand operation.Deploy (path_of parsed.target) (query_of parsed.target) deployment_body (Deploy (codes "prod") (version (codes "shop") (codes "1")) None)
-the_command = (
+IsCommand-deployment : IsCommand operation.Deploy (path_of parsed.target) (query_of parsed.target) deployment_body (Deploy (codes "prod") (version (codes "shop") (codes "1")) None)
+IsCommand-deployment = (
   Ok (Deploy (codes "prod") (version (codes "shop") (codes "1")) None),
-  (Ok (codes "prod"), environment_named, (Ok (version (codes "shop") (codes "1"), None), (Some body_fields, body_read, (Ok (version (codes "shop") (codes "1")), version_named, (Ok None, refl, refl))), refl)),
+  (Ok (codes "prod"), IsPathName-deployment, (Ok (version (codes "shop") (codes "1"), None), (Some body_fields, IsObject-deployment, (Ok (version (codes "shop") (codes "1")), IsVersionFields-deployment, (Ok None, refl, refl))), refl)),
   refl,
 )
 
-the_token : IsTokenOf (values_named (codes "authorization") (fields_of parsed)) (Some (codes "red-team-token-01"))
+IsTokenOf-deployment : IsTokenOf (values_named (codes "authorization") (fields_of parsed)) (Some (codes "red-team-token-01"))
 unfolding same_name httparse_on_literals
-the_token = (refl, record { long = omega arith; short = omega arith; plain = AllPass-from_list_all is_callers_byte (codes "red-team-token-01") refl })
+IsTokenOf-deployment = (refl, record { long = omega arith; short = omega arith; plain = AllPass-from_list_all is_callers_byte (codes "red-team-token-01") refl })
 
-pub the_message_asks_a_deployment : IsRequest deployment_message (Asks (Some (codes "red-team-token-01")) (Deploy (codes "prod") (version (codes "shop") (codes "1")) None) false)
+pub IsRequest-deployment : IsRequest deployment_message (Asks (Some (codes "red-team-token-01")) (Deploy (codes "prod") (version (codes "shop") (codes "1")) None) false)
 unfolding IsRequest resource_of is_on fits judge body_length served_method same_name httparse_on_literals
-the_message_asks_a_deployment = (
+IsRequest-deployment = (
   judge_head parsed,
-  is_judged,
-  (parsed, is_head_text, (Deploy (codes "prod") (version (codes "shop") (codes "1")) None, Some (codes "red-team-token-01"), the_command, the_token, refl)),
+  IsJudged-deployment,
+  (parsed, IsHeadText-deployment, (Deploy (codes "prod") (version (codes "shop") (codes "1")) None, Some (codes "red-team-token-01"), IsCommand-deployment, IsTokenOf-deployment, refl)),
 )

@@ -8,46 +8,46 @@ use Rattle.http_routes.specs.{Methods.{operation_at, listed}, declared.Resource.
 use Rattle.http_responses.specs.Head.{phrases, phrase_in, has_phrase, phrase, listed_next}
 
 -- the crate's digits and phrases are those of the list
-digits_agree : map (λ entry. code_digits entry.0) phrases ≡ map (λ entry. decimal entry.0) phrases
+code_digits-phrases : map (λ entry. code_digits entry.0) phrases ≡ map (λ entry. decimal entry.0) phrases
 unfolding digits
-digits_agree = refl
+code_digits-phrases = refl
 
-phrases_agree : map (λ entry. reason_phrase entry.0) phrases ≡ map (λ entry. Some entry.1) phrases
-phrases_agree = refl
+reason_phrase-phrases : map (λ entry. reason_phrase entry.0) phrases ≡ map (λ entry. Some entry.1) phrases
+reason_phrase-phrases = refl
 
-phrases_short : map (λ entry. leb (length entry.1) 32) phrases ≡ map (λ entry. true) phrases
-phrases_short = refl
+length-phrases_le : map (λ entry. leb (length entry.1) 32) phrases ≡ map (λ entry. true) phrases
+length-phrases_le = refl
 
 module _ {X : Type 0} (f g : ℕ × List ℕ → X) where
-  first_or_later : (status known : ℕ) (text other : List ℕ) (rest test : Bool) → (status == known) ≡ test → f (known, text) ≡ g (known, text)
+  phrase_in-first_or_later : (status known : ℕ) (text other : List ℕ) (rest test : Bool) → (status == known) ≡ test → f (known, text) ≡ g (known, text)
       → (rest ≡ true → f (status, other) ≡ g (status, other)) → (test || rest) ≡ true → f (status, cond test text other) ≡ g (status, cond test text other)
-  first_or_later status known text other rest true is here later found = subst (λ s. f (s, text) ≡ g (s, text)) (sym (eqb-true status known is)) here
-  first_or_later status known text other rest false is here later found = later found
+  phrase_in-first_or_later status known text other rest true is here later found = subst (λ s. f (s, text) ≡ g (s, text)) (sym (eqb-true status known is)) here
+  phrase_in-first_or_later status known text other rest false is here later found = later found
 
   -- what agrees on each entry agrees on a status of the list
-  agree_at : (entries : List (ℕ × List ℕ)) (status : ℕ) → map f entries ≡ map g entries → list_any (λ entry. status == entry.0) entries ≡ true
+  phrase_in-agree : (entries : List (ℕ × List ℕ)) (status : ℕ) → map f entries ≡ map g entries → list_any (λ entry. status == entry.0) entries ≡ true
       → f (status, phrase_in entries status) ≡ g (status, phrase_in entries status)
-  agree_at [] status same found = cc
-  agree_at (entry ∷ more) status same found =
-      first_or_later status entry.0 entry.1 (phrase_in more status) _ (status == entry.0) refl (ap (λ xs. get_or xs 0 (f entry)) same)
-      (agree_at more status (ap (drop 1) same)) found
+  phrase_in-agree [] status same found = cc
+  phrase_in-agree (entry ∷ more) status same found =
+      phrase_in-first_or_later status entry.0 entry.1 (phrase_in more status) _ (status == entry.0) refl (ap (λ xs. get_or xs 0 (f entry)) same)
+      (phrase_in-agree more status (ap (drop 1) same)) found
 
-pub digits_of : (status : ℕ) → has_phrase status ≡ true → code_digits status ≡ decimal status
-digits_of status known = agree_at (λ entry. code_digits entry.0) (λ entry. decimal entry.0) phrases status digits_agree known
+pub code_digits-decimal : (status : ℕ) → has_phrase status ≡ true → code_digits status ≡ decimal status
+code_digits-decimal status known = phrase_in-agree (λ entry. code_digits entry.0) (λ entry. decimal entry.0) phrases status code_digits-phrases known
 
-pub phrase_of : (status : ℕ) → has_phrase status ≡ true → reason_phrase status ≡ Some (phrase status)
+pub reason_phrase-phrase : (status : ℕ) → has_phrase status ≡ true → reason_phrase status ≡ Some (phrase status)
 unfolding phrase
-phrase_of status known = agree_at (λ entry. reason_phrase entry.0) (λ entry. Some entry.1) phrases status phrases_agree known
+reason_phrase-phrase status known = phrase_in-agree (λ entry. reason_phrase entry.0) (λ entry. Some entry.1) phrases status reason_phrase-phrases known
 
-pub short_phrase : (status : ℕ) → has_phrase status ≡ true → length (phrase status) ≤ 32
+pub length-phrase_le : (status : ℕ) → has_phrase status ≡ true → length (phrase status) ≤ 32
 unfolding phrase
-short_phrase status known = leb-true _ _ (agree_at (λ entry. leb (length entry.1) 32) (λ entry. true) phrases status phrases_short known)
+length-phrase_le status known = leb-true _ _ (phrase_in-agree (λ entry. leb (length entry.1) 32) (λ entry. true) phrases status length-phrases_le known)
 
 -- the text that was found
-pub text_found : (found : Option (Bor (List ℕ))) (other : Bor (List ℕ)) (text : List ℕ) → option_map (λ s. s.now) found ≡ Some text
+pub unwrap_or-found_text : (found : Option (Bor (List ℕ))) (other : Bor (List ℕ)) (text : List ℕ) → option_map (λ s. s.now) found ≡ Some text
     → (unwrap_or found other).now ≡ text
-text_found None other text is = cc
-text_found (Some s) other text is = ap (λ o. unwrap_or o s.now) is
+unwrap_or-found_text None other text is = cc
+unwrap_or-found_text (Some s) other text is = ap (λ o. unwrap_or o s.now) is
 
 -- whether a list of methods is still empty
 abbrev pub is_empty : List (List ℕ) → Bool
@@ -61,16 +61,16 @@ listed-push (first ∷ next ∷ more) method =
     ap (λ t. first ++ (codes ", " ++ t)) (listed-push (next ∷ more) method)
     ∙ sym (append_assoc first (codes ", " ++ listed (next ∷ more)) (codes ", " ++ method))
 
-listed_grows : (methods : List (List ℕ)) (method : List ℕ) (has : Bool)
+listed-append_if : (methods : List (List ℕ)) (method : List ℕ) (has : Bool)
     → listed (methods ++ cond has (method ∷ []) []) ≡ listed methods ++ cond has (listed_next (is_empty methods) method) []
-listed_grows methods method false = ap listed (append-nil methods) ∙ sym (append-nil (listed methods))
-listed_grows methods method true = listed-push methods method
+listed-append_if methods method false = ap listed (append-nil methods) ∙ sym (append-nil (listed methods))
+listed-append_if methods method true = listed-push methods method
 
-emptied : (methods : List (List ℕ)) (method : List ℕ) (has : Bool) → is_empty (methods ++ cond has (method ∷ []) []) ≡ (is_empty methods && not has)
-emptied [] method false = refl
-emptied [] method true = refl
-emptied (first ∷ more) method false = refl
-emptied (first ∷ more) method true = refl
+is_empty-append_if : (methods : List (List ℕ)) (method : List ℕ) (has : Bool) → is_empty (methods ++ cond has (method ∷ []) []) ≡ (is_empty methods && not has)
+is_empty-append_if [] method false = refl
+is_empty-append_if [] method true = refl
+is_empty-append_if (first ∷ more) method false = refl
+is_empty-append_if (first ∷ more) method true = refl
 
 -- the first methods that are served, but for those that the resource doesn't have
 abbrev pub kept : Resource → ℕ → List (List ℕ)
@@ -83,8 +83,8 @@ module _ (resource : Resource) (i : ℕ) (other : List ℕ) (within : i < length
   abbrev has : Bool
   has = is_some (operation_at resource method)
 
-  kept_next : kept resource (i + 1) ≡ kept resource i ++ cond has (method ∷ []) []
-  kept_next = filter_more (λ m. is_some (operation_at resource m)) served_methods i other within
+  kept-next : kept resource (i + 1) ≡ kept resource i ++ cond has (method ∷ []) []
+  kept-next = filter_more (λ m. is_some (operation_at resource m)) served_methods i other within
 
   -- the list grows by the method if the resource has it
   pub listed_next-kept : (old text new : List ℕ) (first : Bool) → text ≡ old ++ listed (kept resource i) → first ≡ is_empty (kept resource i)
@@ -93,26 +93,26 @@ module _ (resource : Resource) (i : ℕ) (other : List ℕ) (within : i < length
       let before = listed (kept resource i) in
       grown ∙ ap (λ t. t ++ cond has (listed_next first method) []) so_far ∙ append_assoc old before (cond has (listed_next first method) [])
       ∙ ap (λ b. old ++ (before ++ cond has (listed_next b method) [])) is_first
-      ∙ ap (λ t. old ++ t) (sym (ap listed kept_next ∙ listed_grows (kept resource i) method has))
+      ∙ ap (λ t. old ++ t) (sym (ap listed kept-next ∙ listed-append_if (kept resource i) method has))
 
   -- and isn't empty then
   pub empty_next-kept : (first next : Bool) → first ≡ is_empty (kept resource i) → next ≡ (first && not has) → next ≡ is_empty (kept resource (i + 1))
   empty_next-kept first next is_first is_next =
-      is_next ∙ ap (λ b. b && not has) is_first ∙ sym (ap is_empty kept_next ∙ emptied (kept resource i) method has)
+      is_next ∙ ap (λ b. b && not has) is_first ∙ sym (ap is_empty kept-next ∙ is_empty-append_if (kept resource i) method has)
 
-short_at : (i : ℕ) (other : List ℕ) → i < length served_methods → length (get_or served_methods i other) ≤ 6
-short_at zero other h = omega arith
-short_at (suc zero) other h = omega arith
-short_at (suc (suc zero)) other h = omega arith
-short_at (suc (suc (suc zero))) other h = omega arith
-short_at (suc (suc (suc (suc k)))) other h = absurd (omega (arith, h))
+length-served_method_le : (i : ℕ) (other : List ℕ) → i < length served_methods → length (get_or served_methods i other) ≤ 6
+length-served_method_le zero other h = omega arith
+length-served_method_le (suc zero) other h = omega arith
+length-served_method_le (suc (suc zero)) other h = omega arith
+length-served_method_le (suc (suc (suc zero))) other h = omega arith
+length-served_method_le (suc (suc (suc (suc k)))) other h = absurd (omega (arith, h))
 
 -- the text has room for the next method
-pub room_next : (i : ℕ) (other : List ℕ) → i < length served_methods → (old len first_capacity capacity : ℕ) → old + 32 ≤ first_capacity → len ≤ old + 8 * i
+pub capacity-room_for_next : (i : ℕ) (other : List ℕ) → i < length served_methods → (old len first_capacity capacity : ℕ) → old + 32 ≤ first_capacity → len ≤ old + 8 * i
     → first_capacity ≤ capacity → len + 2 + length (get_or served_methods i other) ≤ capacity
-room_next i other within old len first_capacity capacity fits so_far grown = omega (arith, short_at i other within, within, fits, so_far, grown)
+capacity-room_for_next i other within old len first_capacity capacity fits so_far grown = omega (arith, length-served_method_le i other within, within, fits, so_far, grown)
 
 -- and is so long then
-pub len_next : (i : ℕ) (other : List ℕ) → i < length served_methods → (old len next : ℕ) → len ≤ old + 8 * i
+pub length-after_next_le : (i : ℕ) (other : List ℕ) → i < length served_methods → (old len next : ℕ) → len ≤ old + 8 * i
     → next ≤ len + 2 + length (get_or served_methods i other) → next ≤ old + 8 * (i + 1)
-len_next i other within old len next so_far added = omega (arith, short_at i other within, so_far, added)
+length-after_next_le i other within old len next so_far added = omega (arith, length-served_method_le i other within, so_far, added)

@@ -1,4 +1,4 @@
--- What the router finds in the table of all routes is the resource that the path names.
+-- What the router first-table in the table of all routes is the resource that the path names.
 use Rattle.std.specs.{Option.{option_map}, Str.{bytes_eq}}
 use Rattle.std.proofs.Common.{◌≡◌, ℕ, List, [], ◌∷◌, Option, Some, None, is_some, Bool, true, false, cond, refl, sym, ap, subst, ◌∙◌, ◌&&◌, ◌||◌, not, ◌⊎◌, inl, inr, Result, Ok, Err}
 use Rattle.std.proofs.{lemmas.Bool.{and_parts, and_left, and_right, not-true}, lemmas.Slice.Eq.{bytes_eq-Decides}}
@@ -238,9 +238,9 @@ finds-some path resource e =
     let takes-it = takes-route on.0 path (good-pieces routes on.0 resource routes-good on.1) ∙ on.2 in
     seek-complete 0 (with_routes routes []) path (tokens (segments on.0)) row.0 (Right-plain (with_routes routes []) table-right) row.1 takes-it
 
--- What the router finds is the resource that the path names.
-pub finds : (path : List ℕ) → option_map (λ r. r.value) (first table path) ≡ resource_of path
-finds path = by (first table path) refl
+-- What the router first-table is the resource that the path names.
+pub first-table : (path : List ℕ) → option_map (λ r. r.value) (first table path) ≡ resource_of path
+first-table path = by (first table path) refl
   where
     none : (o : Option Resource) → resource_of path ≡ o → first table path ≡ None → None ≡ o
     none None p e = refl

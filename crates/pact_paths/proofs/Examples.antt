@@ -8,165 +8,165 @@ use Rattle.pact_paths.specs.{PathReading.{path_in, tokens_in}, declared.path_rea
 abbrev location : Location
 location = key (codes "item1") ∷ key (codes "level") ∷ item 1 ∷ key (codes "id") ∷ []
 
-root : weight [] location ≡ 2
-root = refl
+weight-root : weight [] location ≡ 2
+weight-root = refl
 
-one_name : weight (named (codes "item1") ∷ []) location ≡ 4
-one_name = refl
+weight-one_name : weight (named (codes "item1") ∷ []) location ≡ 4
+weight-one_name = refl
 
-two_names : weight (named (codes "item1") ∷ named (codes "level") ∷ []) location ≡ 8
-two_names = refl
+weight-two_names : weight (named (codes "item1") ∷ named (codes "level") ∷ []) location ≡ 8
+weight-two_names = refl
 
-an_index : weight (named (codes "item1") ∷ named (codes "level") ∷ indexed 1 ∷ []) location ≡ 16
-an_index = refl
+weight-index : weight (named (codes "item1") ∷ named (codes "level") ∷ indexed 1 ∷ []) location ≡ 16
+weight-index = refl
 
-whole : weight (named (codes "item1") ∷ named (codes "level") ∷ indexed 1 ∷ named (codes "id") ∷ []) location ≡ 32
-whole = refl
+weight-whole_path : weight (named (codes "item1") ∷ named (codes "level") ∷ indexed 1 ∷ named (codes "id") ∷ []) location ≡ 32
+weight-whole_path = refl
 
-any_index : weight (named (codes "item1") ∷ named (codes "level") ∷ any ∷ []) location ≡ 8
-any_index = refl
+weight-any_index : weight (named (codes "item1") ∷ named (codes "level") ∷ any ∷ []) location ≡ 8
+weight-any_index = refl
 
-name_behind_any : weight (named (codes "item1") ∷ named (codes "level") ∷ any ∷ named (codes "id") ∷ []) location ≡ 16
-name_behind_any = refl
+weight-name_after_any : weight (named (codes "item1") ∷ named (codes "level") ∷ any ∷ named (codes "id") ∷ []) location ≡ 16
+weight-name_after_any = refl
 
-two_any : weight (any ∷ named (codes "level") ∷ any ∷ named (codes "id") ∷ []) location ≡ 8
-two_any = refl
+weight-two_any : weight (any ∷ named (codes "level") ∷ any ∷ named (codes "id") ∷ []) location ≡ 8
+weight-two_any = refl
 
-other_name : weight (named (codes "item2") ∷ []) location ≡ 0
-other_name = refl
+weight-other_name : weight (named (codes "item2") ∷ []) location ≡ 0
+weight-other_name = refl
 
 -- a name never equals an index
-name_for_index : weight (named (codes "item1") ∷ named (codes "level") ∷ named (codes "1") ∷ named (codes "id") ∷ []) location ≡ 0
-name_for_index = refl
+weight-name_for_index : weight (named (codes "item1") ∷ named (codes "level") ∷ named (codes "1") ∷ named (codes "id") ∷ []) location ≡ 0
+weight-name_for_index = refl
 
-longer : weight (named (codes "item1") ∷ named (codes "level") ∷ indexed 1 ∷ named (codes "id") ∷ named (codes "x") ∷ []) location ≡ 0
-longer = refl
+weight-longer_path : weight (named (codes "item1") ∷ named (codes "level") ∷ indexed 1 ∷ named (codes "id") ∷ named (codes "x") ∷ []) location ≡ 0
+weight-longer_path = refl
 
-most : weight (replicate 60 (named (codes "a"))) (replicate 60 (key (codes "a"))) ≡ 2305843009213693952
-most = refl
+weight-greatest : weight (replicate 60 (named (codes "a"))) (replicate 60 (key (codes "a"))) ≡ 2305843009213693952
+weight-greatest = refl
 
 -- ---- the tokens of `$.item1[*][1]` at the step item1
 
-same_name : token_weight (named (codes "item1")) (key (codes "item1")) ≡ 2
-same_name = refl
+token_weight-same_name : token_weight (named (codes "item1")) (key (codes "item1")) ≡ 2
+token_weight-same_name = refl
 
-any_step : token_weight any (key (codes "item1")) ≡ 1
-any_step = refl
+token_weight-any : token_weight any (key (codes "item1")) ≡ 1
+token_weight-any = refl
 
-index_at_name : token_weight (indexed 1) (key (codes "item1")) ≡ 0
-index_at_name = refl
+token_weight-index_at_name : token_weight (indexed 1) (key (codes "item1")) ≡ 0
+token_weight-index_at_name = refl
 
 -- ---- spellings
 
-name_behind_dot : IsSpelled (codes ".it em") (named (codes "it em"))
-name_behind_dot = inl (refl, refl)
+IsSpelled-name_after_dot : IsSpelled (codes ".it em") (named (codes "it em"))
+IsSpelled-name_after_dot = inl (refl, refl)
 
-empty_name : IsSpelled (codes "['']") (named [])
-empty_name = inr (refl, tt)
+IsSpelled-empty_name : IsSpelled (codes "['']") (named [])
+IsSpelled-empty_name = inr (refl, tt)
 
-leading_zeros : IsSpelled (codes "[007]") (indexed 7)
-leading_zeros = (codes "007", refl, refl, refl)
+IsSpelled-leading_zeros : IsSpelled (codes "[007]") (indexed 7)
+IsSpelled-leading_zeros = (codes "007", refl, refl, refl)
 
 -- ---- texts and what they read as
 
-root_alone : path_in (codes "$") ≡ Ok []
+path_in-root : path_in (codes "$") ≡ Ok []
 unfolding tokens_in
-root_alone = refl
+path_in-root = refl
 
-quotes_and_zeros : path_in (codes "$['it em'][007]") ≡ Ok (named (codes "it em") ∷ indexed 7 ∷ [])
+path_in-quotes_and_zeros : path_in (codes "$['it em'][007]") ≡ Ok (named (codes "it em") ∷ indexed 7 ∷ [])
 unfolding tokens_in
-quotes_and_zeros = refl
+path_in-quotes_and_zeros = refl
 
-dot_in_quotes : path_in (codes "$['a.b'].*") ≡ Ok (named (codes "a.b") ∷ any ∷ [])
+path_in-dot_in_quotes : path_in (codes "$['a.b'].*") ≡ Ok (named (codes "a.b") ∷ any ∷ [])
 unfolding tokens_in
-dot_in_quotes = refl
+path_in-dot_in_quotes = refl
 
-three_tokens : path_in (codes "$.item1[*][1]") ≡ Ok (named (codes "item1") ∷ any ∷ indexed 1 ∷ [])
+path_in-three_tokens : path_in (codes "$.item1[*][1]") ≡ Ok (named (codes "item1") ∷ any ∷ indexed 1 ∷ [])
 unfolding tokens_in
-three_tokens = refl
+path_in-three_tokens = refl
 
 -- in quotes a star is a name, in brackets it is Any
-stars : path_in (codes "$['*'][*]") ≡ Ok (named (codes "*") ∷ any ∷ [])
+path_in-stars : path_in (codes "$['*'][*]") ≡ Ok (named (codes "*") ∷ any ∷ [])
 unfolding tokens_in
-stars = refl
+path_in-stars = refl
 
-quoted_nothing : path_in (codes "$['']") ≡ Ok (named [] ∷ [])
+path_in-quoted_empty : path_in (codes "$['']") ≡ Ok (named [] ∷ [])
 unfolding tokens_in
-quoted_nothing = refl
+path_in-quoted_empty = refl
 
-nine_digits : path_in (codes "$[123456789]") ≡ Ok (indexed 123456789 ∷ [])
+path_in-nine_digits : path_in (codes "$[123456789]") ≡ Ok (indexed 123456789 ∷ [])
 unfolding tokens_in
-nine_digits = refl
+path_in-nine_digits = refl
 
-nothing : path_in [] ≡ Err NoRoot
-nothing = refl
+path_in-empty_text : path_in [] ≡ Err NoRoot
+path_in-empty_text = refl
 
-no_root : path_in (codes "item") ≡ Err NoRoot
-no_root = refl
+path_in-no_root : path_in (codes "item") ≡ Err NoRoot
+path_in-no_root = refl
 
-two_dots : path_in (codes "$.a..b") ≡ Err (BadToken 3)
+path_in-two_dots : path_in (codes "$.a..b") ≡ Err (BadToken 3)
 unfolding tokens_in
-two_dots = refl
+path_in-two_dots = refl
 
-dot_alone : path_in (codes "$.") ≡ Err (BadToken 1)
+path_in-dot_at_end : path_in (codes "$.") ≡ Err (BadToken 1)
 unfolding tokens_in
-dot_alone = refl
+path_in-dot_at_end = refl
 
-ten_digits : path_in (codes "$[1234567890]") ≡ Err (BadToken 1)
+path_in-ten_digits : path_in (codes "$[1234567890]") ≡ Err (BadToken 1)
 unfolding tokens_in
-ten_digits = refl
+path_in-ten_digits = refl
 
-no_digit : path_in (codes "$[]") ≡ Err (BadToken 1)
+path_in-no_digit : path_in (codes "$[]") ≡ Err (BadToken 1)
 unfolding tokens_in
-no_digit = refl
+path_in-no_digit = refl
 
-open_quote : path_in (codes "$['a]") ≡ Err (BadToken 1)
+path_in-open_quote : path_in (codes "$['a]") ≡ Err (BadToken 1)
 unfolding tokens_in
-open_quote = refl
+path_in-open_quote = refl
 
 -- the name takes all that it can, and the star begins no token
-star_behind_name : path_in (codes "$.a*") ≡ Err (BadToken 3)
+path_in-star_after_name : path_in (codes "$.a*") ≡ Err (BadToken 3)
 unfolding tokens_in
-star_behind_name = refl
+path_in-star_after_name = refl
 
-name_behind_star : path_in (codes "$.*a") ≡ Err (BadToken 3)
+path_in-name_after_star : path_in (codes "$.*a") ≡ Err (BadToken 3)
 unfolding tokens_in
-name_behind_star = refl
+path_in-name_after_star = refl
 
-full : path_in (codes "$" ++ concat (replicate 60 (codes ".a"))) ≡ Ok (replicate 60 (named (codes "a")))
+path_in-sixty_tokens : path_in (codes "$" ++ concat (replicate 60 (codes ".a"))) ≡ Ok (replicate 60 (named (codes "a")))
 unfolding tokens_in
-full = refl
+path_in-sixty_tokens = refl
 
-too_many : path_in (codes "$" ++ concat (replicate 61 (codes ".a"))) ≡ Err TooManyTokens
+path_in-too_many_tokens : path_in (codes "$" ++ concat (replicate 61 (codes ".a"))) ≡ Err TooManyTokens
 unfolding tokens_in
-too_many = refl
+path_in-too_many_tokens = refl
 
 -- after 60 tokens the text isn't read for another one
-too_many_and_bad : path_in (codes "$" ++ concat (replicate 60 (codes ".a")) ++ codes "*") ≡ Err TooManyTokens
+path_in-too_many_and_bad : path_in (codes "$" ++ concat (replicate 60 (codes ".a")) ++ codes "*") ≡ Err TooManyTokens
 unfolding tokens_in
-too_many_and_bad = refl
+path_in-too_many_and_bad = refl
 
 -- ---- canonical texts
 
-quotes_dropped : path_text (named (codes "it em") ∷ indexed 7 ∷ []) ≡ codes "$.it em[7]"
+path_text-quotes_dropped : path_text (named (codes "it em") ∷ indexed 7 ∷ []) ≡ codes "$.it em[7]"
 unfolding digits
-quotes_dropped = refl
+path_text-quotes_dropped = refl
 
-quotes_kept : path_text (named (codes "a.b") ∷ any ∷ named [] ∷ []) ≡ codes "$['a.b'][*]['']"
-quotes_kept = refl
+path_text-quotes_kept : path_text (named (codes "a.b") ∷ any ∷ named [] ∷ []) ≡ codes "$['a.b'][*]['']"
+path_text-quotes_kept = refl
 
-root_text : path_text [] ≡ codes "$"
-root_text = refl
+path_text-root : path_text [] ≡ codes "$"
+path_text-root = refl
 
-dot_in_text : path_text (named (codes "a.b") ∷ any ∷ []) ≡ codes "$['a.b'][*]"
-dot_in_text = refl
+path_text-dot_in_name : path_text (named (codes "a.b") ∷ any ∷ []) ≡ codes "$['a.b'][*]"
+path_text-dot_in_name = refl
 
-empty_name_text : path_text (named [] ∷ []) ≡ codes "$['']"
-empty_name_text = refl
+path_text-empty_name : path_text (named [] ∷ []) ≡ codes "$['']"
+path_text-empty_name = refl
 
-index_text : path_text (indexed 123456789 ∷ []) ≡ codes "$[123456789]"
+path_text-index : path_text (indexed 123456789 ∷ []) ≡ codes "$[123456789]"
 unfolding digits
-index_text = refl
+path_text-index = refl
 
-star_text : path_text (named (codes "*") ∷ any ∷ []) ≡ codes "$['*'][*]"
-star_text = refl
+path_text-star : path_text (named (codes "*") ∷ any ∷ []) ≡ codes "$['*'][*]"
+path_text-star = refl

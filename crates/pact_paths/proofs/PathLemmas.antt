@@ -10,28 +10,28 @@ behind_is c bs (Some x) h = sym (ap (behind c) h ∙ rw (eq-eqb c c refl) refl)
 behind_is c [] None h = refl
 behind_is c (b ∷ bs) None h = sym (rw (ne_eqb b c (λ e. h bs (ap (λ a. a ∷ bs) e))) refl)
 
-pub tokens_end : (total n : ℕ) (t : List ℕ) → length t ≡ 0 → tokens_in total n t ≡ Ok []
+pub tokens_in-end : (total n : ℕ) (t : List ℕ) → length t ≡ 0 → tokens_in total n t ≡ Ok []
 unfolding tokens_in
-tokens_end total zero [] e = refl
-tokens_end total (suc n) [] e = refl
-tokens_end total n (b ∷ t) e = absurd (omega (arith, e))
+tokens_in-end total zero [] e = refl
+tokens_in-end total (suc n) [] e = refl
+tokens_in-end total n (b ∷ t) e = absurd (omega (arith, e))
 
-pub tokens_too_many : (total : ℕ) (t : List ℕ) → 0 < length t → tokens_in total 0 t ≡ Err TooManyTokens
+pub tokens_in-too_many : (total : ℕ) (t : List ℕ) → 0 < length t → tokens_in total 0 t ≡ Err TooManyTokens
 unfolding tokens_in
-tokens_too_many total [] h = absurd (omega arith)
-tokens_too_many total (b ∷ t) h = refl
+tokens_in-too_many total [] h = absurd (omega arith)
+tokens_in-too_many total (b ∷ t) h = refl
 
-pub tokens_bad : (total n : ℕ) (t : List ℕ) → 0 < length t → 0 < n → token_in t ≡ None → tokens_in total n t ≡ Err (BadToken (total - length t))
+pub tokens_in-bad_token : (total n : ℕ) (t : List ℕ) → 0 < length t → 0 < n → token_in t ≡ None → tokens_in total n t ≡ Err (BadToken (total - length t))
 unfolding tokens_in
-tokens_bad total n [] h p e = absurd (omega arith)
-tokens_bad total zero (b ∷ t) h p e = absurd (omega arith)
-tokens_bad total (suc n) (b ∷ t) h p e = ap (first_of_more (tokens_in total n) (BadToken (total - length (b ∷ t)))) e
+tokens_in-bad_token total n [] h p e = absurd (omega arith)
+tokens_in-bad_token total zero (b ∷ t) h p e = absurd (omega arith)
+tokens_in-bad_token total (suc n) (b ∷ t) h p e = ap (first_of_more (tokens_in total n) (BadToken (total - length (b ∷ t)))) e
 
-pub tokens_more : (total n : ℕ) (t : List ℕ) (x : Token) (rest : List ℕ) → 0 < length t → 0 < n → token_in t ≡ Some (x, rest) → tokens_in total n t ≡ with_front x (tokens_in total (n - 1) rest)
+pub tokens_in-more : (total n : ℕ) (t : List ℕ) (x : Token) (rest : List ℕ) → 0 < length t → 0 < n → token_in t ≡ Some (x, rest) → tokens_in total n t ≡ with_front x (tokens_in total (n - 1) rest)
 unfolding tokens_in
-tokens_more total n [] x rest h p e = absurd (omega arith)
-tokens_more total zero (b ∷ t) x rest h p e = absurd (omega arith)
-tokens_more total (suc n) (b ∷ t) x rest h p e =
+tokens_in-more total n [] x rest h p e = absurd (omega arith)
+tokens_in-more total zero (b ∷ t) x rest h p e = absurd (omega arith)
+tokens_in-more total (suc n) (b ∷ t) x rest h p e =
     let down : suc n - 1 ≡ n = omega arith in
     ap (first_of_more (tokens_in total n) (BadToken (total - length (b ∷ t)))) e ∙ ap (λ k. with_front x (tokens_in total k rest)) (sym down)
 
@@ -47,19 +47,19 @@ pub checked-with_front : (x : Token) (r : Result (List Token) PathFault) → che
 checked-with_front x (Ok ts) = refl
 checked-with_front x (Err e) = refl
 
-pub with_no_front : (r : Result (List Token) PathFault) → with_all [] r ≡ r
-with_no_front (Ok ts) = refl
-with_no_front (Err e) = refl
+pub with_all-empty : (r : Result (List Token) PathFault) → with_all [] r ≡ r
+with_all-empty (Ok ts) = refl
+with_all-empty (Err e) = refl
 
 -- ---- tests over a text
 
-pub digits_all : (ds : List ℕ) → list_all is_ascii_digit ds ≡ all_ascii_digits ds
-digits_all [] = refl
-digits_all (d ∷ ds) = ap (λ b. is_ascii_digit d && b) (digits_all ds)
+pub list_all-ascii_digits : (ds : List ℕ) → list_all is_ascii_digit ds ≡ all_ascii_digits ds
+list_all-ascii_digits [] = refl
+list_all-ascii_digits (d ∷ ds) = ap (λ b. is_ascii_digit d && b) (list_all-ascii_digits ds)
 
-position_at : (k n : ℕ) (v : Bool) → ltb k n ≡ v → k ≤ n → unwrap_or (cond v (Some k) None) n ≡ k
-position_at k n true e h = refl
-position_at k n false e h = omega (arith, ltb-false k n e)
+unwrap_or-position : (k n : ℕ) (v : Bool) → ltb k n ≡ v → k ≤ n → unwrap_or (cond v (Some k) None) n ≡ k
+unwrap_or-position k n true e h = refl
+unwrap_or-position k n false e h = omega (arith, ltb-false k n e)
 
-pub position_or_end : (p : ℕ → Bool) (t : List ℕ) → unwrap_or (cond (ltb (position_or_len p t) (length t)) (Some (position_or_len p t)) None) (length t) ≡ position_or_len p t
-position_or_end p t = position_at (position_or_len p t) (length t) (ltb (position_or_len p t) (length t)) refl (prefix_len-le-length (λ b. not (p b)) t)
+pub position_or_len-unwrap_or : (p : ℕ → Bool) (t : List ℕ) → unwrap_or (cond (ltb (position_or_len p t) (length t)) (Some (position_or_len p t)) None) (length t) ≡ position_or_len p t
+position_or_len-unwrap_or p t = unwrap_or-position (position_or_len p t) (length t) (ltb (position_or_len p t) (length t)) refl (prefix_len-le-length (λ b. not (p b)) t)

@@ -7,21 +7,21 @@ use Rattle.pact_paths.specs.{declared.path.Step.{Step}, declared.path.Token.{Tok
 abbrev pub of_parts : List Token → List Step → ℕ
 of_parts ts ls = product_over (map token_view ts) (map step_view ls)
 
-pub doubled : (p w k : ℕ) → p ≤ 2 ^ k → w ≤ 2 → p * w ≤ 2 ^ (k + 1)
-doubled p w k a b =
+pub pow-mul_le : (p w k : ℕ) → p ≤ 2 ^ k → w ≤ 2 → p * w ≤ 2 ^ (k + 1)
+pow-mul_le p w k a b =
     let up : p * w ≤ p * 2 = mul-le-mul_left p b in
     rw add-one (omega arith)
 
-pub within_60 : (k : ℕ) → k ≤ 60 → 2 ^ k ≤ 2 ^ 60
-within_60 k h = pow-le-pow_right {n = 2} (lit< tt) {i = k} {j = 60} h
+pub pow-within_60 : (k : ℕ) → k ≤ 60 → 2 ^ k ≤ 2 ^ 60
+pow-within_60 k h = pow-le-pow_right {n = 2} (lit< tt) {i = k} {j = 60} h
 
-pub regroup : (p w r total : ℕ) → p * (w * r) ≡ total → (p * w) * r ≡ total
-regroup p w r total h = omega (arith, h)
+pub mul-regroup : (p w r total : ℕ) → p * (w * r) ≡ total → (p * w) * r ≡ total
+mul-regroup p w r total h = omega (arith, h)
 
 -- the weight of the token at a index of a path
-pub weight_there : (ts : List Token) (tokens : List PathToken) (index : ℕ) (t : Token) (s : PathStep) (n : ℕ) → tokens ≡ map token_view ts → index < length tokens → t ≡ get_or ts index t → n ≡ token_weight (token_view t) s
+pub token_weight-slice_get : (ts : List Token) (tokens : List PathToken) (index : ℕ) (t : Token) (s : PathStep) (n : ℕ) → tokens ≡ map token_view ts → index < length tokens → t ≡ get_or ts index t → n ≡ token_weight (token_view t) s
     → slice_get (map (λ u. token_weight u s) tokens) index ≡ Some n
-weight_there ts tokens index t s n view within read e =
+token_weight-slice_get ts tokens index t s n view within read e =
     let weigh = λ (u : PathToken). token_weight u s in
     let inside : index < length ts = omega (arith, ap length view, length-map ts token_view) in
     ap (λ us. slice_get (map weigh us) index) view ∙ slice_get-map weigh (map token_view ts) index ∙ ap (option_map weigh) (slice_get-map token_view ts index ∙ ap (option_map token_view) (slice_get_read ts (length ts) index t refl inside read))

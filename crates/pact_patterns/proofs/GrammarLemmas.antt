@@ -7,26 +7,26 @@ use Rattle.regex_syntax.specs.{Grammar.{Names, group_count, read}, Brackets.{Nes
 use Rattle.regex_hir.specs.declared.hir.Hir.{Hir}
 use Rattle.pact_patterns.specs.Patterns.{pattern_of, is_found}
 
-found_if : (o : Option (Nested Re × Names)) (most : ℕ) (a : Re) (names : Names) (hay : List ℕ) → ((k : ℕ) → get_or hay k 0 < 256)
+find_str-is_found : (o : Option (Nested Re × Names)) (most : ℕ) (a : Re) (names : Names) (hay : List ℕ) → ((k : ℕ) → get_or hay k 0 < 256)
     → IsSomeAnd o (λ (re, found). (re.depth ≤ most) × SameCaptures a re.value × (names ≡ found) × (group_count a ≤ length names))
     → is_some (find_str a hay 0) ≡ is_found (option_map (λ found. found.0.value) o) hay
-found_if None most a names hay bytes h = absurd h
-found_if (Some x) most a names hay bytes h = is_match_alike h.1 hay bytes true 0
+find_str-is_found None most a names hay bytes h = absurd h
+find_str-is_found (Some x) most a names hay bytes h = is_match_alike h.1 hay bytes true 0
 
 -- a regex finds what the pattern of its text finds
-pub found_as_read : (r : Regex) (source hay : List ℕ) → regex_source r ≡ source → regex_config r ≡ default_config → IsReadFromSource r → ((k : ℕ) → get_or hay k 0 < 256)
+pub find_str-pattern_of : (r : Regex) (source hay : List ℕ) → regex_source r ≡ source → regex_config r ≡ default_config → IsReadFromSource r → ((k : ℕ) → get_or hay k 0 < 256)
     → is_some (find_str (regex_pattern r) hay 0) ≡ is_found (pattern_of source) hay
 unfolding Reads
-found_as_read r source hay is config reads bytes =
+find_str-pattern_of r source hay is config reads bytes =
     let as_read : Reads default_config source r.pattern.program.hir (names_of r.pattern.names.items) = rw (is, config) at reads in
-    found_if (read default_config (chars source)) default_config.nest_limit (regex_pattern r) (names_of r.pattern.names.items) hay bytes as_read
+    find_str-is_found (read default_config (chars source)) default_config.nest_limit (regex_pattern r) (names_of r.pattern.names.items) hay bytes as_read
 
-read_if : (o : Option (Nested Re × Names)) (most : ℕ) (a : Re) (names : Names)
+is_some-same_captures : (o : Option (Nested Re × Names)) (most : ℕ) (a : Re) (names : Names)
     → IsSomeAnd o (λ (re, found). (re.depth ≤ most) × SameCaptures a re.value × (names ≡ found) × (group_count a ≤ length names)) → is_some (option_map (λ found. found.0.value) o) ≡ true
-read_if None most a names h = absurd h
-read_if (Some x) most a names h = refl
+is_some-same_captures None most a names h = absurd h
+is_some-same_captures (Some x) most a names h = refl
 
 -- the grammar reads what the parser read
-pub parsed_is_pattern : (source : List ℕ) (hir : Hir) (names : Names) → Reads default_config source hir names → is_some (pattern_of source) ≡ true
+pub pattern_of-is_some : (source : List ℕ) (hir : Hir) (names : Names) → Reads default_config source hir names → is_some (pattern_of source) ≡ true
 unfolding Reads
-parsed_is_pattern source hir names reads = read_if (read default_config (chars source)) default_config.nest_limit _ names reads
+pattern_of-is_some source hir names reads = is_some-same_captures (read default_config (chars source)) default_config.nest_limit _ names reads

@@ -10,11 +10,11 @@ use Rattle.pact_rules.specs.declared.table.BodyRule as code
 
 -- ---- texts in order
 
-before_not_after : (a b : List ℕ) → IsBefore a b → is_lt (slice_cmp nat_cmp b a) ≡ false
-before_not_after a b h = rw (nat_list_cmp_total.antisymm b a, h) refl
+IsBefore-not_after : (a b : List ℕ) → IsBefore a b → is_lt (slice_cmp nat_cmp b a) ≡ false
+IsBefore-not_after a b h = rw (nat_list_cmp_total.antisymm b a, h) refl
 
-never_both : (a b : List ℕ) → IsBefore a b → IsBefore b a → ⊥
-never_both a b h k = true≢false (ap is_lt (sym k) ∙ before_not_after a b h)
+IsBefore-asymmetric : (a b : List ℕ) → IsBefore a b → IsBefore b a → ⊥
+IsBefore-asymmetric a b h k = true≢false (ap is_lt (sym k) ∙ IsBefore-not_after a b h)
 
 -- ---- weights and lengths only
 
@@ -22,56 +22,56 @@ never_both a b h k = true≢false (ap is_lt (sym k) ∙ before_not_after a b h)
 abbrev AtLeast : Location → BodyRule → BodyRule → Type 0
 AtLeast at r s = (weight s.path at < weight r.path at) ⊎ ((weight s.path at ≡ weight r.path at) × (length s.path ≤ length r.path))
 
-tests_false : (v w l m : ℕ) (t : Bool) → outranks v w l m t ≡ false → (v < w) ⊎ ((v ≡ w) × (l ≤ m))
-tests_false v w l m t h = grind (arith, nat_tests)
+outranks-false : (v w l m : ℕ) (t : Bool) → outranks v w l m t ≡ false → (v < w) ⊎ ((v ≡ w) × (l ≤ m))
+outranks-false v w l m t h = grind (arith, nat_tests)
 
-not_beaten : (at : Location) (b r : BodyRule) → beats at b r ≡ false → AtLeast at r b
-not_beaten at b r h = tests_false (weight b.path at) (weight r.path at) (length b.path) (length r.path) _ h
+AtLeast-of_not_beats : (at : Location) (b r : BodyRule) → beats at b r ≡ false → AtLeast at r b
+AtLeast-of_not_beats at b r h = outranks-false (weight b.path at) (weight r.path at) (length b.path) (length r.path) _ h
 
-tests_true : (v w l m : ℕ) (t : Bool) → outranks v w l m t ≡ true → (w < v) ⊎ ((w ≡ v) × ((m < l) ⊎ ((m ≡ l) × (t ≡ true))))
-tests_true v w l m t h = grind (arith, nat_tests)
+outranks-true : (v w l m : ℕ) (t : Bool) → outranks v w l m t ≡ true → (w < v) ⊎ ((w ≡ v) × ((m < l) ⊎ ((m ≡ l) × (t ≡ true))))
+outranks-true v w l m t h = grind (arith, nat_tests)
 
-is_less : (o : Ordering) → is_lt o ≡ true → o ≡ Less
-is_less Less h = refl
-is_less o h = absurd (true≢false (sym h))
+is_lt-Less : (o : Ordering) → is_lt o ≡ true → o ≡ Less
+is_lt-Less Less h = refl
+is_lt-Less o h = absurd (true≢false (sym h))
 
-is_beaten : (at : Location) (b r : BodyRule) → beats at b r ≡ true → Beats at b r
-is_beaten at b r h =
-    ⊎_elim inl (λ e. inr (e.0, ⊎_elim inl (λ f. inr (f.0, is_less _ f.1)) e.1))
-    (tests_true (weight b.path at) (weight r.path at) (length b.path) (length r.path) (is_lt (slice_cmp nat_cmp (path_text b.path) (path_text r.path))) h)
+Beats-of_beats : (at : Location) (b r : BodyRule) → beats at b r ≡ true → Beats at b r
+Beats-of_beats at b r h =
+    ⊎_elim inl (λ e. inr (e.0, ⊎_elim inl (λ f. inr (f.0, is_lt-Less _ f.1)) e.1))
+    (outranks-true (weight b.path at) (weight r.path at) (length b.path) (length r.path) (is_lt (slice_cmp nat_cmp (path_text b.path) (path_text r.path))) h)
 
-at_least : (at : Location) (r s : BodyRule) → Beats at r s → AtLeast at r s
-at_least at r s h =
+AtLeast-of_Beats : (at : Location) (r s : BodyRule) → Beats at r s → AtLeast at r s
+AtLeast-of_Beats at r s h =
     let wr = weight r.path at in let ws = weight s.path at in let lr = length r.path in let ls = length s.path in
     ⊎_elim inl (λ e. inr (e.0, ⊎_elim (λ f. let lt : ls < lr = f in omega arith) (λ f. let is : ls ≡ lr = f.0 in omega arith) e.1)) h
 
-trans_numbers : (wr ws wt lr ls lt : ℕ) → (ws < wr) ⊎ ((ws ≡ wr) × (ls ≤ lr)) → (wt < ws) ⊎ ((wt ≡ ws) × (lt ≤ ls)) → (wt < wr) ⊎ ((wt ≡ wr) × (lt ≤ lr))
-trans_numbers wr ws wt lr ls lt h k = grind arith
+AtLeast-trans_numbers : (wr ws wt lr ls lt : ℕ) → (ws < wr) ⊎ ((ws ≡ wr) × (ls ≤ lr)) → (wt < ws) ⊎ ((wt ≡ ws) × (lt ≤ ls)) → (wt < wr) ⊎ ((wt ≡ wr) × (lt ≤ lr))
+AtLeast-trans_numbers wr ws wt lr ls lt h k = grind arith
 
-at_least_trans : (at : Location) (r s t : BodyRule) → AtLeast at r s → AtLeast at s t → AtLeast at r t
-at_least_trans at r s t h k = trans_numbers (weight r.path at) (weight s.path at) (weight t.path at) (length r.path) (length s.path) (length t.path) h k
+AtLeast-trans : (at : Location) (r s t : BodyRule) → AtLeast at r s → AtLeast at s t → AtLeast at r t
+AtLeast-trans at r s t h k = AtLeast-trans_numbers (weight r.path at) (weight s.path at) (weight t.path at) (length r.path) (length s.path) (length t.path) h k
 
-by_numbers : (T : Type 0) (wr ws lr ls : ℕ) → T → (ws < wr) ⊎ ((ws ≡ wr) × (ls ≤ lr)) → (ws < wr) ⊎ ((ws ≡ wr) × ((ls < lr) ⊎ ((ls ≡ lr) × T)))
-by_numbers T wr ws lr ls k h = ⊎_elim inl (λ e. inr (e.0, ⊎_elim (λ is. inr (is, k)) (λ ne. let apart : ls ≡ lr → ⊥ = ne in inl (omega arith)) (cases_eq ls lr))) h
+Beats-by_numbers : (T : Type 0) (wr ws lr ls : ℕ) → T → (ws < wr) ⊎ ((ws ≡ wr) × (ls ≤ lr)) → (ws < wr) ⊎ ((ws ≡ wr) × ((ls < lr) ⊎ ((ls ≡ lr) × T)))
+Beats-by_numbers T wr ws lr ls k h = ⊎_elim inl (λ e. inr (e.0, ⊎_elim (λ is. inr (is, k)) (λ ne. let apart : ls ≡ lr → ⊥ = ne in inl (omega arith)) (cases_eq ls lr))) h
 
-by_text : (at : Location) (r s : BodyRule) → AtLeast at r s → IsBefore (path_text r.path) (path_text s.path) → Beats at r s
-by_text at r s h k = by_numbers _ (weight r.path at) (weight s.path at) (length r.path) (length s.path) k h
+Beats-by_text : (at : Location) (r s : BodyRule) → AtLeast at r s → IsBefore (path_text r.path) (path_text s.path) → Beats at r s
+Beats-by_text at r s h k = Beats-by_numbers _ (weight r.path at) (weight s.path at) (length r.path) (length s.path) k h
 
-numbers_agree : (A B : Type 0) (wr ws lr ls : ℕ) → (ws < wr) ⊎ ((ws ≡ wr) × ((ls < lr) ⊎ ((ls ≡ lr) × A))) → (wr < ws) ⊎ ((wr ≡ ws) × ((lr < ls) ⊎ ((lr ≡ ls) × B))) → A × B
-numbers_agree A B wr ws lr ls h k =
+Beats-equal_numbers : (A B : Type 0) (wr ws lr ls : ℕ) → (ws < wr) ⊎ ((ws ≡ wr) × ((ls < lr) ⊎ ((ls ≡ lr) × A))) → (wr < ws) ⊎ ((wr ≡ ws) × ((lr < ls) ⊎ ((lr ≡ ls) × B))) → A × B
+Beats-equal_numbers A B wr ws lr ls h k =
     ⊎_elim (λ x. ⊎_elim (λ y. absurd (omega arith)) (λ y. let is : wr ≡ ws = y.0 in absurd (omega arith)) k)
     (λ x. let is : ws ≡ wr = x.0 in ⊎_elim (λ y. absurd (omega arith))
     (λ y. ⊎_elim (λ f. ⊎_elim (λ g. absurd (omega arith)) (λ g. let e : lr ≡ ls = g.0 in absurd (omega arith)) y.1)
     (λ f. let e : ls ≡ lr = f.0 in ⊎_elim (λ g. absurd (omega arith)) (λ g. (f.1, g.1)) y.1) x.1) k) h
 
 -- no two rules are chosen
-pub chosen_unique : (rules : List BodyRule) (at : Location) (i j : ℕ) → IsChosen rules at i → IsChosen rules at j → i ≡ j
-chosen_unique rules at i j h k =
+pub IsChosen-unique : (rules : List BodyRule) (at : Location) (i j : ℕ) → IsChosen rules at i → IsChosen rules at j → i ≡ j
+IsChosen-unique rules at i j h k =
     ⊎_elim (λ e. e) (λ ne.
-    let both = numbers_agree (IsBefore (path_text h.0.path) (path_text k.0.path)) (IsBefore (path_text k.0.path) (path_text h.0.path))
+    let both = Beats-equal_numbers (IsBefore (path_text h.0.path) (path_text k.0.path)) (IsBefore (path_text k.0.path) (path_text h.0.path))
     (weight h.0.path at) (weight k.0.path at) (length h.0.path) (length k.0.path)
     (h.3 j k.0 k.1 (λ e. ne (sym e)) k.2) (k.3 i h.0 h.1 ne h.2) in
-    absurd (never_both (path_text h.0.path) (path_text k.0.path) both.0 both.1)) (cases_eq i j)
+    absurd (IsBefore-asymmetric (path_text h.0.path) (path_text k.0.path) both.0 both.1)) (cases_eq i j)
 
 -- ---- the best rule is the one that is chosen
 
@@ -81,71 +81,71 @@ IsBest rules at o =
     (λ b. (slice_get rules b.0 ≡ Some b.1) × (0 < weight b.1.path at)
     × ((j : ℕ) (s : BodyRule) → slice_get rules j ≡ Some s → j ≢ b.0 → 0 < weight s.path at → Beats at b.1 s))
 
-pub get_member : {A : Type 0} (P : A → Type 0) (xs : List A) (i : ℕ) (x : A) → AllByRecursion P xs → slice_get xs i ≡ Some x → P x
-get_member P [] i x h e = cc
-get_member P (y ∷ xs) zero x h e = subst P (same_Some _ _ e) h.0
-get_member P (y ∷ xs) (suc i) x h e = get_member P xs i x h.1 e
+pub AllByRecursion-slice_get : {A : Type 0} (P : A → Type 0) (xs : List A) (i : ℕ) (x : A) → AllByRecursion P xs → slice_get xs i ≡ Some x → P x
+AllByRecursion-slice_get P [] i x h e = cc
+AllByRecursion-slice_get P (y ∷ xs) zero x h e = subst P (same_Some _ _ e) h.0
+AllByRecursion-slice_get P (y ∷ xs) (suc i) x h e = AllByRecursion-slice_get P xs i x h.1 e
 
-zero_not_positive : {A : Type 0} (n : ℕ) → n ≡ 0 → 0 < n → A
-zero_not_positive n e h = absurd (omega arith)
+zero-not_positive : {A : Type 0} (n : ℕ) → n ≡ 0 → 0 < n → A
+zero-not_positive n e h = absurd (omega arith)
 
-first_alone : (at : Location) (r : BodyRule) (rules : List BodyRule) → IsBest rules at None → (b : Bool) → ltb 0 (weight r.path at) ≡ b → IsBest (r ∷ rules) at (cond b (Some (0, r)) None)
-first_alone at r rules none true test = (
+IsBest-first_only : (at : Location) (r : BodyRule) (rules : List BodyRule) → IsBest rules at None → (b : Bool) → ltb 0 (weight r.path at) ≡ b → IsBest (r ∷ rules) at (cond b (Some (0, r)) None)
+IsBest-first_only at r rules none true test = (
   refl,
   ltb-true 0 (weight r.path at) test,
   λ j. elim j as (λ j. (s : BodyRule) → slice_get (r ∷ rules) j ≡ Some s → j ≢ 0 → 0 < weight s.path at → Beats at r s) [
     | zero ↦ λ s e ne p. absurd (ne refl)
-    | suc k ↦ λ s e ne p. zero_not_positive (weight s.path at) (none k s e) p
+    | suc k ↦ λ s e ne p. zero-not_positive (weight s.path at) (none k s e) p
   ],
 )
-first_alone at r rules none false test = λ j. elim j as (λ j. (s : BodyRule) → slice_get (r ∷ rules) j ≡ Some s → weight s.path at ≡ 0) [
+IsBest-first_only at r rules none false test = λ j. elim j as (λ j. (s : BodyRule) → slice_get (r ∷ rules) j ≡ Some s → weight s.path at ≡ 0) [
   | zero ↦ λ s e. let low : weight r.path at ≤ 0 = ltb-false 0 (weight r.path at) test in
       subst (λ (x : BodyRule). weight x.path at ≡ 0) (same_Some r s e) (omega arith)
   | suc k ↦ λ s e. none k s e
 ]
 
-positive_first : (wr lr wb lb : ℕ) → (wb < wr) ⊎ ((wb ≡ wr) × (lb ≤ lr)) → 0 < wb → 0 < wr
-positive_first wr lr wb lb h p = grind arith
+Beats-positive_weight : (wr lr wb lb : ℕ) → (wb < wr) ⊎ ((wb ≡ wr) × (lb ≤ lr)) → 0 < wb → 0 < wr
+Beats-positive_weight wr lr wb lb h p = grind arith
 
-first_or_best : (at : Location) (r : BodyRule) (rules : List BodyRule) (b : ℕ × BodyRule) → AllByRecursion (λ s. IsBefore (path_text r.path) (path_text s.path)) rules → IsBest rules at (Some b)
+IsBest-first_or_best : (at : Location) (r : BodyRule) (rules : List BodyRule) (b : ℕ × BodyRule) → AllByRecursion (λ s. IsBefore (path_text r.path) (path_text s.path)) rules → IsBest rules at (Some b)
     → (t : Bool) → beats at b.1 r ≡ t → IsBest (r ∷ rules) at (cond t (Some (b.0 + 1, b.1)) (Some (0, r)))
-first_or_best at r rules b before is true test = (
+IsBest-first_or_best at r rules b before is true test = (
   ap (slice_get (r ∷ rules)) (add-one b.0) ∙ is.0,
   is.1,
   λ j. elim j as (λ j. (s : BodyRule) → slice_get (r ∷ rules) j ≡ Some s → j ≢ b.0 + 1 → 0 < weight s.path at → Beats at b.1 s) [
-    | zero ↦ λ s e ne p. subst (λ x. Beats at b.1 x) (same_Some r s e) (is_beaten at b.1 r test)
+    | zero ↦ λ s e ne p. subst (λ x. Beats at b.1 x) (same_Some r s e) (Beats-of_beats at b.1 r test)
     | suc k ↦ λ s e ne p. is.2 k s e (λ same. ne (ap suc same ∙ sym (add-one b.0))) p
   ],
 )
-first_or_best at r rules b before is false test =
-    let over : AtLeast at r b.1 = not_beaten at b.1 r test in (
+IsBest-first_or_best at r rules b before is false test =
+    let over : AtLeast at r b.1 = AtLeast-of_not_beats at b.1 r test in (
       refl,
-      positive_first (weight r.path at) (length r.path) (weight b.1.path at) (length b.1.path) over is.1,
+      Beats-positive_weight (weight r.path at) (length r.path) (weight b.1.path at) (length b.1.path) over is.1,
       λ j. elim j as (λ j. (s : BodyRule) → slice_get (r ∷ rules) j ≡ Some s → j ≢ 0 → 0 < weight s.path at → Beats at r s) [
         | zero ↦ λ s e ne p. absurd (ne refl)
         | suc k ↦ λ s e ne p.
-            let earlier = get_member (λ (x : BodyRule). IsBefore (path_text r.path) (path_text x.path)) rules k s before e in
-            ⊎_elim (λ same. by_text at r s (subst (λ x. AtLeast at r x) (same_Some b.1 s (sym is.0 ∙ ap (slice_get rules) (sym same) ∙ e)) over) earlier)
-            (λ ne. by_text at r s (at_least_trans at r b.1 s over (at_least at b.1 s (is.2 k s e ne p))) earlier)
+            let earlier = AllByRecursion-slice_get (λ (x : BodyRule). IsBefore (path_text r.path) (path_text x.path)) rules k s before e in
+            ⊎_elim (λ same. Beats-by_text at r s (subst (λ x. AtLeast at r x) (same_Some b.1 s (sym is.0 ∙ ap (slice_get rules) (sym same) ∙ e)) over) earlier)
+            (λ ne. Beats-by_text at r s (AtLeast-trans at r b.1 s over (AtLeast-of_Beats at b.1 s (is.2 k s e ne p))) earlier)
             (cases_eq k b.0)
       ],
     )
 
-pick_best : (at : Location) (r : BodyRule) (rules : List BodyRule) (o : Option (ℕ × BodyRule)) → AllByRecursion (λ s. IsBefore (path_text r.path) (path_text s.path)) rules → IsBest rules at o → IsBest (r ∷ rules) at (pick at r o)
-pick_best at r rules None before is = first_alone at r rules is (ltb 0 (weight r.path at)) refl
-pick_best at r rules (Some b) before is = first_or_best at r rules b before is (beats at b.1 r) refl
+IsBest-pick : (at : Location) (r : BodyRule) (rules : List BodyRule) (o : Option (ℕ × BodyRule)) → AllByRecursion (λ s. IsBefore (path_text r.path) (path_text s.path)) rules → IsBest rules at o → IsBest (r ∷ rules) at (pick at r o)
+IsBest-pick at r rules None before is = IsBest-first_only at r rules is (ltb 0 (weight r.path at)) refl
+IsBest-pick at r rules (Some b) before is = IsBest-first_or_best at r rules b before is (beats at b.1 r) refl
 
-pub best_is_best : (rules : List BodyRule) (at : Location) → IsInOrder rules → IsBest rules at (best rules at)
-best_is_best [] at h = λ j s e. cc
-best_is_best (r ∷ rules) at h = pick_best at r rules (best rules at) h.0 (best_is_best rules at h.1)
+pub IsBest-best : (rules : List BodyRule) (at : Location) → IsInOrder rules → IsBest rules at (best rules at)
+IsBest-best [] at h = λ j s e. cc
+IsBest-best (r ∷ rules) at h = IsBest-pick at r rules (best rules at) h.0 (IsBest-best rules at h.1)
 
-as_choice : (rules : List BodyRule) (at : Location) (o : Option (ℕ × BodyRule)) → IsBest rules at o → IsChoice rules at (option_map (λ b. b.0) o)
-as_choice rules at None h = h
-as_choice rules at (Some b) h = (b.1, h.0, h.1, h.2)
+IsChoice-of_IsBest : (rules : List BodyRule) (at : Location) (o : Option (ℕ × BodyRule)) → IsBest rules at o → IsChoice rules at (option_map (λ b. b.0) o)
+IsChoice-of_IsBest rules at None h = h
+IsChoice-of_IsBest rules at (Some b) h = (b.1, h.0, h.1, h.2)
 
 -- of rules in order of their texts, what is computed is the one that beats each other of positive weight, if any
-pub chosen_is_choice : (rules : List BodyRule) (at : Location) → IsInOrder rules → IsChoice rules at (chosen rules at)
-chosen_is_choice rules at h = as_choice rules at (best rules at) (best_is_best rules at h)
+pub IsChoice-chosen : (rules : List BodyRule) (at : Location) → IsInOrder rules → IsChoice rules at (chosen rules at)
+IsChoice-chosen rules at h = IsChoice-of_IsBest rules at (best rules at) (IsBest-best rules at h)
 
 -- ---- the loop from the last index
 
@@ -154,77 +154,77 @@ abbrev pub as_candidate : ℕ → Location → Option (ℕ × BodyRule) → Opti
 as_candidate k at None = None
 as_candidate k at (Some b) = Some (record { index = b.0 + k; weight = weight b.1.path at; tokens = length b.1.path })
 
-same_tests : (v w l m : ℕ) → outranks v w l m false ≡ (ltb w v || (eqb v w && ltb m l))
-same_tests v w l m = grind (arith, nat_tests)
+outranks-no_tie_break : (v w l m : ℕ) → outranks v w l m false ≡ (ltb w v || (eqb v w && ltb m l))
+outranks-no_tie_break v w l m = grind (arith, nat_tests)
 
-pub one_of_two : (at : Location) (r : BodyRule) (b : ℕ × BodyRule) (k : ℕ) (t : Bool) → as_candidate k at (cond t (Some (b.0 + 1, b.1)) (Some (0, r)))
+pub as_candidate-first_or_best : (at : Location) (r : BodyRule) (b : ℕ × BodyRule) (k : ℕ) (t : Bool) → as_candidate k at (cond t (Some (b.0 + 1, b.1)) (Some (0, r)))
     ≡ cond t (as_candidate (k + 1) at (Some b)) (Some (record { index = k; weight = weight r.path at; tokens = length r.path }))
-one_of_two at r b k true = ap (λ n. Some (record { index = n; weight = weight b.1.path at; tokens = length b.1.path })) (omega arith)
-one_of_two at r b k false = ap (λ n. Some (record { index = n; weight = weight r.path at; tokens = length r.path })) (omega arith)
+as_candidate-first_or_best at r b k true = ap (λ n. Some (record { index = n; weight = weight b.1.path at; tokens = length b.1.path })) (omega arith)
+as_candidate-first_or_best at r b k false = ap (λ n. Some (record { index = n; weight = weight r.path at; tokens = length r.path })) (omega arith)
 
-pub none_or : (at : Location) (r : BodyRule) (k : ℕ) (t : Bool) → as_candidate k at (cond t (Some (0, r)) None)
+pub as_candidate-first_or_none : (at : Location) (r : BodyRule) (k : ℕ) (t : Bool) → as_candidate k at (cond t (Some (0, r)) None)
     ≡ cond t (Some (record { index = k; weight = weight r.path at; tokens = length r.path })) None
-none_or at r k true = ap (λ n. Some (record { index = n; weight = weight r.path at; tokens = length r.path })) (omega arith)
-none_or at r k false = refl
+as_candidate-first_or_none at r k true = ap (λ n. Some (record { index = n; weight = weight r.path at; tokens = length r.path })) (omega arith)
+as_candidate-first_or_none at r k false = refl
 
-pub candidate_step : (at : Location) (r : BodyRule) (rules : List BodyRule) (k : ℕ) (o : Option (ℕ × BodyRule)) → AllByRecursion (λ s. IsBefore (path_text r.path) (path_text s.path)) rules → IsBest rules at o
+pub as_candidate-pick : (at : Location) (r : BodyRule) (rules : List BodyRule) (k : ℕ) (o : Option (ℕ × BodyRule)) → AllByRecursion (λ s. IsBefore (path_text r.path) (path_text s.path)) rules → IsBest rules at o
     → as_candidate k at (pick at r o) ≡ better_of (record { index = k; weight = weight r.path at; tokens = length r.path }) (as_candidate (k + 1) at o)
-candidate_step at r rules k None before is = none_or at r k _
-candidate_step at r rules k (Some b) before is =
-    let earlier = get_member (λ (x : BodyRule). IsBefore (path_text r.path) (path_text x.path)) rules b.0 b.1 before is.0 in
-    one_of_two at r b k (beats at b.1 r)
+as_candidate-pick at r rules k None before is = as_candidate-first_or_none at r k _
+as_candidate-pick at r rules k (Some b) before is =
+    let earlier = AllByRecursion-slice_get (λ (x : BodyRule). IsBefore (path_text r.path) (path_text x.path)) rules b.0 b.1 before is.0 in
+    as_candidate-first_or_best at r b k (beats at b.1 r)
     ∙ ap (λ t. cond t (as_candidate (k + 1) at (Some b)) (Some (record { index = k; weight = weight r.path at; tokens = length r.path })))
-    (ap (outranks (weight b.1.path at) (weight r.path at) (length b.1.path) (length r.path)) (before_not_after (path_text r.path) (path_text b.1.path) earlier)
-    ∙ same_tests (weight b.1.path at) (weight r.path at) (length b.1.path) (length r.path))
+    (ap (outranks (weight b.1.path at) (weight r.path at) (length b.1.path) (length r.path)) (IsBefore-not_after (path_text r.path) (path_text b.1.path) earlier)
+    ∙ outranks-no_tie_break (weight b.1.path at) (weight r.path at) (length b.1.path) (length r.path))
 
-drop_in_order : (k : ℕ) (rules : List BodyRule) → IsInOrder rules → IsInOrder (drop k rules)
-drop_in_order zero rules h = h
-drop_in_order (suc k) [] h = tt
-drop_in_order (suc k) (r ∷ rules) h = drop_in_order k rules h.1
+IsInOrder-drop : (k : ℕ) (rules : List BodyRule) → IsInOrder rules → IsInOrder (drop k rules)
+IsInOrder-drop zero rules h = h
+IsInOrder-drop (suc k) [] h = tt
+IsInOrder-drop (suc k) (r ∷ rules) h = IsInOrder-drop k rules h.1
 
-pub candidate_more : (at : Location) (r : BodyRule) (rules : List BodyRule) (k : ℕ) → IsInOrder rules → drop k rules ≡ r ∷ drop (k + 1) rules
+pub as_candidate-drop : (at : Location) (r : BodyRule) (rules : List BodyRule) (k : ℕ) → IsInOrder rules → drop k rules ≡ r ∷ drop (k + 1) rules
     → as_candidate k at (best (drop k rules) at) ≡ better_of (record { index = k; weight = weight r.path at; tokens = length r.path }) (as_candidate (k + 1) at (best (drop (k + 1) rules) at))
-candidate_more at r rules k order is =
-    let here : IsInOrder (r ∷ drop (k + 1) rules) = subst IsInOrder is (drop_in_order k rules order) in
-    ap (λ rs. as_candidate k at (best rs at)) is ∙ candidate_step at r (drop (k + 1) rules) k (best (drop (k + 1) rules) at) here.0 (best_is_best (drop (k + 1) rules) at here.1)
+as_candidate-drop at r rules k order is =
+    let here : IsInOrder (r ∷ drop (k + 1) rules) = subst IsInOrder is (IsInOrder-drop k rules order) in
+    ap (λ rs. as_candidate k at (best rs at)) is ∙ as_candidate-pick at r (drop (k + 1) rules) k (best (drop (k + 1) rules) at) here.0 (IsBest-best (drop (k + 1) rules) at here.1)
 
-pub loop_step : (at : Location) (rules : List BodyRule) (r : BodyRule) (k w n : ℕ) (found result : Option Candidate) → IsInOrder rules → drop k rules ≡ r ∷ drop (k + 1) rules
+pub as_candidate-better_of : (at : Location) (rules : List BodyRule) (r : BodyRule) (k w n : ℕ) (found result : Option Candidate) → IsInOrder rules → drop k rules ≡ r ∷ drop (k + 1) rules
     → w ≡ weight r.path at → n ≡ length r.path → found ≡ as_candidate (k + 1) at (best (drop (k + 1) rules) at)
     → result ≡ better_of (record { index = k; weight = w; tokens = n }) found → result ≡ as_candidate k at (best (drop k rules) at)
-loop_step at rules r k w n found result order is ew en ef e =
+as_candidate-better_of at rules r k w n found result order is ew en ef e =
     e ∙ ap (λ v. better_of (record { index = k; weight = v; tokens = n }) found) ew
     ∙ ap (λ m. better_of (record { index = k; weight = weight r.path at; tokens = m }) found) en
     ∙ ap (better_of (record { index = k; weight = weight r.path at; tokens = length r.path })) ef
-    ∙ sym (candidate_more at r rules k order is)
+    ∙ sym (as_candidate-drop at r rules k order is)
 
-pub rule_at : (xs : List code.BodyRule) (k : ℕ) (x : code.BodyRule) → k < length xs → x ≡ get_or xs k x → drop k (map rule_view xs) ≡ rule_view x ∷ drop (k + 1) (map rule_view xs)
-rule_at xs k x lt is =
+pub drop-rule_view : (xs : List code.BodyRule) (k : ℕ) (x : code.BodyRule) → k < length xs → x ≡ get_or xs k x → drop k (map rule_view xs) ≡ rule_view x ∷ drop (k + 1) (map rule_view xs)
+drop-rule_view xs k x lt is =
     drop-map rule_view k xs ∙ ap (map rule_view) (drop_more xs k x lt ∙ ap (λ y. y ∷ drop (k + 1) xs) (sym is)) ∙ ap (λ ys. rule_view x ∷ ys) (sym (drop-map rule_view (k + 1) xs))
 
 -- the element at an index within a list, under a function, is the element at that index of the mapped list
-pub got : {A B : Type 0} (f : A → B) (xs : List A) (i : ℕ) (x : A) → i < length xs → x ≡ get_or xs i x → slice_get (map f xs) i ≡ Some (f x)
-got f xs i x lt is = slice_get-map f xs i ∙ ap (option_map f) (slice_get-get_or xs i x lt ∙ ap (λ y. Some y) (sym is))
+pub slice_get-map_within : {A B : Type 0} (f : A → B) (xs : List A) (i : ℕ) (x : A) → i < length xs → x ≡ get_or xs i x → slice_get (map f xs) i ≡ Some (f x)
+slice_get-map_within f xs i x lt is = slice_get-map f xs i ∙ ap (option_map f) (slice_get-get_or xs i x lt ∙ ap (λ y. Some y) (sym is))
 
 -- a field of the rule at an index of a table
-pub field_at : {B : Type 0} (field : BodyRule → B) (xs : List code.BodyRule) (body : List BodyRule) (i : ℕ) (x : code.BodyRule) → map rule_view xs ≡ body
+pub slice_get-rule_field : {B : Type 0} (field : BodyRule → B) (xs : List code.BodyRule) (body : List BodyRule) (i : ℕ) (x : code.BodyRule) → map rule_view xs ≡ body
     → i < length body → x ≡ get_or xs i x
     → slice_get (map field body) i ≡ Some (field (rule_view x))
-field_at field xs body i x same within is =
+slice_get-rule_field field xs body i x same within is =
     let inside : i < length xs = omega (arith, ap length same, length-map xs rule_view) in
-    ap (λ rs. slice_get (map field rs) i) (sym same) ∙ slice_get-map field (map rule_view xs) i ∙ ap (option_map field) (got rule_view xs i x inside is)
+    ap (λ rs. slice_get (map field rs) i) (sym same) ∙ slice_get-map field (map rule_view xs) i ∙ ap (option_map field) (slice_get-map_within rule_view xs i x inside is)
 
 -- a index that is chosen is one of the table
-pub choice_within : (rules : List BodyRule) (at : Location) (o : Option ℕ) → IsChoice rules at o → IfSome o (λ i. i < length rules)
-choice_within rules at None h = tt
-choice_within rules at (Some i) h = slice_get_within rules i h.0 h.1
+pub IsChoice-within : (rules : List BodyRule) (at : Location) (o : Option ℕ) → IsChoice rules at o → IfSome o (λ i. i < length rules)
+IsChoice-within rules at None h = tt
+IsChoice-within rules at (Some i) h = slice_get_within rules i h.0 h.1
 
 -- the index that is chosen is the only one
-pub choice_only : (rules : List BodyRule) (at : Location) (o : Option ℕ) → IsChoice rules at o → (i : ℕ) → IsChosen rules at i → o ≡ Some i
-choice_only rules at None h i k = zero_not_positive (weight k.0.path at) (h i k.0 k.1) k.2
-choice_only rules at (Some j) h i k = ap (λ n. Some n) (chosen_unique rules at j i h k)
+pub IsChoice-of_IsChosen : (rules : List BodyRule) (at : Location) (o : Option ℕ) → IsChoice rules at o → (i : ℕ) → IsChosen rules at i → o ≡ Some i
+IsChoice-of_IsChosen rules at None h i k = zero-not_positive (weight k.0.path at) (h i k.0 k.1) k.2
+IsChoice-of_IsChosen rules at (Some j) h i k = ap (λ n. Some n) (IsChosen-unique rules at j i h k)
 
 -- there is one choice
-pub choice_unique : (rules : List BodyRule) (at : Location) (o p : Option ℕ) → IsChoice rules at o → IsChoice rules at p → o ≡ p
-choice_unique rules at None None h k = refl
-choice_unique rules at o (Some i) h k = choice_only rules at o h i k
-choice_unique rules at (Some j) None h k = sym (choice_only rules at None k j h)
+pub IsChoice-unique : (rules : List BodyRule) (at : Location) (o p : Option ℕ) → IsChoice rules at o → IsChoice rules at p → o ≡ p
+IsChoice-unique rules at None None h k = refl
+IsChoice-unique rules at o (Some i) h k = IsChoice-of_IsChosen rules at o h i k
+IsChoice-unique rules at (Some j) None h k = sym (IsChoice-of_IsChosen rules at None k j h)

@@ -13,9 +13,9 @@ module _ {V A B F : Type 0} (read : ℕ → A → Result B F → Type 0) (view :
   Completes front left = (rest : Result (List B) F) → EachRead read (length front) (map view left) rest → EachRead read 0 (map view xs) (with_front front rest)
 
   -- an element that is read joins the ones read so far, and the elements after it are left
-  pub goes_on : (front new : List B) (x : V) (left : List V) (b : B) → read (length front) (view x) (Ok b) → new ≡ front ++ b ∷ [] → Completes front (x ∷ left) → Completes new left
+  pub Completes-push : (front new : List B) (x : V) (left : List V) (b : B) → read (length front) (view x) (Ok b) → new ≡ front ++ b ∷ [] → Completes front (x ∷ left) → Completes new left
   unfolding EachRead
-  goes_on front new x left b h pushed k = subst (λ bs. Completes bs left) (sym pushed) more where
+  Completes-push front new x left b h pushed k = subst (λ bs. Completes bs left) (sym pushed) more where
     behind : (rest : Result (List B) F) → EachRead read (length (front ++ b ∷ [])) (map view left) rest → EachRead read (length front + 1) (map view left) rest
     behind rest r = subst (λ i. EachRead read i (map view left) rest) (length_push front b) r
 
@@ -24,18 +24,18 @@ module _ {V A B F : Type 0} (read : ℕ → A → Result B F → Type 0) (view :
     more (Err e) r = k (Err e) (Ok b, h, (Err e, behind (Err e) r, refl))
 
   -- a fault at the next element is the answer of the whole reading
-  pub ends : (front : List B) (x : V) (left : List V) (e : F) → read (length front) (view x) (Err e) → Completes front (x ∷ left) → EachRead read 0 (map view xs) (Err e)
+  pub EachRead-first_fault : (front : List B) (x : V) (left : List V) (e : F) → read (length front) (view x) (Err e) → Completes front (x ∷ left) → EachRead read 0 (map view xs) (Err e)
   unfolding EachRead
-  ends front x left e h k = k (Err e) (Err e, h, refl)
+  EachRead-first_fault front x left e h k = k (Err e) (Err e, h, refl)
 
   -- if no element is left, what was read is the answer of the whole reading
-  pub is_done : (front : List B) → Completes front [] → EachRead read 0 (map view xs) (Ok front)
+  pub EachRead-of_Completes : (front : List B) → Completes front [] → EachRead read 0 (map view xs) (Ok front)
   unfolding EachRead
-  is_done front k = subst (EachRead read 0 (map view xs)) (ap Ok (append-nil front)) (k (Ok []) refl)
+  EachRead-of_Completes front k = subst (EachRead read 0 (map view xs)) (ap Ok (append-nil front)) (k (Ok []) refl)
 
   -- before the first element, nothing is read yet and all is left
-  pub begins : (front : List B) → front ≡ [] → Completes front xs
-  begins front none = subst (λ bs. Completes bs xs) (sym none) all where
+  pub Completes-whole : (front : List B) → front ≡ [] → Completes front xs
+  Completes-whole front none = subst (λ bs. Completes bs xs) (sym none) all where
     all : Completes [] xs
     all (Ok bs) r = r
     all (Err e) r = r

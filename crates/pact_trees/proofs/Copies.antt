@@ -20,37 +20,37 @@ pub members_data-insert_entry : (es : List Entry) (k : String Global) (t : Tree)
 members_data-insert_entry [] k t = refl
 members_data-insert_entry (e ∷ es) k t = members_data-match_ordering (string_cmp k e.0) _ _ _ ∙ rw (members_data-insert_entry es k t)
 
-second : (a b : Bool) → (a || b) ≡ false → b ≡ false
-second true b h = cc
-second false b h = h
+or-false_right : (a b : Bool) → (a || b) ≡ false → b ≡ false
+or-false_right true b h = cc
+or-false_right false b h = h
 
 -- those after a member have no fraction either
-pub later_whole : (e : Member) (es : List Member) → members_have_float (members_view (e ∷ es)) ≡ false → members_have_float (members_view es) ≡ false
-later_whole e es h = second (has_float (view e.1)) _ h
+pub members_have_float-tail : (e : Member) (es : List Member) → members_have_float (members_view (e ∷ es)) ≡ false → members_have_float (members_view es) ≡ false
+members_have_float-tail e es h = or-false_right (has_float (view e.1)) _ h
 
 -- a number without a fraction is a whole one
-pub is_whole : (n : Num) → is_float n ≡ false → IsSome (as_integer n)
-is_whole (unsigned n) h = refl
-is_whole (negative z) h = refl
-is_whole (float x) h = cc
+pub as_integer-is_some : (n : Num) → is_float n ≡ false → IsSome (as_integer n)
+as_integer-is_some (unsigned n) h = refl
+as_integer-is_some (negative z) h = refl
+as_integer-is_some (float x) h = cc
 
 -- and its value says which number it is
-pub same_whole : (n : N) (z : ℤ) → is_valid n ≡ true → as_integer (num_of n) ≡ Some z → of_integer z ≡ num_of n
-same_whole (PosInt n) z v h = let e : z ≡ pos n = cc in rw e refl
-same_whole (NegInt (pos n)) z v h = absurd (omega (arith, ints))
-same_whole (NegInt (negsuc n)) z v h = let e : z ≡ negsuc n = cc in rw e refl
-same_whole (Float x) z v h = cc
+pub of_integer-as_integer : (n : N) (z : ℤ) → is_valid n ≡ true → as_integer (num_of n) ≡ Some z → of_integer z ≡ num_of n
+of_integer-as_integer (PosInt n) z v h = let e : z ≡ pos n = cc in rw e refl
+of_integer-as_integer (NegInt (pos n)) z v h = absurd (omega (arith, ints))
+of_integer-as_integer (NegInt (negsuc n)) z v h = let e : z ≡ negsuc n = cc in rw e refl
+of_integer-as_integer (Float x) z v h = cc
 
 -- there is something to copy: an item of a list that isn't empty, or a member
-pub has_items : (vs : List Value) → (length vs ≡ 0 → ⊥) → has_parts (array (items_view vs)) ≡ true
-has_items [] h = absurd (h refl)
-has_items (v ∷ vs) h = refl
+pub has_parts-items : (vs : List Value) → (length vs ≡ 0 → ⊥) → has_parts (array (items_view vs)) ≡ true
+has_parts-items [] h = absurd (h refl)
+has_parts-items (v ∷ vs) h = refl
 
-pub begun : (done : List Member) {e : Member} {left rest es : List Member} → es ≡ done ++ rest → rest ≡ e ∷ left → has_parts (object (members_view es)) ≡ true
-begun [] is next = rw (is, next) refl
-begun (d ∷ done) is next = rw is refl
+pub has_parts-members : (done : List Member) {e : Member} {left rest es : List Member} → es ≡ done ++ rest → rest ≡ e ∷ left → has_parts (object (members_view es)) ≡ true
+has_parts-members [] is next = rw (is, next) refl
+has_parts-members (d ∷ done) is next = rw is refl
 
 -- a fact of whatever failed
-pub on_failure : {T E : Type 0} (r : Result T E) (P : Type 0) → P → OnErr r P
-on_failure (Ok x) P p = tt
-on_failure (Err e) P p = p
+pub OnErr-any_fact : {T E : Type 0} (r : Result T E) (P : Type 0) → P → OnErr r P
+OnErr-any_fact (Ok x) P p = tt
+OnErr-any_fact (Err e) P p = p

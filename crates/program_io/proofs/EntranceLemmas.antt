@@ -10,15 +10,15 @@ queue_with left gone lost came = record {
   lost = lost;
 }
 
-let_in : (left served gone lost : ℕ) → IsLetIn (queue_of (suc left) served gone lost) (queue_of left (served + 1) gone lost) stranger
+IsLetIn-stranger : (left served gone lost : ℕ) → IsLetIn (queue_of (suc left) served gone lost) (queue_of left (served + 1) gone lost) stranger
 unfolding queue_with
-let_in left served gone lost =
+IsLetIn-stranger left served gone lost =
     (replicate left stranger, refl, ap (queue_with left gone lost) (replicate_next served stranger))
 
-pub let_in_by : (left served gone lost fewer more same : ℕ) → left ≡ fewer + 1 → more ≡ served + 1 → same ≡ lost
+pub IsLetIn-stranger_by_counts : (left served gone lost fewer more same : ℕ) → left ≡ fewer + 1 → more ≡ served + 1 → same ≡ lost
     → IsLetIn (queue_of left served gone lost) (queue_of fewer more gone same) stranger
-let_in_by left served gone lost fewer more same h k e =
+IsLetIn-stranger_by_counts left served gone lost fewer more same h k e =
     subst (λ n. IsLetIn (queue_of n served gone lost) (queue_of fewer more gone same) stranger) (sym (h ∙ add-one fewer))
     (subst (λ n. IsLetIn (queue_of (suc fewer) served gone lost) (queue_of fewer n gone same) stranger) (sym k)
     (subst (λ n. IsLetIn (queue_of (suc fewer) served gone lost) (queue_of fewer (served + 1) gone n) stranger) (sym e)
-    (let_in fewer served gone lost)))
+    (IsLetIn-stranger fewer served gone lost)))

@@ -1,7 +1,7 @@
--- The statement that sets the format in meta's row: what it makes of the row, and why it fails.
+-- The statement that shows-made_row the format in meta's row: what it makes of the row, and why it fails.
 use Rattle.broker_tables.specs.Schema.{in_meta, in_checked_results, in_strict_environments, checked_results, strict_environments, schema_of, all_tables}
 use Rattle.broker_tables.specs.{Holds.{IsMeta, format}, Former.{HoldsUnmarked, former_format, former_tables, added_tables}}
-use Rattle.broker_tables.proofs.{Former.{KeepsOthers, format_told}, Placed.{meta, all_calm}}
+use Rattle.broker_tables.proofs.{Former.{KeepsOthers, HoldsUnmarked-set_format}, Placed.{meta, broker_schema-IsCalm}}
 use Rattle.std.specs.List.{AllByRecursion}
 use Rattle.std.proofs.Common.{◌≡◌, ◌≤◌, ◌^◌, ℕ, ℤ, pos, codes, List, [], ◌∷◌, length, map, not, inl, inr, filter, refl, sym, ap, subst, ◌∙◌, slice_get, Option, Some, None, Ok, Err}
 use Rattle.sqlite.specs.{Tree.{rowid}, Cast.{cast_row}, declared.types.Value.TheVariants.{Null, Int, Text}, Order.{Row, column}}
@@ -13,11 +13,11 @@ use Rattle.sqlite_schema.specs.Rules.{Refers}
 use Rattle.sqlite_rules.{specs.{Lists.{Has}, Calls.{ids_of}}, proofs.TableLemmas.{int_is}}
 use Rattle.sqlite_keyed.proofs.ListLemmas.{IsPermutation-same}
 use Rattle.sqlite_tied.specs.Compute.{everything}
-use Rattle.table_access.{specs.{Sound.{IsNumbered}, Statements.{from_table, keeps, shows, IsCalm}}, proofs.Creation.{all_front}}
-use Rattle.table_access.proofs.{Steps.{Means, updates, went, same_value, shown_one}, SoundLemmas.{at_has, text_at, has_place}, Removal.{left}}
-use Rattle.table_access.proofs.{Answered.{Runs, never_stopped}, Edits.{Suits, goes, refers}, Refused.{stopped, on_rows, in_place, change_fails, caused_by}}
+use Rattle.table_access.{specs.{Sound.{IsNumbered}, Statements.{from_table, keeps, shows, IsCalm}}, proofs.Creation.{AllByRecursion-front}}
+use Rattle.table_access.proofs.{Steps.{Means, updates, Ok-not_stopped, Ok-injective, shows-one_row}, SoundLemmas.{at_has, column-Text, has_place}, Removal.{without_all-ids_of}}
+use Rattle.table_access.proofs.{Answered.{Runs, Queried-never_stops}, Edits.{Suits, goes, refers}, Refused.{EndsAs-stopped, OnTable-stops, IsMisplaced-never_anywhere, Executes-change_fails, Fails-weaken}}
 use Rattle.broker_core.specs.State.{State as Broker}
-use Rattle.registry_tables.{specs.Format.{KeepsFormerRows}, proofs.MetaRow.{alone, one_row, row_of, as_cast, TakesMeta, suits}}
+use Rattle.registry_tables.{specs.Format.{KeepsFormerRows}, proofs.MetaRow.{alone, IsMeta-one_row, row_of, cast_row-row_of, TakesMeta, Suits-meta_row}}
 
 abbrev pub set_sql : List ℕ
 set_sql = codes "UPDATE meta SET format = 2"
@@ -36,12 +36,12 @@ command = Update 0 query
 abbrev IsSet : Schema → Type 0
 IsSet schema = Means schema set_sql command × Runs schema set_sql [] query.body × ((id : ℤ) → TakesMeta schema (id ∷ []))
 
-set_text : IsSet (schema_of all_tables)
+IsSet-all_tables : IsSet (schema_of all_tables)
 unfolding understood everything
-set_text = (
+IsSet-all_tables = (
   record { is = refl; plain = (refl, refl); unlisted = refl },
   record { whole = refl; typed = refl; sumless = refl },
-  λ id. record { apart = refl; calm = all_calm; listed = inl refl; narrow = refl; referred = λ r. refl; alone = inr refl },
+  λ id. record { apart = refl; calm = broker_schema-IsCalm; listed = inl refl; narrow = refl; referred = λ r. refl; alone = inr refl },
 )
 
 module _ (old new : State) (s : Broker) (held : HoldsUnmarked former_format added_tables old.now s) where
@@ -53,33 +53,33 @@ module _ (old new : State) (s : Broker) (held : HoldsUnmarked former_format adde
   made = row_of format s.office
 
   is : IsSet old.now.schema
-  is = subst IsSet (sym held.schema) set_text
+  is = subst IsSet (sym held.schema) IsSet-all_tables
 
-  there : slice_get old.now.schema.tables 0 ≡ Some meta
-  there = ap (λ (c : Schema). slice_get c.tables 0) held.schema
+  slice_get-meta : slice_get old.now.schema.tables 0 ≡ Some meta
+  slice_get-meta = ap (λ (c : Schema). slice_get c.tables 0) held.schema
 
   numbered : IsNumbered rows
   numbered = (subst (λ (c : Schema). AllByRecursion (λ t. IsNumbered (old.now.trees t.tree)) c.tables) held.schema held.kept.numbered).0
 
   -- SET makes it of the one row
-  sets : (r : Row) × (rows ≡ r ∷ []) × (shows project [] r ≡ made)
-  sets =
-      let one = one_row former_format s.office rows held.meta in
+  shows-made_row : (r : Row) × (rows ≡ r ∷ []) × (shows project [] r ≡ made)
+  shows-made_row =
+      let one = IsMeta-one_row former_format s.office rows held.meta in
       let r = one.0 in
       let has : Has rows r = subst (λ xs. Has xs r) (sym one.1) (inl refl) in
       let number : column r 0 ≡ Int (pos 1) = int_is (rowid r) (at_has _ rows r numbered.1 has) ∙ ap Int one.2 in
-      let digest : column r in_meta.office_digest ≡ Text s.office = text_at old.now held.kept.sound meta (has_place _ 0 meta there) r has 2 _ refl refl refl refl refl ∙ ap Text one.3 in
+      let digest : column r in_meta.office_digest ≡ Text s.office = column-Text old.now held.kept.sound meta (has_place _ 0 meta slice_get-meta) r has 2 _ refl refl refl refl refl ∙ ap Text one.3 in
       (r, one.1, λ i. number i ∷ Null ∷ Int (pos format) ∷ digest i ∷ [])
 
-  pub format_set : (count : ℕ) → Executes set_sql [] old new (Ok count) → HoldsUnmarked format added_tables new.now s × KeepsFormerRows old.now new.now
-  format_set count h =
-      let calm : IsCalm old.now.schema.tables = subst (λ (c : Schema). IsCalm c.tables) (sym held.schema) all_calm in
-      let it = updates (codes "meta") 0 meta.columns (Some 0) (0 ∷ []) meta.uniques meta.orders meta.checks [] set_sql [] old new 0 there [] project is.0 calm numbered sets.0 made
-      (ap (filter (keeps [] [])) sets.1) (ap (cast_row meta) sets.2 ∙ as_cast format s.office) count h in
-      let row : new.now.trees in_meta.tree ≡ made ∷ [] = alone (filter (λ x. not (keeps [] [] x)) rows) (new.now.trees in_meta.tree) made it.1 (ap (filter (λ x. not (keeps [] [] x))) sets.1) in
+  pub Executes-set_format : (count : ℕ) → Executes set_sql [] old new (Ok count) → HoldsUnmarked format added_tables new.now s × KeepsFormerRows old.now new.now
+  Executes-set_format count h =
+      let calm : IsCalm old.now.schema.tables = subst (λ (c : Schema). IsCalm c.tables) (sym held.schema) broker_schema-IsCalm in
+      let it = updates (codes "meta") 0 meta.columns (Some 0) (0 ∷ []) meta.uniques meta.orders meta.checks [] set_sql [] old new 0 slice_get-meta [] project is.0 calm numbered shows-made_row.0 made
+      (ap (filter (keeps [] [])) shows-made_row.1) (ap (cast_row meta) shows-made_row.2 ∙ cast_row-row_of format s.office) count h in
+      let row : new.now.trees in_meta.tree ≡ made ∷ [] = alone (filter (λ x. not (keeps [] [] x)) rows) (new.now.trees in_meta.tree) made it.1 (ap (filter (λ x. not (keeps [] [] x))) shows-made_row.1) in
       let others = subst (λ (c : Schema). AllByRecursion (KeepsOthers old.now.trees new.now.trees) c.tables) held.schema it.0.others in (
-        format_told former_format old.now new.now s format held it.0.schema (it.0.kept held.kept) others (subst (IsMeta format s.office) (sym row) refl),
-        all_front (KeepsOthers old.now.trees new.now.trees) (schema_of former_tables).tables (record checked_results { tree = in_checked_results.tree } ∷ record strict_environments { tree = in_strict_environments.tree } ∷ []) others,
+        HoldsUnmarked-set_format former_format old.now new.now s format held it.0.schema (it.0.kept held.kept) others (subst (IsMeta format s.office) (sym row) refl),
+        AllByRecursion-front (KeepsOthers old.now.trees new.now.trees) (schema_of former_tables).tables (record checked_results { tree = in_checked_results.tree } ∷ record strict_environments { tree = in_strict_environments.tree } ∷ []) others,
       )
 
   -- ---- why it fails
@@ -88,37 +88,37 @@ module _ (old new : State) (s : Broker) (held : HoldsUnmarked former_format adde
     abbrev task : Task
     task = record { limit = old.step_limit; keys = (mode_of old).keys; schema = old.now.schema; table = meta; params = [] }
 
-    -- what its query shows makes an edit that suits meta
+    -- what its query shows makes an edit that Suits-meta_row meta
     edits : (out : List Row) → Answers old.now query [] out → Suits ⊥ old.now.schema Enforced old.now.trees (edit_of old.now.trees meta (ids_of out) Given 1 out)
     edits out answers =
-        let number = column sets.0 0 in
+        let number = column shows-made_row.0 0 in
         let gone = id_in number ∷ [] in
-        let found : filter (keeps [] []) rows ≡ sets.0 ∷ [] = ap (filter (keeps [] [])) sets.1 in
+        let found : filter (keeps [] []) rows ≡ shows-made_row.0 ∷ [] = ap (filter (keeps [] [])) shows-made_row.1 in
         let none : without_all rows gone ≡ [] =
-        left rows numbered (keeps [] []) ((number ∷ []) ∷ []) (IsPermutation-same _ _ (ap (map (λ x. column x 0 ∷ [])) found)) ∙ ap (filter (λ x. not (keeps [] [] x))) sets.1 in
-        let shown : out ≡ (number ∷ made) ∷ [] = shown_one old.now [] in_meta.tree [] (col 1 0 ∷ project) [] out answers sets.0 found ∙ ap (λ x. (number ∷ x) ∷ []) sets.2 in
+        without_all-ids_of rows numbered (keeps [] []) ((number ∷ []) ∷ []) (IsPermutation-same _ _ (ap (map (λ x. column x 0 ∷ [])) found)) ∙ ap (filter (λ x. not (keeps [] [] x))) shows-made_row.1 in
+        let shown : out ≡ (number ∷ made) ∷ [] = shows-one_row old.now [] in_meta.tree [] (col 1 0 ∷ project) [] out answers shows-made_row.0 found ∙ ap (λ x. (number ∷ x) ∷ []) shows-made_row.2 in
         subst (λ xs. Suits ⊥ old.now.schema Enforced old.now.trees (edit_of old.now.trees meta (ids_of xs) Given 1 xs)) (sym shown)
-        (subst (λ x. Suits ⊥ old.now.schema Enforced old.now.trees (record { table = meta; gone = gone; news = x ∷ [] })) (sym (as_cast format s.office))
-        (suits format s.office old.now gone (is.2 (id_in number)) held.kept none short))
+        (subst (λ x. Suits ⊥ old.now.schema Enforced old.now.trees (record { table = meta; gone = gone; news = x ∷ [] })) (sym (cast_row-row_of format s.office))
+        (Suits-meta_row format s.office old.now gone (is.2 (id_in number)) held.kept none short))
 
     updated : (stop : Option Error) → Updates task query [] old.now.trees (Err stop) → ⊥
-    updated stop h = elim (stopped stop h) [
-      | inl asked ↦ never_stopped [] old.now query.body is.1.typed refl old.step_limit unlimited stop asked
-      | inr given ↦ elim (stopped stop given.2) [ inl edited ↦ (goes ⊥ old.now.schema Enforced old.now.trees _ (edits given.0 given.1) stop edited).1 | inr done ↦ absurd (let h = done.2 in cc) ]
+    updated stop h = elim (EndsAs-stopped stop h) [
+      | inl asked ↦ Queried-never_stops [] old.now query.body is.1.typed refl old.step_limit unlimited stop asked
+      | inr given ↦ elim (EndsAs-stopped stop given.2) [ inl edited ↦ (goes ⊥ old.now.schema Enforced old.now.trees _ (edits given.0 given.1) stop edited).1 | inr done ↦ absurd (let h = done.2 in cc) ]
     ]
 
     left_sound : (w : Written) → Updates task query [] old.now.trees (Ok w) → Refers All old.now.schema w.trees
     left_sound w h =
-        let given = went h in
-        let edited = went given.2 in
-        subst (λ trees. Refers All old.now.schema trees) (sym (ap (λ (it : Written). it.trees) (same_value edited.2))) (refers ⊥ old.now.schema Enforced old.now.trees _ (edits given.0 given.1) edited.0 edited.1)
+        let given = Ok-not_stopped h in
+        let edited = Ok-not_stopped given.2 in
+        subst (λ trees. Refers All old.now.schema trees) (sym (ap (λ (it : Written). it.trees) (Ok-injective edited.2))) (refers ⊥ old.now.schema Enforced old.now.trees _ (edits given.0 given.1) edited.0 edited.1)
 
     does : (stop : Option Error) → Does old.step_limit (mode_of old) [] old.now set_sql None command (Err stop) → ⊥
-    does stop h = elim (on_rows (codes "meta") 0 meta.columns (Some 0) (0 ∷ []) meta.uniques meta.orders meta.checks [] [] old 0 there command stop h) [
+    does stop h = elim (OnTable-stops (codes "meta") 0 meta.columns (Some 0) (0 ∷ []) meta.uniques meta.orders meta.checks [] [] old 0 slice_get-meta command stop h) [
       | inl written ↦ updated stop written
       | inr stray ↦ stray.2 (left_sound stray.0 stray.1)
     ]
 
     -- only as the store fails
     pub format_fails : (e : Error) → Executes set_sql [] old new (Err e) → Fails old new ⊥ e
-    format_fails e h = elim (change_fails set_sql [] old new command (λ e. ⊥) is.0 is.1.whole refl refl (λ e misplaced same. in_place old command refl e misplaced) (λ e writes. does (Some e)) e h) [ inl fails ↦ caused_by old new e (does None) fails | inr never ↦ absurd never ]
+    format_fails e h = elim (Executes-change_fails set_sql [] old new command (λ e. ⊥) is.0 is.1.whole refl refl (λ e misplaced same. IsMisplaced-never_anywhere old command refl e misplaced) (λ e writes. does (Some e)) e h) [ inl fails ↦ Fails-weaken old new e (does None) fails | inr never ↦ absurd never ]

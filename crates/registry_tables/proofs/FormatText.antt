@@ -69,38 +69,38 @@ module _ (s : Schema) (at : ℕ) (t : Table) (a b c : Column) (there : table_nam
   abbrev shows : Shown
   shows = (draft, codes "format" ∷ [], Some b.collation ∷ [])
 
-  shows_read : (query : Schema → Select → Building Shown) → program.level query s select [] ≡ Ok (shows, [])
+  level-format_text : (query : Schema → Select → Building Shown) → program.level query s select [] ≡ Ok (shows, [])
   unfolding everything
-  shows_read query = simp (there, is)
+  level-format_text query = simp (there, is)
 
-  query_read : query s select ≡ Ok (shows, [])
+  query-format_text : query s select ≡ Ok (shows, [])
   unfolding query query_to
-  query_read = shows_read (query_to 15)
+  query-format_text = level-format_text (query_to 15)
 
   -- the command, if the types are accepted
   abbrev accepted : Bool
   accepted = accepts_program s (map let_in []) (format_query t.tree) []
 
-  compiled_so : (ok : Bool) → accepted ≡ ok → compiled s format_sql ≡ read_if ok t.tree
+  compiled-format_sql : (ok : Bool) → accepted ≡ ok → compiled s format_sql ≡ read_if ok t.tree
   unfolding everything
-  compiled_so true is_accepted = rw (query_read, is_accepted)
-  compiled_so false is_accepted = rw (query_read, is_accepted)
+  compiled-format_sql true is_accepted = rw (query-format_text, is_accepted)
+  compiled-format_sql false is_accepted = rw (query-format_text, is_accepted)
 
   unlisted : (ok : Bool) → accepted ≡ ok → reads_listing s format_sql ≡ false
-  unlisted true is_accepted = ap misses_table (compiled_so true is_accepted)
-  unlisted false is_accepted = ap misses_table (compiled_so false is_accepted)
+  unlisted true is_accepted = ap misses_table (compiled-format_sql true is_accepted)
+  unlisted false is_accepted = ap misses_table (compiled-format_sql false is_accepted)
 
   -- it is read if and only if its types are accepted
-  pub format_understood : (ok : Bool) → accepted ≡ ok → understood s format_sql ≡ read_if ok t.tree
+  pub understood-format_sql : (ok : Bool) → accepted ≡ ok → understood s format_sql ≡ read_if ok t.tree
   unfolding understood
-  format_understood ok is_accepted = ap (λ x. if x then if_select (compiled listing_schema format_sql) else compiled s format_sql) (unlisted ok is_accepted) ∙ compiled_so ok is_accepted
+  understood-format_sql ok is_accepted = ap (λ x. if x then if_select (compiled listing_schema format_sql) else compiled s format_sql) (unlisted ok is_accepted) ∙ compiled-format_sql ok is_accepted
 
   -- if it is read at all, it is this query
-  pub format_means : (it : Compiled) → understood s format_sql ≡ Ok it → Means s format_sql (format_command t.tree)
-  format_means it e = go accepted refl
+  pub Means-format_sql : (it : Compiled) → understood s format_sql ≡ Ok it → Means s format_sql (format_command t.tree)
+  Means-format_sql it e = go accepted refl
     where
       go : (ok : Bool) → accepted ≡ ok → Means s format_sql (format_command t.tree)
       go true is_accepted =
-          let so = format_understood true is_accepted in
+          let so = understood-format_sql true is_accepted in
           record { is = ap command_of so; plain = subst IsPlain (sym so) (refl, refl); unlisted = unlisted true is_accepted }
-      go false is_accepted = absurd (let none : Err Mismatch ≡ Ok it = sym (format_understood false is_accepted) ∙ e in cc)
+      go false is_accepted = absurd (let none : Err Mismatch ≡ Ok it = sym (understood-format_sql false is_accepted) ∙ e in cc)

@@ -1,7 +1,7 @@
 -- The one row of meta: what putting it in leaves, that it fails only as the store fails, and the digest that is in it.
 use Rattle.broker_tables.specs.{Schema.{in_meta, schema_of, registry_part}, Making.{IsBlank, HasTables}, Holds.{IsMeta, Holds, IsBroker, format}}
-use Rattle.broker_tables.proofs.{Opening.{blank_kept}, Placed.{meta, at_meta, texts_in}, Inserted.{rising, apart_of, PutsInto, row_fails}}
-use Rattle.broker_tables.proofs.Asked.{Asked, IsShown, FirstReads, is_answer, text_reads}
+use Rattle.broker_tables.proofs.{Opening.{IsBlank-IsKept}, Placed.{meta, at_meta, column-texts}, Inserted.{rising, rising-trees_apart, PutsInto, Executes-insert_fails}}
+use Rattle.broker_tables.proofs.Asked.{Asked, IsShown, FirstReads, Shown-IsShown, FirstShown-IsTextAt}
 use Rattle.std.specs.{List.{AllByRecursion, list_all}, Prelude.{option_map, IsUtf8}, List.Sorted.{IsPermutation}}
 use Rattle.std.proofs.Common.{◌≡◌, ◌≢◌, ℕ, pos, codes, List, [], ◌∷◌, ◌++◌, fold, map, false, refl, sym, ap, subst, ◌∙◌, slice_get, Some, Ok, arith, ◌⊎◌, inl, inr, ◌≤◌, ◌^◌, ℤ, length, nat_lt, not, ◌&&◌, true, None, Err, IsTrue, filter}
 use Rattle.sqlite.specs.{Edit.{with_rowid, is_taken, without_all}, Rowids.TheVariants.{Chosen}, Cast.{cast_row}, Change.{created}}
@@ -11,9 +11,9 @@ use Rattle.sqlite.{specs.{Listing.{understood}, declared.error.Error.{Error}}, p
 use Rattle.sqlite_tied.specs.Compute.{everything}
 use Rattle.table_access.specs.{Statements.{Makes, IsAdded, new_trees, IsCalm, from_table, keeps, shows}, Sound.{IsKept}, declared.StoreFault.{StoreFault}}
 use Rattle.table_access.specs.{declared.StoreFault.TheVariants.{Memory}, Calls.{IsEnded}, Reading.{FailsToTake, TellsText, IsTextAt}, Columns.{text, whole_at}}
-use Rattle.table_access.proofs.{Creation.{made_schema, made_empty, made_kept}, Values.{cast_null, cast_int, cast_kept}, Steps.{Means, inserts, answered}}
-use Rattle.table_access.proofs.{Edits.{Suits, IsAlone, one_unique}, SoundLemmas.{at_has}, Storable.{short_fits}, Maps.{few_permuted}}
-use Rattle.table_access.proofs.CallLemmas.{query_by, refused_memory}
+use Rattle.table_access.proofs.{Creation.{Makes-schema, Makes-new_tables_empty, Makes-IsKept}, Values.{cast-Null, cast-Int, cast_row-kept}, Steps.{Means, inserts, IsPermutation-kept_rows}}
+use Rattle.table_access.proofs.{Edits.{Suits, IsAlone, are_unique-put_row}, SoundLemmas.{at_has}, Storable.{IsShortRow-not_oversized}, Maps.{IsPermutation-at_most_one}}
+use Rattle.table_access.proofs.CallLemmas.{FailsToQuery-IsRefused, IsRefused-ends_for_Memory}
 use Rattle.broker_core.specs.{Text.{same_text}, State.{State as Broker}}
 use Rattle.registry_tables.specs.Registry.{HasEmptyRegistry, PutsMeta}
 use Rattle.sqlite_sql.specs.Ops.{binary}
@@ -31,9 +31,9 @@ put_terms = lit (Int (pos 1)) ∷ lit Null ∷ col 0 0 ∷ col 0 1 ∷ []
 abbrev pub put_command : Command
 put_command = Insert 0 (Values put_terms 4)
 
-pub put_text : Means (schema_of registry_part) put_sql put_command
+pub Means-put_meta : Means (schema_of registry_part) put_sql put_command
 unfolding understood everything
-put_text = record { is = refl; plain = (refl, refl); unlisted = refl }
+Means-put_meta = record { is = refl; plain = (refl, refl); unlisted = refl }
 
 pub alone : (old new : List Row) (row : Row) → IsAdded old new row → old ≡ [] → new ≡ row ∷ []
 alone old new row it none = go it.front it.back (sym none ∙ it.was) it.is
@@ -46,18 +46,18 @@ alone old new row it none = go it.front it.back (sym none ∙ it.was) it.is
 abbrev pub row_of : ℕ → List ℕ → Row
 row_of n digest = Int (pos 1) ∷ Null ∷ Int (pos n) ∷ Text digest ∷ []
 
-pub as_cast : (n : ℕ) (digest : List ℕ) → cast_row meta (row_of n digest) ≡ row_of n digest
-as_cast n digest = cast_kept meta (row_of n digest) refl (λ i. cast_null i ∷ cast_int (pos n) i ∷ Text digest ∷ [])
+pub cast_row-row_of : (n : ℕ) (digest : List ℕ) → cast_row meta (row_of n digest) ≡ row_of n digest
+cast_row-row_of n digest = cast_row-kept meta (row_of n digest) refl (λ i. cast-Null i ∷ cast-Int (pos n) i ∷ Text digest ∷ [])
 
-pub as_stored : (n : ℕ) (digest : List ℕ) (rows : List Row) → with_rowid Chosen rows (cast_row meta (row_of n digest)) ≡ row_of n digest
-as_stored n digest rows = ap (with_rowid Chosen rows) (as_cast n digest)
+pub with_rowid-row_of : (n : ℕ) (digest : List ℕ) (rows : List Row) → with_rowid Chosen rows (cast_row meta (row_of n digest)) ≡ row_of n digest
+with_rowid-row_of n digest rows = ap (with_rowid Chosen rows) (cast_row-row_of n digest)
 
-pub meta_put : (n : ℕ) (digest : List ℕ) (old new : State) (count : ℕ) → Executes put_sql (Int (pos n) ∷ Text digest ∷ []) old new (Ok count) → PutsMeta n digest old.now new.now
-meta_put n digest old new count h is kept none =
+pub Executes-PutsMeta : (n : ℕ) (digest : List ℕ) (old new : State) (count : ℕ) → Executes put_sql (Int (pos n) ∷ Text digest ∷ []) old new (Ok count) → PutsMeta n digest old.now new.now
+Executes-PutsMeta n digest old new count h is kept none =
     let there : slice_get old.now.schema.tables 0 ≡ Some meta = ap (λ (s : Schema). slice_get s.tables 0) is in
     let made = row_of n digest in
     let it = inserts (codes "meta") 0 meta.columns (Some 0) (0 ∷ []) meta.uniques meta.orders meta.checks [] put_sql (Int (pos n) ∷ Text digest ∷ []) old new 0 there
-    _ _ made made refl (as_stored n digest (old.now.trees in_meta.tree)) (subst (λ s. Means s put_sql put_command) (sym is) put_text) count h in
+    _ _ made made refl (with_rowid-row_of n digest (old.now.trees in_meta.tree)) (subst (λ s. Means s put_sql put_command) (sym is) Means-put_meta) count h in
     let row : new.now.trees in_meta.tree ≡ made ∷ [] = alone (old.now.trees in_meta.tree) (new.now.trees in_meta.tree) made it.1 none in
     let all = subst (λ (s : Schema). AllByRecursion (λ t. t.tree ≢ 0 → new.now.trees t.tree ≡ old.now.trees t.tree) s.tables) is it.0.others in (
       it.0.schema,
@@ -67,29 +67,29 @@ meta_put n digest old new count h is kept none =
     )
 
 -- tables that were empty, but for this one, and stayed so
-empty_still : (mid new : Database) (ts : List Table) → AllByRecursion (λ t. same_text t.name (codes "meta") ≡ false → new.trees t.tree ≡ mid.trees t.tree) ts → AllByRecursion (λ tree. mid.trees tree ≡ []) (map (λ t. t.tree) ts)
+AllByRecursion-others_empty : (mid new : Database) (ts : List Table) → AllByRecursion (λ t. same_text t.name (codes "meta") ≡ false → new.trees t.tree ≡ mid.trees t.tree) ts → AllByRecursion (λ tree. mid.trees tree ≡ []) (map (λ t. t.tree) ts)
     → AllByRecursion (λ t. same_text t.name (codes "meta") ≡ false → new.trees t.tree ≡ []) ts
-empty_still mid new [] same none = tt
-empty_still mid new (t ∷ ts) same none = (λ other. same.0 other ∙ none.0, empty_still mid new ts same.1 none.1)
+AllByRecursion-others_empty mid new [] same none = tt
+AllByRecursion-others_empty mid new (t ∷ ts) same none = (λ other. same.0 other ∙ none.0, AllByRecursion-others_empty mid new ts same.1 none.1)
 
-pub empty_registry : (old mid : Database) → IsBlank old → Makes registry_part old mid → HasEmptyRegistry mid
-empty_registry old mid blank makes = (
-  made_schema registry_part old mid makes ∙ ap (λ s. fold created s registry_part) blank.schema,
-  made_kept registry_part old mid makes (blank_kept old blank),
-  (subst (λ s. AllByRecursion (λ tree. mid.trees tree ≡ []) (new_trees s registry_part)) blank.schema (made_empty registry_part old mid makes)).0,
+pub HasEmptyRegistry-made : (old mid : Database) → IsBlank old → Makes registry_part old mid → HasEmptyRegistry mid
+HasEmptyRegistry-made old mid blank makes = (
+  Makes-schema registry_part old mid makes ∙ ap (λ s. fold created s registry_part) blank.schema,
+  Makes-IsKept registry_part old mid makes (IsBlank-IsKept old blank),
+  (subst (λ s. AllByRecursion (λ tree. mid.trees tree ≡ []) (new_trees s registry_part)) blank.schema (Makes-new_tables_empty registry_part old mid makes)).0,
 )
 
-pub has_registry : (n : ℕ) (digest : List ℕ) (old mid new : Database) → IsBlank old → Makes registry_part old mid → PutsMeta n digest mid new → HasTables registry_part n digest new
-has_registry n digest old mid new blank makes puts =
-    let has = empty_registry old mid blank makes in
-    let none = subst (λ s. AllByRecursion (λ tree. mid.trees tree ≡ []) (new_trees s registry_part)) blank.schema (made_empty registry_part old mid makes) in
+pub HasTables-registry_part : (n : ℕ) (digest : List ℕ) (old mid new : Database) → IsBlank old → Makes registry_part old mid → PutsMeta n digest mid new → HasTables registry_part n digest new
+HasTables-registry_part n digest old mid new blank makes puts =
+    let has = HasEmptyRegistry-made old mid blank makes in
+    let none = subst (λ s. AllByRecursion (λ tree. mid.trees tree ≡ []) (new_trees s registry_part)) blank.schema (Makes-new_tables_empty registry_part old mid makes) in
     let put = puts has.0 has.1 has.2 in
     let same = put.3 in
     record {
       schema = put.0 ∙ has.0;
       kept = put.1;
       meta = put.2;
-      empty = empty_still mid new (schema_of registry_part).tables same none;
+      empty = AllByRecursion-others_empty mid new (schema_of registry_part).tables same none;
     }
 
 -- ---- it is put into the tables of a new registry unless the store fails
@@ -110,9 +110,9 @@ pub record TakesMeta (schema : Schema) (gone : List ℤ) : Type 0 where
 calm : IsCalm registry.tables
 calm = (tt, (tt, (((refl, refl), tt), (((refl, refl), tt), (((refl, refl), tt), (tt, (((refl, refl), ((refl, refl), tt)), tt)))))))
 
-takes_put : TakesMeta registry []
+TakesMeta-registry : TakesMeta registry []
 unfolding everything
-takes_put = record { apart = refl; calm = calm; listed = inl refl; narrow = refl; referred = λ r. refl; alone = inl refl }
+TakesMeta-registry = record { apart = refl; calm = calm; listed = inl refl; narrow = refl; referred = λ r. refl; alone = inl refl }
 
 module _ (n : ℕ) (digest : List ℕ) where
   abbrev row : Row
@@ -124,20 +124,20 @@ module _ (n : ℕ) (digest : List ℕ) where
   -- the text puts the row into the table
   puts : PutsInto registry 0 put_sql params row
   unfolding understood everything
-  puts = record { terms = put_terms; width = 4; means = put_text; whole = refl; kinds = refl; one = refl }
+  puts = record { terms = put_terms; width = 4; means = Means-put_meta; whole = refl; kinds = refl; one = refl }
 
-  -- the row suits meta if no other row is left there
-  pub suits : (db : Database) (gone : List ℤ) → TakesMeta db.schema gone → IsKept db → without_all (db.trees in_meta.tree) gone ≡ [] → length digest ≤ 10 ^ 7
+  -- the row Suits-meta_row meta if no other row is left there
+  pub Suits-meta_row : (db : Database) (gone : List ℤ) → TakesMeta db.schema gone → IsKept db → without_all (db.trees in_meta.tree) gone ≡ [] → length digest ≤ 10 ^ 7
       → Suits ⊥ db.schema Enforced db.trees (record { table = meta; gone = gone; news = row ∷ [] })
   unfolding everything binary value_cmp Ieee.is_nan Ieee.lt
-  suits db gone takes kept none short = record {
-    apart = apart_of db.schema.tables takes.apart;
+  Suits-meta_row db gone takes kept none short = record {
+    apart = rising-trees_apart db.schema.tables takes.apart;
     calm = takes.calm;
     listed = takes.listed;
     ordered = (at_has _ db.schema.tables meta kept.numbered takes.listed).0;
     rules = kept.sound.obeys.rules;
     storable = λ r new_one big. elim new_one [
-      | inl same ↦ short_fits db.schema meta (record { whole = refl; narrow = takes.narrow }) row
+      | inl same ↦ IsShortRow-not_oversized db.schema meta (record { whole = refl; narrow = takes.narrow }) row
           (record { wide = omega arith; narrow = omega arith; short = (tt, (tt, (tt, (short, tt)))) }) (subst (IsOversized db.schema meta) same big)
       | inr never ↦ absurd never
     ];
@@ -145,7 +145,7 @@ module _ (n : ℕ) (digest : List ℕ) where
     keyed = refl;
     fits = refl;
     fresh = ap (λ rows. not (is_taken rows row) && true) none;
-    unique = one_unique db.schema db.trees meta (without_all (db.trees in_meta.tree) gone) row refl (λ i known _ r has. absurd (subst (λ rows. Has rows r) none has));
+    unique = are_unique-put_row db.schema db.trees meta (without_all (db.trees in_meta.tree) gone) row refl (λ i known _ r has. absurd (subst (λ rows. Has rows r) none has));
     referred = takes.referred row;
     parents = λ r new_one ref named. absurd named;
     alone = takes.alone;
@@ -153,9 +153,9 @@ module _ (n : ℕ) (digest : List ℕ) where
 
   module _ (old new : State) (is : old.now.schema ≡ registry) (kept : IsKept old.now) (none : old.now.trees in_meta.tree ≡ []) (short : length digest ≤ 10 ^ 7) where
     pub meta_fails : old.step_limit ≡ None → (e : Error) → Executes put_sql params old new (Err e) → Fails old new ⊥ e
-    meta_fails = row_fails put_sql params old new meta 0 (ap (λ (s : Schema). slice_get s.tables 0) is) refl row row
-        (subst (λ s. PutsInto s 0 put_sql params row) (sym is) puts) (as_stored n digest (old.now.trees in_meta.tree))
-        ⊥ (suits old.now [] (subst (λ s. TakesMeta s []) (sym is) takes_put) kept none short)
+    meta_fails = Executes-insert_fails put_sql params old new meta 0 (ap (λ (s : Schema). slice_get s.tables 0) is) refl row row
+        (subst (λ s. PutsInto s 0 put_sql params row) (sym is) puts) (with_rowid-row_of n digest (old.now.trees in_meta.tree))
+        ⊥ (Suits-meta_row old.now [] (subst (λ s. TakesMeta s []) (sym is) TakesMeta-registry) kept none short)
 
 -- ---- the digest of the office's token
 
@@ -167,31 +167,31 @@ unfolding understood everything
 office = record { names = _; means = record { is = refl; plain = (refl, refl); unlisted = refl }; runs = record { whole = refl; typed = refl; sumless = refl } }
 
 -- the one row of meta, with its number and the digest of the office's token
-pub one_row : (n : ℕ) (office : List ℕ) (rows : List Row) → IsMeta n office rows
+pub IsMeta-one_row : (n : ℕ) (office : List ℕ) (rows : List Row) → IsMeta n office rows
     → (r : Row) × (rows ≡ r ∷ []) × (whole_at 0 r ≡ pos 1) × (text in_meta.office_digest r ≡ office)
-one_row n office [] one = absurd cc
-one_row n office (r ∷ []) one =
+IsMeta-one_row n office [] one = absurd cc
+IsMeta-one_row n office (r ∷ []) one =
     let same : ◌≡◌ {A = ℤ × ℤ × List ℕ} (whole_at 0 r, whole_at in_meta.format r, text in_meta.office_digest r) (pos 1, pos n, office) = cc in
     (r, refl, ap (λ (x : ℤ × ℤ × List ℕ). x.0) same, ap (λ (x : ℤ × ℤ × List ℕ). x.2) same)
-one_row n office (r ∷ q ∷ rows) one = absurd cc
+IsMeta-one_row n office (r ∷ q ∷ rows) one = absurd cc
 
-pub office_found : (db : Database) (rows : List Row) (s : Broker) → Holds db s → IsShown office db rows → option_map (text 0) (slice_get rows 0) ≡ Some s.office
-office_found db rows s held h =
-    let one = one_row format s.office (db.trees in_meta.tree) held.meta in
+pub IsShown-office : (db : Database) (rows : List Row) (s : Broker) → Holds db s → IsShown office db rows → option_map (text 0) (slice_get rows 0) ≡ Some s.office
+IsShown-office db rows s held h =
+    let one = IsMeta-one_row format s.office (db.trees in_meta.tree) held.meta in
     let shown = one_permutation _ rows (subst (λ xs. IsPermutation (map (shows (col 1 in_meta.office_digest ∷ []) []) (filter (keeps [] []) xs)) rows) one.1
-    (answered db [] in_meta.tree [] _ [] rows h)) in
+    (IsPermutation-kept_rows db [] in_meta.tree [] _ [] rows h)) in
     ap (λ xs. option_map (text 0) (slice_get xs 0)) shown ∙ ap Some one.3
 
 -- the digest of the office's token can be read, as it is a text in UTF-8
-pub office_reads : (db : Database) → FirstReads office db (IsTextAt 0)
-office_reads db s held readable = text_reads office db (texts_in at_meta db held.broker in_meta.office_digest refl) (λ rows h row head.
-    let is : Some (text 0 row) ≡ Some s.office = sym (ap (option_map (text 0)) head) ∙ office_found db rows s held h in
+pub FirstReads-office : (db : Database) → FirstReads office db (IsTextAt 0)
+FirstReads-office db s held readable = FirstShown-IsTextAt office db (column-texts at_meta db held.broker in_meta.office_digest refl) (λ rows h row head.
+    let is : Some (text 0 row) ≡ Some s.office = sym (ap (option_map (text 0)) head) ∙ IsShown-office db rows s held h in
     let same : text 0 row ≡ s.office = cc in
     subst IsUtf8 (sym same) readable.office)
 
 -- if meta has no row, only the store is ever out of memory
-pub no_office : (old new : State) (fault : StoreFault) → IsBroker old.now → old.now.trees in_meta.tree ≡ [] → FailsToTake TellsText office_sql [] old new fault → IsTrue old.in_transaction → fault ≡ Memory → IsEnded old new Memory
-no_office old new fault broker none (inl refused) inside is = refused_memory old new refused.0 fault refused.1 (query_by office_sql [] old new refused.0 refused.2) is
-no_office old new fault broker none (inr (rows, shown, row, first, tells)) inside is =
-    let empty : rows ≡ [] = few_permuted [] rows (omega arith) (subst (λ xs. IsPermutation (map (shows (col 1 in_meta.office_digest ∷ []) []) (filter (keeps [] []) xs)) rows) none (answered old.now [] in_meta.tree [] _ [] rows (is_answer office old new broker rows shown))) in
+pub FailsToTake-no_office : (old new : State) (fault : StoreFault) → IsBroker old.now → old.now.trees in_meta.tree ≡ [] → FailsToTake TellsText office_sql [] old new fault → IsTrue old.in_transaction → fault ≡ Memory → IsEnded old new Memory
+FailsToTake-no_office old new fault broker none (inl refused) inside is = IsRefused-ends_for_Memory old new refused.0 fault refused.1 (FailsToQuery-IsRefused office_sql [] old new refused.0 refused.2) is
+FailsToTake-no_office old new fault broker none (inr (rows, shown, row, first, tells)) inside is =
+    let empty : rows ≡ [] = IsPermutation-at_most_one [] rows (omega arith) (subst (λ xs. IsPermutation (map (shows (col 1 in_meta.office_digest ∷ []) []) (filter (keeps [] []) xs)) rows) none (IsPermutation-kept_rows old.now [] in_meta.tree [] _ [] rows (Shown-IsShown office old new broker rows shown))) in
     absurd (let clash : None ≡ Some row = ap (λ xs. slice_get xs 0) (sym empty) ∙ first in cc)

@@ -11,86 +11,86 @@ use Rattle.reply_check.specs.Computed.{meets_here, expected_items, expected_memb
 use Rattle.pact_paths.specs.Paths as paths
 
 -- nothing is expected
-pub no_items_expected : (rules : Rules) (at : Location) (i : ℕ) (ys : Items) → items_fit rules at no_items i ys ≡ true
-no_items_expected rules at i no_items = refl
-no_items_expected rules at i (item y ys) = no_items_expected rules at (suc i) ys
+pub items_fit-no_items : (rules : Rules) (at : Location) (i : ℕ) (ys : Items) → items_fit rules at no_items i ys ≡ true
+items_fit-no_items rules at i no_items = refl
+items_fit-no_items rules at i (item y ys) = items_fit-no_items rules at (suc i) ys
 
-pub no_members_expected : (rules : Rules) (at : Location) (gs : Members) → members_fit rules at no_members gs ≡ true
-no_members_expected rules at no_members = refl
-no_members_expected rules at (member k y gs) = no_members_expected rules at gs
+pub members_fit-no_members : (rules : Rules) (at : Location) (gs : Members) → members_fit rules at no_members gs ≡ true
+members_fit-no_members rules at no_members = refl
+members_fit-no_members rules at (member k y gs) = members_fit-no_members rules at gs
 
-pub get_item_view : (ts : List Value) (i : ℕ) → get_item i (items_view ts) ≡ option_map view (slice_get ts i)
-get_item_view [] i = refl
-get_item_view (t ∷ ts) zero = refl
-get_item_view (t ∷ ts) (suc i) = get_item_view ts i
+pub get_item-items_view : (ts : List Value) (i : ℕ) → get_item i (items_view ts) ≡ option_map view (slice_get ts i)
+get_item-items_view [] i = refl
+get_item-items_view (t ∷ ts) zero = refl
+get_item-items_view (t ∷ ts) (suc i) = get_item-items_view ts i
 
-pub list_without_example : (rules : Rules) (at : Location) (x : Data) (actual : Value) (v : Vec Value Global) → actual ≡ Array v → meets_here rules at x (view actual) ≡ true → expected_items x ≡ no_items
+pub fits-list_without_example : (rules : Rules) (at : Location) (x : Data) (actual : Value) (v : Vec Value Global) → actual ≡ Array v → meets_here rules at x (view actual) ≡ true → expected_items x ≡ no_items
     → true ≡ fits rules at x (view actual)
-list_without_example rules at x actual v is m none =
+fits-list_without_example rules at x actual v is m none =
     let seen : view actual ≡ array (items_view v.items) = ap view is ∙ view-Array v in
     let met : meets_here rules at x (array (items_view v.items)) ≡ true = ap (meets_here rules at x) (sym seen) ∙ m in
-    sym (ap (fits rules at x) seen ∙ and_from _ _ met (ap (λ xs. items_fit rules at xs 0 (items_view v.items)) none ∙ no_items_expected rules at 0 (items_view v.items)))
+    sym (ap (fits rules at x) seen ∙ and_from _ _ met (ap (λ xs. items_fit rules at xs 0 (items_view v.items)) none ∙ items_fit-no_items rules at 0 (items_view v.items)))
 
-pub object_without_example : (rules : Rules) (at : Location) (x : Data) (actual : Value) (m : BTreeMap (String Global) Value) → actual ≡ Object m → meets_here rules at x (view actual) ≡ true → expected_members x ≡ no_members
+pub fits-object_without_example : (rules : Rules) (at : Location) (x : Data) (actual : Value) (m : BTreeMap (String Global) Value) → actual ≡ Object m → meets_here rules at x (view actual) ≡ true → expected_members x ≡ no_members
     → true ≡ fits rules at x (view actual)
-object_without_example rules at x actual m is h none =
+fits-object_without_example rules at x actual m is h none =
     let seen : view actual ≡ object (members_view m.entries) = ap view is ∙ view-Object m in
     let met : meets_here rules at x (object (members_view m.entries)) ≡ true = ap (meets_here rules at x) (sym seen) ∙ h in
-    sym (ap (fits rules at x) seen ∙ and_from _ _ met (ap (λ fs. has_keys_of fs (members_view m.entries) && members_fit rules at fs (members_view m.entries)) none ∙ no_members_expected rules at (members_view m.entries)))
+    sym (ap (fits rules at x) seen ∙ and_from _ _ met (ap (λ fs. has_keys_of fs (members_view m.entries) && members_fit rules at fs (members_view m.entries)) none ∙ members_fit-no_members rules at (members_view m.entries)))
 
 -- ---- members
 
-pub none_of : {A : Type 0} (o : Option A) → ((x : A) → o ≡ Some x → ⊥) → o ≡ None
-none_of None h = refl
-none_of (Some x) h = absurd (h x refl)
+pub Option-none_of_no_some : {A : Type 0} (o : Option A) → ((x : A) → o ≡ Some x → ⊥) → o ≡ None
+Option-none_of_no_some None h = refl
+Option-none_of_no_some (Some x) h = absurd (h x refl)
 
-pub expected_at : (name k : List ℕ) (es : List Entry) (o : Option Value) → name ≡ k → o ≡ lookup (is_at (λ k. slice_cmp nat_cmp name (string_bytes k))) es → get_member k (members_view es) ≡ option_map view o
-expected_at name k es o is e = ap (λ k. get_member k (members_view es)) (sym is) ∙ sym (view-lookup name es) ∙ ap (option_map view) (sym e)
+pub get_member-members_view : (name k : List ℕ) (es : List Entry) (o : Option Value) → name ≡ k → o ≡ lookup (is_at (λ k. slice_cmp nat_cmp name (string_bytes k))) es → get_member k (members_view es) ≡ option_map view o
+get_member-members_view name k es o is e = ap (λ k. get_member k (members_view es)) (sym is) ∙ sym (view-lookup name es) ∙ ap (option_map view) (sym e)
 
-pub not_expected : (name k : List ℕ) (es : List Entry) (r : Option (Bor Value)) → name ≡ k → option_copied r ≡ lookup (is_at (λ k. slice_cmp nat_cmp name (string_bytes k))) es → ((x : Bor Value) → r ≡ Some x → ⊥) → get_member k (members_view es) ≡ None
-not_expected name k es r is e none = expected_at name k es (option_copied r) is e ∙ ap (λ (r : Option (Bor Value)). option_map view (option_copied r)) (none_of r none)
+pub get_member-none : (name k : List ℕ) (es : List Entry) (r : Option (Bor Value)) → name ≡ k → option_copied r ≡ lookup (is_at (λ k. slice_cmp nat_cmp name (string_bytes k))) es → ((x : Bor Value) → r ≡ Some x → ⊥) → get_member k (members_view es) ≡ None
+get_member-none name k es r is e none = get_member-members_view name k es (option_copied r) is e ∙ ap (λ (r : Option (Bor Value)). option_map view (option_copied r)) (Option-none_of_no_some r none)
 
-pub member_step : (rules : Rules) (at : Location) (fs : Members) (e : Entry) (es : List Entry) (x : Option Data) (b : Bool) → get_member (string_bytes e.0) fs ≡ x
+pub members_fit-step : (rules : Rules) (at : Location) (fs : Members) (e : Entry) (es : List Entry) (x : Option Data) (b : Bool) → get_member (string_bytes e.0) fs ≡ x
     → if_there x (λ x. fits rules (at ++ key (string_bytes e.0) ∷ []) x (view e.1)) ≡ b
     → members_fit rules at fs (members_view (e ∷ es)) ≡ (b && members_fit rules at fs (members_view es))
-member_step rules at fs e es x b h k =
+members_fit-step rules at fs e es x b h k =
     ap (λ o. if_there o (λ x. fits rules (at ++ key (string_bytes e.0) ∷ []) x (view e.1)) && members_fit rules at fs (members_view es)) h
     ∙ ap (λ c. c && members_fit rules at fs (members_view es)) k
 
-pub member_fits : (rules : Rules) (at there : Location) (name copy : List ℕ) (x y : Data) (r : Bool) → there ≡ at → copy ≡ name → r ≡ fits rules (there ++ key copy ∷ []) x y
+pub if_there-member_fits : (rules : Rules) (at there : Location) (name copy : List ℕ) (x y : Data) (r : Bool) → there ≡ at → copy ≡ name → r ≡ fits rules (there ++ key copy ∷ []) x y
     → if_there (Some x) (λ x. fits rules (at ++ key name ∷ []) x y) ≡ r
-member_fits rules at there name copy x y r e f h = sym (h ∙ ap (λ at. fits rules (at ++ key copy ∷ []) x y) e ∙ ap (λ n. fits rules (at ++ key n ∷ []) x y) f)
+if_there-member_fits rules at there name copy x y r e f h = sym (h ∙ ap (λ at. fits rules (at ++ key copy ∷ []) x y) e ∙ ap (λ n. fits rules (at ++ key n ∷ []) x y) f)
 
 -- ---- the example
 
-pub example_view : (ts : List Value) (i : ℕ) (a b r : Option (Bor Value)) → option_copied a ≡ slice_get ts i → option_copied b ≡ slice_get ts 0 → r ≡ option_or a b
+pub example-items_view : (ts : List Value) (i : ℕ) (a b r : Option (Bor Value)) → option_copied a ≡ slice_get ts i → option_copied b ≡ slice_get ts 0 → r ≡ option_or a b
     → option_map (λ t. view t.now) r ≡ example (items_view ts) i
-example_view ts i a b r ea eb er = ap (option_map (λ (t : Bor Value). view t.now)) er ∙ go a b ea eb
+example-items_view ts i a b r ea eb er = ap (option_map (λ (t : Bor Value). view t.now)) er ∙ go a b ea eb
   where
     seen : (o : Option (Bor Value)) → option_map (λ t. view t.now) o ≡ option_map view (option_copied o)
     seen None = refl
     seen (Some x) = refl
 
     here : (o : Option (Bor Value)) (k : ℕ) → option_copied o ≡ slice_get ts k → get_item k (items_view ts) ≡ option_map (λ (t : Bor Value). view t.now) o
-    here o k e = get_item_view ts k ∙ ap (option_map view) (sym e) ∙ sym (seen o)
+    here o k e = get_item-items_view ts k ∙ ap (option_map view) (sym e) ∙ sym (seen o)
 
     go : (a b : Option (Bor Value)) → option_copied a ≡ slice_get ts i → option_copied b ≡ slice_get ts 0 → option_map (λ t. view t.now) (option_or a b) ≡ example (items_view ts) i
     go None b ea eb = sym (ap (first_or (items_view ts)) (here None i ea) ∙ here b 0 eb)
     go (Some x) b ea eb = sym (ap (first_or (items_view ts)) (here (Some x) i ea))
 
-pub got_item : (ts : List Value) (i : ℕ) (r : Option (Bor Value)) → IsItemAt ts i r → option_copied r ≡ slice_get ts i
-got_item ts i None h = sym (slice_get_past ts i h.3)
-got_item ts i (Some x) h = sym (slice_get_read ts (length ts) i x.now refl h.3.0 h.1)
+pub IsItemAt-slice_get : (ts : List Value) (i : ℕ) (r : Option (Bor Value)) → IsItemAt ts i r → option_copied r ≡ slice_get ts i
+IsItemAt-slice_get ts i None h = sym (slice_get_past ts i h.3)
+IsItemAt-slice_get ts i (Some x) h = sym (slice_get_read ts (length ts) i x.now refl h.3.0 h.1)
 
 -- one item more that fits, or of which nothing is asked
-pub item_step : (rules : Rules) (at : Location) (xs : Items) (i : ℕ) (ts : List Value) (y : Value) (x : Option Data) → i < length ts → y ≡ get_or ts i y → x ≡ example xs i
+pub items_fit-step : (rules : Rules) (at : Location) (xs : Items) (i : ℕ) (ts : List Value) (y : Value) (x : Option Data) → i < length ts → y ≡ get_or ts i y → x ≡ example xs i
     → if_there x (λ x. fits rules (at ++ paths.item i ∷ []) x (view y)) ≡ true → items_fit rules at xs i (items_view (drop i ts)) ≡ items_fit rules at xs (i + 1) (items_view (drop (i + 1) ts))
-item_step rules at xs i ts y x lt is expected met =
+items_fit-step rules at xs i ts y x lt is expected met =
     let rest = items_view (drop (i + 1) ts) in
     ap (λ us. items_fit rules at xs i (items_view us)) (drop_more ts i y lt ∙ ap (λ z. z ∷ drop (i + 1) ts) (sym is))
     ∙ ap (λ o. if_there o (λ x. fits rules (at ++ paths.item i ∷ []) x (view y)) && items_fit rules at xs (suc i) rest) (sym expected)
     ∙ ap (λ b. b && items_fit rules at xs (suc i) rest) met
     ∙ ap (λ n. items_fit rules at xs n rest) (sym (add-one i))
 
-pub no_view : (o : Option (Bor Value)) → ((x : Bor Value) → o ≡ Some x → ⊥) → None ≡ option_map (λ v. view v.now) o
-no_view o none = ap (option_map (λ (v : Bor Value). view v.now)) (sym (none_of o none))
+pub option_map-no_view : (o : Option (Bor Value)) → ((x : Bor Value) → o ≡ Some x → ⊥) → None ≡ option_map (λ v. view v.now) o
+option_map-no_view o none = ap (option_map (λ (v : Bor Value). view v.now)) (sym (Option-none_of_no_some o none))

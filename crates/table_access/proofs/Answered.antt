@@ -1,4 +1,4 @@
--- A query whose text is understood, and whose parameters are of the right kinds, fails only as the store fails.
+-- A query whose text is understood, and whose parameters are of the right kinds, FailsToQuery-Fails only as the store FailsToQuery-Fails.
 use Rattle.std.specs.{List.Sorted.{IsPermutation}, List.{flat_map}}
 use Rattle.std.proofs.Common.{◌≡◌, ◌⊎◌, inl, inr, ℕ, take, List, [], ◌∷◌, map, filter, length, slice_get, Bool, true, false, nat_le, ◌==◌, ◌&&◌, Some, None, Option, Ok, Err, Result, refl, sym, ap, subst, subst₂, ◌∙◌, append-nil, drop}
 use Rattle.std.proofs.{lemmas.Bool.{leb-true, eqb-true}, lemmas.List.Sorted.{Contains-permutation, IsPermutation-sym}, lemmas.List.{take-append-drop}}
@@ -15,8 +15,8 @@ use Rattle.sqlite_rules.{specs.Lists.{Has}, proofs.ListLemmas.{has_front}}
 use Rattle.table_access.specs.{declared.StoreFault.{StoreFault}, declared.StoreFault.TheVariants.{Memory}, Calls.{HasFailed, fault_of}}
 use Rattle.table_access.specs.Reading.{IsRefusedAs, FailsToRead, FailsToTake, TellsText, TellsNumber, IsTextAt, IsNumberRow}
 use Rattle.table_access.specs.Statements.{from_table, from_both, keeps, keeps_both, shows}
-use Rattle.table_access.proofs.{Members.{has_either, contains_has, has_contains, map_has, filter_has}, SoundLemmas.{has_place}, Joins.{joined}}
-use Rattle.table_access.proofs.Steps.{Means, selects}
+use Rattle.table_access.proofs.{Members.{has_either, contains_has, has_contains, map_has, filter_has}, SoundLemmas.{has_place}, Joins.{IsPermutation-joined_rows}}
+use Rattle.table_access.proofs.Steps.{Means, IsPermutation-selected_rows}
 
 -- the whole text is one statement, with so many parameters
 abbrev pub is_whole : List ℕ → ℕ → Result Compiled CompileError → Bool
@@ -38,29 +38,29 @@ pub record Runs (schema : Schema) (sql : List ℕ) (params : Row) (q : Query) : 
   pub typed : accepts_program schema [] q params ≡ true
   pub sumless : sums_nothing q ≡ true
 
-no_fold : (db : Trees) (from : Join) (env : Env) → has_no_fold from ≡ true → ¬ FoldOverflows db from env
-no_fold db end env plain h = h
-no_fold db (inner t more) env plain h = no_fold db more _ plain h.4
-no_fold db (left t on more) env plain h = no_fold db more _ plain h.4
-no_fold db (counted most from test more) env plain (inl h) = no_fold db from env (first_of_both _ _ plain) h
-no_fold db (counted most from test more) env plain (inr h) = no_fold db more _ (second_of_both _ _ plain) h
-no_fold db (made m more) env plain h = no_fold db more _ plain h
-no_fold db (folded from test all more) env plain h = absurd cc
-no_fold db (first from test order shown more) env plain (inl h) = no_fold db from env (first_of_both _ _ plain) h
-no_fold db (first from test order shown more) env plain (inr h) = no_fold db more _ (second_of_both _ _ plain) h
+FoldOverflows-never : (db : Trees) (from : Join) (env : Env) → has_no_fold from ≡ true → ¬ FoldOverflows db from env
+FoldOverflows-never db end env plain h = h
+FoldOverflows-never db (inner t more) env plain h = FoldOverflows-never db more _ plain h.4
+FoldOverflows-never db (left t on more) env plain h = FoldOverflows-never db more _ plain h.4
+FoldOverflows-never db (counted most from test more) env plain (inl h) = FoldOverflows-never db from env (first_of_both _ _ plain) h
+FoldOverflows-never db (counted most from test more) env plain (inr h) = FoldOverflows-never db more _ (second_of_both _ _ plain) h
+FoldOverflows-never db (made m more) env plain h = FoldOverflows-never db more _ plain h
+FoldOverflows-never db (folded from test all more) env plain h = absurd cc
+FoldOverflows-never db (first from test order shown more) env plain (inl h) = FoldOverflows-never db from env (first_of_both _ _ plain) h
+FoldOverflows-never db (first from test order shown more) env plain (inr h) = FoldOverflows-never db more _ (second_of_both _ _ plain) h
 
-no_group : (g : Option Grouping) (all : List Env) → is_ungrouped g ≡ true → ¬ Overflows g all
-no_group None all plain h = h
-no_group (Some g) all plain h = absurd cc
+Overflows-never_ungrouped : (g : Option Grouping) (all : List Env) → is_ungrouped g ≡ true → ¬ Overflows g all
+Overflows-never_ungrouped None all plain h = h
+Overflows-never_ungrouped (Some g) all plain h = absurd cc
 
-no_sum : (db : Trees) (params : Row) (q : Query) → sums_nothing q ≡ true → ¬ QueryOverflows q db params
-no_sum db params q plain (inl h) = no_group q.group _ (first_of_both _ _ plain) h
-no_sum db params q plain (inr h) = no_fold db q.from (params ∷ []) (second_of_both _ _ plain) h
+QueryOverflows-never_sumless : (db : Trees) (params : Row) (q : Query) → sums_nothing q ≡ true → ¬ QueryOverflows q db params
+QueryOverflows-never_sumless db params q plain (inl h) = Overflows-never_ungrouped q.group _ (first_of_both _ _ plain) h
+QueryOverflows-never_sumless db params q plain (inr h) = FoldOverflows-never db q.from (params ∷ []) (second_of_both _ _ plain) h
 
 -- a plain text that is whole is a statement
-pub is_statement : (sql : List ℕ) (params : Row) (old : State) → IsPlain (understood old.now.schema sql) → is_whole sql (length params) (understood old.now.schema sql) ≡ true → (e : Error) → ¬ IsNoStatement old sql params e
-is_statement sql params old plain is_it e (inl h) = let none : false ≡ true = subst (λ r. is_whole sql (length params) r ≡ true) h.1 is_it in cc
-is_statement sql params old plain is_it e (inr (c, is, why)) =
+pub IsNoStatement-never_plain : (sql : List ℕ) (params : Row) (old : State) → IsPlain (understood old.now.schema sql) → is_whole sql (length params) (understood old.now.schema sql) ≡ true → (e : Error) → ¬ IsNoStatement old sql params e
+IsNoStatement-never_plain sql params old plain is_it e (inl h) = let none : false ≡ true = subst (λ r. is_whole sql (length params) r ≡ true) h.1 is_it in cc
+IsNoStatement-never_plain sql params old plain is_it e (inr (c, is, why)) =
     let whole = subst (λ r. is_whole sql (length params) r ≡ true) is is_it in
     elim why [
       | inl many ↦ many.0 (leb-true (length sql) c.tail (first_of_both _ _ whole))
@@ -68,81 +68,81 @@ is_statement sql params old plain is_it e (inr (c, is, why)) =
     ]
 
 -- a query that can be run, with no limit of steps, is refused by nothing
-pub never_refused : (params : Row) (db : Database) (q : Query) → accepts_program db.schema [] q params ≡ true → sums_nothing q ≡ true → (limit : Option ℕ) → limit ≡ None → (e : Error) → ¬ RefusesQuery limit db (record { lets = []; body = q }) params e
-never_refused params db q typed sumless limit unlimited e (inl kind) = let clash : true ≡ false = sym typed ∙ kind.1 in cc
-never_refused params db q typed sumless limit unlimited e (inr (inl sum)) = no_sum _ params q sumless sum.1
-never_refused params db q typed sumless limit unlimited e (inr (inr stopped)) = let some = rw unlimited at stopped.1 in cc
+pub RefusesQuery-never : (params : Row) (db : Database) (q : Query) → accepts_program db.schema [] q params ≡ true → sums_nothing q ≡ true → (limit : Option ℕ) → limit ≡ None → (e : Error) → ¬ RefusesQuery limit db (record { lets = []; body = q }) params e
+RefusesQuery-never params db q typed sumless limit unlimited e (inl kind) = let clash : true ≡ false = sym typed ∙ kind.1 in cc
+RefusesQuery-never params db q typed sumless limit unlimited e (inr (inl sum)) = QueryOverflows-never_sumless _ params q sumless sum.1
+RefusesQuery-never params db q typed sumless limit unlimited e (inr (inr stopped)) = let some = rw unlimited at stopped.1 in cc
 
 -- nor is it stopped
-pub never_stopped : (params : Row) (db : Database) (q : Query) → accepts_program db.schema [] q params ≡ true → sums_nothing q ≡ true → (limit : Option ℕ) → limit ≡ None → (stop : Option Error) → ¬ Queried limit db (record { lets = []; body = q }) params (Err stop)
-never_stopped params db q typed sumless limit unlimited None h = h
-never_stopped params db q typed sumless limit unlimited (Some e) h = never_refused params db q typed sumless limit unlimited e h
+pub Queried-never_stops : (params : Row) (db : Database) (q : Query) → accepts_program db.schema [] q params ≡ true → sums_nothing q ≡ true → (limit : Option ℕ) → limit ≡ None → (stop : Option Error) → ¬ Queried limit db (record { lets = []; body = q }) params (Err stop)
+Queried-never_stops params db q typed sumless limit unlimited None h = h
+Queried-never_stops params db q typed sumless limit unlimited (Some e) h = RefusesQuery-never params db q typed sumless limit unlimited e h
 
 module _ (sql : List ℕ) (params : Row) (old new : State) (q : Query) (names : List (List ℕ)) (means : Means old.now.schema sql (Select (record { lets = []; body = q }) names)) (runs : Runs old.now.schema sql params q)
     (unlimited : old.step_limit ≡ None) where
   -- a failure is one of the store
-  fails : (e : Error) → FailsToQuery sql params old new e → Fails old new ⊥ e
+  FailsToQuery-Fails : (e : Error) → FailsToQuery sql params old new e → Fails old new ⊥ e
   unfolding FailsToQuery IsNotRun
-  fails e (inl (inl h)) = absurd (is_statement sql params old means.plain runs.whole e h.0)
-  fails e (inl (inr h)) = h
-  fails e (inr h) =
+  FailsToQuery-Fails e (inl (inl h)) = absurd (IsNoStatement-never_plain sql params old means.plain runs.whole e h.0)
+  FailsToQuery-Fails e (inl (inr h)) = h
+  FailsToQuery-Fails e (inr h) =
       let bare = subst IsPlain h.1.is means.plain in
       let it = rw (bare.0, bare.1, append-nil params) at h.2 in
       let db : it.0 ≡ old.now = subst (λ b. IsSourceOf b old.now it.0) means.unlisted it.1 in
-      absurd (never_refused params old.now q runs.typed runs.sumless old.step_limit unlimited e (subst₂ (λ k d. RefusesToRead old.step_limit k d params e) (ap command_of (sym h.1.is) ∙ means.is) db it.2))
+      absurd (RefusesQuery-never params old.now q runs.typed runs.sumless old.step_limit unlimited e (subst₂ (λ k d. RefusesToRead old.step_limit k d params e) (ap command_of (sym h.1.is) ∙ means.is) db it.2))
 
   -- the transaction is over
-  pub refusal_ends : (fault : StoreFault) → IsRefusedAs sql params old new fault → HasFailed old new fault
-  refusal_ends fault (e, is, h) = let it = fails e h in record { cause = it.0; fault_is = is ∙ ap fault_of it.1; has = it.2; over = it.3.autocommit; blamed = it.4 }
+  pub IsRefusedAs-HasFailed : (fault : StoreFault) → IsRefusedAs sql params old new fault → HasFailed old new fault
+  IsRefusedAs-HasFailed fault (e, is, h) = let it = FailsToQuery-Fails e h in record { cause = it.0; fault_is = is ∙ ap fault_of it.1; has = it.2; over = it.3.autocommit; blamed = it.4 }
 
-  -- if the first row has a text and reading it fails, then the store failed or there was no room for the text
-  pub text_ends : ((rows : List Row) (row : Row) → Shown sql params old new rows → slice_get rows 0 ≡ Some row → IsTextAt 0 row) → (fault : StoreFault) → FailsToTake TellsText sql params old new fault → HasFailed old new fault ⊎ (fault ≡ Memory)
-  text_ends stands fault (inl refused) = inl (refusal_ends fault refused)
-  text_ends stands fault (inr (rows, shown, row, head, tells)) = elim tells [ inl none ↦ absurd (none.1 (stands rows row shown head)) | inr room ↦ inr room.0 ]
+  -- if the first row has a text and reading it FailsToQuery-Fails, then the store failed or there was no room for the text
+  pub FailsToTake-TellsText : ((rows : List Row) (row : Row) → Shown sql params old new rows → slice_get rows 0 ≡ Some row → IsTextAt 0 row) → (fault : StoreFault) → FailsToTake TellsText sql params old new fault → HasFailed old new fault ⊎ (fault ≡ Memory)
+  FailsToTake-TellsText stands fault (inl refused) = inl (IsRefusedAs-HasFailed fault refused)
+  FailsToTake-TellsText stands fault (inr (rows, shown, row, head, tells)) = elim tells [ inl none ↦ absurd (none.1 (stands rows row shown head)) | inr room ↦ inr room.0 ]
 
-  -- if the first row has a number and reading it fails, then the store failed
-  pub number_ends : ((rows : List Row) (row : Row) → Shown sql params old new rows → slice_get rows 0 ≡ Some row → IsNumberRow row) → (fault : StoreFault) → FailsToTake TellsNumber sql params old new fault → HasFailed old new fault
-  number_ends stands fault (inl refused) = refusal_ends fault refused
-  number_ends stands fault (inr (rows, shown, row, head, tells)) = absurd (tells.1 (stands rows row shown head))
+  -- if the first row has a number and reading it FailsToQuery-Fails, then the store failed
+  pub FailsToTake-TellsNumber : ((rows : List Row) (row : Row) → Shown sql params old new rows → slice_get rows 0 ≡ Some row → IsNumberRow row) → (fault : StoreFault) → FailsToTake TellsNumber sql params old new fault → HasFailed old new fault
+  FailsToTake-TellsNumber stands fault (inl refused) = IsRefusedAs-HasFailed fault refused
+  FailsToTake-TellsNumber stands fault (inr (rows, shown, row, head, tells)) = absurd (tells.1 (stands rows row shown head))
 
-  -- if a row fails only for lack of memory and reading the list fails, then the store failed or memory ran out
-  pub list_ends : {A : Type 0} (Reads : Row → A → Type 0) (Fails : Row → StoreFault → Type 0) → ((rows : List Row) (row : Row) → Shown sql params old new rows → Has rows row → (fault : StoreFault) → Fails row fault → fault ≡ Memory) → (fault : StoreFault)
+  -- if a row FailsToQuery-Fails only for lack of memory and reading the list FailsToQuery-Fails, then the store failed or memory ran out
+  pub FailsToRead-HasFailed : {A : Type 0} (Reads : Row → A → Type 0) (Fails : Row → StoreFault → Type 0) → ((rows : List Row) (row : Row) → Shown sql params old new rows → Has rows row → (fault : StoreFault) → Fails row fault → fault ≡ Memory) → (fault : StoreFault)
       → FailsToRead Reads Fails sql params old new fault → HasFailed old new fault ⊎ (fault ≡ Memory)
-  list_ends Reads Fails reads fault (inl refused) = inl (refusal_ends fault refused)
-  list_ends Reads Fails reads fault (inr (rows, shown, row, has, why)) = inr (elim why [ inl failed ↦ reads rows row shown has fault failed | inr room ↦ room.0 ])
+  FailsToRead-HasFailed Reads Fails reads fault (inl refused) = inl (IsRefusedAs-HasFailed fault refused)
+  FailsToRead-HasFailed Reads Fails reads fault (inr (rows, shown, row, has, why)) = inr (elim why [ inl failed ↦ reads rows row shown has fault failed | inr room ↦ room.0 ])
 
 -- ---- the rows that are shown
 
 -- the first row is one of the rows
-pub first_has : (rows : List Row) (row : Row) → slice_get rows 0 ≡ Some row → Has rows row
-first_has rows = has_place rows 0
+pub slice_get-has_first : (rows : List Row) (row : Row) → slice_get rows 0 ≡ Some row → Has rows row
+slice_get-has_first rows = has_place rows 0
 
 -- each is one of the rows in another order
-pub permuted_has : {X : Type 0} (xs ys : List X) (x : X) → IsPermutation xs ys → Has ys x → Has xs x
-permuted_has xs ys x same has = contains_has xs x (Contains-permutation ys xs x (IsPermutation-sym xs ys same) (has_contains ys x has))
+pub IsPermutation-has_each : {X : Type 0} (xs ys : List X) (x : X) → IsPermutation xs ys → Has ys x → Has xs x
+IsPermutation-has_each xs ys x same has = contains_has xs x (Contains-permutation ys xs x (IsPermutation-sym xs ys same) (has_contains ys x has))
 
 -- a row that is shown of one table is what is shown of a row that WHERE keeps
-pub shown_of : (sql : List ℕ) (params : Row) (old new : State) (t : ℕ) (terms project : List Term) (order : List (Term × Key)) (names : List (List ℕ)) → Means old.now.schema sql (Select (record { lets = []; body = from_table t terms project order }) names)
+pub Shown-of_table_row : (sql : List ℕ) (params : Row) (old new : State) (t : ℕ) (terms project : List Term) (order : List (Term × Key)) (names : List (List ℕ)) → Means old.now.schema sql (Select (record { lets = []; body = from_table t terms project order }) names)
     → (rows : List Row) (row : Row) → Shown sql params old new rows → Has rows row → (r : Row) × Has (old.now.trees t) r × (keeps terms params r ≡ true) × (row ≡ shows project params r)
-shown_of sql params old new t terms project order names means rows row shown has =
+Shown-of_table_row sql params old new t terms project order names means rows row shown has =
     let kept = filter (keeps terms params) (old.now.trees t) in
-    let one = map_has (shows project params) kept row (permuted_has _ rows row (selects sql params old new t terms project order names means rows shown) has) in
+    let one = map_has (shows project params) kept row (IsPermutation-has_each _ rows row (IsPermutation-selected_rows sql params old new t terms project order names means rows shown) has) in
     let it = filter_has (keeps terms params) (old.now.trees t) one.0 one.1 in
     (one.0, it.0, it.1, one.2)
 
 -- LIMIT shows no other rows
-pub take_has : {X : Type 0} (n : ℕ) (xs : List X) (x : X) → Has (take n xs) x → Has xs x
-take_has n xs x has = has_front xs (take n xs) (drop n xs) x (sym (take-append-drop n xs)) has
+pub take-sound : {X : Type 0} (n : ℕ) (xs : List X) (x : X) → Has (take n xs) x → Has xs x
+take-sound n xs x has = has_front xs (take n xs) (drop n xs) x (sym (take-append-drop n xs)) has
 
 -- a row that is shown of two tables is what is shown of a row of each
-flat_map_has : {X Y : Type 0} (f : X → List Y) (xs : List X) (y : Y) → Has (flat_map f xs) y → (x : X) × Has xs x × Has (f x) y
-flat_map_has f [] y has = absurd has
-flat_map_has f (x ∷ xs) y has = elim (has_either (f x) (flat_map f xs) y has) [ inl here ↦ (x, inl refl, here) | inr later ↦ let it = flat_map_has f xs y later in (it.0, inr it.1, it.2) ]
+flat_map-sound : {X Y : Type 0} (f : X → List Y) (xs : List X) (y : Y) → Has (flat_map f xs) y → (x : X) × Has xs x × Has (f x) y
+flat_map-sound f [] y has = absurd has
+flat_map-sound f (x ∷ xs) y has = elim (has_either (f x) (flat_map f xs) y has) [ inl here ↦ (x, inl refl, here) | inr later ↦ let it = flat_map-sound f xs y later in (it.0, inr it.1, it.2) ]
 
 pub pair_shown : (db : Database) (params : Row) (t u : ℕ) (terms project : List Term) (order : List (Term × Key)) (rows : List Row) → Answers db (record { lets = []; body = from_both t u terms project order }) params rows
     → (row : Row) → Has rows row → (r s : Row) × Has (db.trees t) r × Has (db.trees u) s × (row ≡ eval_all project (params ∷ r ∷ s ∷ [])) × (keeps_both terms params r s ≡ true)
 pair_shown db params t u terms project order rows h row has =
-    let one = flat_map_has (λ r. map (λ s. eval_all project (params ∷ r ∷ s ∷ [])) (filter (keeps_both terms params r) (db.trees u))) (db.trees t) row (permuted_has _ rows row (joined db params t u terms project order rows h) has) in
+    let one = flat_map-sound (λ r. map (λ s. eval_all project (params ∷ r ∷ s ∷ [])) (filter (keeps_both terms params r) (db.trees u))) (db.trees t) row (IsPermutation-has_each _ rows row (IsPermutation-joined_rows db params t u terms project order rows h) has) in
     let two = map_has (λ s. eval_all project (params ∷ one.0 ∷ s ∷ [])) (filter (keeps_both terms params one.0) (db.trees u)) row one.2 in
     let kept = filter_has (keeps_both terms params one.0) (db.trees u) two.0 two.1 in
     (one.0, two.0, one.1, kept.0, two.2, kept.1)

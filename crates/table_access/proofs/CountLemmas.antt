@@ -4,18 +4,18 @@ use Rattle.std.proofs.lemmas.Bool.Decides.{nat_tests}
 use Rattle.sqlite_rules.specs.Lists.{Has}
 
 -- the number of elements that pass a test is more than 0 if and only if some element passes it
-pub some_counted : {X : Type 0} (p : X → Bool) (xs : List X) → nat_lt 0 (length (filter p xs)) ≡ list_any p xs
-some_counted p [] = refl
-some_counted p (x ∷ xs) = elim (p x) as (λ b. nat_lt 0 (length (cond b (x ∷ filter p xs) (filter p xs))) ≡ (b || list_any p xs)) [
+pub length-filter-list_any : {X : Type 0} (p : X → Bool) (xs : List X) → nat_lt 0 (length (filter p xs)) ≡ list_any p xs
+length-filter-list_any p [] = refl
+length-filter-list_any p (x ∷ xs) = elim (p x) as (λ b. nat_lt 0 (length (cond b (x ∷ filter p xs) (filter p xs))) ≡ (b || list_any p xs)) [
   | true ↦ grind (arith, nat_tests)
-  | false ↦ some_counted p xs
+  | false ↦ length-filter-list_any p xs
 ]
 
 -- tests that agree on a list are passed by one of it together
-pub same_any : {X : Type 0} (p q : X → Bool) (xs : List X) → ((x : X) → Has xs x → p x ≡ q x) → list_any p xs ≡ list_any q xs
-same_any p q [] same = refl
-same_any p q (x ∷ xs) same = λ i. same x (inl refl) i || same_any p q xs (λ y has. same y (inr has)) i
+pub list_any-same_tests : {X : Type 0} (p q : X → Bool) (xs : List X) → ((x : X) → Has xs x → p x ≡ q x) → list_any p xs ≡ list_any q xs
+list_any-same_tests p q [] same = refl
+list_any-same_tests p q (x ∷ xs) same = λ i. same x (inl refl) i || list_any-same_tests p q xs (λ y has. same y (inr has)) i
 
-pub any_never : {X : Type 0} (xs : List X) → list_any (λ x. false) xs ≡ false
-any_never [] = refl
-any_never (x ∷ xs) = any_never xs
+pub list_any-false : {X : Type 0} (xs : List X) → list_any (λ x. false) xs ≡ false
+list_any-false [] = refl
+list_any-false (x ∷ xs) = list_any-false xs

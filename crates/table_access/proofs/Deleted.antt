@@ -9,8 +9,8 @@ use Rattle.sqlite_schema.specs.{declared.schema.Among.TheVariants.{All}, declare
 use Rattle.sqlite_schema.specs.Rules.{Refers, Keeps, references_fit, guards}
 use Rattle.sqlite_value.specs.declared.keys.Order.{Order}
 use Rattle.sqlite_rules.{specs.{Lists.{Has}, Calls.{ids_of}, Edit.{Edit, edit_of, is_off}}, proofs.ListLemmas.{test_from}}
-use Rattle.table_access.{specs.Statements.{plain_table, from_table, IsCalm}, proofs.{Edits.{IsAlone, Suits, goes, refers}, Answered.{Runs, never_stopped}}}
-use Rattle.table_access.proofs.{Refused.{stopped, in_place, on_rows, change_fails, caused_by}, Steps.{Means, went, same_value}}
+use Rattle.table_access.{specs.Statements.{plain_table, from_table, IsCalm}, proofs.{Edits.{IsAlone, Suits, goes, refers}, Answered.{Runs, Queried-never_stops}}}
+use Rattle.table_access.proofs.{Refused.{EndsAs-stopped, IsMisplaced-never_anywhere, OnTable-stops, Executes-change_fails, Fails-weaken}, Steps.{Means, Ok-not_stopped, Ok-injective}}
 
 module _ (name : List ℕ) (tree : ℕ) (columns : List Column) (key : Option ℕ) (primary : List ℕ) (uniques : List (List ℕ)) (orders : List Order) (checks : List Term) (references : List Reference) where
   abbrev here : Table
@@ -28,8 +28,8 @@ module _ (name : List ℕ) (tree : ℕ) (columns : List Column) (key : Option �
   taking db ids = edit_of db here ids Given 0 []
 
   -- it is refused by no rule
-  fine : (schema : Schema) → IsLeaf schema → Has schema.tables here → (keys : Keys) (db : Trees) (ids : List ℤ) → IsTable (db tree) → ((rule : Constraint) → Keeps rule schema db) → Suits ⊥ schema keys db (taking db ids)
-  fine schema leaf listed keys db ids ordered rules = record {
+  Suits-taking : (schema : Schema) → IsLeaf schema → Has schema.tables here → (keys : Keys) (db : Trees) (ids : List ℤ) → IsTable (db tree) → ((rule : Constraint) → Keeps rule schema db) → Suits ⊥ schema keys db (taking db ids)
+  Suits-taking schema leaf listed keys db ids ordered rules = record {
     apart = leaf.apart;
     calm = leaf.calm;
     listed = listed;
@@ -58,23 +58,23 @@ module _ (name : List ℕ) (tree : ℕ) (columns : List Column) (key : Option �
     task = record { limit = old.step_limit; keys = (mode_of old).keys; schema = old.now.schema; table = here; params = params }
 
     suits : (ids : List ℤ) → Suits ⊥ old.now.schema (mode_of old).keys old.now.trees (taking old.now.trees ids)
-    suits ids = fine old.now.schema leaf listed (mode_of old).keys old.now.trees ids ordered rules
+    suits ids = Suits-taking old.now.schema leaf listed (mode_of old).keys old.now.trees ids ordered rules
 
     deleted : (stop : Option Error) → Deletes task query old.now.trees (Err stop) → ⊥
-    deleted stop h = elim (stopped stop h) [
-      | inl queried ↦ never_stopped params old.now query.body runs.typed runs.sumless old.step_limit unlimited stop queried
-      | inr ids ↦ elim (stopped stop ids.2) [ inl edited ↦ (goes ⊥ old.now.schema (mode_of old).keys old.now.trees (taking old.now.trees (ids_of ids.0)) (suits (ids_of ids.0)) stop edited).1 | inr done ↦ let e = done.2 in cc ]
+    deleted stop h = elim (EndsAs-stopped stop h) [
+      | inl queried ↦ Queried-never_stops params old.now query.body runs.typed runs.sumless old.step_limit unlimited stop queried
+      | inr ids ↦ elim (EndsAs-stopped stop ids.2) [ inl edited ↦ (goes ⊥ old.now.schema (mode_of old).keys old.now.trees (taking old.now.trees (ids_of ids.0)) (suits (ids_of ids.0)) stop edited).1 | inr done ↦ let e = done.2 in cc ]
     ]
 
     left_sound : (w : Written) → Deletes task query old.now.trees (Ok w) → Refers All old.now.schema w.trees
     left_sound w h =
-        let ids = went h in
-        let gone = went ids.2 in
-        subst (λ trees. Refers All old.now.schema trees) (sym (ap (λ (it : Written). it.trees) (same_value gone.2))) (refers ⊥ old.now.schema (mode_of old).keys old.now.trees (taking old.now.trees (ids_of ids.0)) (suits (ids_of ids.0)) gone.0 gone.1)
+        let ids = Ok-not_stopped h in
+        let gone = Ok-not_stopped ids.2 in
+        subst (λ trees. Refers All old.now.schema trees) (sym (ap (λ (it : Written). it.trees) (Ok-injective gone.2))) (refers ⊥ old.now.schema (mode_of old).keys old.now.trees (taking old.now.trees (ids_of ids.0)) (suits (ids_of ids.0)) gone.0 gone.1)
 
     does : (stop : Option Error) → Does old.step_limit (mode_of old) params old.now sql None (Delete at query) (Err stop) → ⊥
-    does stop h = elim (on_rows name tree columns key primary uniques orders checks references params old at found (Delete at query) stop h) [ inl written ↦ deleted stop written | inr stray ↦ stray.2 (left_sound stray.0 stray.1) ]
+    does stop h = elim (OnTable-stops name tree columns key primary uniques orders checks references params old at found (Delete at query) stop h) [ inl written ↦ deleted stop written | inr stray ↦ stray.2 (left_sound stray.0 stray.1) ]
 
     -- it fails only as the store fails, and no row is too big
     pub delete_fails : (e : Error) → Executes sql params old new (Err e) → Fails old new ⊥ e
-    delete_fails e h = elim (change_fails sql params old new (Delete at query) (λ e. ⊥) means runs.whole refl refl (λ e is same. in_place old (Delete at query) refl e is) (λ e writes. does (Some e)) e h) [ inl fails ↦ caused_by old new e (does None) fails | inr never ↦ absurd never ]
+    delete_fails e h = elim (Executes-change_fails sql params old new (Delete at query) (λ e. ⊥) means runs.whole refl refl (λ e is same. IsMisplaced-never_anywhere old (Delete at query) refl e is) (λ e writes. does (Some e)) e h) [ inl fails ↦ Fails-weaken old new e (does None) fails | inr never ↦ absurd never ]

@@ -17,15 +17,15 @@ use Rattle.sqlite_rules.proofs.ListLemmas.{some_has, some_from, test_has, test_f
 use Rattle.sqlite_rules.proofs.{RuleLemmas.{Turns, unique_kept, parent_is_table, keeps_at, refers_from, origin}, EditLemmas.{turns}}
 use Rattle.sqlite_rules.proofs.TableLemmas.{put_has, int_is}
 use Rattle.sqlite_value.proofs.OrderLemmas.{value_cmp_total}
-use Rattle.table_access.{specs.Statements.{IsCalm}, proofs.{Removal.{calm_works}, SoundLemmas.{all_of}}}
+use Rattle.table_access.{specs.Statements.{IsCalm}, proofs.{Removal.{works-IsCalm}, SoundLemmas.{all_of}}}
 
 -- no reference leads to the table at this tree
 abbrev pub leads_elsewhere : ℕ → Option ParentKey → Bool
 leads_elsewhere tree None = true
 leads_elsewhere tree (Some key) = not (key.0 == tree)
 
-is_elsewhere : (tree : ℕ) (key : ParentKey) → leads_elsewhere tree (Some key) ≡ true → key.0 ≢ tree
-is_elsewhere tree key h same =
+leads_elsewhere-sound : (tree : ℕ) (key : ParentKey) → leads_elsewhere tree (Some key) ≡ true → key.0 ≢ tree
+leads_elsewhere-sound tree key h same =
     let is : (key.0 == tree) ≡ true = ap (λ n. n == tree) same ∙ nat_eq_equiv.refl tree in
     let clash : false ≡ true = ap not (sym is) ∙ h in cc
 
@@ -88,7 +88,7 @@ module _ (TooBig : Type 0) (schema : Schema) (keys : Keys) (db : Trees) (edit : 
     goes stop (why, inl refused, is) = absurd (no_rule refused.0 refused.1)
     goes stop (why, inr (inl big), is) = let same : why ≡ None = (let h = big.3 in cc) in (is ∙ ap (option_map edit_error) same, suits.storable big.0 big.1 big.2)
     goes stop (why, inr (inr went), is) =
-        absurd (settled went.2.0 went.0 why (subst (λ stack. Leads schema keys went.2.0 went.0 stack (Err why)) (calm_works schema keys 0 edit.table.tree (taken_by db edit) edit.news suits.calm) went.2.1))
+        absurd (settled went.2.0 went.0 why (subst (λ stack. Leads schema keys went.2.0 went.0 stack (Err why)) (works-IsCalm schema keys 0 edit.table.tree (taken_by db edit) edit.news suits.calm) went.2.1))
 
     -- ---- what it leaves refers to rows that are there
 
@@ -108,7 +108,7 @@ module _ (TooBig : Type 0) (schema : Schema) (keys : Keys) (db : Trees) (edit : 
       still_held ref row (Some key) is far h =
           let u = parent_is_table schema.tables ref key is in
           let found = some_has (λ parent. agree key.2 key.1 parent ref.columns row) (db key.0) h in
-          let kept = stays u.0 u.1 (λ alone same. is_elsewhere edit.table.tree key (far alone) (sym u.2 ∙ same)) found.0 (subst (λ k. Has (db k) found.0) (sym u.2) found.1) in
+          let kept = stays u.0 u.1 (λ alone same. leads_elsewhere-sound edit.table.tree key (far alone) (sym u.2 ∙ same)) found.0 (subst (λ k. Has (db k) found.0) (sym u.2) found.1) in
           some_from (λ parent. agree key.2 key.1 parent ref.columns row) (next key.0) found.0 (subst (λ k. Has (next k) found.0) u.2 kept) found.2
 
       still_parent : (t : Table) → Has schema.tables t → (ref : Reference) → Has t.references ref → (row : Row) → has_parent schema.tables db row ref ≡ true → has_parent schema.tables next row ref ≡ true
@@ -126,30 +126,30 @@ module _ (TooBig : Type 0) (schema : Schema) (keys : Keys) (db : Trees) (edit : 
 
     pub refers : (next : Trees) → Edited schema keys db edit (Ok next) → Refers All schema next
     refers next done =
-        let step = one_step schema keys db next edit (calm_works schema keys 0 edit.table.tree (taken_by db edit) edit.news suits.calm) done in
+        let step = one_step schema keys db next edit (works-IsCalm schema keys 0 edit.table.tree (taken_by db edit) edit.news suits.calm) done in
         all_refer next (turned next step.rows step.tables)
 
 -- ---- an edit with one new row
 
-told : (o : Ordering) → is_true (from_truth (Some (is_ne o))) ≡ not (is_eq o)
-told Less = refl
-told _ = refl
+is_true-is_ne : (o : Ordering) → is_true (from_truth (Some (is_ne o))) ≡ not (is_eq o)
+is_true-is_ne Less = refl
+is_true-is_ne _ = refl
 
 -- whole numbers differ in SQL unless they tie
-pub differ_is : (a b : ℤ) → differ (Int a) (Int b) ≡ not (is_eq (value_cmp (Int a) (Int b)))
+pub differ-Int : (a b : ℤ) → differ (Int a) (Int b) ≡ not (is_eq (value_cmp (Int a) (Int b)))
 unfolding binary
-differ_is a b = told (value_cmp (Int a) (Int b))
+differ-Int a b = is_true-is_ne (value_cmp (Int a) (Int b))
 
 -- its keys are unique if no row that stays has one of them
-pub one_unique : (schema : Schema) (db : Trees) (t : Table) (left : List Row) (made : Row) → is_int (rowid made) ≡ true → ((i : Index) → Has schema.indexes i → guards i t ≡ true → (r : Row) → Has left r → agree i.order i.columns r i.columns made ≡ false)
+pub are_unique-put_row : (schema : Schema) (db : Trees) (t : Table) (left : List Row) (made : Row) → is_int (rowid made) ≡ true → ((i : Index) → Has schema.indexes i → guards i t ≡ true → (r : Row) → Has left r → agree i.order i.columns r i.columns made ≡ false)
     → are_unique schema.indexes (with_tree db t.tree (put_row made left)) t (made ∷ []) ≡ true
-one_unique schema db t left made keyed free = test_from _ schema.indexes (λ i known. one i known (guards i t) refl)
+are_unique-put_row schema db t left made keyed free = test_from _ schema.indexes (λ i known. one i known (guards i t) refl)
   where
     here : with_tree db t.tree (put_row made left) t.tree ≡ put_row made left
     here = ap (λ b. cond b (put_row made left) (db t.tree)) (nat_eq_equiv.refl t.tree)
 
     itself : differ (rowid made) (rowid made) ≡ false
-    itself = ap (λ v. differ v v) (int_is (rowid made) keyed) ∙ differ_is _ _ ∙ ap (λ o. not (is_eq o)) (tied_itself value_cmp_total (Int (id_in (rowid made))))
+    itself = ap (λ v. differ v v) (int_is (rowid made) keyed) ∙ differ-Int _ _ ∙ ap (λ o. not (is_eq o)) (tied_itself value_cmp_total (Int (id_in (rowid made))))
 
     no_clash : (i : Index) → Has schema.indexes i → guards i t ≡ true → clashes i.order i.columns (put_row made left) made ≡ false
     no_clash i known guard = false_from_ne_true _ (λ clash.

@@ -9,7 +9,7 @@ use Rattle.sqlite_sql.{specs.Query.{sort_cmp, output_cmp}, proofs.QueryLemmas.{o
 use Rattle.sqlite_value.specs.declared.keys.Key.{Key}
 use Rattle.sqlite.specs.{declared.types.Value.TheVariants.{Null}, Order.{Row}, Term.{Term, eval_all}, Tree.{IsAscending}}
 use Rattle.sqlite.specs.{Query.{Query, IsAnswer, output, Output}, Program.{overlay}, Effect.{Database, Answers}}
-use Rattle.table_access.{specs.Statements.{from_table, from_both, keeps, keeps_both, pairs_kept, shows}, proofs.Steps.{bare, kept_rows, outputs}}
+use Rattle.table_access.{specs.Statements.{from_table, from_both, keeps, keeps_both, pairs_kept, shows}, proofs.Steps.{overlay-nil, flat_map-filter, kept-outputs}}
 
 -- ---- sorted lists
 
@@ -33,51 +33,51 @@ module _ {X : Type 0} (cmp : X → X → Ordering) (total : IsTotalOrder cmp) wh
       go Equal e more = absurd (true≢false (sym (ap is_eq e) ∙ apart.0))
       go Greater e more = (all-insert cmp _ new xs (total.antisymm x new ∙ ap ordering_reverse e) up.0, more)
 
-  -- a list with no ties rises, once it is sorted
-  pub rises : (xs : List X) → IsAscending (λ a b. is_eq (cmp a b) ≡ false) xs → IsStrictlySortedBy cmp (sort_by cmp xs)
+  -- a list with no ties sort_by-strictly_sorted, once it is sorted
+  pub sort_by-strictly_sorted : (xs : List X) → IsAscending (λ a b. is_eq (cmp a b) ≡ false) xs → IsStrictlySortedBy cmp (sort_by cmp xs)
   unfolding IsStrictlySortedBy
-  rises [] apart = tt
-  rises (x ∷ xs) apart = rises-insert x _ (all-sorted cmp _ xs apart.0) (rises xs apart.1)
+  sort_by-strictly_sorted [] apart = tt
+  sort_by-strictly_sorted (x ∷ xs) apart = rises-insert x _ (all-sorted cmp _ xs apart.0) (sort_by-strictly_sorted xs apart.1)
 
   -- and it has the same elements
-  pub sorted_has : (xs : List X) (x : X) → Contains (sort_by cmp xs) x → Contains xs x
-  sorted_has xs x = Contains-permutation (sort_by cmp xs) xs x (IsPermutation-sort_by cmp total xs)
+  pub sort_by-sound : (xs : List X) (x : X) → Contains (sort_by cmp xs) x → Contains xs x
+  sort_by-sound xs x = Contains-permutation (sort_by cmp xs) xs x (IsPermutation-sort_by cmp total xs)
 
   -- an element of the list is one of the sorted list too
-  pub has_sorted : (xs : List X) (x : X) → Contains xs x → Contains (sort_by cmp xs) x
-  has_sorted xs x = Contains-permutation xs (sort_by cmp xs) x (IsPermutation-sym _ _ (IsPermutation-sort_by cmp total xs))
+  pub sort_by-complete : (xs : List X) (x : X) → Contains xs x → Contains (sort_by cmp xs) x
+  sort_by-complete xs x = Contains-permutation xs (sort_by cmp xs) x (IsPermutation-sym _ _ (IsPermutation-sort_by cmp total xs))
 
 -- ---- an answer
 
 -- what a query with no groups shows of the matches, sorted
-sorted_answer : {M : Type 0} (q : Query) (kept ordered : List Output) (matches : List M) (env : M → List Row) → kept ≡ map (λ m. output q (env m)) matches → IsPermutation kept ordered → IsSorted (output_cmp q) ordered
+IsSorted-answer : {M : Type 0} (q : Query) (kept ordered : List Output) (matches : List M) (env : M → List Row) → kept ≡ map (λ m. output q (env m)) matches → IsPermutation kept ordered → IsSorted (output_cmp q) ordered
     → IsAscending (λ a b. is_eq (sort_cmp q.order (env a) (env b)) ≡ false) matches
     → map (λ (o : Output). o.1) ordered ≡ map (λ m. eval_all q.project (env m)) (sort_by (λ a b. sort_cmp q.order (env a) (env b)) matches)
-sorted_answer {M} q kept ordered matches env is same sorted apart =
+IsSorted-answer {M} q kept ordered matches env is same sorted apart =
     let total = output_cmp_total q in
-    let outputs = map (λ m. output q (env m)) matches in
-    let is_sorted : ordered ≡ sort_by (output_cmp q) outputs =
-    sorted_is-sort_by (output_cmp q) total outputs ordered (ascending-map (λ a b. is_eq (output_cmp q a b) ≡ false) (λ m. output q (env m)) matches apart) (subst (λ xs. IsPermutation xs ordered) is same) sorted in
+    let kept-outputs = map (λ m. output q (env m)) matches in
+    let is_sorted : ordered ≡ sort_by (output_cmp q) kept-outputs =
+    sorted_is-sort_by (output_cmp q) total kept-outputs ordered (ascending-map (λ a b. is_eq (output_cmp q a b) ≡ false) (λ m. output q (env m)) matches apart) (subst (λ xs. IsPermutation xs ordered) is same) sorted in
     ap (map (λ (o : Output). o.1)) (is_sorted ∙ sort_by-map (output_cmp q) (λ m. output q (env m)) matches) ∙ map-map _ _ _
 
 -- SELECT project FROM a table WHERE terms ORDER BY order
-pub selects_in_order : (db : Database) (params : Row) (t : ℕ) (terms project : List Term) (order : List (Term × Key)) (rows : List Row) → Answers db (record { lets = []; body = from_table t terms project order }) params rows
+pub Answers-in_order : (db : Database) (params : Row) (t : ℕ) (terms project : List Term) (order : List (Term × Key)) (rows : List Row) → Answers db (record { lets = []; body = from_table t terms project order }) params rows
     → IsAscending (λ a b. is_eq (sort_cmp order (params ∷ a ∷ []) (params ∷ b ∷ [])) ≡ false) (filter (keeps terms params) (db.trees t))
     → rows ≡ map (shows project params) (sort_by (λ a b. sort_cmp order (params ∷ a ∷ []) (params ∷ b ∷ [])) (filter (keeps terms params) (db.trees t)))
-selects_in_order db params t terms project order rows h apart =
+Answers-in_order db params t terms project order rows h apart =
     let q = from_table t terms project order in
     let answer : IsAnswer q (overlay db.trees []) params rows = h.answer Null in
-    answer.shown ∙ sorted_answer q answer.kept answer.ordered (filter (keeps terms params) (db.trees t)) (λ r. params ∷ r ∷ []) (outputs db params t terms project order rows h) answer.same answer.sorted apart
+    answer.shown ∙ IsSorted-answer q answer.kept answer.ordered (filter (keeps terms params) (db.trees t)) (λ r. params ∷ r ∷ []) (kept-outputs db params t terms project order rows h) answer.same answer.sorted apart
 
 -- SELECT project FROM a table JOIN another WHERE terms ORDER BY order
-pub joins_in_order : (db : Database) (params : Row) (t u : ℕ) (terms project : List Term) (order : List (Term × Key)) (rows : List Row) → Answers db (record { lets = []; body = from_both t u terms project order }) params rows
+pub Answers-joined_in_order : (db : Database) (params : Row) (t u : ℕ) (terms project : List Term) (order : List (Term × Key)) (rows : List Row) → Answers db (record { lets = []; body = from_both t u terms project order }) params rows
     → IsAscending (λ a b. is_eq (sort_cmp order (params ∷ a.0 ∷ a.1 ∷ []) (params ∷ b.0 ∷ b.1 ∷ [])) ≡ false) (pairs_kept terms params (db.trees t) (db.trees u))
     → rows ≡ map (λ p. eval_all project (params ∷ p.0 ∷ p.1 ∷ [])) (sort_by (λ a b. sort_cmp order (params ∷ a.0 ∷ a.1 ∷ []) (params ∷ b.0 ∷ b.1 ∷ [])) (pairs_kept terms params (db.trees t) (db.trees u)))
-joins_in_order db params t u terms project order rows h apart =
+Answers-joined_in_order db params t u terms project order rows h apart =
     let q = from_both t u terms project order in
     let answer : IsAnswer q (overlay db.trees []) params rows = h.answer Null in
-    let staged = answer.grouped ∙ ap (flat_map _) (bare db.trees t) ∙ flat_map_same_on _ (λ r. map (λ s. params ∷ r ∷ s ∷ []) (filter (keeps_both terms params r) (db.trees u))) (λ r. ap (flat_map _) (bare db.trees u) ∙ kept_rows (keeps_both terms params r) (λ s. params ∷ r ∷ s ∷ []) (db.trees u)) (db.trees t) in
+    let staged = answer.grouped ∙ ap (flat_map _) (overlay-nil db.trees t) ∙ flat_map_same_on _ (λ r. map (λ s. params ∷ r ∷ s ∷ []) (filter (keeps_both terms params r) (db.trees u))) (λ r. ap (flat_map _) (overlay-nil db.trees u) ∙ flat_map-filter (keeps_both terms params r) (λ s. params ∷ r ∷ s ∷ []) (db.trees u)) (db.trees t) in
     let pairs : flat_map (λ r. map (λ s. params ∷ r ∷ s ∷ []) (filter (keeps_both terms params r) (db.trees u))) (db.trees t) ≡ map (λ (p : Row × Row). params ∷ p.0 ∷ p.1 ∷ []) (pairs_kept terms params (db.trees t) (db.trees u)) =
     sym (map-flat_map (λ (p : Row × Row). params ∷ p.0 ∷ p.1 ∷ []) (λ r. map (λ s. (r, s)) (filter (keeps_both terms params r) (db.trees u))) (db.trees t) ∙ flat_map_same_on _ _ (λ r. map-map (λ (p : Row × Row). params ∷ p.0 ∷ p.1 ∷ []) (λ s. (r, s)) (filter (keeps_both terms params r) (db.trees u))) (db.trees t)) in
     let kept : answer.kept ≡ map (λ (p : Row × Row). output q (params ∷ p.0 ∷ p.1 ∷ [])) (pairs_kept terms params (db.trees t) (db.trees u)) = answer.distinct ∙ ap (map (output q)) (staged ∙ pairs) ∙ map-map _ _ _ in
-    answer.shown ∙ sorted_answer q answer.kept answer.ordered (pairs_kept terms params (db.trees t) (db.trees u)) (λ (p : Row × Row). params ∷ p.0 ∷ p.1 ∷ []) kept answer.same answer.sorted apart
+    answer.shown ∙ IsSorted-answer q answer.kept answer.ordered (pairs_kept terms params (db.trees t) (db.trees u)) (λ (p : Row × Row). params ∷ p.0 ∷ p.1 ∷ []) kept answer.same answer.sorted apart

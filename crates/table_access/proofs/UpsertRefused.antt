@@ -22,15 +22,15 @@ use Rattle.sqlite_rules.specs.{Edit.{Edit, IsOversized, edit_of, is_off}, declar
 use Rattle.sqlite_rules.specs.declared.error.Refusal.TheVariants.{Violates, Mismatch}
 use Rattle.sqlite_rules.proofs.{ListLemmas.{some_has, some_from, test_has, has_filtered, has_kept}, RuleLemmas.{keeps_at}, KeyLemmas.{agree_back, agree_chain}}
 use Rattle.sqlite_rules.proofs.{TableLemmas.{int_is}, PlaceLemmas.{next_is_free}}
-use Rattle.table_access.{specs.{Sound.{IsNumbered}, Statements.{plain_table, shows, IsCalm}}, proofs.Answered.{is_whole, never_stopped}}
-use Rattle.table_access.proofs.{Edits.{Suits, IsAlone, goes, refers, one_unique, differ_is}, Members.{has_map, map_has}}
-use Rattle.table_access.proofs.{Refused.{stopped, sourced, on_rows, change_fails, caused_by, in_place}, SoundLemmas.{at_has}}
-use Rattle.table_access.proofs.{Steps.{Means, went, same_value, shown_one}, Upsert.{by_rowid, setting, Either, upserts, meets}, Values.{cast_null, cast_kept}}
+use Rattle.table_access.{specs.{Sound.{IsNumbered}, Statements.{plain_table, shows, IsCalm}}, proofs.Answered.{is_whole, Queried-never_stops}}
+use Rattle.table_access.proofs.{Edits.{Suits, IsAlone, goes, refers, are_unique-put_row, differ-Int}, Members.{has_map, map_has}}
+use Rattle.table_access.proofs.{Refused.{EndsAs-stopped, Sourced-never_stops, OnTable-stops, Executes-change_fails, Fails-weaken, IsMisplaced-never_anywhere}, SoundLemmas.{at_has}}
+use Rattle.table_access.proofs.{Steps.{Means, Ok-not_stopped, Ok-injective, shows-one_row}, Upsert.{by_rowid, setting, Either, upserts, AreConflicts-kept_row}, Values.{cast-Null, cast_row-kept}}
 
 -- what fits if rows are put in and taken out fits too if none is taken out
-either_way : (a b removes : Bool) → (a && (not true || b)) ≡ true → (a && (not removes || b)) ≡ true
-either_way a b true h = h
-either_way a b false h = and_from _ _ (and_parts _ _ h).0 refl
+and_or-no_removal : (a b removes : Bool) → (a && (not true || b)) ≡ true → (a && (not removes || b)) ≡ true
+and_or-no_removal a b true h = h
+and_or-no_removal a b false h = and_from _ _ (and_parts _ _ h).0 refl
 
 -- the order of an index, and its places
 abbrev pub key_of : Index → Order × List ℕ
@@ -135,8 +135,8 @@ module _ (name : List ℕ) (tree : ℕ) (columns : List Column) (key : Option �
       keyed = refl;
       fits = ap (λ b. b && true) fits;
       fresh = ap (λ b. not b && true) fresh;
-      unique = one_unique old.now.schema old.now.trees here (without_all rows ids) (Int z ∷ rest) refl (λ i known guard r has. agrees i known guard r (Int z ∷ rest) ∙ free r has);
-      referred = or_right (is_off (mode_of old).keys) _ (either_way _ _ (nat_lt 0 (length ids)) takes.fits);
+      unique = are_unique-put_row old.now.schema old.now.trees here (without_all rows ids) (Int z ∷ rest) refl (λ i known guard r has. agrees i known guard r (Int z ∷ rest) ∙ free r has);
+      referred = or_right (is_off (mode_of old).keys) _ (and_or-no_removal _ _ (nat_lt 0 (length ids)) takes.fits);
       parents = λ row new ref named. elim new [ inl same ↦ subst (λ x. has_parent old.now.schema.tables old.now.trees x ref ≡ true) (sym same) (takes.parents (Int z) ref named) | inr none ↦ absurd none ];
       alone = inr takes.alone;
     }
@@ -146,7 +146,7 @@ module _ (name : List ℕ) (tree : ℕ) (columns : List Column) (key : Option �
 
     put_suits : AreConflicts (Some target) old.now.schema.indexes here rows it [] → Suits TooBig old.now.schema (mode_of old).keys old.now.trees putting
     put_suits none =
-        subst (λ x. Suits TooBig old.now.schema (mode_of old).keys old.now.trees (record { table = here; gone = []; news = x ∷ [] })) (sym (cast_kept here it refl takes.cast))
+        subst (λ x. Suits TooBig old.now.schema (mode_of old).keys old.now.trees (record { table = here; gone = []; news = x ∷ [] })) (sym (cast_row-kept here it refl takes.cast))
         (suited [] (next_rowid rows) takes.room (next_is_free Chosen rows rest takes.numbered.0 takes.numbered.1) (λ r has. false_from_ne_true _ (λ same. none.complete r has (meets_all r same))))
 
     module _ (r : Row) (has : Has rows r) (hit : conflicts (Some target) old.now.schema.indexes here it r ≡ true) where
@@ -164,7 +164,7 @@ module _ (name : List ℕ) (tree : ℕ) (columns : List Column) (key : Option �
           let i = guard_of in
           let alike = agree_chain plain target target target x it r (takes.no_first _ _ x ∙ same) (agree_back plain target target r it (met r hit)) in
           let apart : differ (rowid x) (rowid r) ≡ true =
-          (λ j. differ (numbered_by x was.0 j) (numbered_by r has j)) ∙ differ_is _ _ ∙ ap (λ v. not (is_eq (value_cmp v (Int z)))) (sym (numbered_by x was.0)) ∙ ap not was.1 in
+          (λ j. differ (numbered_by x was.0 j) (numbered_by r has j)) ∙ differ-Int _ _ ∙ ap (λ v. not (is_eq (value_cmp v (Int z)))) (sym (numbered_by x was.0)) ∙ ap not was.1 in
           let clash = and_from _ _ i.2 (some_from (λ y. agree i.0.order i.0.columns y i.0.columns r && differ (rowid y) (rowid r)) rows x was.0 (and_from _ _ (agrees i.0 i.1 i.2 x r ∙ alike) apart)) in
           both_ways _ (not-true _ (test_has _ old.now.schema.indexes i.0 (keeps_at Unique old.now.schema old.now.trees here r (takes.rules Unique) takes.listed has) i.1)) clash)
 
@@ -173,7 +173,7 @@ module _ (name : List ℕ) (tree : ℕ) (columns : List Column) (key : Option �
 
       change_suits : Suits TooBig old.now.schema (mode_of old).keys old.now.trees changing
       change_suits =
-          let made : cast_row here (shows project (with r) r) ≡ Int z ∷ rest = ap (cast_row here) (takes.changed r has hit ∙ ap (λ v. v ∷ rest) (numbered_by r has)) ∙ cast_kept here (Int z ∷ rest) refl takes.cast in
+          let made : cast_row here (shows project (with r) r) ≡ Int z ∷ rest = ap (cast_row here) (takes.changed r has hit ∙ ap (λ v. v ∷ rest) (numbered_by r has)) ∙ cast_row-kept here (Int z ∷ rest) refl takes.cast in
           subst (λ x. Suits TooBig old.now.schema (mode_of old).keys old.now.trees (record { table = here; gone = z ∷ []; news = x ∷ [] })) (sym made)
           (suited (z ∷ []) z (takes.numbers r has) (false_from_ne_true _ (λ taken.
           let y = some_has (λ y. is_eq (value_cmp (rowid y) (Int z))) (without_all rows (z ∷ [])) taken in both_ways _ (other y.0 y.1).1 y.2)) free)
@@ -195,14 +195,14 @@ module _ (name : List ℕ) (tree : ℕ) (columns : List Column) (key : Option �
       Stops stop = (stop ≡ None) × TooBig
 
       puts : AreConflicts (Some target) old.now.schema.indexes here rows it [] → (stop : Option Error) → Puts task it old.now.trees (Err stop) → Stops stop
-      puts none stop h = elim (stopped stop h) [ inl edited ↦ goes TooBig old.now.schema (mode_of old).keys old.now.trees putting (put_suits none) stop edited | inr done ↦ absurd (let h = done.2 in cc) ]
+      puts none stop h = elim (EndsAs-stopped stop h) [ inl edited ↦ goes TooBig old.now.schema (mode_of old).keys old.now.trees putting (put_suits none) stop edited | inr done ↦ absurd (let h = done.2 in cc) ]
 
       -- what the UPDATE shows of the row that is met makes an edit that suits
       updating : (there : Row) (more : List Row) → AreConflicts (Some target) old.now.schema.indexes here rows it (there ∷ more) → (out : List Row) → Answers old.now update (params ++ rowid there ∷ shown here it) out
           → Suits TooBig old.now.schema (mode_of old).keys old.now.trees (edit_of old.now.trees here (ids_of out) Given 1 out)
       updating there more some out answers =
-          let hit = meets name tree columns key primary uniques orders checks references sql params old new at target n project takes.placed takes.numbered there more it some in
-          let one = shown_one old.now (params ++ rowid there ∷ shown here it) tree (by_rowid n) (col 1 0 ∷ project) [] out answers hit.0 hit.4 in
+          let hit = AreConflicts-kept_row name tree columns key primary uniques orders checks references sql params old new at target n project takes.placed takes.numbered there more it some in
+          let one = shows-one_row old.now (params ++ rowid there ∷ shown here it) tree (by_rowid n) (col 1 0 ∷ project) [] out answers hit.0 hit.4 in
           subst (λ xs. Suits TooBig old.now.schema (mode_of old).keys old.now.trees (edit_of old.now.trees here (ids_of xs) Given 1 xs))
           (sym (one ∙ ap (λ v. shows (col 1 0 ∷ project) (params ++ v ∷ shown here it) hit.0 ∷ []) hit.3)) (change_suits hit.0 hit.1 hit.2)
 
@@ -210,12 +210,12 @@ module _ (name : List ℕ) (tree : ℕ) (columns : List Column) (key : Option �
       queried there more some stop h =
           let there_is = some.sound there (inl refl) in
           let number : rowid there ≡ Int (id_in (rowid there_is.0)) = ap rowid there_is.3 ∙ numbered_by there_is.0 there_is.1 in
-          never_stopped (params ++ rowid there ∷ shown here it) old.now (setting tree n project) (ap (λ v. accepts_program old.now.schema [] (setting tree n project) (params ++ v ∷ shown here it)) number ∙ takes.typed _) refl old.step_limit unlimited stop h
+          Queried-never_stops (params ++ rowid there ∷ shown here it) old.now (setting tree n project) (ap (λ v. accepts_program old.now.schema [] (setting tree n project) (params ++ v ∷ shown here it)) number ∙ takes.typed _) refl old.step_limit unlimited stop h
 
       updates : (there : Row) (more : List Row) → AreConflicts (Some target) old.now.schema.indexes here rows it (there ∷ more) → (stop : Option Error) → Updates task update (params ++ rowid there ∷ shown here it) old.now.trees (Err stop) → Stops stop
-      updates there more some stop h = elim (stopped stop h) [
+      updates there more some stop h = elim (EndsAs-stopped stop h) [
         | inl asked ↦ absurd (queried there more some stop asked)
-        | inr given ↦ elim (stopped stop given.2) [ inl edited ↦ goes TooBig old.now.schema (mode_of old).keys old.now.trees _ (updating there more some given.0 given.1) stop edited | inr done ↦ absurd (let h = done.2 in cc) ]
+        | inr given ↦ elim (EndsAs-stopped stop given.2) [ inl edited ↦ goes TooBig old.now.schema (mode_of old).keys old.now.trees _ (updating there more some given.0 given.1) stop edited | inr done ↦ absurd (let h = done.2 in cc) ]
       ]
 
       judged : (why : Refusal) → IsJudged here it (Some why) → ⊥
@@ -233,21 +233,21 @@ module _ (name : List ℕ) (tree : ℕ) (columns : List Column) (key : Option �
       tried stop (inr (None, is, (there ∷ more, some, h))) = updates there more some stop h
 
       stored : with_rowid Chosen rows (cast_row here (Null ∷ rest)) ≡ it
-      stored = λ i. with_rowid Chosen rows (cast_null i ∷ takes.cast i)
+      stored = λ i. with_rowid Chosen rows (cast-Null i ∷ takes.cast i)
 
       inserted : (stop : Option Error) → InsertsOr task Abort (clause ∷ []) (Values terms width) old.now.trees (Err stop) → Stops stop
-      inserted stop h = elim (stopped stop h) [
-        | inl source ↦ absurd (sourced name tree columns key primary uniques orders checks references old.now params terms width takes.kinds old.step_limit unlimited stop source)
-        | inr given ↦ elim (stopped stop given.2) [
+      inserted stop h = elim (EndsAs-stopped stop h) [
+        | inl source ↦ absurd (Sourced-never_stops name tree columns key primary uniques orders checks references old.now params terms width takes.kinds old.step_limit unlimited stop source)
+        | inr given ↦ elim (EndsAs-stopped stop given.2) [
           | inl counter ↦ absurd (let h = counter in cc)
-          | inr counted ↦ elim (stopped stop counted.2) [
+          | inr counted ↦ elim (EndsAs-stopped stop counted.2) [
             | inl each ↦
                 let rows_are = given.1.1 ∙ ap (λ ps. value_rows ps width (length terms / width) terms) (append-nil params) ∙ takes.one in
-                elim (stopped stop (subst (λ rs. TriesEach task Abort (clause ∷ []) rs (count_of counted.0) (nothing old.now.trees) (Err stop)) rows_are each)) [
+                elim (EndsAs-stopped stop (subst (λ rs. TriesEach task Abort (clause ∷ []) rs (count_of counted.0) (nothing old.now.trees) (Err stop)) rows_are each)) [
                   | inl one ↦ tried stop (subst (λ x. Tries task Abort (clause ∷ []) x old.now.trees (Err stop)) stored one)
                   | inr done ↦ absurd (let h = done.2 in cc)
                 ]
-            | inr done ↦ elim (stopped stop done.2) [ inl counts ↦ absurd (let h = counts in cc) | inr last ↦ absurd (let h = last.2 in cc) ]
+            | inr done ↦ elim (EndsAs-stopped stop done.2) [ inl counts ↦ absurd (let h = counts in cc) | inr last ↦ absurd (let h = last.2 in cc) ]
           ]
         ]
       ]
@@ -259,16 +259,16 @@ module _ (name : List ℕ) (tree : ℕ) (columns : List Column) (key : Option �
         where
           either : (d : Written) → Either name tree columns key primary uniques orders checks references old.step_limit (mode_of old).keys old.now.schema params target update it old.now.trees d → Refers All old.now.schema d.trees
           either d (inl (none, put)) =
-              let edited = went put in
-              subst (λ trees. Refers All old.now.schema trees) (sym (ap (λ (w : Written). w.trees) (same_value edited.2))) (refers TooBig old.now.schema (mode_of old).keys old.now.trees putting (put_suits none) edited.0 edited.1)
+              let edited = Ok-not_stopped put in
+              subst (λ trees. Refers All old.now.schema trees) (sym (ap (λ (w : Written). w.trees) (Ok-injective edited.2))) (refers TooBig old.now.schema (mode_of old).keys old.now.trees putting (put_suits none) edited.0 edited.1)
           either d (inr (there, more, some, update)) =
-              let given = went update in
-              let edited = went given.2 in
-              subst (λ trees. Refers All old.now.schema trees) (sym (ap (λ (w : Written). w.trees) (same_value edited.2))) (refers TooBig old.now.schema (mode_of old).keys old.now.trees _ (updating there more some given.0 given.1) edited.0 edited.1)
+              let given = Ok-not_stopped update in
+              let edited = Ok-not_stopped given.2 in
+              subst (λ trees. Refers All old.now.schema trees) (sym (ap (λ (w : Written). w.trees) (Ok-injective edited.2))) (refers TooBig old.now.schema (mode_of old).keys old.now.trees _ (updating there more some given.0 given.1) edited.0 edited.1)
 
       does : (stop : Option Error) → Does old.step_limit (mode_of old) params old.now sql None command (Err stop) → Stops stop
-      does stop h = elim (on_rows name tree columns key primary uniques orders checks references params old at takes.found command stop h) [ inl written ↦ inserted stop written | inr stray ↦ absurd (stray.2 (left_sound stray.0 stray.1)) ]
+      does stop h = elim (OnTable-stops name tree columns key primary uniques orders checks references params old at takes.found command stop h) [ inl written ↦ inserted stop written | inr stray ↦ absurd (stray.2 (left_sound stray.0 stray.1)) ]
 
       -- it fails only as the store fails, or since the row is too big
       pub upsert_fails : (e : Error) → Executes sql params old new (Err e) → Fails old new TooBig e
-      upsert_fails e h = elim (change_fails sql params old new command (λ e. ⊥) takes.means takes.whole refl refl (λ e is same. in_place old command refl e is) (λ e writes h. let it = does (Some e) h in let clash : Some e ≡ None = it.0 in cc) e h) [ inl fails ↦ caused_by old new e (λ big. (does None big).1) fails | inr never ↦ absurd never ]
+      upsert_fails e h = elim (Executes-change_fails sql params old new command (λ e. ⊥) takes.means takes.whole refl refl (λ e is same. IsMisplaced-never_anywhere old command refl e is) (λ e writes h. let it = does (Some e) h in let clash : Some e ≡ None = it.0 in cc) e h) [ inl fails ↦ Fails-weaken old new e (λ big. (does None big).1) fails | inr never ↦ absurd never ]

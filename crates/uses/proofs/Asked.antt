@@ -26,13 +26,13 @@ answers old new x P Q y more it = record {
 
 -- ---- lists
 
-empty_is : {X : Type 0} (xs : List X) → (length xs == 0) ≡ true → xs ≡ []
-empty_is [] is = refl
-empty_is (x ∷ xs) is = absurd (omega (arith, eqb-true (length (x ∷ xs)) 0 is))
+length-zero_nil : {X : Type 0} (xs : List X) → (length xs == 0) ≡ true → xs ≡ []
+length-zero_nil [] is = refl
+length-zero_nil (x ∷ xs) is = absurd (omega (arith, eqb-true (length (x ∷ xs)) 0 is))
 
 -- the list of what is such is empty if and only if nothing is
-pub nothing_is : {X : Type 0} {cmp : X → X → Ordering} {Is : X → Type 0} (xs : List X) (empty : Bool) → empty ≡ (length xs == 0) → Lists cmp Is xs → IsTrue empty ↔ ((x : X) → ¬ (Is x))
-nothing_is {X} {cmp} {Is} xs empty tells listed = (λ yes x is. none xs (empty_is xs (sym tells ∙ yes)) x ((listed.exactly x).1 is), λ never. tells ∙ go xs (λ x there. never x ((listed.exactly x).0 there)))
+pub Lists-empty_iff_none : {X : Type 0} {cmp : X → X → Ordering} {Is : X → Type 0} (xs : List X) (empty : Bool) → empty ≡ (length xs == 0) → Lists cmp Is xs → IsTrue empty ↔ ((x : X) → ¬ (Is x))
+Lists-empty_iff_none {X} {cmp} {Is} xs empty tells listed = (λ yes x is. none xs (length-zero_nil xs (sym tells ∙ yes)) x ((listed.exactly x).1 is), λ never. tells ∙ go xs (λ x there. never x ((listed.exactly x).0 there)))
   where
     none : (ys : List X) → ys ≡ [] → (x : X) → ¬ (Contains ys x)
     none [] is x there = omega (arith, there.1)
@@ -45,8 +45,8 @@ nothing_is {X} {cmp} {Is} xs empty tells listed = (λ yes x is. none xs (empty_i
 -- ---- needs
 
 -- a need is good if and only if it has no fault
-good_is : (strict : Bool) (need : Need) → ((fault : PairFault) → ¬ (fault_of strict need ≡ Some fault)) ↔ IsGood strict need
-good_is strict need = go need.provider_version need.latest
+fault_of-none_iff_good : (strict : Bool) (need : Need) → ((fault : PairFault) → ¬ (fault_of strict need ≡ Some fault)) ↔ IsGood strict need
+fault_of-none_iff_good strict need = go need.provider_version need.latest
   where
     of : Option Text → Option Latest → Need
     of partner said = record { consumer = need.consumer; consumer_version = need.consumer_version; provider = need.provider; provider_version = partner; latest = said }
@@ -65,10 +65,10 @@ good_is strict need = go need.provider_version need.latest
     go (Some w) (Some said) = says w said.pass said.checked strict
 
 -- no fault is decided of needs that are good, and of no others
-pub verified_is : (s : Broker) (v : Version) (e : Text) (strict empty : Bool) (needs : List Need) (faults : List PairFault) → empty ≡ (length faults == 0) → Lists need_cmp (IsNeed s v e) needs → Lists fault_cmp (IsFaultAmong strict needs) faults
+pub IsFaultAmong-none_iff_good : (s : Broker) (v : Version) (e : Text) (strict empty : Bool) (needs : List Need) (faults : List PairFault) → empty ≡ (length faults == 0) → Lists need_cmp (IsNeed s v e) needs → Lists fault_cmp (IsFaultAmong strict needs) faults
     → IsTrue empty ↔ ((need : Need) → IsNeed s v e need → IsGood strict need)
-verified_is s v e strict empty needs faults tells listed decided =
-    let nothing = nothing_is faults empty tells decided in (
-      λ yes need is. (good_is strict need).0 (λ fault of. nothing.0 yes fault (need, (listed.exactly need).1 is, of)),
-      λ good. nothing.1 (λ fault is. (good_is strict is.0).1 (good is.0 ((listed.exactly is.0).0 is.1)) fault is.2),
+IsFaultAmong-none_iff_good s v e strict empty needs faults tells listed decided =
+    let nothing = Lists-empty_iff_none faults empty tells decided in (
+      λ yes need is. (fault_of-none_iff_good strict need).0 (λ fault of. nothing.0 yes fault (need, (listed.exactly need).1 is, of)),
+      λ good. nothing.1 (λ fault is. (fault_of-none_iff_good strict is.0).1 (good is.0 ((listed.exactly is.0).0 is.1)) fault is.2),
     )

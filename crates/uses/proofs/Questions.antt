@@ -19,65 +19,65 @@ module _ (s : Broker) (out : Transition) where
   abbrev pub IsTold : Type 0
   IsTold = (answer : Answer) × (out ≡ unchanged_with s answer) × (¬ (IsDone answer))
 
-  unless_refused : (command : Command) (what : Option Missing) (allowed : Bool) (T : Type 0) → MatchOption (refused command what allowed) T (λ answer. out ≡ unchanged_with s answer) → T ⊎ IsTold
-  unless_refused command (Some what) allowed T is = inr (Unknown what, is, λ no. no)
-  unless_refused command None true T it = inl it
-  unless_refused command None false T is = inr (Denied (asks command).rule, is, λ no. no)
+  refused-or_told : (command : Command) (what : Option Missing) (allowed : Bool) (T : Type 0) → MatchOption (refused command what allowed) T (λ answer. out ≡ unchanged_with s answer) → T ⊎ IsTold
+  refused-or_told command (Some what) allowed T is = inr (Unknown what, is, λ no. no)
+  refused-or_told command None true T it = inl it
+  refused-or_told command None false T is = inr (Denied (asks command).rule, is, λ no. no)
 
-  effect : (command : Command) → is_question command ≡ true → TakesEffect broker_primitives s command out → IsTold
-  effect (GetPact path) question (text, has, is) = (Shown (shows.Pact text), is, λ no. no)
-  effect (GetBranchPact provider consumer branch) question (v, there, (text, has, is)) = (Shown (shows.Pact text), is, λ no. no)
-  effect (GetEnvironment e) question (marks, there, (items, deployed, (versions, released, is))) = (Shown (shows.Environment e marks items versions), is, λ no. no)
-  effect (CanIDeploy v e) question (marks, there, (permitted, faults, judged, is)) = (Shown (shows.Gate e marks permitted faults), is, λ no. no)
-  effect (GetMatrix v) question (rows, listed, is) = (Shown (shows.Matrix rows), is, λ no. no)
-  effect (PutTeam team token) question it = absurd (cc)
-  effect (PutPacticipant p team) question it = absurd (cc)
-  effect (PutEnvironment e marks) question it = absurd (cc)
-  effect (PutGrant team e) question it = absurd (cc)
-  effect (DeleteGrant team e) question it = absurd (cc)
-  effect (PutVersion v branch) question it = absurd (cc)
-  effect (PutPact path file) question it = absurd (cc)
-  effect (PostResult path report success) question it = absurd (cc)
-  effect (PostReplies path report replies) question it = absurd (cc)
-  effect (Deploy e v instance) question it = absurd (cc)
-  effect (Undeploy e v instance) question it = absurd (cc)
-  effect (Release e v) question it = absurd (cc)
-  effect (EndSupport e v) question it = absurd (cc)
-  effect (Malformed fault) question it = absurd (cc)
+  TakesEffect-question : (command : Command) → is_question command ≡ true → TakesEffect broker_primitives s command out → IsTold
+  TakesEffect-question (GetPact path) question (text, has, is) = (Shown (shows.Pact text), is, λ no. no)
+  TakesEffect-question (GetBranchPact provider consumer branch) question (v, there, (text, has, is)) = (Shown (shows.Pact text), is, λ no. no)
+  TakesEffect-question (GetEnvironment e) question (marks, there, (items, deployed, (versions, released, is))) = (Shown (shows.Environment e marks items versions), is, λ no. no)
+  TakesEffect-question (CanIDeploy v e) question (marks, there, (permitted, faults, judged, is)) = (Shown (shows.Gate e marks permitted faults), is, λ no. no)
+  TakesEffect-question (GetMatrix v) question (rows, listed, is) = (Shown (shows.Matrix rows), is, λ no. no)
+  TakesEffect-question (PutTeam team token) question it = absurd (cc)
+  TakesEffect-question (PutPacticipant p team) question it = absurd (cc)
+  TakesEffect-question (PutEnvironment e marks) question it = absurd (cc)
+  TakesEffect-question (PutGrant team e) question it = absurd (cc)
+  TakesEffect-question (DeleteGrant team e) question it = absurd (cc)
+  TakesEffect-question (PutVersion v branch) question it = absurd (cc)
+  TakesEffect-question (PutPact path file) question it = absurd (cc)
+  TakesEffect-question (PostResult path report success) question it = absurd (cc)
+  TakesEffect-question (PostReplies path report replies) question it = absurd (cc)
+  TakesEffect-question (Deploy e v instance) question it = absurd (cc)
+  TakesEffect-question (Undeploy e v instance) question it = absurd (cc)
+  TakesEffect-question (Release e v) question it = absurd (cc)
+  TakesEffect-question (EndSupport e v) question it = absurd (cc)
+  TakesEffect-question (Malformed fault) question it = absurd (cc)
 
-  of_caller : (caller : Caller) (command : Command) → is_question command ≡ true → StepOfCaller broker_primitives s caller command out → IsTold
-  of_caller caller command question (None, finds, it) = elim (unless_refused command (first_missing s command) (is_allowed s caller command) (TakesEffect broker_primitives s command out) it) [
-    | inl takes ↦ effect command question takes
+  StepOfCaller-question : (caller : Caller) (command : Command) → is_question command ≡ true → StepOfCaller broker_primitives s caller command out → IsTold
+  StepOfCaller-question caller command question (None, finds, it) = elim (refused-or_told command (first_missing s command) (is_allowed s caller command) (TakesEffect broker_primitives s command out) it) [
+    | inl takes ↦ TakesEffect-question command question takes
     | inr told ↦ told
   ]
-  of_caller caller command question (Some fault, finds, is) = (BadForm fault, is, λ no. no)
+  StepOfCaller-question caller command question (Some fault, finds, is) = (BadForm fault, is, λ no. no)
 
   -- so it is of each step of a question
   told : (token : Option Text) (command : Command) → is_question command ≡ true → Step broker_primitives s token command out → IsTold
   told token command question (None, calls, is) = (Denied A1, is, λ no. no)
-  told token command question (Some caller, calls, it) = of_caller caller command question it
+  told token command question (Some caller, calls, it) = StepOfCaller-question caller command question it
 
 -- no pattern is asked
-no_pattern : (s : Broker) (caller : Caller) (command : Command) → is_question command ≡ true → ComparesPattern s caller command → ⊥
-no_pattern s caller (GetPact path) question it = it
-no_pattern s caller (GetBranchPact provider consumer branch) question it = it
-no_pattern s caller (GetEnvironment e) question it = it
-no_pattern s caller (CanIDeploy v e) question it = it
-no_pattern s caller (GetMatrix v) question it = it
-no_pattern s caller (PutTeam team token) question it = it
-no_pattern s caller (PutPacticipant p team) question it = it
-no_pattern s caller (PutEnvironment e marks) question it = it
-no_pattern s caller (PutGrant team e) question it = it
-no_pattern s caller (DeleteGrant team e) question it = it
-no_pattern s caller (PutVersion v branch) question it = it
-no_pattern s caller (PutPact path file) question it = it
-no_pattern s caller (PostResult path report success) question it = it
-no_pattern s caller (PostReplies path report replies) question it = absurd (cc)
-no_pattern s caller (Deploy e v instance) question it = it
-no_pattern s caller (Undeploy e v instance) question it = it
-no_pattern s caller (Release e v) question it = it
-no_pattern s caller (EndSupport e v) question it = it
-no_pattern s caller (Malformed fault) question it = it
+ComparesPattern-no_question : (s : Broker) (caller : Caller) (command : Command) → is_question command ≡ true → ComparesPattern s caller command → ⊥
+ComparesPattern-no_question s caller (GetPact path) question it = it
+ComparesPattern-no_question s caller (GetBranchPact provider consumer branch) question it = it
+ComparesPattern-no_question s caller (GetEnvironment e) question it = it
+ComparesPattern-no_question s caller (CanIDeploy v e) question it = it
+ComparesPattern-no_question s caller (GetMatrix v) question it = it
+ComparesPattern-no_question s caller (PutTeam team token) question it = it
+ComparesPattern-no_question s caller (PutPacticipant p team) question it = it
+ComparesPattern-no_question s caller (PutEnvironment e marks) question it = it
+ComparesPattern-no_question s caller (PutGrant team e) question it = it
+ComparesPattern-no_question s caller (DeleteGrant team e) question it = it
+ComparesPattern-no_question s caller (PutVersion v branch) question it = it
+ComparesPattern-no_question s caller (PutPact path file) question it = it
+ComparesPattern-no_question s caller (PostResult path report success) question it = it
+ComparesPattern-no_question s caller (PostReplies path report replies) question it = absurd (cc)
+ComparesPattern-no_question s caller (Deploy e v instance) question it = it
+ComparesPattern-no_question s caller (Undeploy e v instance) question it = it
+ComparesPattern-no_question s caller (Release e v) question it = it
+ComparesPattern-no_question s caller (EndSupport e v) question it = it
+ComparesPattern-no_question s caller (Malformed fault) question it = it
 
 -- what is promised of a question
 module _ {X : Type 0} (shown : Held X → State) (old : BrokerView X) (token : Text) (command : Command) (question : is_question command ≡ true) (answer : Answer) (new : BrokerView X) (it : Applied shown old (Some token) command answer new) where
@@ -103,7 +103,7 @@ module _ {X : Type 0} (shown : Held X → State) (old : BrokerView X) (token : T
         }
 
     by_pattern : KeepsAtPattern s (Some token) command (shown new.connection) answer → ⊥
-    by_pattern at = let asked = at.1 in no_pattern s asked.0 command question asked.2
+    by_pattern at = let asked = at.1 in ComparesPattern-no_question s asked.0 command question asked.2
 
     pub goes_on : IsOnlyAsked shown s token command answer new
     goes_on = elim (it.applies clean going s readable.held) [

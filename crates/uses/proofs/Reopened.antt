@@ -22,19 +22,19 @@ today s c holds =
       left = λ t may. let d = holds.left t may in record { schema = d.schema; sound = d.sound; has = has _ d.has };
     }
 
--- so no broker is found in it only if the database failed
-failed : (why : OpenFault) → Judged format (Some format) (Err why) → IsOfDatabase why
-failed why (inl is) = absurd (cc)
-failed why (inr (inl memory)) = inl (cc)
-failed why (inr (inr store)) = inr (cc)
+-- so no broker is found in it only if the database Judged-only_database_fault
+Judged-only_database_fault : (why : OpenFault) → Judged format (Some format) (Err why) → IsOfDatabase why
+Judged-only_database_fault why (inl is) = absurd (cc)
+Judged-only_database_fault why (inr (inl memory)) = inl (cc)
+Judged-only_database_fault why (inr (inr store)) = inr (cc)
 
 module _ {D : Type 0} (g : Ghosts D) where
   -- the trees that two files hold, or nothing
   abbrev Holds : Broker → Image → Type 0
   Holds s image = ((trees : Trees) × HoldsDatabase image trees × AreTreesOf (OfToday s) trees) ⊎ ((OfToday s ≡ Blank) × IsNothing image)
 
-  keep_state : (s : Broker) (old : BrokerView (FileStore D g)) (files : Files D) → OpenedFilesHold g → HoldsState s (file_state {D = D} {g = g} old.connection) → IsCopied old.connection files → KeepState g s files
-  keep_state s old files law held copied =
+  KeepState-of_copied : (s : Broker) (old : BrokerView (FileStore D g)) (files : Files D) → OpenedFilesHold g → HoldsState s (file_state {D = D} {g = g} old.connection) → IsCopied old.connection files → KeepState g s files
+  KeepState-of_copied s old files law held copied =
       let was = held.held copied.was_open in
       let trees = (file_state {D = D} {g = g} old.connection).committed.trees in
       let kept : AreTreesOf (OfToday s) trees = record { schema = (file_state {D = D} {g = g} old.connection).committed.schema; sound = was.sound; has = was.has } in
@@ -46,24 +46,24 @@ module _ {D : Type 0} (g : Ghosts D) where
       }
 
   pub closed : (old : BrokerView (FileStore D g)) (files : Files D) → OpenedFilesHold g → IsCopied old.connection files → AreClosed old files
-  closed old files law copied = record { copied = copied; keep = λ s held. keep_state s old files law held copied }
+  closed old files law copied = record { copied = copied; keep = λ s held. KeepState-of_copied s old files law held copied }
 
   -- what holds the database that was there keeps the state that was there
-  kept_before : (s : Broker) (old new : Image) → IsKeptIn (OfToday s) old → HoldsAsBefore old new → IsKeptIn (OfToday s) new
-  kept_before s old new keeps same =
+  IsKeptIn-as_before : (s : Broker) (old new : Image) → IsKeptIn (OfToday s) old → HoldsAsBefore old new → IsKeptIn (OfToday s) new
+  IsKeptIn-as_before s old new keeps same =
       ∥∥₁_elim keeps squash₁ (λ (it : Holds s old). elim it [
         | inl found ↦ ∥∥₁_map (same.same found.0 found.1) (λ holds. let r : Holds s new = inl (found.0, holds, found.2) in r)
         | inr blank ↦ absurd (let none : OfToday s ≡ Blank = blank.0 in cc)
       ])
 
-  pub left_of : (s : Broker) (files : Files D) (left : Leftover D g) → OpeningSpares g → (AreClean g files.log files.db → KeepState g s files) → (IsCleanLeft left → LeavesFiles files left) → IsLeftOf s left
-  left_of s files left law keep leaves = record {
+  pub IsLeftOf-of_leftover : (s : Broker) (files : Files D) (left : Leftover D g) → OpeningSpares g → (AreClean g files.log files.db → KeepState g s files) → (IsCleanLeft left → LeavesFiles files left) → IsLeftOf s left
+  IsLeftOf-of_leftover s files left law keep leaves = record {
     files = files;
     kept = keep;
     leaves = leaves;
     still = λ clean clean_left unharmed image may. elim (law files left (leaves clean_left) unharmed image may) [
       | inl old ↦ (keep clean).left image old
-      | inr same ↦ kept_before s (image_of g files) image (keep clean).seen same
+      | inr same ↦ IsKeptIn-as_before s (image_of g files) image (keep clean).seen same
     ];
   }
 
@@ -81,7 +81,7 @@ module _ {D : Type 0} (g : Ghosts D) where
         let it = found was in
         let held = (keep it.1.honest).found conn it.0 it.1 in (
           λ trees may. held.left trees (elim (opened.tables.survives.crash clean trees may) [ inl old ↦ old | inr none ↦ absurd none ]),
-          failed r.fault (opened.tables.today clean s.office (today s (file_state {D = D} {g = g} conn) held)),
+          Judged-only_database_fault r.fault (opened.tables.today clean s.office (today s (file_state {D = D} {g = g} conn) held)),
         )
 
   module _ (old : BrokerView (FileStore D g)) (files : Files D) (closed : AreClean g files.log files.db → AreClosed old files) where

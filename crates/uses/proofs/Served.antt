@@ -8,9 +8,9 @@ use Rattle.broker_http.specs.declared.served.Served.{Served}
 use Rattle.uses.specs.Streams.{MachineAnswers}
 
 -- so all that it has taken afterwards are the answers
-pub answered : {X : Type 0} (shown : Held X → State) (s : Broker) (requests left begun out : List ℕ) (old new : BrokerView X) (served : Served) → begun ≡ []
+pub MachineAnswers-of_stream : {X : Type 0} (shown : Held X → State) (s : Broker) (requests left begun out : List ℕ) (old new : BrokerView X) (served : Served) → begun ≡ []
     → IsAnsweredByMachine shown old new (Some requests) (Some left) (Some begun) (Some out) (Running s) (Ok served) → MachineAnswers shown s requests out new
-answered shown s requests left begun out old new served empty it = record {
+MachineAnswers-of_stream shown s requests left begun out old new served empty it = record {
   last = it.last;
   run = it.run;
   holds = it.holds;

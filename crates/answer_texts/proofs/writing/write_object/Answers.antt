@@ -1,7 +1,7 @@
 use Rattle.std.{specs.List.{flat_map}, proofs.Common.{◌+◌, ◌∷◌, [], take, arith}}
 use Rattle.json.specs.Token.{begin_object, end_object, key}
 use Rattle.answer_texts.specs.{Data.{object_of}, Tokens.{tokens_of}}
-use Rattle.answer_texts.proofs.TokenLemmas.{Adds-token, Adds-trans, Adds-more, Adds-last, member_tokens, flat_map_next, whole_members}
+use Rattle.answer_texts.proofs.TokenLemmas.{Adds-token, Adds-trans, Adds-more, Adds-last, member_tokens, flat_map-take_next, tokens_of-object_of}
 use Rattle.answer_texts.proofs.writing.write_object.Goals as goal
 
 pub loop-key-init : goal.loop-key-init
@@ -14,7 +14,7 @@ loop-key-preserved g c =
     let i = c.loop-key.key-index in
     let m = c.loop-key-item.result in
     Adds-more (begin_object ∷ flat_map (member_tokens each) (take i members)) (member_tokens each m) (begin_object ∷ flat_map (member_tokens each) (take (i + 1) members)) _ _ _
-    (flat_map_next (member_tokens each) (begin_object ∷ []) members i m c.loop-key-test.true c.loop-key-item.is) c.loop-key.invariant
+    (flat_map-take_next (member_tokens each) (begin_object ∷ []) members i m c.loop-key-test.true c.loop-key-item.is) c.loop-key.invariant
     (Adds-trans (key m.0.now ∷ []) (tokens_of (each m.1)) _ _ _ (Adds-token _ _ _ (key m.0.now) c.in_ok-key.ensures) c.in_ok-write.ensures)
 
 pub returns : goal.returns
@@ -23,4 +23,4 @@ returns g c =
     let members = c.args.members.now in
     let i = c.loop-key.key-index in
     Adds-last c.end_object.result (begin_object ∷ flat_map (member_tokens each) (take i members)) (end_object ∷ []) (tokens_of (object_of each members)) _ _ _
-    (whole_members each members i (omega arith)) c.loop-key.invariant (Adds-token _ _ _ end_object c.end_object.ensures)
+    (tokens_of-object_of each members i (omega arith)) c.loop-key.invariant (Adds-token _ _ _ end_object c.end_object.ensures)

@@ -1,4 +1,4 @@
-use Rattle.broker_core.proofs.Quiet.{only_done_changes as lemma}
+use Rattle.broker_core.proofs.Quiet.{OnlyDoneChanges-holds as lemma}
 use Rattle.broker_core.proofs.laws.only_done_changes.Goals as goal
 
 pub returns : goal.returns

@@ -1,4 +1,4 @@
-use Rattle.broker_core.proofs.Retry.{retry as lemma}
+use Rattle.broker_core.proofs.Retry.{Retry-holds as lemma}
 use Rattle.broker_core.proofs.laws.retry.Goals as goal
 
 pub returns : goal.returns

@@ -1,4 +1,4 @@
-use Rattle.broker_core.proofs.SessionLemmas.{runs_once as lemma}
+use Rattle.broker_core.proofs.SessionLemmas.{RunsOnce-holds as lemma}
 use Rattle.broker_core.proofs.laws.runs_once.Goals as goal
 
 pub returns : goal.returns

@@ -1,4 +1,4 @@
-use Rattle.broker_core.proofs.DoneLemmas.{sessions_run as lemma}
+use Rattle.broker_core.proofs.DoneLemmas.{SessionsRun-holds as lemma}
 use Rattle.broker_core.proofs.laws.sessions_run.Goals as goal
 
 pub returns : goal.returns

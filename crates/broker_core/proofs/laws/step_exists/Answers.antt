@@ -1,4 +1,4 @@
-use Rattle.broker_core.proofs.Exists.{step_exists as lemma}
+use Rattle.broker_core.proofs.Exists.{StepExists-holds as lemma}
 use Rattle.broker_core.proofs.laws.step_exists.Goals as goal
 
 pub returns : goal.returns

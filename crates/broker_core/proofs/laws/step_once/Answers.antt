@@ -1,4 +1,4 @@
-use Rattle.broker_core.proofs.Once.{step_once as lemma}
+use Rattle.broker_core.proofs.Once.{StepOnce-holds as lemma}
 use Rattle.broker_core.proofs.laws.step_once.Goals as goal
 
 pub returns : goal.returns

@@ -1,7 +1,7 @@
 use Rattle.std.proofs.Common.{◌≡◌, ◌∙◌, Ok, Err, Result, Bool, IsTrue, IfErr, refl}
 use Rattle.sqlite.specs.{Held.{Held}, State.{State}}
 use Rattle.table_access.specs.{declared.StoreFault.{StoreFault}, declared.StoreFault.TheVariants.{Memory, Store}}
-use Rattle.broker_database.{specs.Transaction.{EndsFor, Finishes, called, conclusion, told}, proofs.Transaction.{outlives_as}}
+use Rattle.broker_database.{specs.Transaction.{EndsFor, Finishes, called, conclusion, told}, proofs.Transaction.{Survives-weaker}}
 use Rattle.broker_database.proofs.ending.conclude.Goals as goal
 
 -- the result of a work is reported unchanged
@@ -29,7 +29,7 @@ returns-in-Err-clause-concludes g c =
       unsure = λ _. refl;
       live = λ _. c.commit.ensures.live;
       settled = λ trees now may. g.met.S.Store.settled _ trees now may;
-      survives = outlives_as _ _ (λ trees is. (c.if-not-keeps.false, is)) c.commit.ensures.survives;
+      survives = Survives-weaker _ _ (λ trees is. (c.if-not-keeps.false, is)) c.commit.ensures.survives;
     } in
     record { ended = Err Store; ends = ends; answer = store_at_worst c.args.worked }
 

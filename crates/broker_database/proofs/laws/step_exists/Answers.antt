@@ -1,5 +1,5 @@
-use Rattle.broker_database.proofs.StoredLemmas.{has_step}
+use Rattle.broker_database.proofs.StoredLemmas.{StoredStepExists-holds}
 use Rattle.broker_database.proofs.laws.step_exists.Goals as goal
 
 pub returns : goal.returns
-returns c = has_step
+returns c = StoredStepExists-holds

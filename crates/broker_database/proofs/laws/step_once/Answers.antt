@@ -1,5 +1,5 @@
-use Rattle.broker_database.proofs.StoredLemmas.{has_one_step}
+use Rattle.broker_database.proofs.StoredLemmas.{HasOneStep-broker}
 use Rattle.broker_database.proofs.laws.step_once.Goals as goal
 
 pub returns : goal.returns
-returns c = has_one_step
+returns c = HasOneStep-broker

@@ -1,10 +1,10 @@
 use Rattle.std.proofs.Common.{◌∙◌}
-use Rattle.table_access.proofs.CallLemmas.{call_with}
+use Rattle.table_access.proofs.CallLemmas.{CallsBetween-weaken}
 use Rattle.broker_database.proofs.migration.make_exact.Goals as goal
 
 pub returns-clause-makes : goal.returns-clause-makes
 returns-clause-makes g c =
-    call_with _ _ c.renew.result _ _ (λ u it same. absurd (let yes = c.is_former_schema.ensures.1 (c.schema.ensures.value ∙ same) in let no = c.if-is_former_schema.false in cc)) c.renew.ensures
+    CallsBetween-weaken _ _ c.renew.result _ _ (λ u it same. absurd (let yes = c.is_former_schema.ensures.1 (c.schema.ensures.value ∙ same) in let no = c.if-is_former_schema.false in cc)) c.renew.ensures
 
 pub returns-clause-calm : goal.returns-clause-calm
 returns-clause-calm g c clean inside unlimited can =

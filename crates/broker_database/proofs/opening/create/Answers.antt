@@ -3,10 +3,10 @@ use Rattle.sqlite.specs.{Held.{state}, State.{State}}
 use Rattle.broker_core.specs.{State.{opening}, Text.{Text}}
 use Rattle.table_access.specs.{Calls.{HasFailed}, declared.StoreFault.{StoreFault}}
 use Rattle.broker_tables.specs.{Making.{IsBlank}, ChangeRefusals.{AreShort}, Schema.{no_schema}}
-use Rattle.command_facts.{specs.Primitives.{broker_primitives}, proofs.ShortTexts.{digest_short}}
+use Rattle.command_facts.{specs.Primitives.{broker_primitives}, proofs.ShortTexts.{digest_of-short}}
 use Rattle.broker_database.specs.{Ends.{IsUnchangedUnless}, Opening.{Refuses, IsUncommitted, IsUnchangedUnlessStore, open_fault}, Stored.{Stores}}
-use Rattle.broker_database.{specs.{Transaction.{fault_of}, declared.opening.OpenFault.{OpenFault}}, proofs.MakeLemmas.{only_if_failed, refuses_as}}
-use Rattle.broker_database.proofs.{OpenFailures.{told_store}, Transaction.{as_it_is, once_at_most, outlives_itself}}
+use Rattle.broker_database.{specs.{Transaction.{fault_of}, declared.opening.OpenFault.{OpenFault}}, proofs.MakeLemmas.{OnlyIfStoreFailed-of_refused, Refuses-of_fails}}
+use Rattle.broker_database.proofs.{OpenFailures.{open_fault-store}, Transaction.{IsAsBefore-refl, CommitsAtMostOnce-of_survives, Survives-refl}}
 use Rattle.table_access.specs.declared.StoreFault.TheVariants as fault
 use Rattle.broker_database.specs.declared.opening.OpenFault.TheVariants as told
 use Rattle.broker_database.proofs.opening.create.Goals as goal
@@ -30,9 +30,9 @@ returns-then-not-is_blank g c =
       calm = λ clean fresh blank is. absurd (cc);
       not_empty = (λ _. filled, λ _. refl);
       same = λ _. refl;
-      unchanged = λ clean. as_it_is here;
+      unchanged = λ clean. IsAsBefore-refl here;
       over = λ clean was. was;
-      survives = once_at_most here here (outlives_itself here);
+      survives = CommitsAtMostOnce-of_survives here here (Survives-refl here);
     }
 
 -- the tables weren't made
@@ -42,7 +42,7 @@ returns-in-Ok g c =
     let new = c.make.new.conn in
     let digest = c.as_str-in-Ok.result.now in
     let digest_is : digest ≡ broker_primitives.digest_of c.args.office.now = c.as_str-in-Ok.ensures.value ∙ c.in-Ok.ensures.ok ∙ ap broker_primitives.digest_of c.as_str.ensures in
-    let short : AreShort (digest ∷ []) = (subst (λ (text : Text). length text ≤ 10 ^ 7) (sym digest_is) (digest_short c.args.office.now), tt) in
+    let short : AreShort (digest ∷ []) = (subst (λ (text : Text). length text ≤ 10 ^ 7) (sym digest_is) (digest_of-short c.args.office.now), tt) in
     let why = fault_of c.in-Err-make.failure in
     let is_told = c.open_fault.ensures ∙ ap open_fault c.fault.ensures in
     record {
@@ -50,10 +50,10 @@ returns-in-Ok g c =
       refuses = λ clean blank none.
           subst (λ (f : OpenFault). Refuses IsBlank (λ db. Stores db (opening (broker_primitives.digest_of c.args.office.now))) (state g.S.Store new) f) (sym is_told)
           (subst (λ (text : Text). Refuses IsBlank (λ db. Stores db (opening text)) (state g.S.Store new) (open_fault why)) digest_is
-          (refuses_as digest (state g.S.Store new) why (c.in-Err-make.ensures.ends clean blank)));
+          (Refuses-of_fails digest (state g.S.Store new) why (c.in-Err-make.ensures.ends clean blank)));
       calm = λ clean fresh blank is.
           subst (λ (text : Text). HasFailed (state g.S.Store old) (state g.S.Store new) fault.Store ⊎ IsUncommitted (state g.S.Store) (opening text) old new) digest_is
-          (only_if_failed (state g.S.Store) IsBlank (opening digest) old new (Err c.in-Err-make.failure) (c.in-Err-make.ensures.calm short) clean fresh blank (ap Err (told_store why (ap Err (sym is_told) ∙ is))));
+          (OnlyIfStoreFailed-of_refused (state g.S.Store) IsBlank (opening digest) old new (Err c.in-Err-make.failure) (c.in-Err-make.ensures.calm short) clean fresh blank (ap Err (open_fault-store why (ap Err (sym is_told) ∙ is))));
       not_empty = (
         λ is. absurd (never_not_empty why (ap Err (sym is_told) ∙ is)),
         λ filled. absurd (filled (c.is_blank.ensures.0 c.if-not-is_blank.false)),
@@ -76,13 +76,13 @@ returns g c =
       refuses = λ clean blank none.
           subst (λ (f : OpenFault). Refuses IsBlank (λ db. Stores db (opening (broker_primitives.digest_of c.args.office.now))) here f) (sym is_memory) blank;
       calm = λ clean fresh blank is.
-          absurd (let clash : fault.Memory ≡ fault.Store = sym c.in-Err.ensures.cause ∙ told_store c.in-Err.fault (ap Err (sym c.open_fault-in-Err.ensures) ∙ is) in cc);
+          absurd (let clash : fault.Memory ≡ fault.Store = sym c.in-Err.ensures.cause ∙ open_fault-store c.in-Err.fault (ap Err (sym c.open_fault-in-Err.ensures) ∙ is) in cc);
       not_empty = (
         λ is. absurd (never_not_empty c.in-Err.fault (ap Err (sym c.open_fault-in-Err.ensures) ∙ is)),
         λ filled. absurd (filled (c.is_blank.ensures.0 c.if-not-is_blank.false)),
       );
       same = λ _. refl;
-      unchanged = λ clean. subst (IsUnchangedUnlessStore here here) (sym is_memory) (as_it_is here);
+      unchanged = λ clean. subst (IsUnchangedUnlessStore here here) (sym is_memory) (IsAsBefore-refl here);
       over = λ clean was. was;
-      survives = once_at_most here here (outlives_itself here);
+      survives = CommitsAtMostOnce-of_survives here here (Survives-refl here);
     }

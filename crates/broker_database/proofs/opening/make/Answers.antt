@@ -2,25 +2,25 @@ use Rattle.std.proofs.Common.{◌∷◌, []}
 use Rattle.sqlite.specs.Held.{state}
 use Rattle.broker_core.specs.State.{opening}
 use Rattle.broker_tables.specs.{Making.{IsBlank}, ChangeRefusals.{AreShort}}
-use Rattle.broker_database.{specs.Transaction.{told}, proofs.{MakeLemmas.{made, make_ends, made_refused}, Transaction.{transaction_once, once_at_most}}}
+use Rattle.broker_database.{specs.Transaction.{told}, proofs.{MakeLemmas.{made, MakesOrFails-of_transaction, OnlyIfRefused-of_transaction}, Transaction.{CommitsAtMostOnce-whole, CommitsAtMostOnce-of_survives}}}
 use Rattle.broker_database.proofs.opening.make.Goals as goal
 
 pub returns-clause-ends : goal.returns-clause-ends
 returns-clause-ends g c =
-    make_ends c.args.digest.now _ _ _ _ (told c.conclude.result)
+    MakesOrFails-of_transaction c.args.digest.now _ _ _ _ (told c.conclude.result)
     (made c.args.digest.now _ _ _ _ c.make_all-made.result (told c.conclude.result) c.is_ok-keeps.result c.in-Ok.ensures.begun c.begin.ensures.survives c.make_all-made.ensures.makes c.is_ok-keeps.ensures.value c.conclude.ensures.concludes)
 
 pub returns-clause-survives : goal.returns-clause-survives
 returns-clause-survives g c =
-    transaction_once _ _ _ _ _ _ (told c.conclude.result)
+    CommitsAtMostOnce-whole _ _ _ _ _ _ (told c.conclude.result)
     (made c.args.digest.now _ _ _ _ c.make_all-made.result (told c.conclude.result) c.is_ok-keeps.result c.in-Ok.ensures.begun c.begin.ensures.survives c.make_all-made.ensures.makes c.is_ok-keeps.ensures.value c.conclude.ensures.concludes)
 
 pub returns-in-Err-clause-survives : goal.returns-in-Err-clause-survives
-returns-in-Err-clause-survives g c = once_at_most _ _ c.begin.ensures.survives
+returns-in-Err-clause-survives g c = CommitsAtMostOnce-of_survives _ _ c.begin.ensures.survives
 
 pub returns-clause-calm : goal.returns-clause-calm
 unfolding made
 returns-clause-calm g c short =
-    made_refused (state g.S.Store) (λ db. IsBlank db × AreShort (c.args.digest.now ∷ [])) IsBlank (opening c.args.digest.now) c.args.conn.now c.begin.new.conn c.make_all-made.new.conn c.conclude.new.conn _ _ c.conclude.result
+    OnlyIfRefused-of_transaction (state g.S.Store) (λ db. IsBlank db × AreShort (c.args.digest.now ∷ [])) IsBlank (opening c.args.digest.now) c.args.conn.now c.begin.new.conn c.make_all-made.new.conn c.conclude.new.conn _ _ c.conclude.result
     (made c.args.digest.now _ _ _ _ c.make_all-made.result (told c.conclude.result) c.is_ok-keeps.result c.in-Ok.ensures.begun c.begin.ensures.survives c.make_all-made.ensures.makes c.is_ok-keeps.ensures.value c.conclude.ensures.concludes)
     c.make_all-made.ensures.calm c.conclude.ensures.refused (λ db blank. (blank, short)) (λ u makes _ blank. (makes blank).0)

@@ -1,7 +1,7 @@
 use Rattle.std.proofs.Common.{◌++◌, ◌∷◌, [], Ok, inl, refl}
 use Rattle.sqlite.specs.Held.{state}
-use Rattle.table_access.proofs.CallLemmas.{seq}
-use Rattle.broker_tables.{specs.{Schema.{registry_part, contents, contract_part}, Holds.{format}, Making.{IsBlank, HasTables}}, proofs.Opening.{has_more}}
+use Rattle.table_access.proofs.CallLemmas.{CallsBetween-then_call}
+use Rattle.broker_tables.{specs.{Schema.{registry_part, contents, contract_part}, Holds.{format}, Making.{IsBlank, HasTables}}, proofs.Opening.{HasTables-append}}
 use Rattle.broker_database.proofs.opening.make_first.Goals as goal
 
 pub returns-clause-makes : goal.returns-clause-makes
@@ -10,8 +10,8 @@ returns-clause-makes g c =
     let first = state g.S.Store c.make_tables.new.conn in
     let second = state g.S.Store c.make_tables-2.new.conn in
     let new = state g.S.Store c.make_tables-3.new.conn in
-    seq old second new c.in-Ok-make_tables.value c.make_tables-3.result (λ _. IsBlank old.now → HasTables (registry_part ++ contents ∷ []) format c.args.digest.now second.now) _ _
-    (λ has u makes blank. let before = has blank in has_more (registry_part ++ contents ∷ []) contract_part format c.args.digest.now second.now new.now (inl refl) before (makes before.schema))
-    (seq old first second c.in-Ok.value (Ok c.in-Ok-make_tables.value) _ _ (λ _. IsBlank old.now → HasTables (registry_part ++ contents ∷ []) format c.args.digest.now second.now)
-    (λ has u makes blank. let before = has blank in has_more registry_part (contents ∷ []) format c.args.digest.now first.now second.now (inl refl) before (makes before.schema)) c.in-Ok.ensures.makes c.in-Ok-make_tables.ensures.makes)
+    CallsBetween-then_call old second new c.in-Ok-make_tables.value c.make_tables-3.result (λ _. IsBlank old.now → HasTables (registry_part ++ contents ∷ []) format c.args.digest.now second.now) _ _
+    (λ has u makes blank. let before = has blank in HasTables-append (registry_part ++ contents ∷ []) contract_part format c.args.digest.now second.now new.now (inl refl) before (makes before.schema))
+    (CallsBetween-then_call old first second c.in-Ok.value (Ok c.in-Ok-make_tables.value) _ _ (λ _. IsBlank old.now → HasTables (registry_part ++ contents ∷ []) format c.args.digest.now second.now)
+    (λ has u makes blank. let before = has blank in HasTables-append registry_part (contents ∷ []) format c.args.digest.now first.now second.now (inl refl) before (makes before.schema)) c.in-Ok.ensures.makes c.in-Ok-make_tables.ensures.makes)
     c.make_tables-3.ensures.makes

@@ -2,8 +2,8 @@ use Rattle.std.{specs.Prelude.{IfErr}, proofs.Common.{inl, Result, Ok, Err, sym,
 use Rattle.sqlite.specs.{Held.{state}, State.{State}}
 use Rattle.broker_tables.specs.{Making.{IsBlank, IsMarked}, Holds.{format}}
 use Rattle.broker_database.specs.{Ends.{IsAsBefore}, Opening.{IsMarkedToday, IsUnchangedUnlessStore, OpensOrRefuses, judgement}}
-use Rattle.broker_database.{specs.declared.opening.OpenFault.{OpenFault}, proofs.Judgements.{judged, blank_unopened, other_unopened, today_opened}}
-use Rattle.broker_database.proofs.{MigrationLemmas.{always, held_now}, OpenFailures.{judgement_is_none}}
+use Rattle.broker_database.{specs.declared.opening.OpenFault.{OpenFault}, proofs.Judgements.{OpensOrRefuses-judgement, FindsToday-blank, FindsToday-other, FindsToday-today}}
+use Rattle.broker_database.proofs.{MigrationLemmas.{OnOk-const, HoldsDurably-now}, OpenFailures.{judgement-not_store}}
 use Rattle.broker_database.specs.declared.opening.OpenFault.TheVariants as told
 use Rattle.broker_database.proofs.opening.open.Goals as goal
 
@@ -19,18 +19,18 @@ pub returns-in-Ok : goal.returns-in-Ok
 returns-in-Ok g c =
     let old = state g.S.Store c.args.conn.now in
     record {
-      judges = λ clean. subst (OpensOrRefuses old.now) (sym c.judge.ensures) (judged old.now c.in-Ok.found (c.in-Ok.ensures.found clean).1);
-      calm = λ clean fresh is. absurd (judgement_is_none format c.in-Ok.found (sym c.judge.ensures ∙ is));
+      judges = λ clean. subst (OpensOrRefuses old.now) (sym c.judge.ensures) (OpensOrRefuses-judgement old.now c.in-Ok.found (c.in-Ok.ensures.found clean).1);
+      calm = λ clean fresh is. absurd (judgement-not_store format c.in-Ok.found (sym c.judge.ensures ∙ is));
       blank = λ clean keeps.
           let it = c.in-Ok.ensures.found clean in
-          inl (c.judge.ensures ∙ ap (judgement format) (blank_unopened old.now c.in-Ok.found (held_now IsBlank old keeps it.0).schema it.1));
+          inl (c.judge.ensures ∙ ap (judgement format) (FindsToday-blank old.now c.in-Ok.found (HoldsDurably-now IsBlank old keeps it.0).schema it.1));
       marked = λ clean n office other keeps.
           let it = c.in-Ok.ensures.found clean in
-          inl (c.judge.ensures ∙ ap (judgement format) (other_unopened n office old.now c.in-Ok.found other (held_now (IsMarked n office) old keeps it.0) it.1));
+          inl (c.judge.ensures ∙ ap (judgement format) (FindsToday-other n office old.now c.in-Ok.found other (HoldsDurably-now (IsMarked n office) old keeps it.0) it.1));
       today = λ clean office keeps.
           let it = c.in-Ok.ensures.found clean in
-          inl (c.judge.ensures ∙ ap (judgement format) (today_opened office old.now c.in-Ok.found (held_now (IsMarkedToday office) old keeps it.0) it.1));
-      kept = λ clean. always c.judge.result (IsAsBefore old _) (c.find_format.ensures.same clean);
+          inl (c.judge.ensures ∙ ap (judgement format) (FindsToday-today office old.now c.in-Ok.found (HoldsDurably-now (IsMarkedToday office) old keeps it.0) it.1));
+      kept = λ clean. OnOk-const c.judge.result (IsAsBefore old _) (c.find_format.ensures.same clean);
       unchanged = λ clean. unless_store old _ c.judge.result (c.find_format.ensures.same clean);
       over = c.find_format.ensures.over;
       survives = c.find_format.ensures.survives;

@@ -1,5 +1,5 @@
-use Rattle.table_access.proofs.CallLemmas.{call_with}
+use Rattle.table_access.proofs.CallLemmas.{CallsBetween-weaken}
 use Rattle.broker_database.proofs.renewal.put_values.Goals as goal
 
 pub returns : goal.returns
-returns g c = call_with _ _ c.change.result _ _ (λ a it. tt) c.change.ensures.leaves
+returns g c = CallsBetween-weaken _ _ c.change.result _ _ (λ a it. tt) c.change.ensures.leaves

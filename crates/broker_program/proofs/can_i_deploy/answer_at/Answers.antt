@@ -1,6 +1,6 @@
 use Rattle.std.proofs.Common.{arith}
 use Rattle.sqlite.specs.{State.{HasCleanDisk}, Files.{file_state}}
-use Rattle.broker_program.proofs.UnchangedLemmas.{still_as_before}
+use Rattle.broker_program.proofs.UnchangedLemmas.{IsAsBefore-trans}
 use Rattle.broker_program.proofs.can_i_deploy.answer_at.Goals as goal
 
 pub returns-clause-ok : goal.returns-clause-ok
@@ -18,7 +18,7 @@ returns-clause-ok g c clean =
       starts = from.1 first;
       opened = from.2;
       applied = rw c.as_str.ensures at applied;
-      unchanged = λ held undone. still_as_before _ _ _ (from.2.tables.kept early) (applied.unchanged given.0 c.in_ok-broker.ensures.runs held undone);
+      unchanged = λ held undone. IsAsBefore-trans _ _ _ (from.2.tables.kept early) (applied.unchanged given.0 c.in_ok-broker.ensures.runs held undone);
       clean = given.0;
       left = given.1;
     }

@@ -1,9 +1,9 @@
 use Rattle.std.proofs.{Common.{inr}, lemmas.Result.{IfErr-weaker}}
-use Rattle.broker_program.proofs.ResultLemmas.{if_ok}
+use Rattle.broker_program.proofs.ResultLemmas.{IfOk-const}
 use Rattle.broker_program.proofs.init.init.Goals as goal
 
 pub returns-in-Ok-clause-token : goal.returns-in-Ok-clause-token
-returns-in-Ok-clause-token g c = if_ok c.make.result (c.in-Ok.ensures.ok.1)
+returns-in-Ok-clause-token g c = IfOk-const c.make.result (c.in-Ok.ensures.ok.1)
 
 pub returns-in-Ok-clause-made : goal.returns-in-Ok-clause-made
 returns-in-Ok-clause-made g c = rw c.in-Ok.ensures.ok.0 at c.make.ensures.made

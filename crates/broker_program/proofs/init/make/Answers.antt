@@ -1,5 +1,5 @@
 use Rattle.std.proofs.Common.{inr, refl}
-use Rattle.broker_program.{specs.Making.{MakesOn}, proofs.RefusalLemmas.{ends_unclosed}}
+use Rattle.broker_program.{specs.Making.{MakesOn}, proofs.RefusalLemmas.{EndsUnclosed-of_not_closed}}
 use Rattle.broker_program.proofs.init.make.Goals as goal
 
 pub returns-in-Ok-clause-made : goal.returns-in-Ok-clause-made
@@ -11,5 +11,5 @@ returns-in-Ok-clause-made g c clean =
 pub returns-in-Err-clause-cause : goal.returns-in-Err-clause-cause
 returns-in-Err-clause-cause g c =
     let broker = c.in_ok-broker.broker in
-    inr (inr (ends_unclosed _ (MakesOn c.args.office.now) broker.connection _ _ (λ clean.
+    inr (inr (EndsUnclosed-of_not_closed _ (MakesOn c.args.office.now) broker.connection _ _ (λ clean.
     let from = c.in_ok-broker.ensures.made clean in (from.0, from.1, (broker, refl, from.2))) c.in-Err.ensures.cause c.in-Err.ensures.unclosed))

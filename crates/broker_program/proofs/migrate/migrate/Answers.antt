@@ -1,5 +1,5 @@
 use Rattle.std.proofs.Common.{inr}
-use Rattle.broker_program.{specs.Making.{MigratesOn}, proofs.RefusalLemmas.{ends_unclosed}}
+use Rattle.broker_program.{specs.Making.{MigratesOn}, proofs.RefusalLemmas.{EndsUnclosed-of_not_closed}}
 use Rattle.broker_program.proofs.migrate.migrate.Goals as goal
 
 pub returns-in-Ok-clause-ok : goal.returns-in-Ok-clause-ok
@@ -10,4 +10,4 @@ returns-in-Ok-clause-ok g c clean =
 
 pub returns-in-Err-clause-cause : goal.returns-in-Err-clause-cause
 returns-in-Err-clause-cause g c =
-    inr (inr (ends_unclosed _ MigratesOn _ _ _ c.in_ok-connection-2.ensures.ok c.in-Err.ensures.cause c.in-Err.ensures.unclosed))
+    inr (inr (EndsUnclosed-of_not_closed _ MigratesOn _ _ _ c.in_ok-connection-2.ensures.ok c.in-Err.ensures.cause c.in-Err.ensures.unclosed))

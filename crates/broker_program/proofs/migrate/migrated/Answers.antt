@@ -1,6 +1,6 @@
 use Rattle.std.proofs.Common.{arith}
 use Rattle.sqlite.specs.{State.{HasCleanDisk}, Files.{file_state}}
-use Rattle.broker_program.{specs.FileRefusals.{MigratesNone}, proofs.RefusalLemmas.{fails_there}}
+use Rattle.broker_program.{specs.FileRefusals.{MigratesNone}, proofs.RefusalLemmas.{IsOfDatabase-of_failure}}
 use Rattle.broker_program.proofs.migrate.migrated.Goals as goal
 
 pub returns-in-Ok-clause-ok : goal.returns-in-Ok-clause-ok
@@ -11,4 +11,4 @@ returns-in-Ok-clause-ok g c clean =
 
 pub returns-in-Err-clause-cause : goal.returns-in-Err-clause-cause
 returns-in-Err-clause-cause g c =
-    fails_there _ MigratesNone c.args.connection _ c.in-Err.fault _ _ c.requires c.migrate.ensures.survives.1.clean (rw c.in-Err.is at c.migrate.ensures) c.give_up.ensures.0 c.give_up.ensures.1
+    IsOfDatabase-of_failure _ MigratesNone c.args.connection _ c.in-Err.fault _ _ c.requires c.migrate.ensures.survives.1.clean (rw c.in-Err.is at c.migrate.ensures) c.give_up.ensures.0 c.give_up.ensures.1

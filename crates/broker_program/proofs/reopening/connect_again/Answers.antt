@@ -1,5 +1,5 @@
 use Rattle.std.proofs.{Common.{◌≡◌, ◌&&◌, false, inl, inr, refl, subst, sym, ◌∙◌}, lemmas.Bool.{and_parts}}
-use Rattle.broker_program.{specs.Reopening.{EmptiesLog}, proofs.ReopeningLemmas.{opened_after}}
+use Rattle.broker_program.{specs.Reopening.{EmptiesLog}, proofs.ReopeningLemmas.{IsOpenedAfter-emptied_log}}
 use Rattle.broker_program.proofs.reopening.connect_again.Goals as goal
 
 pub open_files_with-requires-clause-log : goal.open_files_with-requires-clause-log
@@ -32,6 +32,6 @@ returns-in-Err-clause-shut g c = (
 
 pub returns-in-Ok-clause-ok : goal.returns-in-Ok-clause-ok
 returns-in-Ok-clause-ok g c clean =
-    opened_after g.D.Disk g.met.D.Disk.seen_may_stay c.args.store c.empty_log-store.result.0 c.close-files.result c.in-Ok.connection
+    IsOpenedAfter-emptied_log g.D.Disk g.met.D.Disk.seen_may_stay c.args.store c.empty_log-store.result.0 c.close-files.result c.in-Ok.connection
     (subst (λ broke. EmptiesLog c.args.store (c.empty_log-store.result.0, broke)) c.if-broke.false c.empty_log-store.ensures)
     c.close-files.ensures (c.in-Ok.ensures.opened clean) (c.in-Ok.ensures.found clean) c.in-Ok.ensures.fresh (c.in-Ok.ensures.guarded clean)

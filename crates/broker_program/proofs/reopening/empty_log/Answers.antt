@@ -1,12 +1,12 @@
 use Rattle.std.proofs.Common.{◌≡◌, true, false, inl, inr, refl, sym, ap, ◌∙◌, arith}
 use Rattle.sqlite_trees.specs.View.{View, IsClean}
 use Rattle.sqlite_store.specs.{Laws.{not_broken}, FileStore.{view}}
-use Rattle.broker_program.proofs.ReopeningLemmas.{quiet_itself}
+use Rattle.broker_program.proofs.ReopeningLemmas.{IsQuietCall-refl}
 use Rattle.broker_program.proofs.reopening.empty_log.Goals as goal
 
 pub returns-then-is_broken : goal.returns-then-is_broken
 returns-then-is_broken g c = record {
-  quiet = quiet_itself _;
+  quiet = IsQuietCall-refl _;
   same = λ _ _. refl;
   broke = λ bad. absurd (let no : false ≡ true = bad in cc);
 }

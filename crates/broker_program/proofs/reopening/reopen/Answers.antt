@@ -1,16 +1,16 @@
 use Rattle.std.proofs.Common.{inl, inr, refl, subst}
-use Rattle.broker_program.{specs.Reopening.{OpensFilesAgain}, proofs.ReopeningLemmas.{none_again, reopens_on}}
+use Rattle.broker_program.{specs.Reopening.{OpensFilesAgain}, proofs.ReopeningLemmas.{FindsNoneAgain-stopped, ReopensOn-stopped}}
 use Rattle.broker_program.proofs.reopening.reopen.Goals as goal
 
 pub returns-in-Ok-broker_of-clause-again : goal.returns-in-Ok-broker_of-clause-again
 returns-in-Ok-broker_of-clause-again g c =
     let conn = c.in-Ok-Some.connection in
     let again = subst (λ found. OpensFilesAgain c.release-store.result found) c.in-Ok-Some.field-0-is c.in-Ok-Some.ensures.ok in
-    (conn, reopens_on c.args.broker c.release-store.result conn c.requires c.release-store.ensures again, c.in-Ok-broker_of.ensures.opened)
+    (conn, ReopensOn-stopped c.args.broker c.release-store.result conn c.requires c.release-store.ensures again, c.in-Ok-broker_of.ensures.opened)
 
 pub returns-in-Err-broker_of-clause-shut : goal.returns-in-Err-broker_of-clause-shut
 returns-in-Err-broker_of-clause-shut g c =
-    inr (none_again c.args.broker c.release-store.result c.in-Ok-Some.connection _ _ c.requires c.release-store.ensures
+    inr (FindsNoneAgain-stopped c.args.broker c.release-store.result c.in-Ok-Some.connection _ _ c.requires c.release-store.ensures
     (subst (λ found. OpensFilesAgain c.release-store.result found) c.in-Ok-Some.field-0-is c.in-Ok-Some.ensures.ok) c.in-Err-broker_of.ensures.refused)
 
 pub returns-in-Err-clause-shut : goal.returns-in-Err-clause-shut

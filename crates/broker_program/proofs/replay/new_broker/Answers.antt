@@ -2,7 +2,7 @@ use Rattle.std.proofs.Common.{[], ◌∙◌, refl}
 use Rattle.sqlite_trees.specs.View.{doubt}
 use Rattle.broker_core.specs.State.{opening}
 use Rattle.command_facts.specs.Primitives.{broker_primitives}
-use Rattle.broker_database.{specs.{Opening.{Refuses}, declared.opening.OpenFault.{OpenFault}}, proofs.Blank.{memory_is_blank}}
+use Rattle.broker_database.{specs.{Opening.{Refuses}, declared.opening.OpenFault.{OpenFault}}, proofs.Blank.{HoldsDurably-memory_blank}}
 use Rattle.sqlite.specs.{Effect.{Database}, State.{State}}
 use Rattle.broker_program.specs.Reasons.{IsUnmade}
 use Rattle.broker_database.specs.declared.opening.OpenFault.TheVariants as opening_fault
@@ -18,12 +18,12 @@ pub returns-in-Err-create-clause-fails : goal.returns-in-Err-create-clause-fails
 unfolding doubt
 returns-in-Err-create-clause-fails c =
     let empty = c.in-Ok.ensures.empty in
-    unmade _ _ _ _ (c.in-Err-create.ensures.tables.refuses refl (memory_is_blank c.in-Ok.connection empty) empty.2)
+    unmade _ _ _ _ (c.in-Err-create.ensures.tables.refuses refl (HoldsDurably-memory_blank c.in-Ok.connection empty) empty.2)
 
 pub returns-in-Ok-create-clause-holds : goal.returns-in-Ok-create-clause-holds
 unfolding doubt
 returns-in-Ok-create-clause-holds c =
-    (c.in-Ok-create.ensures.runs, (c.in-Ok-create.ensures.tables.made refl (memory_is_blank c.in-Ok.connection c.in-Ok.ensures.empty)).0)
+    (c.in-Ok-create.ensures.runs, (c.in-Ok-create.ensures.tables.made refl (HoldsDurably-memory_blank c.in-Ok.connection c.in-Ok.ensures.empty)).0)
 
 pub returns-in-Ok-create-clause-unlimited : goal.returns-in-Ok-create-clause-unlimited
 returns-in-Ok-create-clause-unlimited c = c.in-Ok-create.ensures.tables.survives.1.limit ∙ c.in-Ok.ensures.fresh.unlimited

@@ -1,10 +1,10 @@
 use Rattle.std.proofs.Common.{inl, inr}
 use Rattle.sqlite.specs.Held.{state}
 use Rattle.caller_facts.specs.Callers.{token_of}
-use Rattle.broker_service.proofs.WorkFailures.{is_no_failure}
+use Rattle.broker_service.proofs.WorkFailures.{IsNoFailure-performs}
 use Rattle.broker_service.proofs.work.work.Goals as goal
 
 pub returns-in-Err-answer_of-clause-calm : goal.returns-in-Err-answer_of-clause-calm
 returns-in-Err-answer_of-clause-calm g c clean s here sound =
     inl (inr (c.in-Err-answer_of.ensures.cause
-    (is_no_failure (state g.S.Store c.args.conn.now) (state g.S.Store c.step_of.new.conn) c.in-Ok.value (token_of c.args.token) c.args.command.now c.in-Ok.ensures.answers clean s here sound)))
+    (IsNoFailure-performs (state g.S.Store c.args.conn.now) (state g.S.Store c.step_of.new.conn) c.in-Ok.value (token_of c.args.token) c.args.command.now c.in-Ok.ensures.answers clean s here sound)))

@@ -1,13 +1,13 @@
 use Rattle.std.proofs.Common.{subst, sym}
 use Rattle.sqlite.specs.Held.{state}
-use Rattle.table_access.proofs.CallLemmas.{seq}
+use Rattle.table_access.proofs.CallLemmas.{CallsBetween-then_call}
 use Rattle.sha2.specs.Sha256.{sha256}
-use Rattle.content_store.{specs.Contents.{ContentsBy, IsPut, hex_of}, proofs.Held.{contents_held, calm_then}}
+use Rattle.content_store.{specs.Contents.{ContentsBy, IsPut, hex_of}, proofs.Held.{Holds-ContentsBy, IsCalmUnlessBetween-then}}
 use Rattle.content_store.proofs.contents.add.Goals as goal
 
 pub returns-clause-call : goal.returns-clause-call
 returns-clause-call g c =
-    seq _ _ _ c.in-Ok.value c.add_after.result _ _ _
+    CallsBetween-then_call _ _ _ c.in-Ok.value c.add_after.result _ _ _
     (λ one number two by is texts held free.
     let read = one by texts held in
     subst (λ d. IsPut by c.args.body.now texts number d (state g.S.Store c.add_after.new.conn).now) read.1
@@ -16,5 +16,5 @@ returns-clause-call g c =
 
 pub returns-clause-calm : goal.returns-clause-calm
 returns-clause-calm g c =
-    calm_then _ _ _ c.in-Ok.value c.add_after.result _ _ _ _ _ c.in-Ok.ensures.call c.add_after.ensures.call
-    (λ read s held allowed. let told = read (hex_of sha256) s.contents (contents_held _ s held) in ((told.0, allowed.1), told.1)) c.add_after.ensures.calm
+    IsCalmUnlessBetween-then _ _ _ c.in-Ok.value c.add_after.result _ _ _ _ _ c.in-Ok.ensures.call c.add_after.ensures.call
+    (λ read s held allowed. let told = read (hex_of sha256) s.contents (Holds-ContentsBy _ s held) in ((told.0, allowed.1), told.1)) c.add_after.ensures.calm

@@ -1,22 +1,22 @@
 use Rattle.std.proofs.Common.{◌≡◌, ℕ, List, Ok, Err, Some, true, false, sym, subst, ◌∙◌}
 use Rattle.sqlite.specs.Held.{state}
 use Rattle.sha2.specs.Sha256.{sha256}
-use Rattle.table_access.proofs.CallLemmas.{then_ok, seq}
+use Rattle.table_access.proofs.CallLemmas.{CallsBetween-then_Ok, CallsBetween-then_call}
 use Rattle.broker_core.specs.{Text.{Text}, Limit.{has_room}}
-use Rattle.content_store.{specs.Contents.{ContentsBy, IsPut, is_among, hex_of}, proofs.{TextNumbers.{room_is}, Held.{contents_held, calm_then}}}
+use Rattle.content_store.{specs.Contents.{ContentsBy, IsPut, is_among, hex_of}, proofs.{TextNumbers.{has_room-of_count}, Held.{Holds-ContentsBy, IsCalmUnlessBetween-then}}}
 use Rattle.content_store.proofs.contents.add_if_room.Goals as goal
 
 pub returns-in-Ok-add_after-clause-call : goal.returns-in-Ok-add_after-clause-call
 returns-in-Ok-add_after-clause-call g c =
     let old = state g.S.Store c.args.conn.now in
     let new = state g.S.Store c.add_after.new.conn in
-    then_ok _ _ c.in-Ok-add_after.value (Some c.in-Ok-add_after.value)
+    CallsBetween-then_Ok _ _ c.in-Ok-add_after.value (Some c.in-Ok-add_after.value)
     (λ number. (by : Text → Text) → by c.args.body.now ≡ c.args.digest.now → (texts : List Text) → ContentsBy by old.now texts → is_among texts c.args.body.now ≡ false
     → (has_room texts ≡ true) × IsPut by c.args.body.now texts number old.now new.now) _ (λ h. h)
-    (seq _ _ _ c.in-Ok.value (Ok c.in-Ok-add_after.value) _ _ _
+    (CallsBetween-then_call _ _ _ c.in-Ok.value (Ok c.in-Ok-add_after.value) _ _ _
     (λ one number two by is texts held free.
     let read = one by texts held in (
-      room_is texts c.in-Ok.value c.room.result c.room.ensures read.0 ∙ c.if-room.true,
+      has_room-of_count texts c.in-Ok.value c.room.result c.room.ensures read.0 ∙ c.if-room.true,
       subst (λ d. IsPut by c.args.body.now texts number d new.now) read.1
           (two by is texts (subst (λ d. ContentsBy by d texts) (sym read.1) held) free read.0),
     ))
@@ -24,6 +24,6 @@ returns-in-Ok-add_after-clause-call g c =
 
 pub returns-in-Err-add_after-clause-calm : goal.returns-in-Err-add_after-clause-calm
 returns-in-Err-add_after-clause-calm g c =
-    calm_then {B = ℕ} _ _ _ c.in-Ok.value (Err c.in-Err-add_after.fault) _ _ _ _ _ c.in-Ok.ensures.call c.in-Err-add_after.ensures.call
-    (λ read s held allowed. let told = read (hex_of sha256) s.contents (contents_held _ s held) in
-    ((told.0, room_is s.contents c.in-Ok.value c.room.result c.room.ensures told.0 ∙ c.if-room.true), told.1)) c.in-Err-add_after.ensures.calm
+    IsCalmUnlessBetween-then {B = ℕ} _ _ _ c.in-Ok.value (Err c.in-Err-add_after.fault) _ _ _ _ _ c.in-Ok.ensures.call c.in-Err-add_after.ensures.call
+    (λ read s held allowed. let told = read (hex_of sha256) s.contents (Holds-ContentsBy _ s held) in
+    ((told.0, has_room-of_count s.contents c.in-Ok.value c.room.result c.room.ensures told.0 ∙ c.if-room.true), told.1)) c.in-Err-add_after.ensures.calm

@@ -1,6 +1,6 @@
 use Rattle.sqlite.specs.Held.{state}
-use Rattle.command_facts.proofs.CarryLemmas.{shows_found}
-use Rattle.contract_commands.{specs.Pacts.{HasReachedContent}, proofs.{ContentThere.{branch_text}, BranchLast.{branch_shown}}}
+use Rattle.command_facts.proofs.CarryLemmas.{CarriesBetween-query_listing_if}
+use Rattle.contract_commands.{specs.Pacts.{HasReachedContent}, proofs.{ContentThere.{ReachesBranch-has_content}, BranchLast.{StepOfCaller-branch_pact}}}
 use Rattle.contract_commands.proofs.branch_pact.get_branch_pact.Goals as goal
 
 pub returns : goal.returns
@@ -10,5 +10,5 @@ returns g c =
     let consumer = c.args.consumer.now in
     let branch = c.args.branch.now in
     let place = c.in-Ok.value in
-    shows_found {Then = λ s. HasReachedContent s place} (λ s all reach answer shows. branch_shown s caller provider consumer branch place answer reach shows)
-    (λ s held reach. branch_text (state g.S.Store c.args.conn.now).now s held caller provider consumer branch place reach) c.in-Ok.ensures c.show_pact.ensures.answers c.show_pact.ensures.calm
+    CarriesBetween-query_listing_if {Then = λ s. HasReachedContent s place} (λ s all reach answer shows. StepOfCaller-branch_pact s caller provider consumer branch place answer reach shows)
+    (λ s held reach. ReachesBranch-has_content (state g.S.Store c.args.conn.now).now s held caller provider consumer branch place reach) c.in-Ok.ensures c.show_pact.ensures.answers c.show_pact.ensures.calm

@@ -1,7 +1,7 @@
 use Rattle.std.proofs.Common.{subst}
-use Rattle.command_facts.{specs.{Readings.{Tells}, Performs.{IsToChange}}, proofs.PerformLemmas.{where_then}}
-use Rattle.contract_commands.{specs.Checks.{Leads, Checks, CanLead, CanCheck}, proofs.CheckLemmas.{pact_told}}
-use Rattle.broker_tables.proofs.FailLemmas.{fails_after}
+use Rattle.command_facts.{specs.{Readings.{Tells}, Performs.{IsToChange}}, proofs.PerformLemmas.{PerformsWhereBetween-query_then}}
+use Rattle.contract_commands.{specs.Checks.{Leads, Checks, CanLead, CanCheck}, proofs.CheckLemmas.{Tells-not_NoPact}}
+use Rattle.broker_tables.proofs.FailLemmas.{FailsFromBetween-after_query}
 use Rattle.contract_commands.proofs.replies.check_content.Goals as goal
 
 pub returns-in-Ok-compare-clause-answers : goal.returns-in-Ok-compare-clause-answers
@@ -9,7 +9,7 @@ returns-in-Ok-compare-clause-answers g c =
     let text = c.in-Ok.value in
     let told = c.in-Ok-compare.told in
     let tells = subst (λ t. Tells t c.args.replies.now told) c.as_str.ensures c.in-Ok-compare.ensures in
-    where_then _ _ _ text c.tell_compared.result _ _ _ _ (λ s out. Checks s c.args.provider.now c.args.report.now c.args.content c.args.replies.now out)
+    PerformsWhereBetween-query_then _ _ _ text c.tell_compared.result _ _ _ _ (λ s out. Checks s c.args.provider.now c.args.report.now c.args.content c.args.replies.now out)
     (λ s has stored. (has, λ out leads. (text, stored, (told, tells, leads))))
     c.in-Ok.ensures.answers c.tell_compared.ensures.answers
 
@@ -22,7 +22,7 @@ returns-in-Ok-compare-clause-calm g c =
     let text = c.in-Ok.value in
     let told = c.in-Ok-compare.told in
     let tells = subst (λ t. Tells t replies told) c.as_str.ensures c.in-Ok-compare.ensures in
-    fails_after _ _ _ _ text c.tell_compared.result _ _ (CanCheck provider content) (CanLead provider content told)
+    FailsFromBetween-after_query _ _ _ _ text c.tell_compared.result _ _ (CanCheck provider content) (CanLead provider content told)
     (IsToChange (λ s out. Checks s provider r content replies out)) (IsToChange (λ s out. Leads s provider r content told out))
-    (λ s held can stored. (((can.0, (text, stored)), pact_told s content text replies told stored can.1 tells), λ made. (made.0, made.1, (text, stored, (told, tells, made.2)))))
+    (λ s held can stored. (((can.0, (text, stored)), Tells-not_NoPact s content text replies told stored can.1 tells), λ made. (made.0, made.1, (text, stored, (told, tells, made.2)))))
     c.in-Ok.ensures.answers c.tell_compared.ensures.answers c.tell_compared.ensures.calm

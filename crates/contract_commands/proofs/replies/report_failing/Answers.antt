@@ -2,10 +2,10 @@ use Rattle.std.proofs.Common.{true, ◌≡◌, ◌==◌, ℕ, List, Some, length
 use Rattle.sqlite.specs.Held.{state}
 use Rattle.broker_core.specs.{State.{checked_result}, Change.{Transition, report}, declared.answer.Answer.{Answer}, Machine.{is_empty, report_replies}}
 use Rattle.broker_core.specs.declared.answer.Detail.TheVariants.{Replies}
-use Rattle.command_facts.{specs.{declared.checking.Comparison.TheVariants.{Failing}, Performs.{IsToChange}}, proofs.PerformLemmas.{where_told}}
+use Rattle.command_facts.{specs.{declared.checking.Comparison.TheVariants.{Failing}, Performs.{IsToChange}}, proofs.PerformLemmas.{PerformsWhereBetween-change_answer}}
 use Rattle.contract_commands.specs.{Checks.{Leads}, Results.{CanReceive, IsToReport, told_as, reported_version}, declared.results.Reported.{Reported}}
-use Rattle.contract_commands.proofs.CheckLemmas.{empty_is}
-use Rattle.broker_tables.proofs.FailLemmas.{fails_as}
+use Rattle.contract_commands.proofs.CheckLemmas.{length-zero_is_empty}
+use Rattle.broker_tables.proofs.FailLemmas.{FailsFromBetween-pass_Err}
 use Rattle.contract_commands.proofs.replies.report_failing.Goals as goal
 
 pub returns-clause-answers : goal.returns-clause-answers
@@ -16,8 +16,8 @@ returns-clause-answers g c =
     let v = reported_version c.args.provider.now c.args.report.now in
     let run = c.args.report.now.run in
     let pass = c.is_empty-pass.result in
-    let passes : pass ≡ is_empty failing = c.is_empty-pass.ensures ∙ ap (λ (xs : List ℕ). length xs == 0) c.as_slice.ensures ∙ empty_is failing in
-    where_told 4 (omega arith) _ _ it c.tell_replies.result _ _ _ (λ s out. out ≡ report_replies s content v run (Some failing))
+    let passes : pass ≡ is_empty failing = c.is_empty-pass.ensures ∙ ap (λ (xs : List ℕ). length xs == 0) c.as_slice.ensures ∙ length-zero_is_empty failing in
+    PerformsWhereBetween-change_answer 4 (omega arith) _ _ it c.tell_replies.result _ _ _ (λ s out. out ≡ report_replies s content v run (Some failing))
     (λ s may. (
       may,
       λ t reports.
@@ -33,8 +33,8 @@ returns-in-Err-clause-calm g c =
     let failing = c.args.failing in
     let content = c.args.content in
     let pass = c.is_empty-pass.result in
-    let passes : pass ≡ is_empty failing = c.is_empty-pass.ensures ∙ ap (λ (xs : List ℕ). length xs == 0) c.as_slice.ensures ∙ empty_is failing in
-    fails_as _ Reported Answer _ _ c.in-Err.fault (CanReceive provider content) (IsToChange (λ s out. Leads s provider r content (Failing failing) out))
+    let passes : pass ≡ is_empty failing = c.is_empty-pass.ensures ∙ ap (λ (xs : List ℕ). length xs == 0) c.as_slice.ensures ∙ length-zero_is_empty failing in
+    FailsFromBetween-pass_Err _ Reported Answer _ _ c.in-Err.fault (CanReceive provider content) (IsToChange (λ s out. Leads s provider r content (Failing failing) out))
     (IsToReport provider r (record { content = content; pass = pass; checked = true }))
     (λ s has made. (
       Replies failing made.0 pass,

@@ -1,10 +1,10 @@
 use Rattle.std.{specs.Prelude.{option_map}, proofs.Common.{false, ◌≡◌, ℕ, Ok, Option, is_some}}
 use Rattle.sqlite.specs.State.{State as Connection}
 use Rattle.broker_core.specs.{State.{State}, Text.{Text, version}, Change.{result_of_run}, Request.{is_known}, declared.command.Report.{Report}}
-use Rattle.broker_tables.{specs.{Calm.{CalmQueriesBetween}, Numbers.{number_of}}, proofs.{QueryLemmas.{calm_then}, FailLemmas.{fails_after}}}
+use Rattle.broker_tables.{specs.{Calm.{CalmQueriesBetween}, Numbers.{number_of}}, proofs.{QueryLemmas.{CalmQueriesBetween-then}, FailLemmas.{FailsFromBetween-after_query}}}
 use Rattle.contract_tables.specs.{Verified.{told_of}, declared.lookups.ResultRow.{ResultRow}}
 use Rattle.contract_commands.specs.{Pacts.{HasContent}, Results.{CanReceive, IsToReport, IsUnused, reported_version, IsNumbered, told_row}}
-use Rattle.contract_commands.proofs.ResultLemmas.{row_told, none_told, numbered, told_read, then_taken}
+use Rattle.contract_commands.proofs.ResultLemmas.{IsRowOf-of_some, told_row-none, IsNumbered-of_names, AnswersTakingBetween-query, AnswersTakingBetween-query_then}
 use Rattle.contract_commands.proofs.results.receive.Goals as goal
 
 -- what the two queries find: the number of the version, and the result of the run
@@ -16,7 +16,7 @@ found_both : (old mid new : Connection) (provider : Text) (report : Report) (p n
     → CalmQueriesBetween false old mid (Ok number) (λ n s. (n ≡ number_of s.versions (version p name)) × (is_some n ≡ is_known s (version p name)))
     → CalmQueriesBetween false mid new (Ok row) (λ found s. option_map told_row found ≡ option_map (told_of s.versions) (result_of_run s provider report.run)) → CalmQueriesBetween false old new (Ok row) (IsFound provider report number)
 found_both old mid new provider report p name number row is called =
-    calm_then old mid new number (Ok row) _ _ (IsFound provider report number) (λ s known found used. (numbered s provider report p name number is called known, used))
+    CalmQueriesBetween-then old mid new number (Ok row) _ _ (IsFound provider report number) (λ s known found used. (IsNumbered-of_names s provider report p name number is called known, used))
 
 pub returns-in-Some-clause-answers : goal.returns-in-Some-clause-answers
 returns-in-Some-clause-answers g c =
@@ -24,8 +24,8 @@ returns-in-Some-clause-answers g c =
     let report = c.args.report.now in
     let number = c.in-Ok.value in
     let found = c.in-Ok-read_run.value in
-    told_read _ _ found c.tell_again.result (IsFound provider report number) _ _
-    (λ s has first. let used = row_told s (result_of_run s provider report.run) found c.in-Some.row c.in-Some.is first.1 in c.tell_again.ensures s provider report used.0 used.2 first.0.number_is used.1)
+    AnswersTakingBetween-query _ _ found c.tell_again.result (IsFound provider report number) _ _
+    (λ s has first. let used = IsRowOf-of_some s (result_of_run s provider report.run) found c.in-Some.row c.in-Some.is first.1 in c.tell_again.ensures s provider report used.0 used.2 first.0.number_is used.1)
     (found_both _ _ _ provider report _ _ number found c.as_str.ensures c.as_str-2.ensures c.in-Ok.ensures c.in-Ok-read_run.ensures)
 
 pub returns-in-None-clause-answers : goal.returns-in-None-clause-answers
@@ -34,8 +34,8 @@ returns-in-None-clause-answers g c =
     let report = c.args.report.now in
     let number = c.in-Ok.value in
     let found = c.in-Ok-read_run.value in
-    then_taken _ _ _ found c.receive_new.result (IsFound provider report number) _ _ _ _
-    (λ s has first. (record { version = first.0; owned = has; unused = none_told s (result_of_run s provider report.run) found c.in-None.is first.1 }, λ b t made. made))
+    AnswersTakingBetween-query_then _ _ _ found c.receive_new.result (IsFound provider report number) _ _ _ _
+    (λ s has first. (record { version = first.0; owned = has; unused = told_row-none s (result_of_run s provider report.run) found c.in-None.is first.1 }, λ b t made. made))
     (found_both _ _ _ provider report _ _ number found c.as_str.ensures c.as_str-2.ensures c.in-Ok.ensures c.in-Ok-read_run.ensures)
     c.receive_new.ensures.answers
 
@@ -46,7 +46,7 @@ returns-in-None-clause-calm g c =
     let number = c.in-Ok.value in
     let found = c.in-Ok-read_run.value in
     let to = IsToReport provider report c.args.found in
-    fails_after _ _ _ _ found c.receive_new.result (IsFound provider report number) _ (CanReceive provider c.args.found.content) (λ s. IsUnused s provider report number × HasContent s c.args.found.content) to to
-    (λ s held can first. ((record { version = first.0; owned = can.0; unused = none_told s (result_of_run s provider report.run) found c.in-None.is first.1 }, can.1), λ made. made))
+    FailsFromBetween-after_query _ _ _ _ found c.receive_new.result (IsFound provider report number) _ (CanReceive provider c.args.found.content) (λ s. IsUnused s provider report number × HasContent s c.args.found.content) to to
+    (λ s held can first. ((record { version = first.0; owned = can.0; unused = told_row-none s (result_of_run s provider report.run) found c.in-None.is first.1 }, can.1), λ made. made))
     (found_both _ _ _ provider report _ _ number found c.as_str.ensures c.as_str-2.ensures c.in-Ok.ensures c.in-Ok-read_run.ensures).call
     c.receive_new.ensures.answers c.receive_new.ensures.calm

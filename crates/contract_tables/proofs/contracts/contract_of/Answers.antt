@@ -1,13 +1,13 @@
-use Rattle.broker_tables.proofs.Asked.{looks_up, looks_up_none}
-use Rattle.contract_tables.proofs.{ContractRows.{content, content_found}, ReadableRows.{content_reads, contract_none}}
+use Rattle.broker_tables.proofs.Asked.{CalmQueriesBetween-number, IfNoVersionBetween-number}
+use Rattle.contract_tables.proofs.{ContractRows.{content, IsShown-contract_content}, ReadableRows.{EachReads-contract_content, NoneFor-contracts}}
 use Rattle.contract_tables.proofs.contracts.contract_of.Goals as goal
 
 pub returns-clause-answers : goal.returns-clause-answers
 returns-clause-answers g c =
     let said = rw (c.params-to_sql.ensures, c.params-to_sql-2.ensures) at c.find_number.ensures in
-    looks_up (content c.args.version_number c.args.provider.now) _ _ (λ s held rows h found read v is. content_found c.args.version_number c.args.provider.now _ s v held is rows h found read) (content_reads c.args.version_number c.args.provider.now _) said.leaves said.cause
+    CalmQueriesBetween-number (content c.args.version_number c.args.provider.now) _ _ (λ s held rows h found read v is. IsShown-contract_content c.args.version_number c.args.provider.now _ s v held is rows h found read) (EachReads-contract_content c.args.version_number c.args.provider.now _) said.leaves said.cause
 
 pub returns-clause-unknown : goal.returns-clause-unknown
 returns-clause-unknown g c =
     let said = rw (c.params-to_sql.ensures, c.params-to_sql-2.ensures) at c.find_number.ensures in
-    looks_up_none (content c.args.version_number c.args.provider.now) _ _ (contract_none (content c.args.version_number c.args.provider.now) _) said.leaves
+    IfNoVersionBetween-number (content c.args.version_number c.args.provider.now) _ _ (NoneFor-contracts (content c.args.version_number c.args.provider.now) _) said.leaves

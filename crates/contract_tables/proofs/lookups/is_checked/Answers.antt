@@ -2,14 +2,14 @@ use Rattle.std.proofs.{Common.{sym, ◌∙◌, slice_get}, lemmas.Result.{IfOk-w
 use Rattle.sqlite.specs.Held.{state}
 use Rattle.sqlite_keyed.proofs.SliceLemmas.{is_some-map}
 use Rattle.table_access.specs.Columns.{whole_at}
-use Rattle.broker_tables.proofs.{Asked.{looks_for}, AnyTables.{refused_ends}}
-use Rattle.contract_tables.proofs.{ResultLookups.{checked, checked_found}, AnyTexts.{checked_asks}, AnyLatest.{checked_shown}}
+use Rattle.broker_tables.proofs.{Asked.{CalmQueriesBetween-is_there}, AnyTables.{IsRefusedAs-ends}}
+use Rattle.contract_tables.proofs.{ResultLookups.{checked, IsShown-checked}, AnyTexts.{AsksOf-checked_sql}, AnyLatest.{IsMarkedChecked-shown}}
 use Rattle.contract_tables.proofs.lookups.is_checked.Goals as goal
 
 pub returns-clause-answers : goal.returns-clause-answers
 returns-clause-answers g c =
     let said = rw c.params-to_sql.ensures at c.has_row.ensures in
-    looks_for (checked c.args.number) _ _ (λ s held rows h has is r known. is ∙ sym (is_some-map (whole_at 0) (slice_get rows 0)) ∙ checked_found c.args.number _ rows s r held known h) said.leaves said.cause
+    CalmQueriesBetween-is_there (checked c.args.number) _ _ (λ s held rows h has is r known. is ∙ sym (is_some-map (whole_at 0) (slice_get rows 0)) ∙ IsShown-checked c.args.number _ rows s r held known h) said.leaves said.cause
 
 pub returns-clause-mark : goal.returns-clause-mark
 returns-clause-mark g c clean asked =
@@ -17,5 +17,5 @@ returns-clause-mark g c clean asked =
     let new = state g.S.Store c.has_row.new.conn in
     let said = rw c.params-to_sql.ensures at c.has_row.ensures in
     MatchResult-from_both c.has_row.result _ _
-    (IfOk-weaker c.has_row.result _ _ (λ has told. checked_shown c.args.number old new asked.1 told.0 told.1 has told.2) (said.leaves.ok clean))
-    (IfErr-weaker c.has_row.result _ _ (λ fault why. refused_ends old new (checked_asks old.now.schema asked.1 c.args.number) asked.0 fault why) (said.cause clean))
+    (IfOk-weaker c.has_row.result _ _ (λ has told. IsMarkedChecked-shown c.args.number old new asked.1 told.0 told.1 has told.2) (said.leaves.ok clean))
+    (IfErr-weaker c.has_row.result _ _ (λ fault why. IsRefusedAs-ends old new (AsksOf-checked_sql old.now.schema asked.1 c.args.number) asked.0 fault why) (said.cause clean))

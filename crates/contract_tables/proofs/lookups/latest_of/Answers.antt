@@ -1,16 +1,16 @@
 use Rattle.std.{specs.Prelude.{IsTrue, ◌↔◌}, proofs.Common.{Some, refl, inl, arith, subst}}
 use Rattle.sqlite.specs.{Held.{state}, State.{HasCleanDisk}, Effect.{Database}}
 use Rattle.broker_core.specs.{State.{latest_result}, declared.need.Latest.{Latest}}
-use Rattle.broker_tables.proofs.{QueryLemmas.{calm_both}, AnyTables.{failed_since_query, still_asked}}
-use Rattle.contract_tables.{specs.{Verified.{passed_of, passed_as}, LatestRows.{IsMarkedChecked}}, proofs.LastRow.{latest_with, with_mark}}
+use Rattle.broker_tables.proofs.{QueryLemmas.{CalmQueriesBetween-from_both}, AnyTables.{HasFailed-after_query, CanBeAsked-unchanged}}
+use Rattle.contract_tables.{specs.{Verified.{passed_of, passed_as}, LatestRows.{IsMarkedChecked}}, proofs.LastRow.{latest_result-result_with, option_map-with_mark}}
 use Rattle.contract_tables.proofs.lookups.latest_of.Goals as goal
 
 pub returns-in-Ok-is_checked-clause-answers : goal.returns-in-Ok-is_checked-clause-answers
 returns-in-Ok-is_checked-clause-answers g c =
     let found = c.in-Some.found in
-    calm_both _ _ _ (Some found) c.in-Ok-is_checked.value (Some _) _ _ _
-    (λ s one two v is. with_mark {B = Latest} s (latest_result s c.args.content v) passed_of (λ a checked. record { pass = a.1; checked = checked }) (λ a. a.0)
-    (passed_as found.result found.pass) c.in-Ok-is_checked.value (λ e known. (latest_with s c.args.content v e known, refl)) (one v is) two)
+    CalmQueriesBetween-from_both _ _ _ (Some found) c.in-Ok-is_checked.value (Some _) _ _ _
+    (λ s one two v is. option_map-with_mark {B = Latest} s (latest_result s c.args.content v) passed_of (λ a checked. record { pass = a.1; checked = checked }) (λ a. a.0)
+    (passed_as found.result found.pass) c.in-Ok-is_checked.value (λ e known. (latest_result-result_with s c.args.content v e known, refl)) (one v is) two)
     (rw c.in-Some.is at c.in-Ok.ensures.answers) c.in-Ok-is_checked.ensures.answers
 
 pub returns-in-Ok-is_checked-clause-mark : goal.returns-in-Ok-is_checked-clause-mark
@@ -20,7 +20,7 @@ returns-in-Ok-is_checked-clause-mark g c clean asked =
     let mid_clean : HasCleanDisk mid = omega (arith, c.in-Ok-is_checked.ensures.answers.call.survives.clean, clean) in
     let before = rw c.in-Some.is at c.in-Ok.ensures in
     let same = before.stays mid_clean asked in
-    let told = c.in-Ok-is_checked.ensures.mark clean (still_asked old mid same before.answers.call.survives.limit asked) in
+    let told = c.in-Ok-is_checked.ensures.mark clean (CanBeAsked-unchanged old mid same before.answers.call.survives.limit asked) in
     let found = c.in-Some.found in
     (found.result, before.mark mid_clean asked, subst (λ (db : Database). IsTrue c.in-Ok-is_checked.value ↔ IsMarkedChecked found.result db) same.0.now_is told)
 
@@ -35,5 +35,5 @@ returns-in-Err-is_checked-clause-mark g c clean asked =
     let mid_clean : HasCleanDisk mid = omega (arith, c.in-Err-is_checked.ensures.answers.call.survives.clean, clean) in
     let before = rw c.in-Some.is at c.in-Ok.ensures in
     let same = before.stays mid_clean asked in
-    inl (failed_since_query old mid new c.in-Err-is_checked.fault same before.answers.call.survives.counts
-    (c.in-Err-is_checked.ensures.mark clean (still_asked old mid same before.answers.call.survives.limit asked)))
+    inl (HasFailed-after_query old mid new c.in-Err-is_checked.fault same before.answers.call.survives.counts
+    (c.in-Err-is_checked.ensures.mark clean (CanBeAsked-unchanged old mid same before.answers.call.survives.limit asked)))

@@ -1,11 +1,11 @@
 use Rattle.std.proofs.Common.{refl, take, drop, inl}
-use Rattle.table_access.{specs.Statements.{Creates}, proofs.{CallLemmas.{call_with}, Creation.{each_single}}}
+use Rattle.table_access.{specs.Statements.{Creates}, proofs.{CallLemmas.{CallsBetween-weaken}, Creation.{MakesEach-single}}}
 use Rattle.broker_tables.specs.{Schema.{checked_results}, Making.{table_texts}}
 use Rattle.contract_tables.proofs.making.make_checked_results.Goals as goal
 
 pub returns-clause-makes : goal.returns-clause-makes
 returns-clause-makes g c =
-    call_with _ _ c.make_each.result _ _ (λ _ made is. each_single Creates checked_results _ _ (made.0 (take 13 table_texts) (take 1 (drop 13 table_texts)) (drop 14 table_texts) refl refl is)) c.make_each.ensures.makes
+    CallsBetween-weaken _ _ c.make_each.result _ _ (λ _ made is. MakesEach-single Creates checked_results _ _ (made.0 (take 13 table_texts) (take 1 (drop 13 table_texts)) (drop 14 table_texts) refl refl is)) c.make_each.ensures.makes
 
 pub returns-clause-calm : goal.returns-clause-calm
 returns-clause-calm g c clean inside unlimited is =

@@ -1,8 +1,8 @@
 use Rattle.std.proofs.{Common.{sym, subst, arith, ◌∙◌}, lemmas.Result.{IfErr-weaker}}
 use Rattle.sqlite.specs.{Held.{state}, State.{HasCleanDisk}}
-use Rattle.table_access.proofs.CallLemmas.{seq, ended_since, ended_with}
+use Rattle.table_access.proofs.CallLemmas.{CallsBetween-then_call, EndsBy-later_call, EndsBy-weaken}
 use Rattle.broker_tables.specs.Holds.{HoldsAfter, IsBroker}
-use Rattle.contract_tables.{specs.Verified.{Marks, Points}, proofs.ResultState.{now_recorded, put_broker, marked_broker, may_mark, may_point}}
+use Rattle.contract_tables.{specs.Verified.{Marks, Points}, proofs.ResultState.{HoldsAfter-recorded, PutsRow-IsBroker, Marks-IsBroker, AllowsMark-after_put, AllowsPoint-after_mark}}
 use Rattle.contract_tables.proofs.results.record_result.Goals as goal
 
 pub returns-clause-changes : goal.returns-clause-changes
@@ -11,11 +11,11 @@ returns-clause-changes g c =
     let one = state g.S.Store c.put_result.new.conn in
     let two = state g.S.Store c.mark.new.conn in
     let new = state g.S.Store c.point_latest.new.conn in
-    seq old one new c.in-Ok.value c.point_latest.result _ (λ _. (IsBroker one.now → Marks c.args.checked c.args.number one two) × (IsBroker two.now → Points c.args.content c.args.version_number c.args.number two new)) _
+    CallsBetween-then_call old one new c.in-Ok.value c.point_latest.result _ (λ _. (IsBroker one.now → Marks c.args.checked c.args.number one two) × (IsBroker two.now → Points c.args.content c.args.version_number c.args.number two new)) _
     (λ put _ rest s held t next. subst (HoldsAfter 2 old new) (sym next.4)
-    (now_recorded c.args.number c.args.content c.args.provider.now c.args.version_number c.args.pass c.args.checked _ old one two new s next.0 c.in-Ok.ensures.name held next.1 next.2 next.3 (put held.broker) rest.0 rest.1))
+    (HoldsAfter-recorded c.args.number c.args.content c.args.provider.now c.args.version_number c.args.pass c.args.checked _ old one two new s next.0 c.in-Ok.ensures.name held next.1 next.2 next.3 (put held.broker) rest.0 rest.1))
     c.in-Ok.ensures.puts
-    (seq one two new c.in-Ok-mark.value c.point_latest.result _ _ (λ _. (IsBroker one.now → Marks c.args.checked c.args.number one two) × (IsBroker two.now → Points c.args.content c.args.version_number c.args.number two new))
+    (CallsBetween-then_call one two new c.in-Ok-mark.value c.point_latest.result _ _ (λ _. (IsBroker one.now → Marks c.args.checked c.args.number one two) × (IsBroker two.now → Points c.args.content c.args.version_number c.args.number two new))
     (λ mark _ point. (mark, point)) c.in-Ok-mark.ensures.marks c.point_latest.ensures.points)
 
 pub returns-in-Err-mark-clause-calm : goal.returns-in-Err-mark-clause-calm
@@ -27,9 +27,9 @@ returns-in-Err-mark-clause-calm g c =
     λ clean s here allowed room.
     let one_clean : HasCleanDisk one = omega (arith, c.in-Err-mark.ensures.marks.survives.clean, clean) in
     let row = put.ok one_clean here.held.broker in
-    ended_with old two c.in-Err-mark.fault (λ never. absurd never) (ended_since old one two c.in-Err-mark.fault (put.goes_on one_clean here.inside) put.survives.counts
-    (c.in-Err-mark.ensures.calm clean (put.survives.limit ∙ here.unlimited) (put_broker _ old one here.held.broker row)
-    (may_mark c.args.number c.args.content c.args.provider.now c.args.version_number c.args.pass _ old one s here.held allowed row)))
+    EndsBy-weaken old two c.in-Err-mark.fault (λ never. absurd never) (EndsBy-later_call old one two c.in-Err-mark.fault (put.goes_on one_clean here.inside) put.survives.counts
+    (c.in-Err-mark.ensures.calm clean (put.survives.limit ∙ here.unlimited) (PutsRow-IsBroker _ old one here.held.broker row)
+    (AllowsMark-after_put c.args.number c.args.content c.args.provider.now c.args.version_number c.args.pass _ old one s here.held allowed row)))
 
 pub returns-clause-calm : goal.returns-clause-calm
 returns-clause-calm g c =
@@ -44,9 +44,9 @@ returns-clause-calm g c =
     let one_clean : HasCleanDisk one = omega (arith, mark.survives.clean, two_clean) in
     let row = put.ok one_clean here.held.broker in
     let on = put.goes_on one_clean here.inside in
-    let broker = put_broker _ old one here.held.broker row in
+    let broker = PutsRow-IsBroker _ old one here.held.broker row in
     let marked = mark.ok two_clean broker in
     IfErr-weaker c.point_latest.result _ _
-    (λ e why. ended_with old new e (λ never. absurd never) (ended_since old one new e on put.survives.counts (ended_since one two new e (mark.goes_on two_clean on.0) mark.survives.counts why)))
-    (c.point_latest.ensures.calm clean (mark.survives.limit ∙ put.survives.limit ∙ here.unlimited) (marked_broker c.args.checked c.args.number one two broker marked)
-    (may_point c.args.number c.args.content c.args.provider.now c.args.version_number c.args.pass _ old one s here.held allowed row c.args.checked two room marked))
+    (λ e why. EndsBy-weaken old new e (λ never. absurd never) (EndsBy-later_call old one new e on put.survives.counts (EndsBy-later_call one two new e (mark.goes_on two_clean on.0) mark.survives.counts why)))
+    (c.point_latest.ensures.calm clean (mark.survives.limit ∙ put.survives.limit ∙ here.unlimited) (Marks-IsBroker c.args.checked c.args.number one two broker marked)
+    (AllowsPoint-after_mark c.args.number c.args.content c.args.provider.now c.args.version_number c.args.pass _ old one s here.held allowed row c.args.checked two room marked))

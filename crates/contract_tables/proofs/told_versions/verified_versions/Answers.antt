@@ -1,7 +1,7 @@
 use Rattle.std.{specs.{Prelude.{IsSorted}, Ordering.{nat_cmp}}, proofs.{Common.{inl, inr}, lemmas.Result.{IfErr-weaker}}}
 use Rattle.table_access.specs.Reading.{AreRead}
-use Rattle.broker_tables.proofs.QueryLemmas.{query_failed, both_told}
-use Rattle.contract_tables.{specs.ToldVersions.{IsTold}, proofs.{QueryLemmas.{computed}, ToldResults.{versions_told, none_untold}}}
+use Rattle.broker_tables.proofs.QueryLemmas.{CalmQueriesBetween-then_failed, CalmQueriesBetween-both}
+use Rattle.contract_tables.{specs.ToldVersions.{IsTold}, proofs.{QueryLemmas.{QueriesBetween-computed}, ToldResults.{versions_told, none_untold}}}
 use Rattle.contract_tables.proofs.told_versions.verified_versions.Goals as goal
 
 -- the passes say something of each result that is named, so only an allocation fails
@@ -12,10 +12,10 @@ returns g c =
     let named = c.in-Ok.value.items in
     let passes = c.in-Ok-passes_for.value.items in
     let checked = c.in-Ok-checked_for.value.items in
-    let read = both_told _ _ _ _ _ _ _ (both_told _ _ _ _ _ _ _ c.in-Ok.ensures c.in-Ok-passes_for.ensures) c.in-Ok-checked_for.ensures in
+    let read = CalmQueriesBetween-both _ _ _ _ _ _ _ (CalmQueriesBetween-both _ _ _ _ _ _ _ c.in-Ok.ensures c.in-Ok-passes_for.ensures) c.in-Ok-checked_for.ensures in
     let made = rw (c.deref.ensures.value, c.deref-2.ensures.value, c.deref-3.ensures.value) at c.all_told.ensures in
     record {
-      call = computed _ _ c.in-Ok-checked_for.value c.all_told.result _ (λ all. IsSorted nat_cmp checked → AreRead (IsTold passes checked) named all.items) _
+      call = QueriesBetween-computed _ _ c.in-Ok-checked_for.value c.all_told.result _ (λ all. IsSorted nat_cmp checked → AreRead (IsTold passes checked) named all.items) _
           (λ s are all told. versions_told s content passes checked are.0.1.1 are.1.1 p named all.items are.0.0 (told are.1.0)) made.all read.call;
       calm = λ clean s here.
           let are = (read.call.ok clean s here.held).0 in
@@ -26,8 +26,8 @@ returns g c =
     }
 
 pub returns-in-Err-passes_for : goal.returns-in-Err-passes_for
-returns-in-Err-passes_for g c = query_failed _ _ _ _ _ _ _ _ c.in-Ok.ensures c.in-Err-passes_for.ensures
+returns-in-Err-passes_for g c = CalmQueriesBetween-then_failed _ _ _ _ _ _ _ _ c.in-Ok.ensures c.in-Err-passes_for.ensures
 
 pub returns-in-Err-checked_for : goal.returns-in-Err-checked_for
 returns-in-Err-checked_for g c =
-    query_failed _ _ _ _ _ _ _ _ (both_told _ _ _ _ _ _ _ c.in-Ok.ensures c.in-Ok-passes_for.ensures) c.in-Err-checked_for.ensures
+    CalmQueriesBetween-then_failed _ _ _ _ _ _ _ _ (CalmQueriesBetween-both _ _ _ _ _ _ _ c.in-Ok.ensures c.in-Ok-passes_for.ensures) c.in-Err-checked_for.ensures

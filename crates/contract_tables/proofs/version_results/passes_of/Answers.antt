@@ -1,18 +1,18 @@
 use Rattle.std.proofs.lemmas.Result.{IfOk-weaker, IfErr-weaker, MatchResult-from_both}
 use Rattle.sqlite.specs.Held.{state}
-use Rattle.broker_tables.proofs.{Asked.{lists, lists_none}, AnyTables.{leaves_all}}
-use Rattle.contract_tables.proofs.{VersionResults.{passes, passes_listed}, ReadableRows.{pairs_read, version_none}, AnyTexts.{passes_asks}}
-use Rattle.contract_tables.proofs.AnyLatest.{passes_found, passes_fail}
+use Rattle.broker_tables.proofs.{Asked.{CalmQueriesBetween-list, IfNoVersionBetween-list}, AnyTables.{Shown-leaves_all}}
+use Rattle.contract_tables.proofs.{VersionResults.{passes, Lists-passes}, ReadableRows.{EachReads-pairs, NoneFor-version_results}, AnyTexts.{AsksOf-passes_sql}}
+use Rattle.contract_tables.proofs.AnyLatest.{ArePassesIn-found, FailsAsListed-passes}
 use Rattle.contract_tables.proofs.version_results.passes_of.Goals as goal
 
 pub returns-clause-answers : goal.returns-clause-answers
 returns-clause-answers g c =
     let said = rw c.params-to_sql.ensures at c.list_of.ensures in
-    lists (passes c.args.version_number) _ _ (λ row fault why is. why.1) (λ s held rows h list are v is. passes_listed _ s held v c.args.version_number is rows list.items h are) (pairs_read (passes c.args.version_number) _) said.leaves said.cause
+    CalmQueriesBetween-list (passes c.args.version_number) _ _ (λ row fault why is. why.1) (λ s held rows h list are v is. Lists-passes _ s held v c.args.version_number is rows list.items h are) (EachReads-pairs (passes c.args.version_number) _) said.leaves said.cause
 
 pub returns-clause-unknown : goal.returns-clause-unknown
 returns-clause-unknown g c =
-    lists_none (passes c.args.version_number) _ _ (version_none (passes c.args.version_number) _) (rw c.params-to_sql.ensures at c.list_of.ensures.leaves)
+    IfNoVersionBetween-list (passes c.args.version_number) _ _ (NoneFor-version_results (passes c.args.version_number) _) (rw c.params-to_sql.ensures at c.list_of.ensures.leaves)
 
 pub returns-clause-mark : goal.returns-clause-mark
 returns-clause-mark g c clean asked =
@@ -20,12 +20,12 @@ returns-clause-mark g c clean asked =
     let new = state g.S.Store c.list_of.new.conn in
     let said = rw c.params-to_sql.ensures at c.list_of.ensures in
     MatchResult-from_both c.list_of.result _ _
-    (IfOk-weaker c.list_of.result _ _ (λ list told. passes_found c.args.version_number old new asked.1 told.0 told.1 list.items told.2) (said.leaves.ok clean))
-    (IfErr-weaker c.list_of.result _ _ (passes_fail c.args.version_number old new asked) (said.cause clean))
+    (IfOk-weaker c.list_of.result _ _ (λ list told. ArePassesIn-found c.args.version_number old new asked.1 told.0 told.1 list.items told.2) (said.leaves.ok clean))
+    (IfErr-weaker c.list_of.result _ _ (FailsAsListed-passes c.args.version_number old new asked) (said.cause clean))
 
 pub returns-clause-stays : goal.returns-clause-stays
 returns-clause-stays g c clean asked =
     let old = state g.S.Store c.args.conn.now in
     let new = state g.S.Store c.list_of.new.conn in
-    IfOk-weaker c.list_of.result _ _ (λ list told. leaves_all old new (passes_asks old.now.schema asked.1 c.args.version_number) told.0 told.1)
+    IfOk-weaker c.list_of.result _ _ (λ list told. Shown-leaves_all old new (AsksOf-passes_sql old.now.schema asked.1 c.args.version_number) told.0 told.1)
     ((rw c.params-to_sql.ensures at c.list_of.ensures.leaves).ok clean)

@@ -1,26 +1,26 @@
 use Rattle.std.proofs.{Common.{sym, ◌∙◌}, lemmas.Result.{IfOk-weaker}}
-use Rattle.broker_core.proofs.Lists.{none_some}
+use Rattle.broker_core.proofs.Lists.{None-not_Some}
 use Rattle.sqlite.specs.Held.{state}
-use Rattle.broker_tables.proofs.Asked.{lists, lists_in_place}
-use Rattle.deploy_tables.proofs.{DeployedState.{deployments, deployed_listed}, ReadableRows.{deployments_reads}, AnyThere.{deployed_there}}
+use Rattle.broker_tables.proofs.Asked.{CalmQueriesBetween-list, NeedsNoRoomBetween-list}
+use Rattle.deploy_tables.proofs.{DeployedState.{deployments, Lists-deployments}, ReadableRows.{EachReads-deployments}, AnyThere.{EachDeployedIsThere-read}}
 use Rattle.deploy_tables.proofs.listings.deployed.Goals as goal
 
 pub returns-clause-answers : goal.returns-clause-answers
 returns-clause-answers g c =
     let said = rw c.params-to_sql.ensures at c.list_of.ensures in
-    lists (deployments c.args.environment.now) _ _ (λ row fault why. why.0) (λ s held rows h list are. deployed_listed _ s held c.args.environment.now rows list.items h are)
-    (deployments_reads c.args.environment.now _) said.leaves said.cause
+    CalmQueriesBetween-list (deployments c.args.environment.now) _ _ (λ row fault why. why.0) (λ s held rows h list are. Lists-deployments _ s held c.args.environment.now rows list.items h are)
+    (EachReads-deployments c.args.environment.now _) said.leaves said.cause
 
 pub returns-clause-named : goal.returns-clause-named
 returns-clause-named g c clean asked =
     let old = state g.S.Store c.args.conn.now in
     let new = state g.S.Store c.list_of.new.conn in
-    IfOk-weaker c.list_of.result _ _ (λ list told. deployed_there c.args.environment.now old new asked.1 told.0 list.items told.1 told.2) ((rw c.params-to_sql.ensures at c.list_of.ensures.leaves).ok clean)
+    IfOk-weaker c.list_of.result _ _ (λ list told. EachDeployedIsThere-read c.args.environment.now old new asked.1 told.0 list.items told.1 told.2) ((rw c.params-to_sql.ensures at c.list_of.ensures.leaves).ok clean)
 
 pub returns-clause-missing : goal.returns-clause-missing
 returns-clause-missing g c =
     let said = rw c.params-to_sql.ensures at c.list_of.ensures in
-    lists_in_place (deployments c.args.environment.now) _ _ c.list_of.result _
+    NeedsNoRoomBetween-list (deployments c.args.environment.now) _ _ c.list_of.result _
     (λ row is. (record { pacticipant = is.0.1.0; instance = is.1.1.0; version = is.2.1.0 }, (is.0.1.1, is.1.1.1, is.2.1.1)))
-    (λ s held none rows h items are x has. none_some _ (sym (none x.pacticipant x.instance) ∙ ((deployed_listed _ s held c.args.environment.now rows items h are).exactly x).0 has))
-    (deployments_reads c.args.environment.now _) said.cause
+    (λ s held none rows h items are x has. None-not_Some _ (sym (none x.pacticipant x.instance) ∙ ((Lists-deployments _ s held c.args.environment.now rows items h are).exactly x).0 has))
+    (EachReads-deployments c.args.environment.now _) said.cause

@@ -1,16 +1,16 @@
 use Rattle.std.proofs.lemmas.Result.{IfOk-weaker}
 use Rattle.sqlite.specs.Held.{state}
-use Rattle.broker_tables.proofs.Asked.{lists}
-use Rattle.deploy_tables.proofs.{PartnerRows.{standing_numbered}, ReleasedRows.{release_numbers, numbers_told}, ReadableRows.{numbers_reads}}
+use Rattle.broker_tables.proofs.Asked.{CalmQueriesBetween-list}
+use Rattle.deploy_tables.proofs.{PartnerRows.{Holds-AreNumbered}, ReleasedRows.{release_numbers, AreReleasedNumbers-listed}, ReadableRows.{EachReads-release_numbers}}
 use Rattle.deploy_tables.proofs.AnyThere.{numbers_there}
 use Rattle.deploy_tables.proofs.partners.released_numbers.Goals as goal
 
 pub returns-clause-answers : goal.returns-clause-answers
 returns-clause-answers g c =
     let said = rw c.params-to_sql.ensures at c.list_of.ensures in
-    lists (release_numbers c.args.environment.now) _ _ (λ row fault why. why.0)
-    (λ s held rows h list are. (numbers_told _ s held c.args.environment.now rows list.items h are, standing_numbered _ s held c.args.environment.now))
-    (numbers_reads c.args.environment.now _) said.leaves said.cause
+    CalmQueriesBetween-list (release_numbers c.args.environment.now) _ _ (λ row fault why. why.0)
+    (λ s held rows h list are. (AreReleasedNumbers-listed _ s held c.args.environment.now rows list.items h are, Holds-AreNumbered _ s held c.args.environment.now))
+    (EachReads-release_numbers c.args.environment.now _) said.leaves said.cause
 
 pub returns-clause-named : goal.returns-clause-named
 returns-clause-named g c clean asked =

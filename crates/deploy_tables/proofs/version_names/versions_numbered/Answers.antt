@@ -1,14 +1,14 @@
 use Rattle.std.proofs.lemmas.Result.{IfOk-weaker}
 use Rattle.sqlite.specs.Held.{state}
-use Rattle.broker_tables.proofs.{Asked.{lists}, AnyTables.{leaves_all}}
-use Rattle.deploy_tables.proofs.{VersionNames.{names_of, names_told}, ReadableRows.{names_reads}, AnyThere.{names_asks, version_there}}
+use Rattle.broker_tables.proofs.{Asked.{CalmQueriesBetween-list}, AnyTables.{Shown-leaves_all}}
+use Rattle.deploy_tables.proofs.{VersionNames.{names_of, Contains-names_of_number}, ReadableRows.{EachReads-names_of}, AnyThere.{names_asks, version_there}}
 use Rattle.deploy_tables.proofs.version_names.versions_numbered.Goals as goal
 
 pub returns-clause-answers : goal.returns-clause-answers
 returns-clause-answers g c =
     let said = rw c.params-to_sql.ensures at c.list_of.ensures in
-    lists (names_of c.args.number) _ _ (λ row fault why. why.0) (λ s held rows h list are. names_told _ s held c.args.number rows list.items h are)
-    (names_reads c.args.number _) said.leaves said.cause
+    CalmQueriesBetween-list (names_of c.args.number) _ _ (λ row fault why. why.0) (λ s held rows h list are. Contains-names_of_number _ s held c.args.number rows list.items h are)
+    (EachReads-names_of c.args.number _) said.leaves said.cause
 
 pub returns-clause-named : goal.returns-clause-named
 returns-clause-named g c clean asked =
@@ -20,4 +20,4 @@ pub returns-clause-stays : goal.returns-clause-stays
 returns-clause-stays g c clean asked =
     let old = state g.S.Store c.args.conn.now in
     let new = state g.S.Store c.list_of.new.conn in
-    IfOk-weaker c.list_of.result _ _ (λ list told. leaves_all old new (names_asks old.now.schema asked.1 c.args.number) told.0 told.1) ((rw c.params-to_sql.ensures at c.list_of.ensures.leaves).ok clean)
+    IfOk-weaker c.list_of.result _ _ (λ list told. Shown-leaves_all old new (names_asks old.now.schema asked.1 c.args.number) told.0 told.1) ((rw c.params-to_sql.ensures at c.list_of.ensures.leaves).ok clean)

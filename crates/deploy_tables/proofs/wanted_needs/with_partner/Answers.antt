@@ -1,13 +1,13 @@
-use Rattle.broker_tables.proofs.FailLemmas.{calm_after}
-use Rattle.deploy_tables.{specs.Releases.{IsVersion}, proofs.AllowedQueries.{answers_then}}
+use Rattle.broker_tables.proofs.FailLemmas.{IsCalmFromBetween-after_query}
+use Rattle.deploy_tables.{specs.Releases.{IsVersion}, proofs.AllowedQueries.{QueriesBetween-answers_then}}
 use Rattle.deploy_tables.proofs.wanted_needs.with_partner.Goals as goal
 
 pub returns-clause-answers : goal.returns-clause-answers
 returns-clause-answers g c =
-    answers_then _ _ _ c.in-Ok.value c.with_latest.result _ _ _ (λ s says found here. here says) c.in-Ok.ensures.answers.call c.with_latest.ensures.answers
+    QueriesBetween-answers_then _ _ _ c.in-Ok.value c.with_latest.result _ _ _ (λ s says found here. here says) c.in-Ok.ensures.answers.call c.with_latest.ensures.answers
 
 pub returns-clause-calm : goal.returns-clause-calm
 returns-clause-calm g c =
     let there = IsVersion c.args.partner in
-    calm_after _ _ _ c.in-Ok.value c.with_latest.result _ _ there there (λ s held may says. may)
+    IsCalmFromBetween-after_query _ _ _ c.in-Ok.value c.with_latest.result _ _ there there (λ s held may says. may)
     c.in-Ok.ensures.answers.call c.with_latest.ensures.answers c.with_latest.ensures.calm

@@ -4,7 +4,7 @@ use Rattle.broker_core.specs.{Change.{deploy as deployment, already, done, is_te
 use Rattle.broker_core.specs.{declared.answer.Detail.TheVariants.{Plain}, declared.command.Version.{Version}}
 use Rattle.broker_tables.specs.Numbers.{number_of}
 use Rattle.deploy_tables.specs.Deployments.{FindsDeployed, IsEnvironment}
-use Rattle.command_facts.proofs.CarryLemmas.{makes_from, tells}
+use Rattle.command_facts.proofs.CarryLemmas.{CarriesBetween-query_change_from, CarriesBetween-query_answer}
 use Rattle.environment_commands.proofs.deploy.record_deployment.Goals as goal
 
 -- the state in which the version is deployed there
@@ -19,14 +19,14 @@ deploys s e instance v number stood b f q env owner is found was =
     sym (ap (λ (b : Bool). if b then already s else done (next s e v instance)) (sym asked ∙ was))
 
 pub returns-then-value-clause-carries : goal.returns-then-value-clause-carries
-returns-then-value-clause-carries g c = tells (λ s number told. deploys s _ _ _ c.args.number c.in-Ok.value true _ _ c.as_str.ensures c.as_str-2.ensures number told c.if-value.true) c.in-Ok.ensures
+returns-then-value-clause-carries g c = CarriesBetween-query_answer (λ s number told. deploys s _ _ _ c.args.number c.in-Ok.value true _ _ c.as_str.ensures c.as_str-2.ensures number told c.if-value.true) c.in-Ok.ensures
 
 pub returns-clause-carries : goal.returns-clause-carries
 returns-clause-carries g c =
     let e = c.args.environment.now in
     let v = c.args.version.now in
     let i = c.args.instance.now in
-    makes_from (codes "deployed" ∷ []) (refl, tt)
+    CarriesBetween-query_change_from (codes "deployed" ∷ []) (refl, tt)
     (λ s number told. (
       next s e v i,
       (v, number, sym c.as_str-4.ensures, λ j. next s (sym c.as_str-3.ensures j) (record v { pacticipant = sym c.as_str-4.ensures j }) i),

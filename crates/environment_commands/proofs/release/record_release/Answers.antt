@@ -4,7 +4,7 @@ use Rattle.broker_core.specs.{Change.{release as released, already, done}, State
 use Rattle.broker_core.specs.{declared.answer.Detail.TheVariants.{Plain}, declared.command.Version.{Version}}
 use Rattle.broker_tables.specs.Numbers.{number_of}
 use Rattle.deploy_tables.specs.{Deployments.{IsEnvironment}, Releases.{FindsReleased}}
-use Rattle.command_facts.proofs.CarryLemmas.{makes_from, tells}
+use Rattle.command_facts.proofs.CarryLemmas.{CarriesBetween-query_change_from, CarriesBetween-query_answer}
 use Rattle.environment_commands.proofs.release.record_release.Goals as goal
 
 -- the state in which the version is released there
@@ -20,13 +20,13 @@ releases : (s : State) (e : Text) (v : Version) (b : Bool) → s.released (e, v)
 releases s e v b is = sym (ap (λ (b : Bool). if b then already s else done (next s e v)) is)
 
 pub returns-then-value-clause-carries : goal.returns-then-value-clause-carries
-returns-then-value-clause-carries g c = tells (λ s number told. releases s _ _ true (stands s _ _ c.args.number c.in-Ok.value true _ c.as_str.ensures number told c.if-value.true)) c.in-Ok.ensures
+returns-then-value-clause-carries g c = CarriesBetween-query_answer (λ s number told. releases s _ _ true (stands s _ _ c.args.number c.in-Ok.value true _ c.as_str.ensures number told c.if-value.true)) c.in-Ok.ensures
 
 pub returns-clause-carries : goal.returns-clause-carries
 returns-clause-carries g c =
     let e = c.args.environment.now in
     let v = c.args.version.now in
-    makes_from (codes "released" ∷ []) (refl, tt)
+    CarriesBetween-query_change_from (codes "released" ∷ []) (refl, tt)
     (λ s number told.
     let free = stands s e v c.args.number c.in-Ok.value false _ c.as_str.ensures number told c.if-value.false in
     (next s e v, (v, number, (λ i. s.released (c.as_str-2.ensures i, v)) ∙ free, λ i. next s (sym c.as_str-2.ensures i) v), releases s e v false free))

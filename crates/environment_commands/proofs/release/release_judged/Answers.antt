@@ -2,8 +2,8 @@ use Rattle.std.{specs.Prelude.{if◌then◌else◌}, proofs.Common.{◌≡◌, B
 use Rattle.broker_core.specs.{Change.{Transition, release as released, unchanged_with}, Gate.{Judges}, State.{State}, Text.{Text}}
 use Rattle.broker_core.specs.{declared.answer.Answer.TheVariants.{NotPermitted}, declared.command.Command.TheVariants.{Release}}
 use Rattle.broker_core.specs.{declared.command.Version.{Version}, declared.need.PairFault.{PairFault}}
-use Rattle.environment_commands.{specs.Effects.{Enacts}, proofs.PlaceLemmas.{has_place}}
-use Rattle.command_facts.proofs.{CarryLemmas.{carries_from, carries_more, tells}, ShortTexts.{name_short}}
+use Rattle.environment_commands.{specs.Effects.{Enacts}, proofs.PlaceLemmas.{HasPlace-of_admitted}}
+use Rattle.command_facts.proofs.{CarryLemmas.{CarriesBetween-query_then_from, CarriesBetween-weaker, CarriesBetween-query_answer}, ShortTexts.{IsName-short}}
 use Rattle.environment_commands.proofs.release.release_judged.Goals as goal
 
 -- what the gate permits is done
@@ -18,13 +18,13 @@ permitted_releases s e v permitted faults may judged out is = (
 
 pub returns-then-permitted : goal.returns-then-permitted
 returns-then-permitted g c =
-    carries_more (λ s out it. it) (λ long named. long (name_short _ named.0, tt))
-    (carries_from (λ s admitted says. (admitted.1, permitted_releases s _ _ _ _ c.if-permitted.true (says admitted)))
-    (λ s held admitted says. (has_place s _ _ _ admitted, permitted_releases s _ _ _ _ c.if-permitted.true (says admitted))) c.in-Ok.ensures c.record_release.ensures.carries)
+    CarriesBetween-weaker (λ s out it. it) (λ long named. long (IsName-short _ named.0, tt))
+    (CarriesBetween-query_then_from (λ s admitted says. (admitted.1, permitted_releases s _ _ _ _ c.if-permitted.true (says admitted)))
+    (λ s held admitted says. (HasPlace-of_admitted s _ _ _ admitted, permitted_releases s _ _ _ _ c.if-permitted.true (says admitted))) c.in-Ok.ensures c.record_release.ensures.carries)
 
 pub returns-else-permitted : goal.returns-else-permitted
 returns-else-permitted g c =
-    tells (λ s admitted judged. (
+    CarriesBetween-query_answer (λ s admitted judged. (
       c.in-Ok.value.0,
       c.in-Ok.value.1.items,
       judged admitted,

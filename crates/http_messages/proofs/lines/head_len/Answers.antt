@@ -1,6 +1,6 @@
 use Rattle.std.proofs.{Common.{◌≡◌, ◌+◌, ◌-◌, ℕ, Bool, List, length-drop, take, drop, ap, sym, ◌∙◌, arith}, lemmas.List.{take_rest}}
 use Rattle.std.proofs.Math.Nat.{add-sub_cancel_left}
-use Rattle.http_messages.{specs.Lines.{is_empty_line}, proofs.LinesLemmas.{over_full, over_blank, at_last}}
+use Rattle.http_messages.{specs.Lines.{is_empty_line}, proofs.LinesLemmas.{head_text-over_full_line, head_text-over_empty_line, head_text-at_last_line}}
 use Rattle.http_messages.proofs.lines.head_len.Goals as goal
 
 -- what the code calls the line is the line
@@ -13,7 +13,7 @@ loop-len-preserved-then-not-is_empty_line c =
     let end = c.loop-len.end in
     record {
       within = omega (arith, c.in-Some.ensures.within, rw (take_rest all end) at c.in-Some.ensures.within, length-drop end all);
-      rest = over_full all end c.in-Some.len (rw (take_rest all end) at c.in-Some.ensures.found) _
+      rest = head_text-over_full_line all end c.in-Some.len (rw (take_rest all end) at c.in-Some.ensures.found) _
           (line_tells all end c.in-Some.len _ _ c.is_empty_line.ensures c.if-not-is_empty_line.true) c.loop-len.invariant.rest;
     }
 
@@ -21,7 +21,7 @@ pub returns-then-started-clause-found : goal.returns-then-started-clause-found
 returns-then-started-clause-found c =
     let all = c.args.bytes.now in
     let end = c.loop-len.end in
-    at_last all end c.in-Some.len (rw (take_rest all end) at c.in-Some.ensures.found) _ c.if-started.true
+    head_text-at_last_line all end c.in-Some.len (rw (take_rest all end) at c.in-Some.ensures.found) _ c.if-started.true
     (line_tells all end c.in-Some.len _ _ c.is_empty_line.ensures c.if-not-is_empty_line.false) c.loop-len.invariant.rest
 
 pub loop-len-preserved : goal.loop-len-preserved
@@ -30,6 +30,6 @@ loop-len-preserved c =
     let end = c.loop-len.end in
     record {
       within = omega (arith, c.in-Some.ensures.within, rw (take_rest all end) at c.in-Some.ensures.within, length-drop end all);
-      rest = over_blank all end c.in-Some.len (rw (take_rest all end) at c.in-Some.ensures.found) _ c.if-started.false
+      rest = head_text-over_empty_line all end c.in-Some.len (rw (take_rest all end) at c.in-Some.ensures.found) _ c.if-started.false
           (line_tells all end c.in-Some.len _ _ c.is_empty_line.ensures c.if-not-is_empty_line.false) c.loop-len.invariant.rest;
     }

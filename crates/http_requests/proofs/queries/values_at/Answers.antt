@@ -1,5 +1,5 @@
 use Rattle.std.proofs.Common.{◌≡◌, ◌≤◌, ℕ, Bool, true, false, List, [], ◌∷◌, ◌++◌, length, bytes_eq, append_assoc, append-nil, sym, ap, ◌∙◌, subst}
-use Rattle.http_requests.{specs.Queries.{decoded_text, values_at, AreValues}, proofs.QueryLemmas.{values-with, values-without, several}}
+use Rattle.http_requests.{specs.Queries.{decoded_text, values_at, AreValues}, proofs.QueryLemmas.{values-with, values-without, AreValues-second_value}}
 use Rattle.http_requests.proofs.queries.values_at.Goals.{in-Absent+in_ok-decode-in-Absent+in_ok-into_owned-in-Absent, in_default-found}
 use Rattle.http_requests.proofs.queries.values_at.Goals as goal
 
@@ -28,7 +28,7 @@ loop-name-preserved-then-eq c =
             rw w.found-is (more ∙ ap (λ l. l ++ decoded_text pair.1 ∷ []) none ∙ ap (λ text. text ∷ []) (sym d ∙ sym o.ok))
         | in_default-found w ↦
             let not = w.in_default-found.not-Absent in
-            rw w.found-is (subst (λ l. 2 ≤ length l) (sym more) (several (values_at key so_far.0) (decoded_text pair.1) c.loop-name.found not so_far.2))
+            rw w.found-is (subst (λ l. 2 ≤ length l) (sym more) (AreValues-second_value (values_at key so_far.0) (decoded_text pair.1) c.loop-name.found not so_far.2))
       ],
     )
 

@@ -1,7 +1,7 @@
 use Rattle.std.proofs.{Common.{◌≡◌, ◌<◌, ℕ, IsTrue, subst, arith}, lemmas.Bool.Decides.{nat_tests}, lemmas.Str.{IsUtf8-from_ascii}}
 use Rattle.std.proofs.lemmas.Str.Ascii.{IsAscii-from_all}
 use Rattle.broker_names.specs.Name.{IsToken, is_token_byte}
-use Rattle.http_requests.proofs.TokenLemmas.{is_token}
+use Rattle.http_requests.proofs.TokenLemmas.{IsToken-of_not_not}
 use Rattle.http_requests.proofs.tokens.token_of.Goals as goal
 
 -- the bytes of tokens are ASCII
@@ -15,7 +15,7 @@ returns-in_default-clause-token c = λ token.
 pub returns-in-Err-Memory-clause-memory : goal.returns-in-Err-Memory-clause-memory
 returns-in-Err-Memory-clause-memory c =
     let same : c.in-Ok.text.now ≡ c.args.bytes.now = c.in-Ok.ensures.cases.0 in
-    is_token c.args.bytes.now (λ no.
+    IsToken-of_not_not c.args.bytes.now (λ no.
     let told = c.new.ensures.bad.1 (λ token. no (subst IsToken same token)) in
     let memory = c.in-Err-Memory.is in
     let is = c.in-Err-Memory.field-0-is in

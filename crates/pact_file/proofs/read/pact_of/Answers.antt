@@ -1,5 +1,5 @@
 use Rattle.serde_json.specs.View.{view}
-use Rattle.pact_file.{specs.{File.{sides_of}, Normal.{InteractionsRead, if_short}, Pact.{pact_with}}, proofs.ReadLemmas.{from_gives}}
+use Rattle.pact_file.{specs.{File.{sides_of}, Normal.{InteractionsRead, if_short}, Pact.{pact_with}}, proofs.ReadLemmas.{GivesOne-of_Gives}}
 use Rattle.std.proofs.{Common.{◌≡◌, Ok, Err, string_bytes, refl, sym, ap, ◌∙◌}, lemmas.Result.{err_from_is_err_and}}
 use Rattle.pact_file.proofs.read.pact_of.Goals as goal
 
@@ -18,4 +18,4 @@ returns-clause-reading c =
     let xs = c.in_ok-interactions.interactions.items in
     let named : sides_of (view c.args.file) ≡ Ok (a, b) =
     c.in_ok-consumer.ensures ∙ ap (λ n. Ok (n, c.in_ok-consumer.provider.now)) (sym c.in_ok-consumer_name.ensures.ok) ∙ ap (λ n. Ok (a, n)) (sym c.in_ok-provider_name.ensures.ok) in
-    from_gives (λ p. p) c.short_pact.result (if_short (pact_with a b xs)) _ (λ r is. (Ok (a, b), named, (Ok xs, c.in_ok-interactions.ensures, is))) c.short_pact.ensures
+    GivesOne-of_Gives (λ p. p) c.short_pact.result (if_short (pact_with a b xs)) _ (λ r is. (Ok (a, b), named, (Ok xs, c.in_ok-interactions.ensures, is))) c.short_pact.ensures

@@ -1,8 +1,8 @@
 use Rattle.std.{specs.Option.{ok_or}, proofs.{Common.{Ok, Err, map, refl, []}, lemmas.Result.{err_from_is_err_and}}}
 use Rattle.serde_json.specs.View.{view}
 use Rattle.pact_file.specs.{declared.fault.PactFault.TheVariants.{SameInteraction}, Normal.{InteractionsRead}, Pact.{key_cmp}}
-use Rattle.pact_file.{specs.Sorting.{insert_all_sorted, same_text}, proofs.OrderedSets.{ordered}}
-use Rattle.pact_file.proofs.ReadLemmas.{items_sound, values_sound, each_sound, from_gives}
+use Rattle.pact_file.{specs.Sorting.{insert_all_sorted, same_text}, proofs.OrderedSets.{InOrder-of_insert_all}}
+use Rattle.pact_file.proofs.ReadLemmas.{items_at-sound, AreSound-items_view, EachRead-sound, GivesOne-of_Gives}
 use Rattle.pact_file.proofs.read.read_interactions.Goals as goal
 
 pub returns-in_err-items : goal.returns-in_err-items
@@ -13,7 +13,7 @@ returns-in_err-items c =
 
 pub read_list-requires : goal.read_list-requires
 read_list-requires c =
-    values_sound c.in_ok-items.items.items (items_sound (view c.args.file) (map view c.in_ok-items.items.items) c.requires c.in_ok-items.ensures)
+    AreSound-items_view c.in_ok-items.items.items (items_at-sound (view c.args.file) (map view c.in_ok-items.items.items) c.requires c.in_ok-items.ensures)
 
 pub returns-in_err-found : goal.returns-in_err-found
 unfolding InteractionsRead
@@ -29,5 +29,5 @@ returns c =
     let vs = c.in_ok-items.items.items in
     let xs = c.in_ok-found.found.items in
     let read = c.in_ok-found.ensures in
-    let good = each_sound 0 (map view vs) xs (items_sound (view c.args.file) (map view vs) c.requires c.in_ok-items.ensures) read in
-    from_gives (λ v. v.items) c.in_key_order.result (ok_or (insert_all_sorted key_cmp same_text [] xs) SameInteraction) _ (λ a is. (Ok (map view vs), c.in_ok-items.ensures, (Ok xs, read, ordered xs a good is))) c.in_key_order.ensures
+    let good = EachRead-sound 0 (map view vs) xs (items_at-sound (view c.args.file) (map view vs) c.requires c.in_ok-items.ensures) read in
+    GivesOne-of_Gives (λ v. v.items) c.in_key_order.result (ok_or (insert_all_sorted key_cmp same_text [] xs) SameInteraction) _ (λ a is. (Ok (map view vs), c.in_ok-items.ensures, (Ok xs, read, InOrder-of_insert_all xs a good is))) c.in_key_order.ensures

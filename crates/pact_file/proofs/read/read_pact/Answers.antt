@@ -1,7 +1,7 @@
 use Rattle.serde_json.specs.View.{view}
 use Rattle.std.proofs.{Common.{◌≡◌, ◌<◌, false, Err, length, nat_le, refl}, lemmas.Bool.{lt-leb}, lemmas.Result.{err_from_is_err_and}}
 use Rattle.pact_file.specs.{File.{most_bytes, file_of}, Normal.{Normal}, declared.fault.PactFault.TheVariants.{TooLong}}
-use Rattle.pact_file.proofs.ReadLemmas.{file_sound, file_text, of_file}
+use Rattle.pact_file.proofs.ReadLemmas.{file_of-sound, file_of-IsSomeText, Normal-of_file}
 use Rattle.pact_file.proofs.read.read_pact.Goals as goal
 
 pub returns-then-bytes-gt-MOST_BYTES-clause-reading : goal.returns-then-bytes-gt-MOST_BYTES-clause-reading
@@ -18,10 +18,10 @@ returns-in_err-file-clause-reading c =
     rw (p.1, p.2) (λ memory. (Err c.in_err-file.field-0.0, c.in_err-file.ensures.value memory, refl))
 
 pub pact_of-requires : goal.pact_of-requires
-pact_of-requires c = file_sound c.args.bytes.now (view c.in_ok-file.file) c.in_ok-file.ensures.value
+pact_of-requires c = file_of-sound c.args.bytes.now (view c.in_ok-file.file) c.in_ok-file.ensures.value
 
 pub returns-clause-reading : goal.returns-clause-reading
-returns-clause-reading c = of_file c.args.bytes.now (view c.in_ok-file.file) c.pact_of.result c.in_ok-file.ensures.value c.pact_of.ensures.reading
+returns-clause-reading c = Normal-of_file c.args.bytes.now (view c.in_ok-file.file) c.pact_of.result c.in_ok-file.ensures.value c.pact_of.ensures.reading
 
 pub returns-clause-memory : goal.returns-clause-memory
-returns-clause-memory c = λ memory. file_text c.args.bytes.now (view c.in_ok-file.file) c.in_ok-file.ensures.value
+returns-clause-memory c = λ memory. file_of-IsSomeText c.args.bytes.now (view c.in_ok-file.file) c.in_ok-file.ensures.value

@@ -1,5 +1,5 @@
 use Rattle.json.specs.Print.{quoted}
-use Rattle.pact_file.{specs.{Pact.{normal_text}, Texts.{interactions_text}}, proofs.NormalTexts.{pact_pushed}}
+use Rattle.pact_file.{specs.{Pact.{normal_text}, Texts.{interactions_text}}, proofs.NormalTexts.{normal_text-pushed}}
 use Rattle.std.proofs.Common.{◌++◌, codes, string_bytes, ap, ap₂, ◌∙◌}
 use Rattle.pact_file.proofs.texts.text_of_pact.Goals as goal
 
@@ -13,4 +13,4 @@ returns c =
     let side = c.in_ok-push_str-3.ensures.bytes ∙ ap (λ t. t ++ codes ",\"provider\":{\"name\":") items in
     let provider = c.in_ok-push_quoted-2.ensures ∙ ap₂ (λ t s. t ++ quoted s) side c.as_str-2.ensures.value in
     c.in_ok-push_str-4.ensures.bytes ∙ ap (λ t. t ++ codes "}}") provider
-    ∙ pact_pushed (string_bytes pact.consumer) (string_bytes pact.provider) pact.interactions.items ∙ ap normal_text c.pact.view_is
+    ∙ normal_text-pushed (string_bytes pact.consumer) (string_bytes pact.provider) pact.interactions.items ∙ ap normal_text c.pact.view_is

@@ -1,7 +1,7 @@
 use Rattle.std.{specs.Char.{is_ascii_digit}, proofs.{Common.{◌∙◌, rules, tests}, lemmas.Iterator.{YieldsList-from_slice}}}
 use Rattle.std.proofs.lemmas.Iterator.Search.{all_from_yields_List}
-use Rattle.pact_paths.proofs.PathLemmas.{digits_all}
+use Rattle.pact_paths.proofs.PathLemmas.{list_all-ascii_digits}
 use Rattle.pact_paths.proofs.path_reader.are_digits.Goals as goal
 
 pub returns : goal.returns
-returns c = all_from_yields_List is_ascii_digit _ _ _ c.all.ensures.ran (YieldsList-from_slice c.args.text.now cc) (λ x b q k. search (rules, tests)) ∙ digits_all c.args.text.now
+returns c = all_from_yields_List is_ascii_digit _ _ _ c.all.ensures.ran (YieldsList-from_slice c.args.text.now cc) (λ x b q k. search (rules, tests)) ∙ list_all-ascii_digits c.args.text.now

@@ -1,6 +1,6 @@
 use Rattle.std.{specs.List.{list_any}, proofs.Common.{◌≡◌, ◌∙◌, ◌<◌, ◌≤◌, ◌||◌, ◌+◌, Bool, true, false, length, drop, string_bytes, sym, ap, arith}}
 use Rattle.std.proofs.lemmas.List.{drop_all, take_rest}
-use Rattle.pact_rules.{specs.Matching.{begins, contains}, proofs.PartLemmas.{one_further}}
+use Rattle.pact_rules.{specs.Matching.{begins, contains}, proofs.PartLemmas.{contains-list_any_drop}}
 use Rattle.pact_rules.proofs.parts.has_one.Goals as goal
 
 pub returns-then-begins_one : goal.returns-then-begins_one
@@ -11,7 +11,7 @@ returns-then-begins_one c =
     let size : length c.as_bytes-bytes.result.now ≡ length t = ap length c.as_bytes-bytes.ensures.value in
     let here : list_any (λ s. begins (string_bytes s) (drop at t)) xs ≡ true
     = sym (ap (λ bs. list_any (λ s. begins (string_bytes s) (drop at bs)) xs) c.as_bytes-bytes.ensures.value) ∙ sym (ap (λ r. list_any (λ s. begins (string_bytes s) r) xs) (take_rest c.as_bytes-bytes.result.now at)) ∙ sym c.begins_one.ensures ∙ c.if-begins_one.true in
-    sym (c.loop-at.invariant ∙ one_further xs t at (omega (arith, c.loop-at-test.true, size)) ∙ ap (λ r. r || list_any (λ s. contains (string_bytes s) (drop (at + 1) t)) xs) here)
+    sym (c.loop-at.invariant ∙ contains-list_any_drop xs t at (omega (arith, c.loop-at-test.true, size)) ∙ ap (λ r. r || list_any (λ s. contains (string_bytes s) (drop (at + 1) t)) xs) here)
 
 pub loop-at-preserved : goal.loop-at-preserved
 loop-at-preserved c =
@@ -21,7 +21,7 @@ loop-at-preserved c =
     let size : length c.as_bytes-bytes.result.now ≡ length t = ap length c.as_bytes-bytes.ensures.value in
     let here : list_any (λ s. begins (string_bytes s) (drop at t)) xs ≡ false
     = sym (ap (λ bs. list_any (λ s. begins (string_bytes s) (drop at bs)) xs) c.as_bytes-bytes.ensures.value) ∙ sym (ap (λ r. list_any (λ s. begins (string_bytes s) r) xs) (take_rest c.as_bytes-bytes.result.now at)) ∙ sym c.begins_one.ensures ∙ c.if-begins_one.false in
-    c.loop-at.invariant ∙ one_further xs t at (omega (arith, c.loop-at-test.true, size)) ∙ ap (λ r. r || list_any (λ s. contains (string_bytes s) (drop (at + 1) t)) xs) here
+    c.loop-at.invariant ∙ contains-list_any_drop xs t at (omega (arith, c.loop-at-test.true, size)) ∙ ap (λ r. r || list_any (λ s. contains (string_bytes s) (drop (at + 1) t)) xs) here
 
 pub returns : goal.returns
 returns c =

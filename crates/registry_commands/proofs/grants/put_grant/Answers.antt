@@ -2,29 +2,29 @@ use Rattle.std.{specs.Option.{is_some}, proofs.Common.{[], ◌∷◌, codes, ref
 use Rattle.broker_names.specs.Name.{IsName}
 use Rattle.broker_core.specs.Text.{put_at, same_text, same_pair, Text}
 use Rattle.sqlite.specs.Held.{state}
-use Rattle.table_access.proofs.CallLemmas.{memory_ok}
-use Rattle.command_facts.proofs.{CarryLemmas.{tells, makes}, InPlace.{told_in_place}, ShortTexts.{name_short}}
+use Rattle.table_access.proofs.CallLemmas.{TellsMemoryUnless-Ok}
+use Rattle.command_facts.proofs.{CarryLemmas.{CarriesBetween-query_answer, CarriesBetween-query_change}, InPlace.{TellsMemory-after_query}, ShortTexts.{IsName-short}}
 use Rattle.registry_commands.proofs.grants.put_grant.Goals as goal
 
 pub returns-in-Some-clause-carries : goal.returns-in-Some-clause-carries
-returns-in-Some-clause-carries g c = tells (λ s may h. c.in-Some.ensures.unchanged s _ _ h) c.in-Ok.ensures
+returns-in-Some-clause-carries g c = CarriesBetween-query_answer (λ s may h. c.in-Some.ensures.unchanged s _ _ h) c.in-Ok.ensures
 
 pub returns-in-None-clause-carries : goal.returns-in-None-clause-carries
 returns-in-None-clause-carries g c =
     let by = c.as_str.ensures in
     let of = c.as_str-in-None.ensures in
-    makes (codes "grants" ∷ []) (refl, tt)
+    CarriesBetween-query_change (codes "grants" ∷ []) (refl, tt)
     (λ s may h.
     let it = c.in-None.ensures.changes s c.args.team.now c.args.environment.now h in
     let team_is : is_some (s.teams c.as_str.result.now) ≡ true = ap (λ x. is_some (s.teams x)) by ∙ h.team_is ∙ it.0 in
     let environment_is : is_some (s.environments c.as_str-in-None.result.now) ≡ true = ap (λ x. is_some (s.environments x)) of ∙ h.environment_is ∙ it.1 in
     let grant_is : s.grants (c.as_str.result.now, c.as_str-in-None.result.now) ≡ false = ap (λ (k : Text × Text). s.grants k) (λ i. (by i, of i)) ∙ h.grant_is ∙ it.2 in
     (_, (team_is, environment_is, grant_is, λ i. record s { grants = put_at (same_pair same_text same_text) s.grants (sym by i, sym of i) true }), it.3))
-    (λ long named. long (name_short _ (subst IsName (sym by) named.0), (name_short _ (subst IsName (sym of) named.1), tt)))
+    (λ long named. long (IsName-short _ (subst IsName (sym by) named.0), (IsName-short _ (subst IsName (sym of) named.1), tt)))
     c.told.ensures c.in-Ok.ensures c.add_grant.ensures.changes c.add_grant.ensures.calm
 
 pub returns-in-Some-clause-memory : goal.returns-in-Some-clause-memory
-returns-in-Some-clause-memory g c = memory_ok false (state g.S.Store c.args.conn.now) (state g.S.Store c.read_grant_facts.new.conn) c.in-Some.answer
+returns-in-Some-clause-memory g c = TellsMemoryUnless-Ok false (state g.S.Store c.args.conn.now) (state g.S.Store c.read_grant_facts.new.conn) c.in-Some.answer
 
 pub returns-in-None-clause-memory : goal.returns-in-None-clause-memory
-returns-in-None-clause-memory g c = told_in_place c.told.ensures c.in-Ok.ensures.call c.add_grant.ensures.changes
+returns-in-None-clause-memory g c = TellsMemory-after_query c.told.ensures c.in-Ok.ensures.call c.add_grant.ensures.changes

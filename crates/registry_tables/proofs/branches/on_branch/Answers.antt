@@ -1,15 +1,15 @@
 use Rattle.std.proofs.Common.{◌∙◌}
-use Rattle.broker_tables.proofs.Asked.{looks_for, looks_for_none}
-use Rattle.registry_tables.proofs.BranchRows.{on, on_found, on_none}
+use Rattle.broker_tables.proofs.Asked.{CalmQueriesBetween-is_there, IfNoVersionBetween-is_there}
+use Rattle.registry_tables.proofs.BranchRows.{on, IsShown-on_branch, NoneFor-on_branch}
 use Rattle.registry_tables.proofs.branches.on_branch.Goals as goal
 
 pub returns-clause-answers : goal.returns-clause-answers
 returns-clause-answers g c =
     let said = rw (c.params-to_sql.ensures, c.params-to_sql-2.ensures) at c.has_row.ensures in
-    looks_for (on c.args.number c.args.branch.now) _ _
-    (λ s held rows h has there v is. there ∙ on_found c.args.number c.args.branch.now _ rows s v held is h) said.leaves said.cause
+    CalmQueriesBetween-is_there (on c.args.number c.args.branch.now) _ _
+    (λ s held rows h has there v is. there ∙ IsShown-on_branch c.args.number c.args.branch.now _ rows s v held is h) said.leaves said.cause
 
 pub returns-clause-unknown : goal.returns-clause-unknown
 returns-clause-unknown g c =
     let said = rw (c.params-to_sql.ensures, c.params-to_sql-2.ensures) at c.has_row.ensures in
-    looks_for_none (on c.args.number c.args.branch.now) _ _ (on_none c.args.number c.args.branch.now _) said.leaves
+    IfNoVersionBetween-is_there (on c.args.number c.args.branch.now) _ _ (NoneFor-on_branch c.args.number c.args.branch.now _) said.leaves

@@ -1,9 +1,9 @@
 use Rattle.std.proofs.{Common.{◌≡◌, refl, sym, ap, subst, ◌∙◌, Some, true, false, Ok, arith}, lemmas.Result.{IfErr-weaker}}
 use Rattle.sqlite.specs.{State.{HasCleanDisk}, Held.{state}}
 use Rattle.broker_core.specs.{declared.command.Marks.{Marks}, Text.{put_at, same_text}, State.{State}}
-use Rattle.table_access.proofs.CallLemmas.{call_with, seq, ended_since}
-use Rattle.broker_tables.{specs.{Holds.{HoldsAfter}, Room.{LeaveNumbers}, ChangeRefusals.{HoldsOpen}}, proofs.RoomLemmas.{takes_more, takes_then}}
-use Rattle.registry_tables.{specs.Registry.{marks}, proofs.EnvironmentRows.{put_both, there_now}}
+use Rattle.table_access.proofs.CallLemmas.{CallsBetween-weaken, CallsBetween-then_call, EndsBy-later_call}
+use Rattle.broker_tables.{specs.{Holds.{HoldsAfter}, Room.{LeaveNumbers}, ChangeRefusals.{HoldsOpen}}, proofs.RoomLemmas.{TakesRoom-more, TakesRoom-trans}}
+use Rattle.registry_tables.{specs.Registry.{marks}, proofs.EnvironmentRows.{put_at-environment_twice, put_at-same_key}}
 use Rattle.registry_tables.proofs.environments.add_environment.Goals as goal
 
 pub returns-then-strict-clause-changes : goal.returns-then-strict-clause-changes
@@ -14,13 +14,13 @@ returns-then-strict-clause-changes g c =
     let e = c.args.environment.now in
     let first = marks c.args.gated false in
     let last = marks c.args.gated true in
-    seq _ _ _ c.in-Ok.value c.put_strict.result _ _ _ (λ one _ two s held t next.
+    CallsBetween-then_call _ _ _ c.in-Ok.value c.put_strict.result _ _ _ (λ one _ two s held t next.
     let between : State = record s { environments = put_at same_text s.environments e (Some first) } in
     let same : last ≡ marks c.args.gated c.args.strict = ap (marks c.args.gated) (sym c.if-strict.true) in
     let before = one s held between (next.0, refl) in
-    let after = two between before.0 _ (first, there_now s.environments e first, refl) in
-    subst (HoldsAfter 2 old new) (put_both s e first last ∙ ap (λ (m : Marks). record s { environments = put_at same_text s.environments e (Some m) }) same ∙ sym next.1)
-    (after.0, takes_then 1 1 old.now mid.now new.now before.1 after.1))
+    let after = two between before.0 _ (first, put_at-same_key s.environments e first, refl) in
+    subst (HoldsAfter 2 old new) (put_at-environment_twice s e first last ∙ ap (λ (m : Marks). record s { environments = put_at same_text s.environments e (Some m) }) same ∙ sym next.1)
+    (after.0, TakesRoom-trans 1 1 old.now mid.now new.now before.1 after.1))
     c.in-Ok.ensures.changes c.put_strict.ensures.changes
 
 pub returns-then-strict-clause-calm : goal.returns-then-strict-clause-calm
@@ -38,8 +38,8 @@ returns-then-strict-clause-calm g c =
       held = (call.ok mid_clean s here.held between (next.1.0, refl)).0;
     } in
     let room = subst (LeaveNumbers 1) (sym (c.in-Ok.ensures.strict mid_clean s here.held next.1.0)) numbers.1.0 in
-    IfErr-weaker c.put_strict.result _ _ (λ e why. ended_since _ _ _ e (call.goes_on mid_clean here.inside) call.survives.counts why)
-    (c.put_strict.ensures.calm clean between now (first, there_now s.environments e first, refl) (room, tt))
+    IfErr-weaker c.put_strict.result _ _ (λ e why. EndsBy-later_call _ _ _ e (call.goes_on mid_clean here.inside) call.survives.counts why)
+    (c.put_strict.ensures.calm clean between now (first, put_at-same_key s.environments e first, refl) (room, tt))
 
 pub returns-else-strict-clause-changes : goal.returns-else-strict-clause-changes
 returns-else-strict-clause-changes g c =
@@ -47,9 +47,9 @@ returns-else-strict-clause-changes g c =
     let new = state g.S.Store c.put_environment.new.conn in
     let e = c.args.environment.now in
     let first = marks c.args.gated false in
-    call_with _ _ (Ok c.in-Ok.value) _ _ (λ _ one s held t next.
+    CallsBetween-weaken _ _ (Ok c.in-Ok.value) _ _ (λ _ one s held t next.
     let same : first ≡ marks c.args.gated c.args.strict = ap (marks c.args.gated) (sym c.if-strict.false) in
     let after = one s held _ (next.0, refl) in
     subst (HoldsAfter 2 old new) (ap (λ (m : Marks). record s { environments = put_at same_text s.environments e (Some m) }) same ∙ sym next.1)
-    (after.0, takes_more 1 2 (omega arith) old.now new.now after.1))
+    (after.0, TakesRoom-more 1 2 (omega arith) old.now new.now after.1))
     c.in-Ok.ensures.changes

@@ -1,11 +1,11 @@
 use Rattle.std.proofs.lemmas.Result.{IfOk-weaker}
-use Rattle.broker_tables.proofs.Alters.{alters, calmly}
-use Rattle.registry_tables.proofs.EnvironmentRows.{environment_put, strict_stays, environment_ends}
+use Rattle.broker_tables.proofs.Alters.{CallsStoreBetween-alters, IfErr-calm}
+use Rattle.registry_tables.proofs.EnvironmentRows.{environment_put, strict_stays, EndsFrom-AddsEnvironment}
 use Rattle.registry_tables.proofs.environments.put_environment.Goals as goal
 
 pub returns-clause-changes : goal.returns-clause-changes
 returns-clause-changes g c =
-    alters (environment_put c.args.environment.now c.args.gated _ _) (rw (c.params-to_sql.ensures, c.params-to_sql-2.ensures, c.number_for-mark.ensures) at c.change.ensures.leaves)
+    CallsStoreBetween-alters (environment_put c.args.environment.now c.args.gated _ _) (rw (c.params-to_sql.ensures, c.params-to_sql-2.ensures, c.number_for-mark.ensures) at c.change.ensures.leaves)
 
 pub returns-clause-strict : goal.returns-clause-strict
 returns-clause-strict g c =
@@ -14,4 +14,4 @@ returns-clause-strict g c =
 
 pub returns-clause-calm : goal.returns-clause-calm
 returns-clause-calm g c =
-    calmly c.change.result (environment_ends c.args.environment.now c.args.gated _ _) (rw (c.params-to_sql.ensures, c.params-to_sql-2.ensures, c.number_for-mark.ensures) at c.change.ensures.cause)
+    IfErr-calm c.change.result (EndsFrom-AddsEnvironment c.args.environment.now c.args.gated _ _) (rw (c.params-to_sql.ensures, c.params-to_sql-2.ensures, c.number_for-mark.ensures) at c.change.ensures.cause)

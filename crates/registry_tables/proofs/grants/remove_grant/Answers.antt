@@ -1,11 +1,11 @@
 use Rattle.std.proofs.lemmas.Result.{IfErr-weaker}
-use Rattle.broker_tables.proofs.{Alters.{alters}, Removed.{taking_ends}}
-use Rattle.registry_tables.proofs.GrantRows.{grant_removed, removing}
+use Rattle.broker_tables.proofs.{Alters.{CallsStoreBetween-alters}, Removed.{FailsToRun-delete}}
+use Rattle.registry_tables.proofs.GrantRows.{HoldsAfter-RemovesGrant, TakesFrom-grant}
 use Rattle.registry_tables.proofs.grants.remove_grant.Goals as goal
 
 pub returns-clause-changes : goal.returns-clause-changes
-returns-clause-changes g c = alters (grant_removed c.args.team.now c.args.environment.now _ _) (rw (c.params-to_sql.ensures, c.params-to_sql-2.ensures) at c.change.ensures.leaves)
+returns-clause-changes g c = CallsStoreBetween-alters (HoldsAfter-RemovesGrant c.args.team.now c.args.environment.now _ _) (rw (c.params-to_sql.ensures, c.params-to_sql-2.ensures) at c.change.ensures.leaves)
 
 pub returns-clause-calm : goal.returns-clause-calm
 returns-clause-calm g c clean s here =
-    IfErr-weaker c.change.result _ _ (taking_ends (removing c.args.team.now c.args.environment.now) _ _ here.held.broker here.unlimited) ((rw (c.params-to_sql.ensures, c.params-to_sql-2.ensures) at c.change.ensures.cause) clean)
+    IfErr-weaker c.change.result _ _ (FailsToRun-delete (TakesFrom-grant c.args.team.now c.args.environment.now) _ _ here.held.broker here.unlimited) ((rw (c.params-to_sql.ensures, c.params-to_sql-2.ensures) at c.change.ensures.cause) clean)

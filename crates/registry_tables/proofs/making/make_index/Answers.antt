@@ -1,11 +1,11 @@
 use Rattle.std.proofs.Common.{refl, take, drop, inr}
-use Rattle.table_access.{specs.Statements.{IndexesTable}, proofs.{CallLemmas.{call_with}, Creation.{each_single}}}
+use Rattle.table_access.{specs.Statements.{IndexesTable}, proofs.{CallLemmas.{CallsBetween-weaken}, Creation.{MakesEach-single}}}
 use Rattle.broker_tables.specs.{Schema.{versions_by_pacticipant}, Making.{index_texts}}
 use Rattle.registry_tables.proofs.making.make_index.Goals as goal
 
 pub returns-clause-makes : goal.returns-clause-makes
 returns-clause-makes g c =
-    call_with _ _ c.make_each.result _ _ (λ _ made is. each_single IndexesTable versions_by_pacticipant _ _ (made.1 (take 3 index_texts) (take 1 (drop 3 index_texts)) (drop 4 index_texts) refl refl is)) c.make_each.ensures.makes
+    CallsBetween-weaken _ _ c.make_each.result _ _ (λ _ made is. MakesEach-single IndexesTable versions_by_pacticipant _ _ (made.1 (take 3 index_texts) (take 1 (drop 3 index_texts)) (drop 4 index_texts) refl refl is)) c.make_each.ensures.makes
 
 pub returns-clause-calm : goal.returns-clause-calm
 returns-clause-calm g c clean inside unlimited it =

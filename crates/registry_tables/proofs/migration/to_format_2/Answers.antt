@@ -1,18 +1,18 @@
-use Rattle.broker_tables.{specs.{Former.{added_tables, former_format}, Schema.{checked_results}}, proofs.{Former.{strict_made}, MakingFails.{calm_then}}}
-use Rattle.registry_tables.{specs.Format.{CanBecomeFormat2}, proofs.FormerRows.{rows_stay_strict}}
+use Rattle.broker_tables.{specs.{Former.{added_tables, former_format}, Schema.{checked_results}}, proofs.{Former.{HoldsUnmarked-strict_environments}, MakingFails.{IsCalmOverBetween-then}}}
+use Rattle.registry_tables.{specs.Format.{CanBecomeFormat2}, proofs.FormerRows.{KeepsFormerRows-after_Creates}}
 use Rattle.sqlite.specs.Held.{state}
 use Rattle.std.proofs.Common.{[], ◌∷◌}
-use Rattle.table_access.proofs.CallLemmas.{seq}
+use Rattle.table_access.proofs.CallLemmas.{CallsBetween-then_call}
 use Rattle.registry_tables.proofs.migration.to_format_2.Goals as goal
 
 pub returns-clause-makes : goal.returns-clause-makes
 returns-clause-makes g c =
     let new = state g.S.Store c.set_format.new.conn in
-    seq _ _ _ c.in-Ok.value c.set_format.result _ _ _
-    (λ made _ sets s held. let it = sets s (strict_made former_format _ _ s held (made held.schema)) in (it.0, rows_stay_strict _ _ new.now held.schema (made held.schema) it.1))
+    CallsBetween-then_call _ _ _ c.in-Ok.value c.set_format.result _ _ _
+    (λ made _ sets s held. let it = sets s (HoldsUnmarked-strict_environments former_format _ _ s held (made held.schema)) in (it.0, KeepsFormerRows-after_Creates _ _ new.now held.schema (made held.schema) it.1))
     c.in-Ok.ensures.makes c.set_format.ensures.sets
 
 pub returns-clause-calm : goal.returns-clause-calm
 returns-clause-calm g c =
-    calm_then (CanBecomeFormat2 (checked_results ∷ [])) (CanBecomeFormat2 added_tables) _ _ _ c.in-Ok.value c.set_format.result _ _ c.in-Ok.ensures.makes c.set_format.ensures.sets c.set_format.ensures.calm
-    (λ made it. (it.0, strict_made former_format _ _ it.0 it.1 (made it.1.schema), it.2))
+    IsCalmOverBetween-then (CanBecomeFormat2 (checked_results ∷ [])) (CanBecomeFormat2 added_tables) _ _ _ c.in-Ok.value c.set_format.result _ _ c.in-Ok.ensures.makes c.set_format.ensures.sets c.set_format.ensures.calm
+    (λ made it. (it.0, HoldsUnmarked-strict_environments former_format _ _ it.0 it.1 (made it.1.schema), it.2))

@@ -1,9 +1,9 @@
-use Rattle.broker_tables.proofs.Alters.{alters, calmly}
-use Rattle.registry_tables.proofs.TeamRows.{pacticipant_added, pacticipant_ends}
+use Rattle.broker_tables.proofs.Alters.{CallsStoreBetween-alters, IfErr-calm}
+use Rattle.registry_tables.proofs.TeamRows.{HoldsAfter-AddsPacticipant, EndsFrom-AddsPacticipant}
 use Rattle.registry_tables.proofs.pacticipants.add_pacticipant.Goals as goal
 
 pub returns-clause-changes : goal.returns-clause-changes
-returns-clause-changes g c = alters (pacticipant_added c.args.pacticipant.now c.args.team.now _ _) (rw (c.params-to_sql.ensures, c.params-to_sql-2.ensures) at c.change.ensures.leaves)
+returns-clause-changes g c = CallsStoreBetween-alters (HoldsAfter-AddsPacticipant c.args.pacticipant.now c.args.team.now _ _) (rw (c.params-to_sql.ensures, c.params-to_sql-2.ensures) at c.change.ensures.leaves)
 
 pub returns-clause-calm : goal.returns-clause-calm
-returns-clause-calm g c = calmly c.change.result (pacticipant_ends c.args.pacticipant.now c.args.team.now _ _) (rw (c.params-to_sql.ensures, c.params-to_sql-2.ensures) at c.change.ensures.cause)
+returns-clause-calm g c = IfErr-calm c.change.result (EndsFrom-AddsPacticipant c.args.pacticipant.now c.args.team.now _ _) (rw (c.params-to_sql.ensures, c.params-to_sql-2.ensures) at c.change.ensures.cause)

@@ -1,9 +1,9 @@
-use Rattle.broker_tables.proofs.Alters.{alters, calmly}
-use Rattle.registry_tables.proofs.VersionRows.{version_put, version_ends}
+use Rattle.broker_tables.proofs.Alters.{CallsStoreBetween-alters, IfErr-calm}
+use Rattle.registry_tables.proofs.VersionRows.{HoldsAfter-PutsVersion, EndsFrom-AllowsVersionAs}
 use Rattle.registry_tables.proofs.versions.put_version.Goals as goal
 
 pub returns-clause-changes : goal.returns-clause-changes
-returns-clause-changes g c = alters (version_put c.args.number c.args.pacticipant.now c.args.version.now _ _) (rw (c.params-to_sql.ensures, c.params-to_sql-2.ensures, c.params-to_sql-3.ensures) at c.change.ensures.leaves)
+returns-clause-changes g c = CallsStoreBetween-alters (HoldsAfter-PutsVersion c.args.number c.args.pacticipant.now c.args.version.now _ _) (rw (c.params-to_sql.ensures, c.params-to_sql-2.ensures, c.params-to_sql-3.ensures) at c.change.ensures.leaves)
 
 pub returns-clause-calm : goal.returns-clause-calm
-returns-clause-calm g c = calmly c.change.result (version_ends c.args.number c.args.pacticipant.now c.args.version.now _ _) (rw (c.params-to_sql.ensures, c.params-to_sql-2.ensures, c.params-to_sql-3.ensures) at c.change.ensures.cause)
+returns-clause-calm g c = IfErr-calm c.change.result (EndsFrom-AllowsVersionAs c.args.number c.args.pacticipant.now c.args.version.now _ _) (rw (c.params-to_sql.ensures, c.params-to_sql-2.ensures, c.params-to_sql-3.ensures) at c.change.ensures.cause)

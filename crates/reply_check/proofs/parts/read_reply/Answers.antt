@@ -1,5 +1,5 @@
 use Rattle.serde_json.specs.View.{view}
-use Rattle.reply_check.{specs.{Replies.{ReplyRead}, ReplyParts.{at}, PartsView.{parts_view}}, proofs.ReadLemmas.{parts_sound}}
+use Rattle.reply_check.{specs.{Replies.{ReplyRead}, ReplyParts.{at}, PartsView.{parts_view}}, proofs.ReadLemmas.{parts_at-sound}}
 use Rattle.pact_file.specs.declared.fault.Part.TheVariants.{Headers}
 use Rattle.std.proofs.{Common.{Ok, Err, refl, sym, ap}, lemmas.Result.{err_from_is_err_and}}
 use Rattle.reply_check.proofs.parts.read_reply.Goals as goal
@@ -11,7 +11,7 @@ returns-in_err-parts c =
     rw (p.1, p.2) (λ memory. (Err c.in_err-parts.field-0.0, c.in_err-parts.ensures.parts memory, refl))
 
 pub reply_of-requires-clause-states : goal.reply_of-requires-clause-states
-reply_of-requires-clause-states c = parts_sound c.args.index (view c.args.value) (parts_view c.in_ok-parts.parts) c.requires c.in_ok-parts.ensures.parts
+reply_of-requires-clause-states c = parts_at-sound c.args.index (view c.args.value) (parts_view c.in_ok-parts.parts) c.requires c.in_ok-parts.ensures.parts
 
 pub returns-in-None : goal.returns-in-None
 unfolding ReplyRead

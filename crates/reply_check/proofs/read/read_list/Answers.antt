@@ -1,7 +1,7 @@
 use Rattle.serde_json.specs.View.{view, items_view}
 use Rattle.pact_file.specs.Sound.{AreSound}
 use Rattle.reply_check.specs.Replies.{ReplyRead}
-use Rattle.pact_rules.proofs.Each.{Completes, goes_on, ends, is_done}
+use Rattle.pact_rules.proofs.Each.{Completes, Completes-push, EachRead-first_fault, EachRead-of_Completes}
 use Rattle.std.proofs.{Common.{Ok, Err, sym, ◌∙◌, subst}, lemmas.List.{nil_from_length}, lemmas.Result.{err_from_is_err_and}}
 use Rattle.reply_check.proofs.read.read_list.Goals as goal
 
@@ -12,7 +12,7 @@ returns-in_err-read_reply c =
     let index = c.len-index.ensures ∙ l.found.ok.0 in
     let p = err_from_is_err_and c.from_residual.result c.from_residual.ensures.1 in
     rw (p.1, p.2) (λ memory.
-    ends ReplyRead view c.args.items.items l.found.items c.in-Some.item c.next.new.self.rest.items e (subst (λ i. ReplyRead i (view c.in-Some.item) (Err e)) index (c.in_err-read_reply.ensures memory))
+    EachRead-first_fault ReplyRead view c.args.items.items l.found.items c.in-Some.item c.next.new.self.rest.items e (subst (λ i. ReplyRead i (view c.in-Some.item) (Err e)) index (c.in_err-read_reply.ensures memory))
     (subst (Completes ReplyRead view c.args.items.items l.found.items) c.in-Some.ensures.steps.0 l.invariant.0))
 
 pub loop-item-preserved : goal.loop-item-preserved
@@ -20,7 +20,7 @@ loop-item-preserved c =
     let l = c.loop-item in
     let x = c.in_ok-read_reply.field-0 in
     let index = c.len-index.ensures ∙ l.found.ok.0 in (
-      goes_on ReplyRead view c.args.items.items l.found.items c.push.new.self.items c.in-Some.item c.next.new.self.rest.items x (subst (λ i. ReplyRead i (view c.in-Some.item) (Ok x)) index c.in_ok-read_reply.ensures)
+      Completes-push ReplyRead view c.args.items.items l.found.items c.push.new.self.items c.in-Some.item c.next.new.self.rest.items x (subst (λ i. ReplyRead i (view c.in-Some.item) (Ok x)) index c.in_ok-read_reply.ensures)
           c.in_ok-push.ensures.items (subst (Completes ReplyRead view c.args.items.items l.found.items) c.in-Some.ensures.steps.0 l.invariant.0),
       (subst (λ vs. AreSound 98 (items_view vs)) c.in-Some.ensures.steps.0 l.invariant.1).1,
     )
@@ -29,4 +29,4 @@ pub returns : goal.returns
 returns c =
     let l = c.loop-item in
     let none = nil_from_length l.item-iterator.rest.items (sym l.item-iterator.rest.ok.0 ∙ c.in-None.ensures.steps.0) in
-    is_done ReplyRead view c.args.items.items l.found.items (subst (Completes ReplyRead view c.args.items.items l.found.items) none l.invariant.0)
+    EachRead-of_Completes ReplyRead view c.args.items.items l.found.items (subst (Completes ReplyRead view c.args.items.items l.found.items) none l.invariant.0)

@@ -1,7 +1,7 @@
 use Rattle.std.proofs.Common.{◌≡◌, ◌↔◌, Err, IfOk, IsTrue, Ok, Result, sym, subst, ap, ◌∙◌}
 use Rattle.sqlite.specs.Held.{state}
 use Rattle.broker_database.specs.{BrokerView.{BrokerView}, Calls.{Applied}, Transaction.{told}, declared.ending.Failure.{Failure}}
-use Rattle.broker_service.{specs.Transacted.{IsNoFailure}, proofs.AppliedLemmas.{answer_of, ran}}
+use Rattle.broker_service.{specs.Transacted.{IsNoFailure}, proofs.AppliedLemmas.{answer_of, Applied-of_transacted}}
 use Rattle.broker_service.proofs.broker.Broker.run.Goals.{in-Ok, in-Err, in-Store, in_default}
 use Rattle.broker_core.specs.declared.answer.Answer.{Answer}
 use Rattle.caller_facts.specs.Callers.{token_of}
@@ -15,7 +15,7 @@ ok_told (Err failure) it = tt
 pub returns : goal.returns
 returns g c running sound =
     subst (λ (b : BrokerView g.row.S.Denot). Applied (state g.S.Store) b (token_of c.args.token) c.args.command.now c.match-transact.answer after) c.self.view_is
-    (ran (state g.S.Store) (record { connection = c.self.inside.conn; is_stopped = c.self.inside.stopped }) (token_of c.args.token) c.args.command.now c.transact.result c.match-transact.answer after is c.transact.ensures.transacts (ok_told c.transact.result c.transact.ensures.answers) stops (cc) sound)
+    (Applied-of_transacted (state g.S.Store) (record { connection = c.self.inside.conn; is_stopped = c.self.inside.stopped }) (token_of c.args.token) c.args.command.now c.transact.result c.match-transact.answer after is c.transact.ensures.transacts (ok_told c.transact.result c.transact.ensures.answers) stops (cc) sound)
   where
     after : BrokerView g.row.S.Denot
     after = record { connection = c.transact.new.conn; is_stopped = c.match-matches.self }

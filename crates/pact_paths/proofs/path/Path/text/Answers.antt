@@ -1,5 +1,5 @@
 use Rattle.std.proofs.Common.{◌≡◌, IfOk, string_bytes, subst, rules}
-use Rattle.pact_paths.{specs.Spelling.{IsPath, path_text}, proofs.ReadingLemmas.{text_reads, text_is_own}}
+use Rattle.pact_paths.{specs.Spelling.{IsPath, path_text}, proofs.ReadingLemmas.{path_text-reads_if_ok, path_text-own_if_ok}}
 use Rattle.pact_paths.proofs.path.Path.text.Goals as goal
 
 pub returns-clause-reading : goal.returns-clause-reading
@@ -7,11 +7,11 @@ returns-clause-reading c =
     let tokens = c.args.self.now in
     let path : IsPath tokens = subst IsPath c.self.view_is c.self.invariant in
     let canonical : IfOk c.text_of.result (λ s. string_bytes s ≡ path_text tokens) = search rules in
-    text_reads string_bytes c.text_of.result tokens path canonical
+    path_text-reads_if_ok string_bytes c.text_of.result tokens path canonical
 
 pub returns-clause-own : goal.returns-clause-own
 returns-clause-own c =
     let tokens = c.args.self.now in
     let path : IsPath tokens = subst IsPath c.self.view_is c.self.invariant in
     let canonical : IfOk c.text_of.result (λ s. string_bytes s ≡ path_text tokens) = search rules in
-    text_is_own string_bytes c.text_of.result tokens path canonical
+    path_text-own_if_ok string_bytes c.text_of.result tokens path canonical

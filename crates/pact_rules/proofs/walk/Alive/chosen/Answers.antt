@@ -1,6 +1,6 @@
 use Rattle.std.proofs.Common.{List, ◌≡◌, ◌∙◌, map, sym, ap, subst}
 use Rattle.pact_rules.specs.{Survivors.{survivor_view}, Rules.{BodyRule, Rules, IsInOrder}, Choice.{IsChoice, chosen}, RuleViews.{rule_view}}
-use Rattle.pact_rules.{specs.Walks.{Walk, IsWalkTo}, proofs.ChoiceLemmas.{chosen_is_choice, choice_unique, choice_within}}
+use Rattle.pact_rules.{specs.Walks.{Walk, IsWalkTo}, proofs.ChoiceLemmas.{IsChoice-chosen, IsChoice-unique, IsChoice-within}}
 use Rattle.pact_rules.proofs.walk.Alive.chosen.Goals as goal
 
 pub returns-clause-choice : goal.returns-clause-choice
@@ -16,8 +16,8 @@ returns-clause-choice c = λ at h.
 pub returns-clause-computed : goal.returns-clause-computed
 returns-clause-computed c = λ at h.
     let same : ◌≡◌ {A = List BodyRule} (map rule_view c.table.inside.body.items) c.args.table.now.body = ap (λ (r : Rules). r.body) c.table.view_is in
-    choice_unique c.args.table.now.body at c.best_alive.result (chosen c.args.table.now.body at) (returns-clause-choice c at h)
-    (chosen_is_choice c.args.table.now.body at (subst IsInOrder same c.table.invariant.order))
+    IsChoice-unique c.args.table.now.body at c.best_alive.result (chosen c.args.table.now.body at) (returns-clause-choice c at h)
+    (IsChoice-chosen c.args.table.now.body at (subst IsInOrder same c.table.invariant.order))
 
 pub returns-clause-within : goal.returns-clause-within
-returns-clause-within c = choice_within c.args.table.now.body c.requires.started.0 c.best_alive.result (returns-clause-choice c c.requires.started.0 c.requires.started.1)
+returns-clause-within c = IsChoice-within c.args.table.now.body c.requires.started.0 c.best_alive.result (returns-clause-choice c c.requires.started.0 c.requires.started.1)

@@ -1,7 +1,7 @@
 use Rattle.std.proofs.Common.{List, ◌≡◌, ◌∙◌, ◌++◌, [], ◌∷◌, map, sym, ap, subst}
 use Rattle.pact_paths.specs.Locations.{step_view}
 use Rattle.pact_rules.specs.{Rules.{BodyRule, Rules}, RuleViews.{rule_view}, Walks.{Walk, IsWalkTo}, Survivors.{survivor_view}}
-use Rattle.pact_rules.proofs.WalkLemmas.{walk_of, next_count}
+use Rattle.pact_rules.proofs.WalkLemmas.{IsWalkTo-of_parts, step_count-push}
 use Rattle.pact_rules.proofs.walk.Alive.step.Goals as goal
 
 pub returns : goal.returns
@@ -13,6 +13,6 @@ returns c = λ at h.
     ap (λ xs. record { steps = c.self.inside.steps; alive = map survivor_view xs }) c.deref.ensures.value ∙ c.self.view_is in
     let here = subst (λ rs. IsWalkTo rs (record { steps = c.self.inside.steps; alive = map survivor_view c.deref.result.now }) at) (sym body)
     (subst (λ w. IsWalkTo c.args.table.now.body w at) (sym walk) h) in
-    walk_of c.args.table.now.body (map rule_view c.deref-2.result.now) (map rule_view c.deref-3.result.now) c.saturating_add-steps.result c.in_ok-entries.entries.items c.sort_by_asked.new.entries.items (at ++ s ∷ [])
-    body (ap (map rule_view) c.deref-3.ensures.value ∙ same) (c.saturating_add-steps.ensures ∙ next_count at s c.self.inside.steps here.steps)
+    IsWalkTo-of_parts c.args.table.now.body (map rule_view c.deref-2.result.now) (map rule_view c.deref-3.result.now) c.saturating_add-steps.result c.in_ok-entries.entries.items c.sort_by_asked.new.entries.items (at ++ s ∷ [])
+    body (ap (map rule_view) c.deref-3.ensures.value ∙ same) (c.saturating_add-steps.ensures ∙ step_count-push at s c.self.inside.steps here.steps)
     c.sort_by_asked.ensures.same (c.in_ok-entries.ensures at here) c.sort_by_asked.ensures.order
