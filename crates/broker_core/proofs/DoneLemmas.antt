@@ -6,29 +6,29 @@ use Rattle.broker_core.{specs.Sessions.{with_cut, IsDoneOf, AreDoneOf, RunsDone,
 
 -- ---- what is done of one session
 
-abbrev behind : Option Request → List Request
-behind None = []
-behind (Some cut) = cut ∷ []
+abbrev following : Option Request → List Request
+following None = []
+following (Some cut) = cut ∷ []
 
-with_cut-append : (requests : List Request) (cut : Option Request) → with_cut requests cut ≡ requests ++ behind cut
+with_cut-append : (requests : List Request) (cut : Option Request) → with_cut requests cut ≡ requests ++ following cut
 with_cut-append requests None = sym (append-nil requests)
 with_cut-append requests (Some cut) = refl
 
 IsDoneOf-answered : (x : Session) → IsDoneOf x x.answered
-IsDoneOf-answered x = record { are_first = (behind x.cut, with_cut-append x.answered x.cut); has_answered = ([], sym (append-nil x.answered)) }
+IsDoneOf-answered x = record { are_first = (following x.cut, with_cut-append x.answered x.cut); has_answered = ([], sym (append-nil x.answered)) }
 
 IsDoneOf-with_cut : (x : Session) (r : Request) → x.cut ≡ Some r → IsDoneOf x (x.answered ++ r ∷ [])
 IsDoneOf-with_cut x r is = record { are_first = ([], ap (with_cut x.answered) is ∙ sym (append-nil (x.answered ++ r ∷ []))); has_answered = (r ∷ [], refl) }
 
-behind-append_cases : (cut : Option Request) (more left : List Request) → behind cut ≡ more ++ left → (more ≡ []) ⊎ ((r : Request) × (cut ≡ Some r) × (more ≡ r ∷ []))
-behind-append_cases cut [] left is = inl refl
-behind-append_cases None (m ∷ ms) left is = absurd (cc)
-behind-append_cases (Some r) (m ∷ []) left is = let same : r ≡ m = cc in inr (r, refl, ap (λ x. x ∷ []) (sym same))
-behind-append_cases (Some r) (m ∷ (n ∷ ns)) left is = absurd (cc)
+following-append_cases : (cut : Option Request) (more left : List Request) → following cut ≡ more ++ left → (more ≡ []) ⊎ ((r : Request) × (cut ≡ Some r) × (more ≡ r ∷ []))
+following-append_cases cut [] left is = inl refl
+following-append_cases None (m ∷ ms) left is = absurd (cc)
+following-append_cases (Some r) (m ∷ []) left is = let same : r ≡ m = cc in inr (r, refl, ap (λ x. x ∷ []) (sym same))
+following-append_cases (Some r) (m ∷ (n ∷ ns)) left is = absurd (cc)
 
 -- exactly the answered ones are done, or the cut one too
 IsDoneOf-cases : (x : Session) (first : List Request) → IsDoneOf x first → (first ≡ x.answered) ⊎ ((r : Request) × (x.cut ≡ Some r) × (first ≡ x.answered ++ r ∷ []))
-IsDoneOf-cases x first is = by (behind-append_cases x.cut more left (append_cancel_left x.answered _ _ all))
+IsDoneOf-cases x first is = by (following-append_cases x.cut more left (append_cancel_left x.answered _ _ all))
   where
     more : List Request
     more = is.has_answered.0
@@ -36,7 +36,7 @@ IsDoneOf-cases x first is = by (behind-append_cases x.cut more left (append_canc
     left : List Request
     left = is.are_first.0
 
-    all : x.answered ++ behind x.cut ≡ x.answered ++ (more ++ left)
+    all : x.answered ++ following x.cut ≡ x.answered ++ (more ++ left)
     all = sym (with_cut-append x.answered x.cut) ∙ is.are_first.1 ∙ ap (λ (d : List Request). d ++ left) is.has_answered.1 ∙ append_assoc x.answered more left
 
     by : (more ≡ []) ⊎ ((r : Request) × (x.cut ≡ Some r) × (more ≡ r ∷ [])) → (first ≡ x.answered) ⊎ ((r : Request) × (x.cut ≡ Some r) × (first ≡ x.answered ++ r ∷ []))

@@ -9,8 +9,8 @@ use Rattle.broker_core.specs.{declared.policy.Caller.{Caller}, declared.command.
 use Rattle.broker_core.specs.{declared.command.PactPath.{PactPath}, declared.command.Report.{Report}, declared.command.Version.{Version}}
 use Rattle.broker_core.specs.{declared.answer.Answer.{Answer}, declared.answer.Answer.TheVariants.{Denied, Unknown, Done}, declared.answer.Detail.{Detail}}
 use Rattle.broker_core.specs.{declared.answer.Missing.{Missing}, Text.{Text, same_text, same_version, same_pair, same_place, put_at, version}}
-use Rattle.broker_core.{specs.{State.{State, Verification, claimed_result, checked_result}, Limit.{has_room}}, proofs.{Lists.{Some-injective}, Ways.{Way-of_Step}}}
-use Rattle.broker_core.proofs.Ways.Way.{nobody, misformed, refused as refused_way, acting}
+use Rattle.broker_core.{specs.{State.{State, Verification, claimed_result, checked_result}, Limit.{has_room}}, proofs.Lists.{Some-injective}}
+use Rattle.broker_core.proofs.{Ways.{Way-of_Step}, Ways.Way.{nobody, misformed, refused as refused_way, acting}}
 
 -- ---- the tables afterwards
 
@@ -84,7 +84,7 @@ pub data Change (parts : Primitives) (s : State) : Command → State → Type 0 
 
 -- what a step of this command comes to: only an answer of the machine, or Done and the change
 pub data Effect (parts : Primitives) (s : State) (c : Command) : Transition → Type 0 where
-  told : (answer : Answer) → is_step answer ≡ true → Effect parts s c (unchanged_with s answer)
+  returned : (answer : Answer) → is_step answer ≡ true → Effect parts s c (unchanged_with s answer)
   changed : (t : State) (detail : Detail) → Change parts s c t → Effect parts s c (record { answer = Done detail; state = t })
 
 -- ---- each step is one
@@ -108,12 +108,12 @@ module _ (parts : Primitives) (s : State) (c : Command) where
   Effect-cond false x y h k = k refl
 
   Effect-repeated : (b : Bool) → Effect parts s c (repeated s b)
-  Effect-repeated true = told _ refl
-  Effect-repeated false = told _ refl
+  Effect-repeated true = returned _ refl
+  Effect-repeated false = returned _ refl
 
   Effect-cond_answer : (b : Bool) (x y : Answer) → is_step x ≡ true → is_step y ≡ true → Effect parts s c (unchanged_with s (if b then x else y))
-  Effect-cond_answer true x y h k = told x h
-  Effect-cond_answer false x y h k = told y k
+  Effect-cond_answer true x y h k = returned x h
+  Effect-cond_answer false x y h k = returned y k
 
   Effect-done : (t u : State) (detail : Detail) → t ≡ u → Change parts s c u → Effect parts s c (record { answer = Done detail; state = t })
   Effect-done t u detail is change = subst (λ (x : State). Effect parts s c (record { answer = Done detail; state = x })) (sym is) (changed u detail change)
@@ -123,28 +123,28 @@ module _ (parts : Primitives) (s : State) (c : Command) where
   Effect-report r detail change =
       let added = ap (λ (t : State). record t { results = s.results ++ r ∷ [] }) (named-versions_with s r.version) in
       Effect-option_map_or _ _ (result_of_run s r.version.pacticipant r.run) (λ e. Effect-cond_answer (says_same e.1 r) _ _ refl refl)
-      (λ free. Effect-cond (can_name s r.version && has_room s.results) _ _ (λ _. Effect-done _ (with_result s r) _ added (change free)) (λ _. told _ refl))
+      (λ free. Effect-cond (can_name s r.version && has_room s.results) _ _ (λ _. Effect-done _ (with_result s r) _ added (change free)) (λ _. returned _ refl))
 
 module _ (parts : Primitives) (s : State) where
   Effect-of_TakesEffect : (c : Command) (out : Transition) → TakesEffect parts s c out → Effect parts s c out
   Effect-of_TakesEffect (PutTeam name token) out x = Effect-of_equal parts s _ x.2 (Effect-option_map_or parts s _ _ _ (s.teams name) (λ old. Effect-repeated parts s _ _)
-      (λ free. Effect-cond parts s _ (is_some x.0) _ _ (λ _. told _ refl) (λ none. changed _ _ (team name token free (HasDigest-nobody s _ x.0 none x.1)))))
+      (λ free. Effect-cond parts s _ (is_some x.0) _ _ (λ _. returned _ refl) (λ none. changed _ _ (team name token free (HasDigest-nobody s _ x.0 none x.1)))))
   Effect-of_TakesEffect (PutPacticipant p owner) out x =
       Effect-of_equal parts s _ x (Effect-option_map_or parts s _ _ _ (s.pacticipants p) (λ old. Effect-repeated parts s _ _) (λ free. changed _ _ (pacticipant p owner free)))
   Effect-of_TakesEffect (PutEnvironment e marks) out x =
       Effect-of_equal parts s _ x (Effect-option_map_or parts s _ _ _ (s.environments e) (λ old. Effect-repeated parts s _ _) (λ free. changed _ _ (environment e marks free)))
-  Effect-of_TakesEffect (PutGrant name e) out x = Effect-of_equal parts s _ x (Effect-cond parts s _ (s.grants (name, e)) _ _ (λ _. told _ refl) (λ none. changed _ _ (grant name e none)))
+  Effect-of_TakesEffect (PutGrant name e) out x = Effect-of_equal parts s _ x (Effect-cond parts s _ (s.grants (name, e)) _ _ (λ _. returned _ refl) (λ none. changed _ _ (grant name e none)))
   Effect-of_TakesEffect (DeleteGrant name e) out x =
-      Effect-of_equal parts s _ x (Effect-cond parts s _ (s.grants (name, e)) _ _ (λ there. changed _ _ (end_of_grant name e there)) (λ _. told _ refl))
+      Effect-of_equal parts s _ x (Effect-cond parts s _ (s.grants (name, e)) _ _ (λ there. changed _ _ (end_of_grant name e there)) (λ _. returned _ refl))
   Effect-of_TakesEffect (PutVersion v branch) out x =
       let put = ap (λ (t : State). joined t v branch) (named-versions_with s v) ∙ joined-branches_with (record s { versions = versions_with s v }) v branch in
-      Effect-of_equal parts s _ x (Effect-cond parts s _ (is_known s v && on_branch s v branch) _ _ (λ _. told _ refl)
-      (λ new. Effect-cond parts s _ (can_name s v) _ _ (λ _. Effect-done parts s _ _ _ _ put (named_version v branch new)) (λ _. told _ refl)))
+      Effect-of_equal parts s _ x (Effect-cond parts s _ (is_known s v && on_branch s v branch) _ _ (λ _. returned _ refl)
+      (λ new. Effect-cond parts s _ (can_name s v) _ _ (λ _. Effect-done parts s _ _ _ _ put (named_version v branch new)) (λ _. returned _ refl)))
   Effect-of_TakesEffect (PutPact path file) out x =
       let v = consumer_version path in
       Effect-of_equal parts s _ x.2 (Effect-option_map_or parts s _ _ _ (s.contracts (v, path.provider)) (λ content. Effect-cond_answer parts s _ (is_text x.0 (text_of s content)) _ _ refl refl)
       (λ free. Effect-cond parts s _ (can_name s v && (is_stored s x.0 || has_room s.contents)) _ _
-      (λ _. Effect-done parts s _ _ _ _ (published v path.provider x.0) (contract path file x.0 free x.1)) (λ _. told _ refl)))
+      (λ _. Effect-done parts s _ _ _ _ (published v path.provider x.0) (contract path file x.0 free x.1)) (λ _. returned _ refl)))
     where
       published : (v : Version) (provider text : Text)
           → record (stored (named s v) text) { contracts = put_at (same_pair same_version same_text) s.contracts (v, provider) (Some (content_number s text)) }
@@ -153,28 +153,28 @@ module _ (parts : Primitives) (s : State) where
           let table = put_at (same_pair same_version same_text) s.contracts (v, provider) (Some (content_number s text)) in
           ap (λ (t : State). record (stored t text) { contracts = table }) (named-versions_with s v)
           ∙ ap (λ (t : State). record t { contracts = table }) (stored-contents_with (record s { versions = versions_with s v }) text)
-  Effect-of_TakesEffect (GetPact path) out x = Effect-of_equal parts s _ x.2 (told _ refl)
-  Effect-of_TakesEffect (GetBranchPact provider consumer branch) out x = Effect-of_equal parts s _ x.2.2 (told _ refl)
+  Effect-of_TakesEffect (GetPact path) out x = Effect-of_equal parts s _ x.2 (returned _ refl)
+  Effect-of_TakesEffect (GetBranchPact provider consumer branch) out x = Effect-of_equal parts s _ x.2.2 (returned _ refl)
   Effect-of_TakesEffect (PostResult path r success) out x = Effect-of_equal parts s _ x.2 (Effect-report parts s _ _ _ (claim path r success x.0 x.1))
   Effect-of_TakesEffect (PostReplies path r replies) out x = Effect-of_equal parts s _ x.2.2.2 (by_failing x.2.2.0)
     where
       by_failing : (failing : Option (List ℕ))
           → Effect parts s (PostReplies path r replies) (report_replies s x.0 (version path.provider r.provider_version) r.run failing)
-      by_failing None = told _ refl
+      by_failing None = returned _ refl
       by_failing (Some failing) = Effect-report parts s _ _ _ (check path r replies x.0 failing x.1)
   Effect-of_TakesEffect (Deploy e v instance) out x =
-      let stands = is_text v.name (s.deployed (e, v.pacticipant, instance_of instance)) in
+      let is_present = is_text v.name (s.deployed (e, v.pacticipant, instance_of instance)) in
       Effect-of_equal parts s _ x.3 (Effect-cond parts s _ x.0 _ _
-      (λ _. Effect-cond parts s _ stands _ _ (λ _. told _ refl) (λ new. changed _ _ (deployment e v instance new))) (λ _. told _ refl))
+      (λ _. Effect-cond parts s _ is_present _ _ (λ _. returned _ refl) (λ new. changed _ _ (deployment e v instance new))) (λ _. returned _ refl))
   Effect-of_TakesEffect (Undeploy e v instance) out x =
-      let stands = is_text v.name (s.deployed (e, v.pacticipant, instance_of instance)) in
-      Effect-of_equal parts s _ x (Effect-cond parts s _ stands _ _ (λ there. changed _ _ (end_of_deployment e v instance there)) (λ _. told _ refl))
+      let is_present = is_text v.name (s.deployed (e, v.pacticipant, instance_of instance)) in
+      Effect-of_equal parts s _ x (Effect-cond parts s _ is_present _ _ (λ there. changed _ _ (end_of_deployment e v instance there)) (λ _. returned _ refl))
   Effect-of_TakesEffect (Release e v) out x = Effect-of_equal parts s _ x.3 (Effect-cond parts s _ x.0 _ _
-      (λ _. Effect-cond parts s _ (s.released (e, v)) _ _ (λ _. told _ refl) (λ new. changed _ _ (release e v new))) (λ _. told _ refl))
-  Effect-of_TakesEffect (EndSupport e v) out x = Effect-of_equal parts s _ x (Effect-cond parts s _ (s.released (e, v)) _ _ (λ there. changed _ _ (end_of_support e v there)) (λ _. told _ refl))
-  Effect-of_TakesEffect (GetEnvironment e) out x = Effect-of_equal parts s _ x.2.2.2 (told _ refl)
-  Effect-of_TakesEffect (CanIDeploy v e) out x = Effect-of_equal parts s _ x.2.3 (told _ refl)
-  Effect-of_TakesEffect (GetMatrix v) out x = Effect-of_equal parts s _ x.2 (told _ refl)
+      (λ _. Effect-cond parts s _ (s.released (e, v)) _ _ (λ _. returned _ refl) (λ new. changed _ _ (release e v new))) (λ _. returned _ refl))
+  Effect-of_TakesEffect (EndSupport e v) out x = Effect-of_equal parts s _ x (Effect-cond parts s _ (s.released (e, v)) _ _ (λ there. changed _ _ (end_of_support e v there)) (λ _. returned _ refl))
+  Effect-of_TakesEffect (GetEnvironment e) out x = Effect-of_equal parts s _ x.2.2.2 (returned _ refl)
+  Effect-of_TakesEffect (CanIDeploy v e) out x = Effect-of_equal parts s _ x.2.3 (returned _ refl)
+  Effect-of_TakesEffect (GetMatrix v) out x = Effect-of_equal parts s _ x.2 (returned _ refl)
   Effect-of_TakesEffect (Malformed fault) out x = absurd x
 
 -- ---- a step, by how far the command comes
@@ -187,18 +187,18 @@ refused-is_step c None false answer is = ap is_step (sym (Some-injective (Denied
 -- what is so of each answer that changes nothing, and of what a permitted command does, is so of a step
 pub Step-by_cases : (parts : Primitives) (s : State) (c : Command) (P : Transition → Type 0) → ((answer : Answer) → is_step answer ≡ true → P (unchanged_with s answer))
     → ((out : Transition) → TakesEffect parts s c out → P out) → (token : Option Text) (out : Transition) → Step parts s token c out → P out
-Step-by_cases parts s c P told_it acted token out step = elim (Way-of_Step parts s token c out step) as (λ o _. P o) [
-  | nobody calls ↦ told_it _ refl
-  | misformed caller calls f form ↦ told_it _ refl
-  | refused_way caller calls form answer is ↦ told_it answer (refused-is_step c (first_missing s c) (is_allowed s caller c) answer is)
+Step-by_cases parts s c P returned_it acted token out step = elim (Way-of_Step parts s token c out step) as (λ o _. P o) [
+  | nobody calls ↦ returned_it _ refl
+  | misformed caller calls f form ↦ returned_it _ refl
+  | refused_way caller calls form answer is ↦ returned_it answer (refused-is_step c (first_missing s c) (is_allowed s caller c) answer is)
   | acting caller calls form o is it ↦ acted o it
 ]
 
 -- the one form of each step
 pub Effect-of_Step : (parts : Primitives) (s : State) (token : Option Text) (c : Command) (out : Transition) → Step parts s token c out → Effect parts s c out
-Effect-of_Step parts s token c out step = Step-by_cases parts s c (Effect parts s c) told (Effect-of_TakesEffect parts s c) token out step
+Effect-of_Step parts s token c out step = Step-by_cases parts s c (Effect parts s c) returned (Effect-of_TakesEffect parts s c) token out step
 
 -- what is so of the state, and of what each change of it leaves, is so after a step
 pub Step-keeps : (parts : Primitives) (s : State) (c : Command) (P : State → Type 0) → P s → ((t : State) → Change parts s c t → P t) → (token : Option Text) (out : Transition) → Step parts s token c out → P out.state
 Step-keeps parts s c P here left token out step =
-    elim (Effect-of_Step parts s token c out step) as (λ o _. P o.state) [ told answer is ↦ here | changed t detail change ↦ left t change ]
+    elim (Effect-of_Step parts s token c out step) as (λ o _. P o.state) [ returned answer is ↦ here | changed t detail change ↦ left t change ]

@@ -7,7 +7,8 @@ use Rattle.broker_core.specs.{declared.policy.Caller.TheVariants.{Office, Team},
 use Rattle.broker_core.specs.{declared.command.Command.TheVariants.{PutTeam, PutPacticipant, PutEnvironment, PutGrant}, declared.command.Marks.{Marks}}
 use Rattle.broker_core.specs.{declared.command.PactPath.{PactPath}, declared.need.Kind.{Kind}, declared.need.PairFault.{PairFault}}
 use Rattle.broker_core.specs.{declared.answer.Answer.{Answer}, declared.answer.Answer.TheVariants.{Done}, declared.answer.Detail.TheVariants.{Plain, Result}}
-use Rattle.broker_core.{specs.{Text.{Text, same_text, put_at, version}, State.{State, opening, claimed_result}}, proofs.{Judgement.{Rows}, Lists.{Some-injective}}}
+use Rattle.broker_core.{specs.{Text.{Text, same_text, put_at, version}, State.{State, opening, claimed_result}}, proofs.Judgement.{Rows}}
+use Rattle.broker_core.proofs.Lists.{Some-injective}
 
 abbrev pub shop : Text
 shop = codes "shop"

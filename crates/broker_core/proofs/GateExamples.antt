@@ -4,7 +4,8 @@ use Rattle.broker_core.specs.{declared.policy.Caller.TheVariants.{Team}, declare
 use Rattle.broker_core.specs.{declared.command.Marks.{Marks}, declared.need.Kind.TheVariants.{Absent, Missing, Failed}}
 use Rattle.broker_core.specs.{declared.answer.Answer.TheVariants.{Done, NotPermitted, Shown}, declared.answer.Detail.TheVariants.{Plain, Result}}
 use Rattle.broker_core.specs.{Text.{Text, version}, State.{State, claimed_result}}
-use Rattle.broker_core.{specs.Change.{put_environment, put_grant, put_version, put_pact, report, deploy, release}, proofs.Judgement.{Rows, row_keys, Judges-is_permitted}}
+use Rattle.broker_core.specs.Change.{put_environment, put_grant, put_version, put_pact, report, deploy, release}
+use Rattle.broker_core.proofs.Judgement.{Rows, row_keys, Judges-is_permitted}
 use Rattle.broker_core.proofs.Fixture.{blue_token-not_office, red_token-not_office, shop, stock, Answers, red_token, blue_token, red, blue, live, one, two, three, first_file, second_file, gated, lacks, fixture, published, named_stock, claims, no_rows, pact_rows}
 use Rattle.broker_core.specs.declared.answer.Shown.TheVariants as shown
 
@@ -85,21 +86,21 @@ both_published = (put_pact published (version shop two) stock second_file).state
 abbrev pub both_passed : State
 both_passed = (report (claims both_published one true) (claimed_result 2 (version stock one) true None) Result).state
 
-abbrev pub both_standing : State
-both_standing = (deploy (release (deploy both_passed live (version stock one) []).state live (version shop one)).state live (version shop two) []).state
+abbrev pub both_present : State
+both_present = (deploy (release (deploy both_passed live (version stock one) []).state live (version shop one)).state live (version shop two) []).state
 
 abbrev pub next_version : State
-next_version = (report both_standing (claimed_result 2 (version stock two) true None) Result).state
+next_version = (report both_present (claimed_result 2 (version stock two) true None) Result).state
 
-abbrev pub standing_rows : Rows
-standing_rows = record {
+abbrev pub present_rows : Rows
+present_rows = record {
   contracts = ((version shop two, stock), 2) ∷ ((version shop one, stock), 1) ∷ [];
   deployed = ((live, shop, []), two) ∷ ((live, stock, []), one) ∷ [];
   released = (live, version shop one) ∷ [];
 }
 
 Deploy-blocked_by_consumer : Answers next_version blue_token (Deploy live (version stock two) None) (NotPermitted (lacks one (Some two) Missing ∷ []))
-Deploy-blocked_by_consumer = (_, (Some (Team blue), (blue_token-not_office, refl), (None, refl, (false, lacks one (Some two) Missing ∷ [], Judges-is_permitted next_version (row_keys next_version standing_rows) (version stock two) live, refl))), refl)
+Deploy-blocked_by_consumer = (_, (Some (Team blue), (blue_token-not_office, refl), (None, refl, (false, lacks one (Some two) Missing ∷ [], Judges-is_permitted next_version (row_keys next_version present_rows) (version stock two) live, refl))), refl)
 
 -- if an environment isn't gated, the faults are shown and nothing is refused
 abbrev pub dev : Text

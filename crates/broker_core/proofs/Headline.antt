@@ -3,7 +3,7 @@ use Rattle.std.specs.{Prelude.{Option, Some, None, IsTrue, IsSomeAnd, Contains, 
 use Rattle.std.proofs.Common.{◌≡◌, ◌≢◌, ◌⊎◌, List, [], ◌∷◌, refl, sym, ◌∙◌, ap, subst, inl, inr, Bool, true, false, ◌&&◌, ◌||◌, if◌then◌else◌}
 use Rattle.std.proofs.lemmas.Map.Views.{Contains-from_any}
 use Rattle.broker_core.specs.declared.answer.Answer.TheVariants.{Done, Already, NotPermitted, Denied, Unknown}
-use Rattle.broker_core.specs.Gate.{Stands, consumer_of, NeedsStanding, NeedsAbsent, NeedsAsProvider, IsNeed, IsGood, IsPermitted, Judges}
+use Rattle.broker_core.specs.Gate.{IsPresent, consumer_of, NeedsPresent, NeedsAbsent, NeedsAsProvider, IsNeed, IsGood, IsPermitted, Judges}
 use Rattle.broker_core.specs.Request.{asks, refusal, refused, unless, is_known, has_grant}
 use Rattle.broker_core.specs.Change.{Transition, unchanged_with, already, done, deploy, release, instance_of, is_text}
 use Rattle.broker_core.specs.Headline.{IsVerified, AreVerified, NoneIsAbsent, PermitsVerified, NamesExist, HasCaller, IsGranted, MayBeRecorded, IsRefusal, IsRecordedExactly, DeploysExactly, ReleasesExactly}
@@ -14,7 +14,8 @@ use Rattle.broker_core.specs.{declared.need.PairFault.{PairFault}, declared.answ
 use Rattle.broker_core.specs.{declared.answer.Missing.{Missing}, declared.policy.Rule.TheVariants.{A1, A7}}
 use Rattle.broker_core.specs.{Text.{Text, same_text, same_version, same_pair, same_place, put_at, version}, State.{State, latest, is_gated, is_strict}}
 use Rattle.broker_core.specs.{Policy.{allows}, Machine.{Primitives, IsCallerOfToken, FindsFault, Step, TakesEffect}, Laws.{TeamsDiffer}}
-use Rattle.broker_core.proofs.{Lists.{Some-injective, None-not_Some, list_any-of_member}, Judgement.{same_text-equal, same_text-refl, and_both, same_version-equal, same_version-refl}, Once.{IsCallerOfToken-unique}}
+use Rattle.broker_core.proofs.Lists.{Some-injective, None-not_Some, list_any-of_member}
+use Rattle.broker_core.proofs.{Judgement.{same_text-equal, same_text-refl, and_both, same_version-equal, same_version-refl}, Once.{IsCallerOfToken-unique}}
 use Rattle.broker_core.proofs.{Ways.{After, Way, Way-of_Step}, Ways.Way.{nobody, misformed, refused as refused_way, acting}}
 use Rattle.broker_core.proofs.Retry.{put_at-same, place-refl, mark-refl}
 use Rattle.broker_core.specs.declared.answer.Missing.TheVariants as missing
@@ -71,9 +72,9 @@ module _ (parts : Primitives) (s : State) (token : Option Text) (e : Text) (v : 
   IsRecordedExactly-of_Ends : (IsRecorded : State → Type 0) (out : Transition) → Ends IsRecorded out → IsRecordedExactly parts s token e v IsRecorded out
   unfolding Ends
   IsRecordedExactly-of_Ends IsRecorded out (inl may) = record { recorded = (λ _. may.0, λ _. (may.1, may.2)); refused = λ bars. absurd (bars may.0) }
-  IsRecordedExactly-of_Ends IsRecorded out (inr told) = record {
-    recorded = (λ h. absurd (told.4 (subst (λ (o : Transition). (o.answer ≡ Done Plain) ⊎ (o.answer ≡ Already Plain)) told.1 h.0)), λ may. absurd (told.3 may));
-    refused = λ _. (subst (IsRefusal parts s token e v) (sym (ap (λ o. o.answer) told.1)) told.2, ap (λ o. o.state) told.1);
+  IsRecordedExactly-of_Ends IsRecorded out (inr returned) = record {
+    recorded = (λ h. absurd (returned.4 (subst (λ (o : Transition). (o.answer ≡ Done Plain) ⊎ (o.answer ≡ Already Plain)) returned.1 h.0)), λ may. absurd (returned.3 may));
+    refused = λ _. (subst (IsRefusal parts s token e v) (sym (ap (λ o. o.answer) returned.1)) returned.2, ap (λ o. o.state) returned.1);
   }
 
   -- a caller that the owner's rule permits is granted
@@ -112,13 +113,13 @@ module _ (parts : Primitives) (s : State) (token : Option Text) (e : Text) (v : 
       → (permitted : Bool) (faults : List PairFault) → Judges s v e permitted faults → out ≡ (if permitted then next else unchanged_with s (NotPermitted faults))
       → Ends IsRecorded out
   unfolding Ends
-  Ends-judged IsRecorded next out stands answered names granted true faults judges is =
+  Ends-judged IsRecorded next out is_present answered names granted true faults judges is =
       inl (
         record { names = names; granted = granted; permitted = judges.verdict.0 refl },
         subst (λ (o : Transition). (o.answer ≡ Done Plain) ⊎ (o.answer ≡ Already Plain)) (sym is) answered,
-        subst (λ (o : Transition). IsRecorded o.state) (sym is) stands,
+        subst (λ (o : Transition). IsRecorded o.state) (sym is) is_present,
       )
-  Ends-judged IsRecorded next out stands answered names granted false faults judges is =
+  Ends-judged IsRecorded next out is_present answered names granted false faults judges is =
       let bars : ¬ (IsPermitted s v e) = λ allowed. let wrong : false ≡ true = judges.verdict.1 allowed in absurd (cc) in
       Ends-refused IsRecorded out (NotPermitted faults) is (names, granted, bars, judges.faults_are) (λ may. bars may.permitted) (says_recorded-differs _ refl)
 
@@ -180,20 +181,20 @@ pub DeploysExactly-holds : (parts : Primitives) → DeploysExactly parts
 unfolding owns
 DeploysExactly-holds parts s token e v instance out one step =
     let IsRecorded : State → Type 0 = λ t. t.deployed (e, v.pacticipant, instance_of instance) ≡ Some v.name in
-    let stands = deploy-records s e v (instance_of instance) in
+    let is_present = deploy-records s e v (instance_of instance) in
     IsRecordedExactly-of_Ends parts s token e v one IsRecorded out
     (Ends-by_step parts s token e v one IsRecorded out (Deploy e v instance) refl (λ f is. is) (λ caller. refl)
-    (λ names granted acts. Ends-judged parts s token e v one IsRecorded (deploy s e v (instance_of instance)) out stands.0 stands.1 names granted acts.0 acts.1 acts.2 acts.3)
+    (λ names granted acts. Ends-judged parts s token e v one IsRecorded (deploy s e v (instance_of instance)) out is_present.0 is_present.1 names granted acts.0 acts.1 acts.2 acts.3)
     step)
 
 pub ReleasesExactly-holds : (parts : Primitives) → ReleasesExactly parts
 unfolding owns
 ReleasesExactly-holds parts s token e v out one step =
     let IsRecorded : State → Type 0 = λ t. IsTrue (t.released (e, v)) in
-    let stands = release-records s e v in
+    let is_present = release-records s e v in
     IsRecordedExactly-of_Ends parts s token e v one IsRecorded out
     (Ends-by_step parts s token e v one IsRecorded out (Release e v) refl (λ f is. is) (λ caller. refl)
-    (λ names granted acts. Ends-judged parts s token e v one IsRecorded (release s e v) out stands.0 stands.1 names granted acts.0 acts.1 acts.2 acts.3)
+    (λ names granted acts. Ends-judged parts s token e v one IsRecorded (release s e v) out is_present.0 is_present.1 names granted acts.0 acts.1 acts.2 acts.3)
     step)
 
 -- ---- what is permitted in a gated environment
@@ -209,9 +210,9 @@ module _ (s : State) (v : Version) (e : Text) where
       (good (need_of consumer provider.pacticipant (Some provider.name) (latest s content provider))
       (record { content = content; contract = between.contract; between = sides between.partner; result = refl })).1
     where
-      sides : ((consumer ≡ v) × Stands s e provider) ⊎ ((provider ≡ v) × Stands s e consumer × (consumer.pacticipant ≢ v.pacticipant))
+      sides : ((consumer ≡ v) × IsPresent s e provider) ⊎ ((provider ≡ v) × IsPresent s e consumer × (consumer.pacticipant ≢ v.pacticipant))
           → let need = need_of consumer provider.pacticipant (Some provider.name) (latest s content provider) in
-          NeedsStanding s v e need ⊎ (NeedsAbsent s v e need ⊎ NeedsAsProvider s v e need)
+          NeedsPresent s v e need ⊎ (NeedsAbsent s v e need ⊎ NeedsAsProvider s v e need)
       sides (inl h) = inl (h.0, h.1)
       sides (inr h) = inr (inr (h.2, h.1, ap (λ (w : Version). w.pacticipant) h.0, ap (λ (w : Version). Some w.name) h.0))
 
@@ -231,10 +232,10 @@ module _ (s : State) (v : Version) (e : Text) where
             (sym (is.result ∙ ap (option_and_then (λ w. latest s is.content (version need.provider w))) e')) good,
       )
 
-      by_side : NeedsStanding s v e need ⊎ (NeedsAbsent s v e need ⊎ NeedsAsProvider s v e need) → IsGood (is_strict s e) need
+      by_side : NeedsPresent s v e need ⊎ (NeedsAbsent s v e need ⊎ NeedsAsProvider s v e need) → IsGood (is_strict s e) need
       by_side (inl h) = standing need.provider_version refl h.1
         where
-          standing : (o : Option Text) → need.provider_version ≡ o → IsSomeAnd o (λ w. Stands s e (version need.provider w)) → IsGood (is_strict s e) need
+          standing : (o : Option Text) → need.provider_version ≡ o → IsSomeAnd o (λ w. IsPresent s e (version need.provider w)) → IsGood (is_strict s e) need
           standing None e' there = absurd there
           standing (Some name) e' there = at name e' (both.0 (consumer_of need) (version need.provider name) is.content (record { contract = is.contract; partner = inl (h.0, there) }))
       by_side (inr (inl h)) = absurd (both.1 need.provider is.content (subst (λ w. s.contracts (w, need.provider) ≡ Some is.content) h.0 is.contract) h.2)

@@ -6,23 +6,23 @@ use Rattle.broker_core.specs.{declared.command.Version.{Version}, declared.answe
 use Rattle.broker_core.specs.{declared.answer.Answer.TheVariants.{NotPermitted, Already, Done}, declared.answer.Detail.TheVariants.{Plain}}
 use Rattle.broker_core.specs.{declared.need.Need.{Need}, declared.need.PairFault.{PairFault}, Text.{Text, version, same_place, put_at}}
 use Rattle.broker_core.specs.{State.{State, is_gated, is_strict}, Faults.{fault_of}}
-use Rattle.broker_core.specs.Gate.{Stands, consumer_of, NeedsStanding, NeedsAbsent, NeedsAsProvider, IsNeed, IsGood, IsPermitted, IsFault, Judges}
+use Rattle.broker_core.specs.Gate.{IsPresent, consumer_of, NeedsPresent, NeedsAbsent, NeedsAsProvider, IsNeed, IsGood, IsPermitted, IsFault, Judges}
 use Rattle.broker_core.specs.{Request.{refusal}, Change.{Transition, unchanged_with, already, done, deploy, instance_of, is_text}}
 use Rattle.broker_core.specs.{Machine.{Primitives, IsCallerOfToken, Step, TakesEffect}, Laws.{TeamsDiffer, Concerns, Agree, GateLocality, GateAnswersOnce}}
 use Rattle.broker_core.proofs.{Lists.{None-not_Some}, Once.{StepOnce-holds}, Ways.{Way-of_Step, Step-of_Way}, Ways.Way.{nobody, misformed, refused, acting}}
 
 module _ {parts : Primitives} {token : Option Text} {s t : State} {v : Version} {e : Text} where
-  Stands-there : Agree parts token s t v e → (w : Version) → Stands s e w → Stands t e w
-  Stands-there a w (inl h) = inl (h.0, sym (a.deployed w.pacticipant h.0) ∙ h.1)
-  Stands-there a w (inr h) = inr (subst IsTrue (a.released w) h)
+  IsPresent-there : Agree parts token s t v e → (w : Version) → IsPresent s e w → IsPresent t e w
+  IsPresent-there a w (inl h) = inl (h.0, sym (a.deployed w.pacticipant h.0) ∙ h.1)
+  IsPresent-there a w (inr h) = inr (subst IsTrue (a.released w) h)
 
-  Stands-back : Agree parts token s t v e → (w : Version) → Stands t e w → Stands s e w
-  Stands-back a w (inl h) = inl (h.0, a.deployed w.pacticipant h.0 ∙ h.1)
-  Stands-back a w (inr h) = inr (subst IsTrue (sym (a.released w)) h)
+  IsPresent-back : Agree parts token s t v e → (w : Version) → IsPresent t e w → IsPresent s e w
+  IsPresent-back a w (inl h) = inl (h.0, a.deployed w.pacticipant h.0 ∙ h.1)
+  IsPresent-back a w (inr h) = inr (subst IsTrue (sym (a.released w)) h)
 
   Concerns-back : Agree parts token s t v e → (w : Version) → Concerns t v e w → Concerns s v e w
   Concerns-back a w (inl h) = inl h
-  Concerns-back a w (inr h) = inr (Stands-back a w h)
+  Concerns-back a w (inr h) = inr (IsPresent-back a w h)
 
   Agree-sym : Agree parts token s t v e → Agree parts token t s v e
   Agree-sym a = record {
@@ -37,9 +37,9 @@ module _ {parts : Primitives} {token : Option Text} {s t : State} {v : Version} 
     results = λ w p content c is u. sym (a.results w p content (Concerns-back a w c) (a.contracts w p (Concerns-back a w c) ∙ is) u);
   }
 
-  IsSomeAnd-stands : Agree parts token s t v e → (p : Text) (o : Option Text) → IsSomeAnd o (λ w. Stands s e (version p w)) → IsSomeAnd o (λ w. Stands t e (version p w))
-  IsSomeAnd-stands a p None h = h
-  IsSomeAnd-stands a p (Some w) h = Stands-there a (version p w) h
+  IsSomeAnd-is_present : Agree parts token s t v e → (p : Text) (o : Option Text) → IsSomeAnd o (λ w. IsPresent s e (version p w)) → IsSomeAnd o (λ w. IsPresent t e (version p w))
+  IsSomeAnd-is_present a p None h = h
+  IsSomeAnd-is_present a p (Some w) h = IsPresent-there a (version p w) h
 
   IsNeed-there : Agree parts token s t v e → (need : Need) → IsNeed s v e need → IsNeed t v e need
   IsNeed-there a need is = record {
@@ -49,7 +49,7 @@ module _ {parts : Primitives} {token : Option Text} {s t : State} {v : Version} 
     result = is.result ∙ (λ i. option_and_then (λ w. a.results (consumer_of need) need.provider is.content concerned is.contract (version need.provider w) i) need.provider_version);
   }
     where
-      concerned_by : NeedsStanding s v e need ⊎ (NeedsAbsent s v e need ⊎ NeedsAsProvider s v e need) → Concerns s v e (consumer_of need)
+      concerned_by : NeedsPresent s v e need ⊎ (NeedsAbsent s v e need ⊎ NeedsAsProvider s v e need) → Concerns s v e (consumer_of need)
       concerned_by (inl h) = inl h.0
       concerned_by (inr (inl h)) = inl h.0
       concerned_by (inr (inr h)) = inr h.1
@@ -57,10 +57,10 @@ module _ {parts : Primitives} {token : Option Text} {s t : State} {v : Version} 
       concerned : Concerns s v e (consumer_of need)
       concerned = concerned_by is.between
 
-      across : NeedsStanding s v e need ⊎ (NeedsAbsent s v e need ⊎ NeedsAsProvider s v e need) → NeedsStanding t v e need ⊎ (NeedsAbsent t v e need ⊎ NeedsAsProvider t v e need)
-      across (inl h) = inl (h.0, IsSomeAnd-stands a need.provider need.provider_version h.1)
-      across (inr (inl h)) = inr (inl (h.0, h.1, λ w there. h.2 w (Stands-back a (version need.provider w) there)))
-      across (inr (inr h)) = inr (inr (h.0, Stands-there a (consumer_of need) h.1, h.2, h.3))
+      across : NeedsPresent s v e need ⊎ (NeedsAbsent s v e need ⊎ NeedsAsProvider s v e need) → NeedsPresent t v e need ⊎ (NeedsAbsent t v e need ⊎ NeedsAsProvider t v e need)
+      across (inl h) = inl (h.0, IsSomeAnd-is_present a need.provider need.provider_version h.1)
+      across (inr (inl h)) = inr (inl (h.0, h.1, λ w there. h.2 w (IsPresent-back a (version need.provider w) there)))
+      across (inr (inr h)) = inr (inr (h.0, IsPresent-there a (consumer_of need) h.1, h.2, h.3))
 
 module _ {parts : Primitives} {token : Option Text} {s t : State} {v : Version} {e : Text} where
   is_gated-same : Agree parts token s t v e → is_gated s e ≡ is_gated t e

@@ -150,8 +150,8 @@ module _ (parts : Primitives) (is_refusal : FormFault → Bool) (s : State) (one
   Formed-answers_refusal : (c : Command) (caller : Caller) (out : Transition) (f : Option FormFault) → Formed c caller out f → Refuses f → AnswersRefusal is_refusal out.answer
   unfolding Formed Refuses
   Formed-answers_refusal c caller out f formed refuses =
-      let told : Formed c caller out (Some refuses.0) = subst (Formed c caller out) refuses.1 formed in
-      (refuses.0, ap (λ o. o.answer) told, refuses.2)
+      let returned : Formed c caller out (Some refuses.0) = subst (Formed c caller out) refuses.1 formed in
+      (refuses.0, ap (λ o. o.answer) returned, refuses.2)
 
   Formed-by_form : (c : Command) → IsReadOnce parts is_refusal c → (caller : Caller) (a b : Transition) (f g : Option FormFault)
       → (f ≡ g) ⊎ (Refuses f ⊎ Refuses g) → Formed c caller a f → Formed c caller b g → Same a b

@@ -8,7 +8,7 @@ use Rattle.broker_core.specs.{Request.{is_known, consumer_version}, Change.{Tran
 use Rattle.broker_core.specs.{Machine.{Primitives, Step}, Laws.{IsRepeatable, Retry}}
 use Rattle.broker_core.proofs.Effects.Change.{team, pacticipant, environment, grant, end_of_grant, named_version, contract, claim, check, deployment, end_of_deployment, release, end_of_support}
 use Rattle.broker_core.proofs.{Lists.{list_any-of_member}, Judgement.{same_text-refl, same_version-refl}}
-use Rattle.broker_core.proofs.{Effects.{Change, Effect, Effect-of_Step, versions_with, branches_with, with_result}, Effects.Effect.{told, changed}}
+use Rattle.broker_core.proofs.{Effects.{Change, Effect, Effect-of_Step, versions_with, branches_with, with_result}, Effects.Effect.{returned, changed}}
 
 -- what was put at a key is there
 pub put_at-same : {K X : Type 0} (same : K → K → Bool) (table : K → X) (key : K) (value : X) → same key key ≡ true → put_at same table key value key ≡ value
@@ -61,13 +61,13 @@ result_of_run-used s r (Some run) some same free =
 -- a command that changed a state, and may come twice, doesn't change the state that it left
 Change-once : (parts : Primitives) (s : State) (c : Command) (t u : State) → IsRepeatable c → Change parts s c t → Change parts t c u → ⊥
 Change-once parts s _ _ _ _ (team name token new nobody) (team _ _ free _) =
-    let stands = put_at-same same_text s.teams name (Some (parts.digest_of token)) (same_text-refl name) in cc
+    let is_present = put_at-same same_text s.teams name (Some (parts.digest_of token)) (same_text-refl name) in cc
 Change-once parts s _ _ _ _ (pacticipant p owner new) (pacticipant _ _ free) =
-    let stands = put_at-same same_text s.pacticipants p (Some owner) (same_text-refl p) in cc
+    let is_present = put_at-same same_text s.pacticipants p (Some owner) (same_text-refl p) in cc
 Change-once parts s _ _ _ _ (environment e marks new) (environment _ _ free) =
-    let stands = put_at-same same_text s.environments e (Some marks) (same_text-refl e) in cc
+    let is_present = put_at-same same_text s.environments e (Some marks) (same_text-refl e) in cc
 Change-once parts s _ _ _ _ (grant name e new) (grant _ _ free) =
-    let stands = put_at-same (same_pair same_text same_text) s.grants (name, e) true (pair_text-refl (name, e)) in cc
+    let is_present = put_at-same (same_pair same_text same_text) s.grants (name, e) true (pair_text-refl (name, e)) in cc
 Change-once parts s _ _ _ _ (end_of_grant name e stood) (end_of_grant _ _ there) =
     let gone = put_at-same (same_pair same_text same_text) s.grants (name, e) false (pair_text-refl (name, e)) in cc
 Change-once parts s _ _ _ _ (named_version v branch new) (named_version _ _ other) =
@@ -76,17 +76,17 @@ Change-once parts s _ _ _ _ (named_version v branch new) (named_version _ _ othe
     cc
 Change-once parts s _ _ _ _ (contract path file text new reads) (contract _ _ _ free _) =
     let key : Version × Text = (consumer_version path, path.provider) in
-    let stands = put_at-same (same_pair same_version same_text) s.contracts key (Some (content_number s text)) (branch-refl key) in cc
+    let is_present = put_at-same (same_pair same_version same_text) s.contracts key (Some (content_number s text)) (branch-refl key) in cc
 Change-once parts s _ _ _ some (claim path r success content row new) (claim _ _ _ _ _ free) = result_of_run-used s _ r.run some refl free
 Change-once parts s _ _ _ some (check path r replies content failing row new) (check _ _ _ _ _ _ free) = result_of_run-used s _ r.run some refl free
 Change-once parts s _ _ _ _ (deployment e v instance new) (deployment _ _ _ other) =
     let place : Text × Text × Text = (e, v.pacticipant, instance_of instance) in
-    let stands = ap (is_text v.name) (put_at-same same_place s.deployed place (Some v.name) (place-refl place)) ∙ same_text-refl v.name in cc
+    let is_present = ap (is_text v.name) (put_at-same same_place s.deployed place (Some v.name) (place-refl place)) ∙ same_text-refl v.name in cc
 Change-once parts s _ _ _ _ (end_of_deployment e v instance stood) (end_of_deployment _ _ _ there) =
     let place : Text × Text × Text = (e, v.pacticipant, instance_of instance) in
     let gone = ap (is_text v.name) (put_at-same same_place s.deployed place None (place-refl place)) in cc
 Change-once parts s _ _ _ _ (release e v new) (release _ _ other) =
-    let stands = put_at-same (same_pair same_text same_version) s.released (e, v) true (mark-refl (e, v)) in cc
+    let is_present = put_at-same (same_pair same_text same_version) s.released (e, v) true (mark-refl (e, v)) in cc
 Change-once parts s _ _ _ _ (end_of_support e v stood) (end_of_support _ _ there) =
     let gone = put_at-same (same_pair same_text same_version) s.released (e, v) false (mark-refl (e, v)) in cc
 
@@ -95,9 +95,9 @@ pub Retry-holds : (parts : Primitives) → Retry parts (λ s. Unit {0})
 Retry-holds parts s token c a b _ repeatable x y = by_first a (Effect-of_Step parts s token c a x) y
   where
     by_second : (t : State) → Change parts s c t → (o : Transition) → Effect parts t c o → o.state ≡ t
-    by_second t change _ (told answer is) = refl
+    by_second t change _ (returned answer is) = refl
     by_second t change _ (changed u detail more) = absurd (Change-once parts s c t u repeatable change more)
 
     by_first : (o : Transition) → Effect parts s c o → Step parts o.state token c b → (b.state ≡ o.state) ⊎ ((o.state ≡ s) × Step parts s token c b)
-    by_first _ (told answer is) second = inr (refl, second)
+    by_first _ (returned answer is) second = inr (refl, second)
     by_first _ (changed t detail change) second = inl (by_second t change b (Effect-of_Step parts t token c b second))

@@ -3,7 +3,8 @@ use Rattle.std.proofs.Common.{◌++◌, List, [], ◌∷◌, refl, ap}
 use Rattle.broker_core.specs.{declared.command.Command.TheVariants.{Deploy, Release}, declared.answer.Answer.{Answer}, State.{State}, Change.{Transition}}
 use Rattle.broker_core.specs.{Machine.{Primitives, Request, Step, Run}, Laws.{TeamsDiffer}}
 use Rattle.broker_core.specs.RunHeadline.{IsTaken, RunsDeployExactly, RunsReleaseExactly, TeamsStayApart, TeamsBeginApart}
-use Rattle.broker_core.proofs.{Callers.{TeamsDiffer-after_step, TeamsDiffer-opening, TeamsDiffer-after_run}, Headline.{DeploysExactly-holds, ReleasesExactly-holds}}
+use Rattle.broker_core.proofs.Callers.{TeamsDiffer-after_step, TeamsDiffer-opening, TeamsDiffer-after_run}
+use Rattle.broker_core.proofs.Headline.{DeploysExactly-holds, ReleasesExactly-holds}
 
 module _ (parts : Primitives) (r : Request) (IsExactly : State → Transition → Type 0)
     (each : (s : State) (out : Transition) → TeamsDiffer s → Step parts s r.token r.command out → IsExactly s out) where

@@ -7,7 +7,8 @@ use Rattle.broker_core.specs.{declared.command.Command.{Command}, declared.comma
 use Rattle.broker_core.specs.{Text.{Text, same_text, same_pair, same_place}, State.{State, Verification}, Request.{is_known, consumer_version}}
 use Rattle.broker_core.specs.{Change.{content_number, instance_of}, Machine.{Primitives}}
 use Rattle.broker_core.proofs.Effects.Change.{team, pacticipant, environment, grant, end_of_grant, named_version, contract, claim, check, deployment, end_of_deployment, release, end_of_support}
-use Rattle.broker_core.proofs.{Lists.{Some-injective, None-not_Some, Contains-empty}, Judgement.{and_both, same_text-equal, same_pair-contract_equal, same_pair-mark_equal, same_place-equal, put_at-cases}}
+use Rattle.broker_core.proofs.Lists.{Some-injective, None-not_Some, Contains-empty}
+use Rattle.broker_core.proofs.Judgement.{and_both, same_text-equal, same_pair-contract_equal, same_pair-mark_equal, same_place-equal, put_at-cases}
 use Rattle.broker_core.proofs.Effects.{Change, Step-keeps, versions_with, branches_with, contents_with, with_result}
 use Rattle.broker_names.specs.Name.{IsName}
 

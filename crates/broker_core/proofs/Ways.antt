@@ -22,22 +22,22 @@ module _ (parts : Primitives) (s : State) (token : Option Text) (c : Command) wh
   pub Way-of_Step : (out : Transition) → Step parts s token c out → Way parts s token c out
   Way-of_Step out step = by_who step.0 step.1 step.2
     where
-      told : (o : Transition) → out ≡ o → Way parts s token c o → Way parts s token c out
-      told o is = subst (Way parts s token c) (sym is)
+      returned : (o : Transition) → out ≡ o → Way parts s token c o → Way parts s token c out
+      returned o is = subst (Way parts s token c) (sym is)
 
       by_refusal : (caller : Caller) → IsCallerOfToken parts s token (Some caller) → FindsFault parts c None
           → (r : Option Answer) → refusal s caller c ≡ r → After parts s c out r → Way parts s token c out
       by_refusal caller calls form None is it = acting caller calls form out is it
-      by_refusal caller calls form (Some answer) is it = told _ it (refused caller calls form answer is)
+      by_refusal caller calls form (Some answer) is it = returned _ it (refused caller calls form answer is)
 
       by_form : (caller : Caller) → IsCallerOfToken parts s token (Some caller) → (f : Option FormFault) → FindsFault parts c f
           → MatchOption f (After parts s c out (refusal s caller c)) (λ fault. out ≡ unchanged_with s (BadForm fault)) → Way parts s token c out
       by_form caller calls None form it = by_refusal caller calls form (refusal s caller c) refl it
-      by_form caller calls (Some f) form it = told _ it (misformed caller calls f form)
+      by_form caller calls (Some f) form it = returned _ it (misformed caller calls f form)
 
       by_who : (who : Option Caller) → IsCallerOfToken parts s token who
           → MatchOption who (out ≡ unchanged_with s (Denied A1)) (λ caller. StepOfCaller parts s caller c out) → Way parts s token c out
-      by_who None calls it = told _ it (nobody calls)
+      by_who None calls it = returned _ it (nobody calls)
       by_who (Some caller) calls it = by_form caller calls it.0 it.1 it.2
 
   pub Step-of_Way : (out : Transition) → Way parts s token c out → Step parts s token c out

@@ -16,7 +16,7 @@ use Rattle.broker_core.specs.declared.answer.Missing.{Missing}
 use Rattle.broker_core.specs.declared.answer.Missing.TheVariants as missing
 use Rattle.broker_core.specs.Text.{Text, version}
 use Rattle.broker_core.specs.State.{State, latest, is_gated, is_strict}
-use Rattle.broker_core.specs.Gate.{Stands, IsPermitted, IsFault}
+use Rattle.broker_core.specs.Gate.{IsPresent, IsPermitted, IsFault}
 use Rattle.broker_core.specs.Faults.{fault_cmp}
 use Rattle.broker_core.specs.Listing.{Lists}
 use Rattle.broker_core.specs.Change.{Transition, instance_of}
@@ -29,8 +29,8 @@ use Rattle.broker_core.specs.Laws.{TeamsDiffer}
 -- in e; if v is the provider's, the consumer is another pacticipant
 pub record IsBetween (s : State) (v : Version) (e : Text) (consumer provider : Version) (content : ℕ) : Type 0 where
   pub contract : s.contracts (consumer, provider.pacticipant) ≡ Some content
-  pub partner : ((consumer ≡ v) × Stands s e provider)
-      ⊎ ((provider ≡ v) × Stands s e consumer × (consumer.pacticipant ≢ v.pacticipant))
+  pub partner : ((consumer ≡ v) × IsPresent s e provider)
+      ⊎ ((provider ≡ v) × IsPresent s e consumer × (consumer.pacticipant ≢ v.pacticipant))
 
 -- the latest verification of the content by the provider's version is a success, checked by the broker if e is strict
 abbrev pub IsVerified : State → Text → Version → ℕ → Type 0
@@ -45,7 +45,7 @@ AreVerified s v e = (consumer provider : Version) (content : ℕ)
 -- no provider with which v has a contract is without a version in e
 abbrev pub NoneIsAbsent : State → Version → Text → Type 0
 NoneIsAbsent s v e = (provider : Text) (content : ℕ) → s.contracts (v, provider) ≡ Some content
-    → ¬ ((name : Text) → ¬ (Stands s e (version provider name)))
+    → ¬ ((name : Text) → ¬ (IsPresent s e (version provider name)))
 
 -- what is permitted in a gated environment; in any other everything is
 abbrev pub PermitsVerified : Type 0

@@ -10,7 +10,7 @@ use Rattle.broker_core.specs.declared.answer.Answer.TheVariants.{Done, BadForm}
 use Rattle.broker_core.specs.declared.command.FormFault.{FormFault}
 use Rattle.broker_core.specs.Text.{Text}
 use Rattle.broker_core.specs.State.{State, latest, opening}
-use Rattle.broker_core.specs.Gate.{Stands}
+use Rattle.broker_core.specs.Gate.{IsPresent}
 use Rattle.broker_core.specs.Request.{is_known, consumer_version}
 use Rattle.broker_core.specs.Change.{Transition}
 use Rattle.broker_core.specs.Machine.{Primitives, Reading, HasDigest, pact_text, Step, Request, Run}
@@ -44,7 +44,7 @@ ContentsStay parts =
 
 -- the version v, or one that is in e
 abbrev pub Concerns : State → Version → Text → Version → Type 0
-Concerns s v e w = (w ≡ v) ⊎ Stands s e w
+Concerns s v e w = (w ≡ v) ⊎ IsPresent s e w
 
 -- what a deployment of v to e by this token may depend on is the same in both states
 pub record Agree (parts : Primitives) (token : Option Text) (s t : State) (v : Version) (e : Text) : Type 0 where

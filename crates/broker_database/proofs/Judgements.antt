@@ -62,12 +62,12 @@ FindsToday-blank db (Some n) blank it = Finds-blank_none db (Some n) blank it.0
 
 pub FindsToday-other : (n : ℕ) (office : Text) (db : Database) (found : Option ℕ) → n ≢ format → IsMarked n office db → FindsToday db found → found ≡ Some n
 FindsToday-other n office db None other marked (inl foreign) = Finds-marked n office db None marked foreign
-FindsToday-other n office db None other marked (inr (tells, declares)) =
-    let is : Some format ≡ Some n = Finds-marked n office db (Some format) marked tells in
+FindsToday-other n office db None other marked (inr (reports, declares)) =
+    let is : Some format ≡ Some n = Finds-marked n office db (Some format) marked reports in
     absurd (other (let same : n ≡ format = cc in same))
 FindsToday-other n office db (Some k) other marked it = Finds-marked n office db (Some k) marked it.0
 
 pub FindsToday-today : (office : Text) (db : Database) (found : Option ℕ) → IsMarkedToday office db → FindsToday db found → found ≡ Some format
 FindsToday-today office db None today (inl foreign) = Finds-marked format office db None today.0 foreign
-FindsToday-today office db None today (inr (tells, other)) = absurd (other today.1)
+FindsToday-today office db None today (inr (reports, other)) = absurd (other today.1)
 FindsToday-today office db (Some n) today it = Finds-marked format office db (Some n) today.0 it.0

@@ -17,16 +17,17 @@ use Rattle.sqlite_pool.proofs.ProbeLemmas.{first_byte}
 use Rattle.sqlite_pages.specs.PageMap.{PageMap}
 use Rattle.sqlite_wal.proofs.{AppendLemmas.{some_value}, CreateLemmas.{begun_is_not_blank}}
 use Rattle.table_access.specs.Durability.{HoldsDurably, IsOnDisk}
-use Rattle.broker_core.{specs.{Text.{Text}, Machine.{Request}, State.{State as Broker, opening}, Laws.{Exit, LeavesSessions}}, proofs.DoneLemmas.{SessionsRun-holds}}
-use Rattle.broker_core.proofs.SessionLemmas.{sessions, RunsOnce-holds}
+use Rattle.broker_core.specs.{Text.{Text}, Machine.{Request}, State.{State as Broker, opening}, Laws.{Exit, LeavesSessions}}
+use Rattle.broker_core.proofs.{DoneLemmas.{SessionsRun-holds}, SessionLemmas.{sessions, RunsOnce-holds}}
 use Rattle.broker_tables.specs.{Former.{former_format, former_tables}, Holds.{format}, Making.{IsBlank, IsMarked}, Schema.{no_schema, schema_of, broker_schema}}
 use Rattle.command_facts.specs.Primitives.{broker_primitives}
 use Rattle.broker_database.specs.{BrokerView.{BrokerView}, Calls.{Created, Opened, Migrated}, Ends.{AddsNoCrashState}, Handed.{verdict}}
 use Rattle.broker_database.specs.Life.{Kept, Period, calls_of, RunsFrom, LeavesAsWas, PeriodLeads, LifeLeads, BeginsFrom, sessions_in, LivesRun, AreTreesOf, PeriodRuns, PeriodsLead, MayLeave, EndsAs, HoldsAsBefore, IsKeptIn, LeavesUnopened, OpenedFilesHold, IsUnharmed, OpeningSpares, PeriodLeaves, Programs, ProgramsLead, RunsOver}
 use Rattle.broker_database.specs.{Life.Kept.{Blank, OfFormer, OfToday}, Life.Period.{Serving, Making, Migrating, NotOpened}, Migration.{StoresFormer, IsFormer}}
 use Rattle.broker_database.specs.{Opening.{Refuses, Judged, judgement}, Sessions.{IsOpenedOn, GivenRuns}, Stored.{Stores, HoldsState}}
-use Rattle.broker_database.{specs.{declared.opening.Refused.{Refused}, declared.opening.OpenFault.{OpenFault}}, proofs.Judgements.{Finds-blank_none, Finds-marked}}
-use Rattle.broker_database.proofs.{MigrationLemmas.{IsMarked-of_former, HoldsDurably-now}, SchemaLemmas.{Lists-unique_schema}, SessionLemmas.{GivenRuns-clean, Leads-of_given}}
+use Rattle.broker_database.specs.{declared.opening.Refused.{Refused}, declared.opening.OpenFault.{OpenFault}}
+use Rattle.broker_database.proofs.{Judgements.{Finds-blank_none, Finds-marked}, MigrationLemmas.{IsMarked-of_former, HoldsDurably-now}}
+use Rattle.broker_database.proofs.{SchemaLemmas.{Lists-unique_schema}, SessionLemmas.{GivenRuns-clean, Leads-of_given}}
 use Rattle.broker_database.proofs.Transaction.{AddsNoCrashState-of_survives}
 use base.Stored.{Coded-set}
 use Rattle.sqlite.specs.declared.file.Leftover.TheVariants as left
@@ -378,14 +379,14 @@ module _ {D : Type 0} (g : Ghosts D) (files : Files D) where
   ]
   LeavesUnopened-unopened now (inr kept) more image may = elim ((kept.4 image may).same) [
     | inl before ↦ inl before
-    | inr stands ↦ inr (record {
+    | inr is_present ↦ inr (record {
       same = λ trees held.
           let size = more trees held in
           let it = held.2 in
           let r : HoldsDatabase image trees = (
             (state_of now).page_size,
             rw size at held.1,
-            record { pages = it.pages; wanted = it.wanted; schema = it.schema; found = stands.1 it.pages (rw size at it.found); ours = rw size at it.ours; reads = rw size at it.reads; sound = it.sound },
+            record { pages = it.pages; wanted = it.wanted; schema = it.schema; found = is_present.1 it.pages (rw size at it.found); ours = rw size at it.ours; reads = rw size at it.reads; sound = it.sound },
           ) in ∣ r ∣₁;
       none = λ none. absurd (kept.0 none);
     })

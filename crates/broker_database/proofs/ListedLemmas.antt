@@ -9,9 +9,9 @@ use Rattle.table_access.{specs.Columns.{text, text_cmp, whole_at, by_both}, proo
 use Rattle.broker_core.specs.{declared.command.Version.{Version}, Listed.{Covers, IsListed}, State.{State as Broker}, Text.{Text, version}}
 use Rattle.broker_core.proofs.{Judgement.{same_version-equal}, Lists.{Contains-empty, Contains-cons_cases, Contains-here, Contains-later}}
 use Rattle.broker_tables.specs.{Schema.{in_teams, in_contracts, in_deployed, in_released}, Holds.{Holds}, Numbers.{number_of}}
-use Rattle.broker_tables.{specs.Rows.{rows_of, value_at, stands_at}, proofs.NumberLemmas.{number_of-is_some}}
+use Rattle.broker_tables.{specs.Rows.{rows_of, value_at, has_row_at}, proofs.NumberLemmas.{number_of-is_some}}
 use Rattle.broker_tables.proofs.Orders.{text_cmp-antisymmetric, by_both-total_int_text, by_both-exact_int_text, by_both-total_texts, by_both-exact_texts, by_both-total_text_int, by_both-exact_text_int}
-use Rattle.broker_tables.proofs.Standing.{value_at-is_some}
+use Rattle.broker_tables.proofs.Present.{value_at-is_some}
 
 -- ---- lists
 
@@ -104,11 +104,11 @@ module _ (db : Database) (s : Broker) (held : Holds db s) where
   all_released (e, v) is = go (number_of s.versions v) refl (held.released e v ∙ is)
     where
       go : (o : Option ℕ) → number_of s.versions v ≡ o
-          → option_map_or (λ (n : ℕ). stands_at (by_both text_cmp int_cmp) release_key released (e, pos n)) o false ≡ true
+          → option_map_or (λ (n : ℕ). has_row_at (by_both text_cmp int_cmp) release_key released (e, pos n)) o false ≡ true
           → Contains (with_each (map (text in_released.environment) released) s.versions) (e, v)
       go None none wrong = absurd cc
-      go (Some n) numbered stands =
-          at_row (value_at (by_both text_cmp int_cmp) release_key release_key released (e, pos n)) refl (value_at-is_some (by_both text_cmp int_cmp) release_key release_key released (e, pos n) ∙ stands)
+      go (Some n) numbered is_present =
+          at_row (value_at (by_both text_cmp int_cmp) release_key release_key released (e, pos n)) refl (value_at-is_some (by_both text_cmp int_cmp) release_key release_key released (e, pos n) ∙ is_present)
         where
           at_row : (o : Option (Text × ℤ)) → value_at (by_both text_cmp int_cmp) release_key release_key released (e, pos n) ≡ o → is_some o ≡ true
               → Contains (with_each (map (text in_released.environment) released) s.versions) (e, v)

@@ -1,10 +1,11 @@
 -- What the transactions leave that make a broker's tables, look for a format, and bring a database up.
 use Rattle.broker_core.specs.{State.{State as Broker, opening}, Text.{Text}}
-use Rattle.broker_database.specs.Migration.{BringsUp, BringsUpOrNot, FindsFormerAlone, HasFormerRoomFor, IsFormer, KeepsFormerRoom, OnlyIfNotMigrated, StoresFormer}
+use Rattle.broker_database.specs.Migration.{Migrates, MigratesOrNot, FindsFormerAlone, HasFormerRoomFor, IsFormer, KeepsFormerRoom, OnlyIfNotMigrated, StoresFormer}
 use Rattle.broker_database.specs.Opening.{IsFresh, IsUncommitted, MakesOrFails, OnlyIfRefused, OnlyIfStoreFailed, Refuses, open_fault}
 use Rattle.broker_database.specs.{Stored.{HoldsState, Stores}, declared.ending.Failure.{Failure}, declared.ending.Failure.TheVariants.{Call, Commit}}
-use Rattle.broker_database.{specs.Transaction.{Concludes, EndsFor, told}, proofs.{MigrationLemmas.{FindsFormerAlone-former}, OpenFailures.{TellsNothing-of_look_up, HasFailed-unbegun}}}
-use Rattle.broker_database.proofs.{Sound.{HasSoundContents-opening}, StoreFailures.{HasFailed-of_transaction}}
+use Rattle.broker_database.{specs.Transaction.{Concludes, EndsFor, returned}, proofs.MigrationLemmas.{FindsFormerAlone-former}}
+use Rattle.broker_database.proofs.{OpenFailures.{ReportsNothing-of_look_up, HasFailed-unbegun}, Sound.{HasSoundContents-opening}}
+use Rattle.broker_database.proofs.StoreFailures.{HasFailed-of_transaction}
 use Rattle.broker_database.proofs.Transaction.{WholeTransaction, AddsNoCrashState-of_survives, CommitsAtMostOnce-of_survives, Begins-transaction, EndsOrFails-transaction, CommitsAtMostOnce-whole, LeavesNoTransaction-transaction, AddsNoCrashState-transaction, IfOk-transaction, IsUnchangedUnless-transaction, Survives-before_whole_end, EndsOrFails-unbegun, LeavesNoTransaction-unbegun, IsUnchangedUnless-unbegun}
 use Rattle.broker_tables.specs.{Former.{former_format}, Holds.{Holds}, Making.{IsBlank, IsCalmOverBetween}, Room.{HasAllNumbers, HasRoomFor}}
 use Rattle.broker_tables.specs.Schema.{broker_schema}
@@ -13,7 +14,8 @@ use Rattle.sqlite.specs.{Effect.{Database}, Held.{Held}, State.{HasCleanDisk, St
 use Rattle.std.proofs.Common.{Bool, Err, IfErr, IsOk, IsOkAnd, IsTrue, None, Ok, Option, Result, Some, ap, arith, false, inl, inr, is_ok, refl, subst, sym, ℕ, ◌↔◌, ◌∙◌, ◌≡◌, ◌≤◌, ◌⊎◌}
 use Rattle.std.proofs.lemmas.Result.{IfErr-weaker, IfOk-weaker}
 use Rattle.table_access.specs.{Calls.{CallsStoreBetween, GoesOn, HasFailed}, Durability.{HoldsDurably}, Unit.{Begins, FailsToBegin, IsLeft, RefusesCommit}}
-use Rattle.table_access.{specs.{declared.StoreFault.{StoreFault}, declared.StoreFault.TheVariants.{Memory, Store}}, proofs.CallLemmas.{EndsBy-later_call, CallsBetween-may_take_memory}}
+use Rattle.table_access.specs.{declared.StoreFault.{StoreFault}, declared.StoreFault.TheVariants.{Memory, Store}}
+use Rattle.table_access.proofs.CallLemmas.{EndsBy-later_call, CallsBetween-may_take_memory}
 use Rattle.table_access.proofs.EndLemmas as ends
 
 -- ---- the format is looked for
@@ -56,11 +58,11 @@ IsOk-of_kept : {A : Type 0} (Keeps : A → Type 0) (r : Result A StoreFault) →
 IsOk-of_kept Keeps (Ok a) is = refl
 IsOk-of_kept Keeps (Err why) is = absurd is
 
-module _ {X A : Type 0} (shown : Held X → State) (Ready Before : Database → Type 0) (s : Broker) (old mid done new : Held X) (Does Keeps : A → Type 0) (result : Result A Failure) (t : WholeTransaction (shown old) (shown mid) (shown done) (shown new) Does Keeps (told result)) where
+module _ {X A : Type 0} (shown : Held X → State) (Ready Before : Database → Type 0) (s : Broker) (old mid done new : Held X) (Does Keeps : A → Type 0) (result : Result A Failure) (t : WholeTransaction (shown old) (shown mid) (shown done) (shown new) Does Keeps (returned result)) where
   module _ (calm : IsCalmOverBetween Ready (shown mid) (shown done) t.worked) (refused : HasCleanDisk (shown new) → IfErr result (EndsFor shown t.keeps t.worked done new))
       (ready : (db : Database) → Before db → Ready db) (makes : (a : A) → Does a → Keeps a → Before (shown mid).now → Holds (shown done).now s) (clean : HasCleanDisk (shown new)) (fresh : IsFresh (shown old)) (holds : HoldsDurably Before (shown old)) where
     begun : Begins (shown old) (shown mid)
-    begun = Begins-transaction (shown old) (shown mid) (shown done) (shown new) Does Keeps (told result) t clean
+    begun = Begins-transaction (shown old) (shown mid) (shown done) (shown new) Does Keeps (returned result) t clean
 
     before : Before (shown mid).now
     before = ends.begins Before (shown old) (shown mid) begun holds
@@ -75,7 +77,7 @@ module _ {X A : Type 0} (shown : Held X → State) (Ready Before : Database → 
     by_call : result ≡ Err (Call Store) → HasFailed (shown old) (shown new) Store
     by_call is =
         let why : EndsFor shown t.keeps t.worked done new (Call Store) = subst (λ (r : Result A Failure). IfErr r (EndsFor shown t.keeps t.worked done new)) is (refused clean) in
-        elim (HasFailed-of_transaction (shown old) (shown mid) (shown done) (shown new) Does Keeps ⊥ clean (told result) t (work_calm ⊥) (λ a did keeps kept on. absurd (why kept (IsOk-of_kept Keeps t.worked (t.kept.0 kept)))) (ap told is)) [
+        elim (HasFailed-of_transaction (shown old) (shown mid) (shown done) (shown new) Does Keeps ⊥ clean (returned result) t (work_calm ⊥) (λ a did keeps kept on. absurd (why kept (IsOk-of_kept Keeps t.worked (t.kept.0 kept)))) (ap returned is)) [
           | inl failed ↦ failed
           | inr never ↦ absurd never
         ]
@@ -84,14 +86,14 @@ module _ {X A : Type 0} (shown : Held X → State) (Ready Before : Database → 
     by_commit : (why : StoreFault) → result ≡ Err (Commit why) → HasFailed (shown old) (shown new) Store ⊎ ((why ≡ Memory) × IsUncommitted shown s old new)
     by_commit why is =
         let refusal : EndsFor shown t.keeps t.worked done new (Commit why) = subst (λ (r : Result A Failure). IfErr r (EndsFor shown t.keeps t.worked done new)) is (refused clean) in
-        HasFailed-of_transaction (shown old) (shown mid) (shown done) (shown new) Does Keeps ((why ≡ Memory) × IsUncommitted shown s old new) clean (told result) t (work_calm ((why ≡ Memory) × IsUncommitted shown s old new))
-        (λ a did keeps kept on. not_kept (makes a did keeps before) on why refusal.1) (ap told is)
+        HasFailed-of_transaction (shown old) (shown mid) (shown done) (shown new) Does Keeps ((why ≡ Memory) × IsUncommitted shown s old new) clean (returned result) t (work_calm ((why ≡ Memory) × IsUncommitted shown s old new))
+        (λ a did keeps kept on. not_kept (makes a did keeps before) on why refusal.1) (ap returned is)
       where
         not_kept : Holds (shown done).now s → GoesOn (shown mid) (shown done) → (fault : StoreFault) → RefusesCommit shown done new fault → HasFailed (shown old) (shown new) Store ⊎ ((fault ≡ Memory) × IsUncommitted shown s old new)
         not_kept made on Store refusal =
             inl (EndsBy-later_call (shown old) (shown done) (shown new) Store (on.0, λ _. on.1 begun.1.is_open) (let up : (shown old).faults ≤ (shown done).faults = omega (arith, t.begins.counts, t.works.survives.counts) in up) (refusal.failed on.0))
         not_kept made on Memory refusal =
-            inr (refl, record { worked = done; inside = on.0; survives = Survives-before_whole_end (shown old) (shown mid) (shown done) (shown new) Does Keeps (told result) t; made = made; refused = refusal })
+            inr (refl, record { worked = done; inside = on.0; survives = Survives-before_whole_end (shown old) (shown mid) (shown done) (shown new) Does Keeps (returned result) t; made = made; refused = refusal })
 
   -- why it fails by Store: of a database from which the work makes one that holds this state
   pub OnlyIfRefused-of_transaction : IsCalmOverBetween Ready (shown mid) (shown done) t.worked → (HasCleanDisk (shown new) → IfErr result (EndsFor shown t.keeps t.worked done new))
@@ -102,7 +104,7 @@ module _ {X A : Type 0} (shown : Held X → State) (Ready Before : Database → 
   }
 
 -- the fault that is reported is Store only for these causes
-pub OnlyIfStoreFailed-of_refused : {X A : Type 0} (shown : Held X → State) (Before : Database → Type 0) (s : Broker) (old new : Held X) (result : Result A Failure) → OnlyIfRefused shown Before s old new result → OnlyIfStoreFailed shown Before s old new (told result ≡ Err Store)
+pub OnlyIfStoreFailed-of_refused : {X A : Type 0} (shown : Held X → State) (Before : Database → Type 0) (s : Broker) (old new : Held X) (result : Result A Failure) → OnlyIfRefused shown Before s old new result → OnlyIfStoreFailed shown Before s old new (returned result ≡ Err Store)
 OnlyIfStoreFailed-of_refused shown Before s old new (Ok a) why clean fresh holds is = absurd (cc)
 OnlyIfStoreFailed-of_refused shown Before s old new (Err (Call Memory)) why clean fresh holds is = absurd (cc)
 OnlyIfStoreFailed-of_refused shown Before s old new (Err (Call Store)) why clean fresh holds is = inl (why.call clean fresh holds refl)
@@ -116,7 +118,7 @@ Refuses-of_fails office new Store it = it
 -- ---- a database of format 1 is upgraded
 
 abbrev pub IsBroughtUp : State → State → Option ℕ → Type 0
-IsBroughtUp mid done found = FindsFormerAlone mid.now found × (found ≡ Some former_format → BringsUp mid.now done.now × (done.now.schema ≡ broker_schema))
+IsBroughtUp mid done found = FindsFormerAlone mid.now found × (found ≡ Some former_format → Migrates mid.now done.now × (done.now.schema ≡ broker_schema))
 
 -- nothing is committed but by a database of format 1
 pub IsFormer-of_found : (db : Database) (found : Option ℕ) → FindsFormerAlone db found → found ≡ Some former_format → IsFormer db
@@ -129,11 +131,11 @@ abbrev pub going_up : (old mid done new : State) (worked result : Result (Option
 going_up old mid done new worked result keeps begun begins works kept concludes =
     record { worked = worked; keeps = keeps; begun = begun; begins = begins; works = CallsBetween-may_take_memory mid done worked _ works; kept = kept; concludes = concludes }
 
-pub BringsUpOrNot-of_transaction : {X : Type 0} (shown : Held X → State) (old mid done new : Held X) (worked result : Result (Option ℕ) StoreFault) (keeps : Bool) → (HasCleanDisk (shown mid) → Begins (shown old) (shown mid)) → Survives (shown old) (shown mid) (λ _. ⊥)
+pub MigratesOrNot-of_transaction : {X : Type 0} (shown : Held X → State) (old mid done new : Held X) (worked result : Result (Option ℕ) StoreFault) (keeps : Bool) → (HasCleanDisk (shown mid) → Begins (shown old) (shown mid)) → Survives (shown old) (shown mid) (λ _. ⊥)
     → CallsStoreBetween (shown mid) (shown done) worked (IsBroughtUp (shown mid) (shown done)) → (IsTrue keeps ↔ IsOkAnd worked (λ found. found ≡ Some former_format)) → Concludes (shown done) (shown new) keeps worked result
     → (HasCleanDisk (shown done) → (shown mid).step_limit ≡ None → IfErr worked (λ fault. FailsToFind (shown mid) (shown done) fault ⊎ IsFormer (shown mid).now))
-    → OnlyIfNotMigrated shown old new (result ≡ Err Store) → BringsUpOrNot shown old new result
-BringsUpOrNot-of_transaction shown old mid done new worked result keeps begun begins works kept concludes looks former = record {
+    → OnlyIfNotMigrated shown old new (result ≡ Err Store) → MigratesOrNot shown old new result
+MigratesOrNot-of_transaction shown old mid done new worked result keeps begun begins works kept concludes looks former = record {
   found = λ clean. IfOk-weaker result _ _ (λ found it. (it.0, subst (λ (db : Database). FindsFormerAlone db found) it.1 it.2.0)) (IfOk-transaction (shown old) (shown mid) (shown done) (shown new) _ _ result t clean);
   ends = λ clean s holds.
       let begun = Begins-transaction (shown old) (shown mid) (shown done) (shown new) _ _ result t clean in
@@ -149,7 +151,7 @@ BringsUpOrNot-of_transaction shown old mid done new worked result keeps begun be
   over = LeavesNoTransaction-transaction (shown old) (shown mid) (shown done) (shown new) _ _ result t;
   survives = CommitsAtMostOnce-whole (shown old) (shown mid) (shown done) (shown new) _ _ result t;
   spares = λ clean other. AddsNoCrashState-transaction (shown old) (shown mid) (shown done) (shown new) _ _ result t (λ found same up is. other (subst IsFormer same (IsFormer-of_found (shown mid).now found up.0 is))) clean;
-  calm = λ clean fresh. TellsNothing-of_look_up (shown old) (shown mid) (shown done) (shown new) _ _ result t clean fresh IsFormer looks (λ found up is. IsFormer-of_found (shown mid).now found up.0 is);
+  calm = λ clean fresh. ReportsNothing-of_look_up (shown old) (shown mid) (shown done) (shown new) _ _ result t clean fresh IsFormer looks (λ found up is. IsFormer-of_found (shown mid).now found up.0 is);
   calm_former = former;
 }
   where
@@ -160,9 +162,9 @@ BringsUpOrNot-of_transaction shown old mid done new worked result keeps begun be
     stored s found was up is = record { tables = ((up.1 is).0 s was.tables).0; contents = was.contents }
 
 -- if BEGIN was refused
-pub BringsUpOrNot-unbegun : {X : Type 0} (shown : Held X → State) (old new : Held X) (why : StoreFault) → (HasCleanDisk (shown new) → IsLeft (shown old) (shown new)) → (HasCleanDisk (shown new) → FailsToBegin (shown old) (shown new) why) → Survives (shown old) (shown new) (λ _. ⊥)
-    → BringsUpOrNot shown old new (Err why)
-BringsUpOrNot-unbegun shown old new why refused cause begins = record {
+pub MigratesOrNot-unbegun : {X : Type 0} (shown : Held X → State) (old new : Held X) (why : StoreFault) → (HasCleanDisk (shown new) → IsLeft (shown old) (shown new)) → (HasCleanDisk (shown new) → FailsToBegin (shown old) (shown new) why) → Survives (shown old) (shown new) (λ _. ⊥)
+    → MigratesOrNot shown old new (Err why)
+MigratesOrNot-unbegun shown old new why refused cause begins = record {
   found = λ clean. tt;
   ends = λ clean s holds. EndsOrFails-unbegun (shown old) (shown new) why refused begins (λ db. StoresFormer db s) (λ db. Stores db s) (λ found. (found ≡ Some former_format) × HoldsState s (shown new) × KeepsFormerRoom (shown old) (shown new)) clean holds;
   unchanged = IsUnchangedUnless-unbegun (shown old) (shown new) why refused begins (λ found. found ≡ Some former_format);

@@ -16,7 +16,7 @@ use Rattle.broker_tables.{specs.Former.{HoldsFormer, IsUnmarked, former_tables, 
 use Rattle.registry_tables.specs.Format.{AreLike, AreKeys, CompareBytes, HasForm, HasFormerTables, HasNoFormat, SharesTree, IsOfFormat}
 use Rattle.command_facts.specs.Primitives.{broker_primitives}
 use Rattle.broker_database.specs.{Calls.{Migrated}, Ends.{IsUnchangedUnless}}
-use Rattle.broker_database.specs.Migration.{StoresFormer, BringsUpOrNot, FindsFormerAlone, HasFormerAlone, KeepsFormerRoom, MigratesOrRefuses, WasGood, WasPermitted, WasFault, WasJudged, Showed, JudgesAsBefore, former_kind, former_fault, former_marks}
+use Rattle.broker_database.specs.Migration.{StoresFormer, MigratesOrNot, FindsFormerAlone, HasFormerAlone, KeepsFormerRoom, MigratesOrRefuses, WasGood, WasPermitted, WasFault, WasJudged, Showed, JudgesAsBefore, former_kind, former_fault, former_marks}
 use Rattle.broker_database.specs.{Opening.{Refuses, IsUnchangedUnlessStore, judgement, open_fault}, Stored.{Stores, HoldsState}}
 use Rattle.broker_database.specs.{declared.opening.OpenFault.{OpenFault}, declared.opening.OpenFault.TheVariants.{Format}}
 use Rattle.broker_database.proofs.{Judgements.{IsMeta-format, table_of-meta_unique, Finds-blank_none, Finds-marked}, OpenFailures.{judgement-not_store}}
@@ -55,7 +55,7 @@ HasFormerAlone-of_former db s held = subst HasFormerAlone (sym held.schema) (Has
 
 pub FindsFormerAlone-former : (db : Database) (s : Broker) (found : Option ℕ) → HoldsFormer db s → FindsFormerAlone db found → found ≡ Some former_format
 FindsFormerAlone-former db s None held (inl foreign) = Finds-marked former_format s.office db None (IsMarked-of_former db s held) foreign
-FindsFormerAlone-former db s None held (inr (tells, lacks)) = absurd (lacks (HasFormerAlone-of_former db s held))
+FindsFormerAlone-former db s None held (inr (reports, lacks)) = absurd (lacks (HasFormerAlone-of_former db s held))
 FindsFormerAlone-former db s (Some n) held it = Finds-marked former_format s.office db (Some n) (IsMarked-of_former db s held) it.0
 
 -- and its format can be found
@@ -85,8 +85,8 @@ FindsFormerAlone-blank db (Some n) blank it = Finds-blank_none db (Some n) blank
 
 FindsFormerAlone-marked : (n : ℕ) (office : Text) (db : Database) (found : Option ℕ) → n ≢ former_format → IsMarked n office db → FindsFormerAlone db found → found ≡ Some n
 FindsFormerAlone-marked n office db None other marked (inl foreign) = Finds-marked n office db None marked foreign
-FindsFormerAlone-marked n office db None other marked (inr (tells, lacks)) =
-    let is : Some former_format ≡ Some n = Finds-marked n office db (Some former_format) marked tells in
+FindsFormerAlone-marked n office db None other marked (inr (reports, lacks)) =
+    let is : Some former_format ≡ Some n = Finds-marked n office db (Some former_format) marked reports in
     absurd (other (let same : n ≡ former_format = cc in same))
 FindsFormerAlone-marked n office db (Some k) other marked it = Finds-marked n office db (Some k) marked it.0
 
@@ -214,7 +214,7 @@ judgement-refused_unchanged old new (Some n) it = go (n == former_format) refl
     go false e = it (λ is. eqb-false n former_format e (let same : n ≡ former_format = cc in same))
 
 -- a format was found
-pub Migrated-found : {X : Type 0} (shown : Held X → State) (old new : Held X) (found : Option ℕ) → BringsUpOrNot shown old new (Ok found) → Migrated shown old new (judgement former_format found)
+pub Migrated-found : {X : Type 0} (shown : Held X → State) (old new : Held X) (found : Option ℕ) → MigratesOrNot shown old new (Ok found) → Migrated shown old new (judgement former_format found)
 Migrated-found shown old new found up = record {
   migrates = λ clean s keeps. OnOk-const (judgement former_format found) (HoldsState s (shown new)) (up.ends clean s keeps).1;
   room = λ clean s keeps. OnOk-const (judgement former_format found) (KeepsFormerRoom (shown old) (shown new)) (up.ends clean s keeps).2;
@@ -237,7 +237,7 @@ Migrated-found shown old new found up = record {
 }
 
 -- the database failed
-pub Migrated-failed : {X : Type 0} (shown : Held X → State) (old new : Held X) (why : StoreFault) → BringsUpOrNot shown old new (Err why) → Migrated shown old new (Err (open_fault why))
+pub Migrated-failed : {X : Type 0} (shown : Held X → State) (old new : Held X) (why : StoreFault) → MigratesOrNot shown old new (Err why) → Migrated shown old new (Err (open_fault why))
 Migrated-failed shown old new store_fault.Memory up = record {
   migrates = λ _ _ _. tt;
   room = λ _ _ _. tt;

@@ -2,7 +2,8 @@
 use Rattle.broker_core.{specs.{Laws.{HasOneStep}, declared.command.Command.{Command}}, proofs.Exists.{StepExists-holds}}
 use Rattle.broker_core.proofs.RunHeadline.{RunsDeployExactly-holds, RunsReleaseExactly-holds}
 use Rattle.command_facts.{specs.{Readings.{is_refusal}, Primitives.{broker_primitives}}, proofs.Again.{AreReadOnce-holds}}
-use Rattle.broker_database.{specs.Laws.{StoredRunsDeployExactly, StoredRunsReleaseExactly, StoredTeamsDiffer, StoredStepExists}, proofs.ListedLemmas.{IsListed-holds}}
+use Rattle.broker_database.specs.Laws.{StoredRunsDeployExactly, StoredRunsReleaseExactly, StoredTeamsDiffer, StoredStepExists}
+use Rattle.broker_database.proofs.ListedLemmas.{IsListed-holds}
 use Rattle.broker_core.proofs.Once as core
 use Rattle.registry_tables.proofs.TeamRows as team_rows
 

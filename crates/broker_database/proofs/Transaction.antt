@@ -3,7 +3,8 @@ use Rattle.std.specs.Prelude.{is_ok}
 use Rattle.std.proofs.Common.{◌≡◌, ◌⊎◌, ◌↔◌, inl, inr, Bool, true, false, refl, IsTrue, IsOkAnd, IfOk, Result, Ok, Err, sym, subst, ◌∙◌, arith}
 use Rattle.sqlite.{specs.{Effect.{Database, IsDatabase}, Tree.{Trees}, State.{State, HasCleanDisk, Survives}}, proofs.StateLemmas.{survives_then}}
 use Rattle.table_access.specs.{Unit.{Begins, IsLeft, IsOver}, declared.StoreFault.{StoreFault}, Calls.{CallsTablesBetween, KeepsLastCommit, GoesOn}}
-use Rattle.table_access.{specs.Durability.{HoldsDurably, HoldsEither}, proofs.{CallLemmas.{IsLeft-KeepsLastCommit}, EndLemmas.{begins, commits, HoldsEither-refused_commit, HoldsDurably-HoldsEither}}}
+use Rattle.table_access.{specs.Durability.{HoldsDurably, HoldsEither}, proofs.CallLemmas.{IsLeft-KeepsLastCommit}}
+use Rattle.table_access.proofs.EndLemmas.{begins, commits, HoldsEither-refused_commit, HoldsDurably-HoldsEither}
 use Rattle.broker_database.specs.Ends.{IsAsBefore, IsUnchangedUnless, AddsNoCrashState, CommitsAtMostOnce, LeavesNoTransaction}
 use Rattle.broker_database.specs.Transaction.{Finishes, Concludes, EndsOrFails, worst, conclusion}
 use Rattle.table_access.specs.declared.StoreFault.TheVariants as fault

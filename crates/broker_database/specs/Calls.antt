@@ -24,7 +24,7 @@ use Rattle.broker_database.specs.Ends.{Applies, IsAsBefore, AddsNoCrashState, Co
 use Rattle.broker_database.specs.Handed.{left_by, verdict}
 use Rattle.broker_database.specs.Headline.{RecordsExactly}
 use Rattle.broker_database.specs.Migration.{StoresFormer, HoldsFormerState, KeepsFormerRoom, MigratesOrRefuses, IsFormer, OnlyIfNotMigrated}
-use Rattle.broker_database.specs.Opening.{TablesMade, TablesFound, Refuses, IsUnchangedUnlessStore, Judged, IsFresh, TellsNothing}
+use Rattle.broker_database.specs.Opening.{TablesMade, TablesFound, Refuses, IsUnchangedUnlessStore, Judged, IsFresh, ReportsNothing}
 use Rattle.broker_database.specs.Stored.{Stores, HoldsState}
 use Rattle.broker_database.specs.declared.opening.Refused.{Refused}
 use Rattle.broker_database.specs.declared.opening.OpenFault.{OpenFault}
@@ -115,7 +115,7 @@ module _ {X : Type 0} (shown : Held X → State) where
     -- Store: on a connection as it is opened, the store failed, or meta has no number as its format; or the database had
     -- the tables of format 1, and a change or the commit was refused
     pub calm : HasCleanDisk (shown new) → IsFresh (shown old) → given ≡ Err fault.Store
-        → TellsNothing (shown old) (shown new) ⊎ IsFormer (shown old).now
+        → ReportsNothing (shown old) (shown new) ⊎ IsFormer (shown old).now
     -- and if it held a state in that format that can be read back: the store failed, or COMMIT was refused since memory
     -- ran out; no statement that makes a table or an index, or sets the format, is refused
     pub calm_former : OnlyIfNotMigrated shown old new (given ≡ Err fault.Store)

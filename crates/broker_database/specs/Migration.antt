@@ -36,7 +36,7 @@ use Rattle.broker_tables.specs.Rows.{rows_of}
 use Rattle.registry_tables.specs.Format.{IsOfFormat, IsForeign, HasFormerTables, FailsToFind}
 use Rattle.command_facts.specs.Primitives.{broker_primitives}
 use Rattle.broker_database.specs.Ends.{AddsNoCrashState, CommitsAtMostOnce, IsUnchangedUnless, LeavesNoTransaction}
-use Rattle.broker_database.specs.Opening.{IsFresh, TellsNothing, OnlyIfStoreFailed}
+use Rattle.broker_database.specs.Opening.{IsFresh, ReportsNothing, OnlyIfStoreFailed}
 use Rattle.broker_database.specs.Stored.{Stores, HoldsState}
 use Rattle.broker_database.specs.Transaction.{EndsOrFails}
 use Rattle.broker_database.specs.declared.opening.OpenFault.{OpenFault}
@@ -124,8 +124,8 @@ abbrev pub KeepsFormerRoom : State → State → Type 0
 KeepsFormerRoom old new = (n : ℕ) → HasFormerRoomFor n old.now → HoldsDurably (HasRoomFor n) new
 
 -- for private clauses: a database of format 1 becomes one of today's with the same state, and no row number is taken
-abbrev pub BringsUp : Database → Database → Type 0
-BringsUp old new = (s : Broker) → HoldsFormer old s → Holds new s × TakesNoFormerRoom old new
+abbrev pub Migrates : Database → Database → Type 0
+Migrates old new = (s : Broker) → HoldsFormer old s → Holds new s × TakesNoFormerRoom old new
 
 -- The tables of format 1 are there, each with its columns and keys, wherever it is and however it is declared beside
 -- these; and nothing else is: no other table, no index but those of keys, no view and no trigger.
@@ -183,7 +183,7 @@ MigratesOrFails s old new =
     (λ found. (found ≡ Some former_format) × HoldsState s new × KeepsFormerRoom old new) new
 
 -- and what that is on any database; shown is what a connection shows
-pub record BringsUpOrNot {X : Type 0} (shown : Held X → State) (old new : Held X)
+pub record MigratesOrNot {X : Type 0} (shown : Held X → State) (old new : Held X)
     (result : Result (Option ℕ) StoreFault) : Type 0 where
   pub found : HasCleanDisk (shown new)
       → IfOk result (λ found. IsTrue (shown old).is_open × FindsFormerAlone (shown old).now found)
@@ -195,5 +195,5 @@ pub record BringsUpOrNot {X : Type 0} (shown : Held X → State) (old new : Held
   pub survives : CommitsAtMostOnce (shown old) (shown new)
   pub spares : HasCleanDisk (shown new) → ¬ (IsFormer (shown old).now) → AddsNoCrashState (shown old) (shown new)
   pub calm : HasCleanDisk (shown new) → IsFresh (shown old) → result ≡ Err faults.Store
-      → TellsNothing (shown old) (shown new) ⊎ IsFormer (shown old).now
+      → ReportsNothing (shown old) (shown new) ⊎ IsFormer (shown old).now
   pub calm_former : OnlyIfNotMigrated shown old new (result ≡ Err faults.Store)

@@ -119,12 +119,12 @@ abbrev pub IsFresh : State → Type 0
 IsFresh c = (c.in_transaction ≡ false) × (c.step_limit ≡ None)
 
 -- the store failed, or the table meta is such that no format is found
-abbrev pub TellsNothing : State → State → Type 0
-TellsNothing old new = HasFailed old new fault.Store ⊎ (HasNoFormat old.now ⊎ SharesTree old.now)
+abbrev pub ReportsNothing : State → State → Type 0
+ReportsNothing old new = HasFailed old new fault.Store ⊎ (HasNoFormat old.now ⊎ SharesTree old.now)
 
 -- so it is if this is answered for a connection as it is opened
-abbrev pub OnlyIfUntold : State → State → Type 0 → Type 0
-OnlyIfUntold old new Answered = HasCleanDisk new → IsFresh old → Answered → TellsNothing old new
+abbrev pub OnlyIfSilent : State → State → Type 0 → Type 0
+OnlyIfSilent old new Answered = HasCleanDisk new → IsFresh old → Answered → ReportsNothing old new
 
 -- ---- why today's tables aren't made
 
@@ -184,7 +184,7 @@ module _ {X : Type 0} (shown : Held X → State) (old new : Held X) where
     -- trigger beside it; or the fault says what it is instead
     pub judges : HasCleanDisk (shown new) → OpensOrRefuses (shown old).now given
     -- Store: on a connection as it is opened, the store failed, or meta has no number as its format
-    pub calm : OnlyIfUntold (shown old) (shown new) (given ≡ Err Store)
+    pub calm : OnlyIfSilent (shown old) (shown new) (given ≡ Err Store)
     -- of a database without tables: NotABroker, or a failure
     pub blank : HasCleanDisk (shown new) → HoldsDurably IsBlank (shown old) → Judged format None given
     -- of one that is marked with another format: which that is, or a failure

@@ -8,7 +8,7 @@ use Rattle.table_access.specs.declared.StoreFault.{StoreFault}
 use Rattle.table_access.specs.declared.StoreFault.TheVariants as faults
 use Rattle.table_access.specs.Calls.{KeepsLastCommit}
 use Rattle.table_access.specs.Durability.{HoldsDurably, HoldsEither}
-use Rattle.table_access.specs.Unit.{IsOver, TellsRollback, RefusesCommit}
+use Rattle.table_access.specs.Unit.{IsOver, ReportsRollback, RefusesCommit}
 use Rattle.broker_database.specs.declared.ending.Failure.{Failure}
 use Rattle.broker_database.specs.declared.ending.Failure.TheVariants.{Call, Commit}
 
@@ -18,7 +18,7 @@ pub record Finishes (old new : State) (keeps : Bool) (ended : Result (Unit {0}) 
   -- else nothing is committed, and no transaction is open any more
   pub over : HasCleanDisk new → (keeps ≡ false) ⊎ (is_ok ended ≡ false) → KeepsLastCommit old new × IsOver new
   -- if nothing is to be kept: why the database refused ROLLBACK, which leaves what a done one leaves
-  pub told : HasCleanDisk new → keeps ≡ false → TellsRollback old new ended
+  pub returned : HasCleanDisk new → keeps ≡ false → ReportsRollback old new ended
   -- a refused commit is a failure of the database
   pub unsure : IsTrue keeps → IfErr ended (λ fault. fault ≡ faults.Store)
   -- what is committed is a database
@@ -45,9 +45,9 @@ abbrev pub fault_of : Failure → StoreFault
 fault_of (Call fault) = fault
 fault_of (Commit fault) = faults.Store
 
-abbrev pub told : {A : Type 0} → Result A Failure → Result A StoreFault
-told (Ok a) = Ok a
-told (Err failure) = Err (fault_of failure)
+abbrev pub returned : {A : Type 0} → Result A Failure → Result A StoreFault
+returned (Ok a) = Ok a
+returned (Err failure) = Err (fault_of failure)
 
 -- the result of a work, its fault as that of a call
 abbrev pub called : {A : Type 0} → Result A StoreFault → Result A Failure

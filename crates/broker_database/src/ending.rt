@@ -71,7 +71,7 @@ pub fn conclude<S: Alter, A: Drop>(
     worked: Result<A, StoreFault>,
     keeps: bool,
 ) -> Result<A, Failure>
-    ensures concludes { Concludes (state S.Store conn.old) (state S.Store conn.new) keeps worked (spec.told result) }
+    ensures concludes { Concludes (state S.Store conn.old) (state S.Store conn.new) keeps worked (spec.returned result) }
     ensures refused { HasCleanDisk (state S.Store conn.new) →
         IfErr result (EndsFor (state S.Store) keeps worked conn.old conn.new) }
 {

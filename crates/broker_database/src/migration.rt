@@ -8,10 +8,10 @@ ghost use Rattle.broker_tables.specs.Former.{former_format, former_tables};
 ghost use Rattle.broker_tables.specs.Schema.{broker_schema, schema_of};
 ghost use Rattle.registry_tables.specs.Format.{BecomesFormat2, FailsToFind, FailsOnlyFor};
 ghost use Rattle.broker_database.specs.Calls.{Migrated};
-ghost use Rattle.broker_database.specs.Migration.{BringsUp, BringsUpOrNot, FindsFormerAlone, CanBeMigrated, CanBeStoredAgain};
+ghost use Rattle.broker_database.specs.Migration.{Migrates, MigratesOrNot, FindsFormerAlone, CanBeMigrated, CanBeStoredAgain};
 ghost use Rattle.broker_database.specs.Migration.{FailsToBringUp, StoresFormer};
 ghost use Rattle.broker_database.specs.Opening.{OnlyIfRefused};
-ghost use Rattle.broker_database.specs.Transaction.{told};
+ghost use Rattle.broker_database.specs.Transaction.{returned};
 
 use crate::catalog::{is_broker_schema, is_former_schema};
 use crate::ending::{Failure, conclude};
@@ -35,7 +35,7 @@ fn add_tables<S: Alter>(conn: &mut Connection<S>) -> Result<(), StoreFault>
 /// Makes the tables and the indexes that format 1 has not, and sets the format.
 fn add_all<S: Alter>(conn: &mut Connection<S>) -> Result<(), StoreFault>
     ensures brings { CallsStore S.Store conn.old conn.new result
-        (λ _ old new. BringsUp old.now new.now) }
+        (λ _ old new. Migrates old.now new.now) }
     ensures calm { IsCalmOver S.Store conn.old conn.new result CanBeMigrated }
 {
     done!(add_tables(conn));
@@ -51,7 +51,7 @@ fn has_no_more(schema: &Schema) -> bool
 }
 
 /// The format, but `None` if it is 1 and a table of it isn't there with its columns and keys, or anything else is.
-fn format_to_bring_up<S: Alter>(conn: &mut Connection<S>) -> Result<Option<u32>, StoreFault>
+fn format_to_upgrade<S: Alter>(conn: &mut Connection<S>) -> Result<Option<u32>, StoreFault>
     ensures finds { CallsStore S.Store conn.old conn.new result
         (λ found old new. FindsFormerAlone old.now found × (new.now ≡ old.now)) }
     ensures cause { FailsOnlyFor (state S.Store conn.old) (state S.Store conn.new) result FailsToFind }
@@ -94,7 +94,7 @@ fn confirm<S: Alter>(conn: &Connection<S>) -> Result<(), StoreFault>
 /// Makes a database of format 1 one of today's, which declares exactly what a new broker does.
 fn make_today<S: Alter>(conn: &mut Connection<S>) -> Result<(), StoreFault>
     ensures brings { CallsStore S.Store conn.old conn.new result
-        (λ _ old new. BringsUp old.now new.now × (new.now.schema ≡ broker_schema)) }
+        (λ _ old new. Migrates old.now new.now × (new.now.schema ≡ broker_schema)) }
     ensures calm { IsCalmOver S.Store conn.old conn.new result CanBeMigrated }
 {
     done!(make_exact(conn));
@@ -107,11 +107,11 @@ fn make_today<S: Alter>(conn: &mut Connection<S>) -> Result<(), StoreFault>
 fn bring_up<S: Alter>(conn: &mut Connection<S>) -> Result<Option<u32>, StoreFault>
     ensures brings { CallsStore S.Store conn.old conn.new result
         (λ found old new. FindsFormerAlone old.now found × (found ≡ Some former_format
-        → BringsUp old.now new.now × (new.now.schema ≡ broker_schema))) }
+        → Migrates old.now new.now × (new.now.schema ≡ broker_schema))) }
     ensures cause { FailsOnlyFor (state S.Store conn.old) (state S.Store conn.new) result FailsToBringUp }
     ensures calm { IsCalmOver S.Store conn.old conn.new result CanBeMigrated }
 {
-    match done!(format_to_bring_up(conn)) {
+    match done!(format_to_upgrade(conn)) {
         Some(1) => {
             done!(make_today(conn));
             Ok(Some(1))
@@ -130,7 +130,7 @@ fn is_former(found: &Result<Option<u32>, StoreFault>) -> bool
 /// Upgrades a database in one transaction, which is committed if its format was 1, and else rolled back. The answer is
 /// the format that was found.
 fn run<S: Alter>(conn: &mut Connection<S>) -> Result<Option<u32>, Failure>
-    ensures migrates { BringsUpOrNot (state S.Store) conn.old conn.new (told result) }
+    ensures migrates { MigratesOrNot (state S.Store) conn.old conn.new (returned result) }
     ensures refused { (s : BrokerState) → CanBeStoredAgain s →
         OnlyIfRefused (state S.Store) (λ db. StoresFormer db s) s conn.old conn.new result }
 {

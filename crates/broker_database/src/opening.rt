@@ -15,8 +15,8 @@ ghost use Rattle.command_facts.specs.Primitives.{broker_primitives};
 ghost use Rattle.broker_database.specs.Ends.{IsAsBefore, IsUnchangedUnless, CommitsAtMostOnce, LeavesNoTransaction};
 ghost use Rattle.broker_tables.specs.Room.{HasAllNumbers};
 ghost use Rattle.broker_database.specs.Opening as spec;
-ghost use Rattle.broker_database.specs.Opening.{FindsToday, MakesRest, MakesOrFails, OnlyIfUntold, OnlyIfRefused, TablesMade, TablesFound, judgement};
-ghost use Rattle.broker_database.specs.Transaction.{told};
+ghost use Rattle.broker_database.specs.Opening.{FindsToday, MakesRest, MakesOrFails, OnlyIfSilent, OnlyIfRefused, TablesMade, TablesFound, judgement};
+ghost use Rattle.broker_database.specs.Transaction.{returned};
 
 use crate::catalog::is_broker_schema;
 use crate::ending::{Failure, conclude, undo};
@@ -120,9 +120,9 @@ fn make_all<S: Alter>(conn: &mut Connection<S>, digest: &str) -> Result<(), Stor
 /// Makes all tables in one transaction.
 fn make<S: Alter>(conn: &mut Connection<S>, digest: &str) -> Result<(), Failure>
     ensures ends { HasCleanDisk (state S.Store conn.new) → HoldsDurably IsBlank (state S.Store conn.old)
-        → MakesOrFails digest.now (state S.Store conn.new) (told result) }
+        → MakesOrFails digest.now (state S.Store conn.new) (returned result) }
     ensures unchanged { HasCleanDisk (state S.Store conn.new)
-        → IsUnchangedUnless (λ _. Unit {0}) (state S.Store conn.old) (state S.Store conn.new) (told result) }
+        → IsUnchangedUnless (λ _. Unit {0}) (state S.Store conn.old) (state S.Store conn.new) (returned result) }
     ensures calm { AreShort (digest.now ∷ [])
         → OnlyIfRefused (state S.Store) IsBlank (opening digest.now) conn.old conn.new result }
     ensures over { LeavesNoTransaction (state S.Store conn.old) (state S.Store conn.new) }
@@ -197,7 +197,7 @@ fn find_format<S: Alter>(conn: &mut Connection<S>) -> Result<Option<u32>, StoreF
     ensures found { HasCleanDisk (state S.Store conn.new)
         → IfOk result (λ found. IsTrue (state S.Store conn.old).is_open × FindsToday (state S.Store conn.old).now found) }
     ensures same { HasCleanDisk (state S.Store conn.new) → IsAsBefore (state S.Store conn.old) (state S.Store conn.new) }
-    ensures calm { OnlyIfUntold (state S.Store conn.old) (state S.Store conn.new) (result ≡ Err StoreFault.Store) }
+    ensures calm { OnlyIfSilent (state S.Store conn.old) (state S.Store conn.new) (result ≡ Err StoreFault.Store) }
     ensures over { LeavesNoTransaction (state S.Store conn.old) (state S.Store conn.new) }
     ensures survives { Survives (state S.Store conn.old) (state S.Store conn.new) (λ _. ⊥) }
 {

@@ -7,7 +7,8 @@ use Rattle.sqlite_trees.specs.declared.error.StoreError.TheVariants.{Io}
 use Rattle.table_access.specs.{Calls.{HasFailed}, declared.StoreFault.TheVariants.{Store}}
 use Rattle.broker_core.specs.{Laws.{IsDone}, Machine.{Request as Asked, is_step}, State.{State as Broker}, Text.{Text}, declared.answer.Answer.{Answer}}
 use Rattle.broker_core.specs.declared.command.Command.{Command}
-use Rattle.broker_tables.{specs.{Readable.{IsReadable}, Room.{HasRoomFor, TakesRoom, enough}}, proofs.RoomLemmas.{HasRoomFor-fewer, TakesRoom-same, TakesRoom-trans}}
+use Rattle.broker_tables.specs.{Readable.{IsReadable}, Room.{HasRoomFor, TakesRoom, enough}}
+use Rattle.broker_tables.proofs.RoomLemmas.{HasRoomFor-fewer, TakesRoom-same, TakesRoom-trans}
 use Rattle.broker_database.specs.{BrokerView.{BrokerView}, Calls.{Applied}, Ends.{Applies, IsAsBefore, CommitsAtMostOnce}, Stored.{HoldsState}}
 use Rattle.broker_database.proofs.{Transaction.{Survives-refl}, StoreFailures.{HasFailed-disk_at_fault}}
 use Rattle.http_responses.specs.Responses.{Response}

@@ -94,15 +94,15 @@ module _ {S U : Type 0} (First : S → Option (List ℕ) → Command → Answer 
       let closes = closes-same q.0 response other s p.1 u q.1 (subst (λ m. Exchange First s m response p.1) message p.4) q.4 in
       let second_tail = subst (λ l. Responses (Exchange Second) q.1 l others v left) (sym unique.2) q.5 in
       let more = IsOneReading-of_responses p.1 t q.1 v p.2 responses others rest left ended second p.5 in
-      let behind = after response other responses others t v rest left ended second p.1 q.1 p.2 closes (λ a b. more a second_tail b) p.5 second_tail
+      let following = after response other responses others t v rest left ended second p.1 q.1 p.2 closes (λ a b. more a second_tail b) p.5 second_tail
       (GoesOn-of_stream_end ended response responses rest ends) (GoesOn-of_stream_end second other others left over) in
       record {
-        messages = p.0 ∷ behind.messages;
-        cut = (p.2, p.3, behind.cut);
-        each = ap suc behind.each;
-        as_many = ap suc behind.as_many;
-        same_rest = behind.same_rest;
-        same_end = behind.same_end;
+        messages = p.0 ∷ following.messages;
+        cut = (p.2, p.3, following.cut);
+        each = ap suc following.each;
+        as_many = ap suc following.as_many;
+        same_rest = following.same_rest;
+        same_end = following.same_end;
       }
     where
       after : (response other : Response) (responses others : List Response) (t : S) (v : U) (rest left : List ℕ) (ended second : Ended) (s : S) (u : U) (stream : List ℕ)

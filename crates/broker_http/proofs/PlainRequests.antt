@@ -8,7 +8,7 @@ use Rattle.httparse.specs.Grammar.{RequestHead, IsRequestHead, Field, IsField, c
 use Rattle.percent_encoding.specs.Percent.{percent_decode}
 use Rattle.serde_json.specs.{Data.{Data}, Find.{get, as_str}}
 use Rattle.broker_names.specs.Name.{IsName, is_token_byte as is_callers_byte}
-use Rattle.broker_core.specs.{Text.{Text}, State.{State as Broker}, Laws.{TeamsDiffer}, Machine.{Step, is_step, Request as Told}}
+use Rattle.broker_core.specs.{Text.{Text}, State.{State as Broker}, Laws.{TeamsDiffer}, Machine.{Step, is_step, Request as Returned}}
 use Rattle.broker_core.specs.{declared.command.Command.{Command}, declared.answer.Answer.{Answer}}
 use Rattle.command_facts.specs.Primitives.{broker_primitives}
 use Rattle.http_messages.specs.Heads.{IsHeadText, IsJudged, IsBodyLength, judge_head, body_of_head, fields_of, is_last_head, is_too_large, served_method}
@@ -70,7 +70,7 @@ abbrev pub bytes_of : List Asked → List ℕ
 bytes_of [] = []
 bytes_of (a ∷ more) = head_of a ++ (a.body ++ bytes_of more)
 
-abbrev pub request_of : Asked → Told
+abbrev pub request_of : Asked → Returned
 request_of a = record { token = Some a.token; command = a.command }
 
 -- ---- what a computation says of it
@@ -206,7 +206,7 @@ module _ (a : Asked) (it : IsComputed a) where
 -- ---- a stream of such requests, each answered by a step
 
 -- the machine is in this state and has answered so
-abbrev pub after : Broker → List (Told × Answer) → Journal
+abbrev pub after : Broker → List (Returned × Answer) → Journal
 after s steps = record { mode = Running s; steps = steps }
 
 abbrev pub response : List ℕ → Response
@@ -215,7 +215,7 @@ response bytes = record { text = bytes; closes = false }
 -- The request is answered by a step, and then the rest of the stream is.
 pub answered : (a : Asked) → IsComputed a → IsCommand a.operation (path_of a.target) (query_of a.target) a.body a.command
     → (rest : List ℕ) → head_text (take head_limit (head_of a ++ (a.body ++ rest))) ≡ Some (head_of a)
-    → (s t : Broker) (steps : List (Told × Answer)) (answer : Answer) → is_step answer ≡ true → TeamsDiffer s → Step broker_primitives s (Some a.token) a.command (record { answer = answer; state = t })
+    → (s t : Broker) (steps : List (Returned × Answer)) (answer : Answer) → is_step answer ≡ true → TeamsDiffer s → Step broker_primitives s (Some a.token) a.command (record { answer = answer; state = t })
     → (bytes : List ℕ) → response bytes ≡ answer_response answer false
     → (more : List Response) (last : Journal) → Responses ByMachine (after t (steps ++ (request_of a, answer) ∷ [])) rest more last []
     → Responses ByMachine (after s steps) (head_of a ++ (a.body ++ rest)) (response bytes ∷ more) last []

@@ -16,7 +16,8 @@ use Rattle.http_requests.proofs.OneRequest.{IsRequest-unique}
 use Rattle.http_requests.proofs.RequestExamples.{deployment_head, deployment_body, deployment_message, BeginsWithMessage-deployment, IsRequest-deployment}
 use Rattle.broker_http.specs.{Calls.{ByMachine}, Exchange.{Responds}, Journal.{Journal, JournalStep, blank, written}, Serving.{Mode, ModeStep, Serves}}
 use Rattle.broker_http.specs.{Serving.Mode.{Running, IsStopped}, Stream.{Responses, StreamEnds, texts}, declared.served.Ended.{Ended}}
-use Rattle.broker_http.{specs.{declared.served.Ended.TheVariants.{AtEnd}, declared.served.Served.{Served}}, proofs.OneReading.{StreamEnds-no_message, Message-ext}}
+use Rattle.broker_http.specs.{declared.served.Ended.TheVariants.{AtEnd}, declared.served.Served.{Served}}
+use Rattle.broker_http.proofs.OneReading.{StreamEnds-no_message, Message-ext}
 
 abbrev pub red : Text
 red = codes "red"
@@ -133,8 +134,8 @@ module _ (office : Text) (other : ¬ (office ≡ broker_primitives.digest_of red
   ModeStep-refused_or_no_step answer (Running t) steps (inl it) are =
       elim (StepOnce-holds broker_primitives (λ _. false) deploys.command tt (claims_only office) deploys.token (record { answer = answer; state = t }) (record { answer = refused_for_a_claim; state = claims_only office }) (TeamsDiffer-claims_only office) it.1 (Step-claim_refused office other)) [
         | inl same ↦
-            let told : answer ≡ refused_for_a_claim = ap (λ (out : Transition). out.answer) same in
-            inl (told, ap (λ (out : Transition). Running out.state) same, are ∙ ap (written [] deploys.token deploys.command) told)
+            let returned : answer ≡ refused_for_a_claim = ap (λ (out : Transition). out.answer) same in
+            inl (returned, ap (λ (out : Transition). Running out.state) same, are ∙ ap (written [] deploys.token deploys.command) returned)
         | inr (inl wrong) ↦ absurd (let never : false ≡ true = wrong.2 in cc)
         | inr (inr wrong) ↦ absurd (let never : false ≡ true = wrong.2 in cc)
       ]

@@ -6,7 +6,7 @@ use Rattle.http_messages.specs.{Message.{Message}, Reading.{LeavesAtFault, IsOut
 use Rattle.http_messages.specs.{declared.head.Refused.{Refused}, declared.reading.ReadOutcome.{ReadOutcome}}
 use Rattle.http_messages.specs.Messages.{AnnouncesBody, BeginsWithMessage, HasNoMessage, message_of}
 use Rattle.http_messages.proofs.MessagesLemmas.{BeginsWithMessage-more, IsHeadOf-more}
-use Rattle.broker_http.specs.{Faults.{fault_of_read, TellsDevice}, Serving.{IsOutOfMemory, ServesUntil}}
+use Rattle.broker_http.specs.{Faults.{fault_of_read, ReportsDevice}, Serving.{IsOutOfMemory, ServesUntil}}
 use Rattle.broker_http.specs.{Stream.{texts, AllOpen, Responses, ExchangeCut, StreamCut, StreamEnds}, declared.served.StreamFault.{StreamFault}}
 use Rattle.broker_http.specs.{declared.served.Ended.{Ended}, declared.served.Ended.TheVariants.{AtEnd, Rest, Closed}}
 use Rattle.http_requests.specs.Requests.{AsksOperation}
@@ -149,9 +149,9 @@ module _ {S : Type 0} (Exchange : S → Message → Response → S → Type 0) w
       )
 
 -- a fault at one message isn't the reader's
-pub TellsDevice-weaker : (fault : StreamFault) (P Q : Type 0) → TellsDevice fault ⊥ Q → TellsDevice fault P Q
-TellsDevice-weaker (faults.Read failed) P Q p = absurd p
-TellsDevice-weaker (faults.Turn over) P Q p = tt
-TellsDevice-weaker faults.Count P Q p = tt
-TellsDevice-weaker (faults.Write fault) P Q p = p
-TellsDevice-weaker faults.Memory P Q p = tt
+pub ReportsDevice-weaker : (fault : StreamFault) (P Q : Type 0) → ReportsDevice fault ⊥ Q → ReportsDevice fault P Q
+ReportsDevice-weaker (faults.Read failed) P Q p = absurd p
+ReportsDevice-weaker (faults.Turn over) P Q p = tt
+ReportsDevice-weaker faults.Count P Q p = tt
+ReportsDevice-weaker (faults.Write fault) P Q p = p
+ReportsDevice-weaker faults.Memory P Q p = tt

@@ -14,10 +14,10 @@ use Rattle.broker_http.specs.Exchange.{Exchange, Responds}
 use Rattle.broker_http.specs.Journal.{Journal, JournalStep, IsRunFrom, blank}
 use Rattle.broker_http.specs.Serving.{Mode, IsInMode, StopsOnlyBy, ServesStream}
 use Rattle.broker_http.specs.Stream.{Responses}
-use Rattle.broker_http.specs.Faults.{TellsDevice, told_as}
+use Rattle.broker_http.specs.Faults.{ReportsDevice, returned_as}
 use Rattle.broker_http.specs.declared.served.StreamFault.{StreamFault}
 use Rattle.broker_http.specs.declared.served.ServeFault.{ServeFault}
-use Rattle.broker_http.specs.declared.served.ServeFault.TheVariants as told
+use Rattle.broker_http.specs.declared.served.ServeFault.TheVariants as returned
 use Rattle.broker_http.specs.declared.served.Served.{Served}
 
 -- a broker answers a message, each command by what it promises on any disk and any database
@@ -77,14 +77,14 @@ module _ {X : Type 0} (shown : Held X → State) (s t : BrokerView X) (before af
         × Survives (shown s.connection) (shown t.connection) (Contains commits) × (length commits ≤ answered)))
 
   -- the stream was served to this end, or up to this fault, which was reported as one of three
-  abbrev pub IsToldAs : Result Served StreamFault → Result Served ServeFault → Type 0
-  IsToldAs (Ok served) result = result ≡ Ok served
-  IsToldAs (Err fault) result = result ≡ Err (told_as fault)
+  abbrev pub IsReturnedAs : Result Served StreamFault → Result Served ServeFault → Type 0
+  IsReturnedAs (Ok served) result = result ≡ Ok served
+  IsReturnedAs (Err fault) result = result ≡ Err (returned_as fault)
 
   -- What serving promises whose faults are three: it served the stream, and the reader or the writer has failed if a
   -- fault says so; or there was no memory for the routes, and nothing was read, done or written.
   abbrev pub IsServedOrIdle : (ReaderHasFailed WriterHasFailed : Type 0) → Result Served ServeFault → Type 0
   IsServedOrIdle ReaderHasFailed WriterHasFailed result =
-      ((result ≡ Err told.Memory) × (t ≡ s) × (after ≡ before) × (new ≡ old))
-      ⊎ ((served : Result Served StreamFault) × IsServed served × IsToldAs served result
-      × IfErr served (λ fault. TellsDevice fault ReaderHasFailed WriterHasFailed))
+      ((result ≡ Err returned.Memory) × (t ≡ s) × (after ≡ before) × (new ≡ old))
+      ⊎ ((served : Result Served StreamFault) × IsServed served × IsReturnedAs served result
+      × IfErr served (λ fault. ReportsDevice fault ReaderHasFailed WriterHasFailed))

@@ -5,7 +5,7 @@ ghost use Rattle.http_messages.specs.Message.{message};
 ghost use Rattle.http_messages.specs.Views.{IsHeadRead};
 ghost use Rattle.http_requests.specs.Requests.{AsksOperation};
 ghost use Rattle.broker_http.specs.Calls.{ByBroker, IsResponded};
-ghost use Rattle.broker_http.specs.Faults.{TellsDevice};
+ghost use Rattle.broker_http.specs.Faults.{ReportsDevice};
 ghost use Rattle.broker_http.specs.Stream.{ExchangeCut, ExchangeDone};
 
 use crate::served::StreamFault;
@@ -100,7 +100,7 @@ pub(crate) fn answer<B: Service, W: FallibleWrite>(
     ensures fault { IfErr result (ExchangeCut (ByBroker B.shown) (B.seen broker.old) (message text.now body.now)
         (B.seen broker.new) (W.contents writer.old) (W.contents writer.new)) }
     ensures memory { IfErr result (λ fault. fault ≡ StreamFault.Memory → AsksOperation (message text.now body.now)) }
-    ensures failed { IfErr result (λ fault. TellsDevice fault ⊥ (W.HasFailed writer.new)) }
+    ensures failed { IfErr result (λ fault. ReportsDevice fault ⊥ (W.HasFailed writer.new)) }
     ensures kept { HEAD_CAPACITY ≤ vec_capacity head_buffer.new }
 {
     let Ok(request) = read_request(alloc, routes, text, head, body) else {

@@ -1,6 +1,6 @@
 //! How serving ends, and why it stops.
 ghost use Rattle.std.specs.Prelude.{◌≡◌};
-ghost use Rattle.broker_http.specs.Faults.{fault_of_read, told_as};
+ghost use Rattle.broker_http.specs.Faults.{fault_of_read, returned_as};
 
 use http_messages::device::ReaderFailed;
 use http_messages::reading::ReadFault;
@@ -65,7 +65,7 @@ pub enum ServeFault {
 }
 
 impl From<StreamFault> for ServeFault {
-    ghost from_gives = { λ fault served. served ≡ told_as fault };
+    ghost from_gives = { λ fault served. served ≡ returned_as fault };
 
     fn from(fault: StreamFault) -> ServeFault {
         match fault {

@@ -2,7 +2,7 @@
 ghost use Rattle.std.specs.Prelude.{◌≡◌, ◌+◌, ◌≤◌, length, take, drop, IfErr};
 ghost use Rattle.std.specs.Io.KnownBytes.{Keeps};
 ghost use Rattle.broker_http.specs.Calls.{IsAnsweredByBroker, IsServed, IsServedOrIdle};
-ghost use Rattle.broker_http.specs.Faults.{TellsDevice};
+ghost use Rattle.broker_http.specs.Faults.{ReportsDevice};
 
 use crate::exchange::answer;
 use crate::served::{Ended, ServeFault, Served, StreamFault};
@@ -38,8 +38,8 @@ fn message_parts(bytes: &[u8], head_len: usize, body_len: usize) -> (&[u8], &[u8
     ensures head { result.0.now ≡ take head_len bytes.now }
     ensures body { result.1.now ≡ take body_len (drop head_len bytes.now) }
 {
-    let (head, behind) = bytes.split_at(head_len);
-    (head, &behind[..body_len])
+    let (head, following) = bytes.split_at(head_len);
+    (head, &following[..body_len])
 }
 
 /// Answers the messages of a stream one after another, by what the broker promises of each command on any disk.
@@ -55,7 +55,7 @@ fn serve_messages<T: Turn<R>, R: FallibleRead, W: FallibleWrite, B: Service>(
     ensures answers { IsAnsweredByBroker B.shown (B.seen broker.old) (B.seen broker.new)
         (R.remaining reader.old) (R.remaining reader.new)
         (W.contents writer.old) (W.contents writer.new) result }
-    ensures failed { IfErr result (λ fault. TellsDevice fault (R.HasFailed reader.new) (W.HasFailed writer.new)) }
+    ensures failed { IfErr result (λ fault. ReportsDevice fault (R.HasFailed reader.new) (W.HasFailed writer.new)) }
 {
     let Ok(mut buffer) = Buffer::new(alloc) else {
         return Err(StreamFault::Memory);
@@ -114,7 +114,7 @@ pub(crate) fn serve_for<T: Turn<R>, R: FallibleRead, W: FallibleWrite, B: Servic
     ensures served { IsServed B.shown (B.seen broker.old) (B.seen broker.new)
         (R.remaining reader.old) (R.remaining reader.new)
         (W.contents writer.old) (W.contents writer.new) result }
-    ensures failed { IfErr result (λ fault. TellsDevice fault (R.HasFailed reader.new) (W.HasFailed writer.new)) }
+    ensures failed { IfErr result (λ fault. ReportsDevice fault (R.HasFailed reader.new) (W.HasFailed writer.new)) }
 {
     serve_messages::<T, R, W, B>(alloc, routes, broker, reader, writer)
 }
@@ -144,7 +144,7 @@ pub fn serve_stream<R: FallibleRead, W: FallibleWrite, B: Service>(
     ensures served { IsServed B.shown (B.seen broker.old) (B.seen broker.new)
         (R.remaining reader.old) (R.remaining reader.new)
         (W.contents writer.old) (W.contents writer.new) result }
-    ensures failed { IfErr result (λ fault. TellsDevice fault (R.HasFailed reader.new) (W.HasFailed writer.new)) }
+    ensures failed { IfErr result (λ fault. ReportsDevice fault (R.HasFailed reader.new) (W.HasFailed writer.new)) }
 {
     serve_for::<Endless, R, W, B>(alloc, routes, broker, reader, writer)
 }

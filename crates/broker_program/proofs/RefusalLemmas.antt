@@ -16,10 +16,10 @@ module _ {D : Type 0} {g : Ghosts D} where
   LeavesStore-weaker P Q (GivenUp store) f p = f store p
   LeavesStore-weaker P Q _ f p = absurd p
 
-  pub IsOfDatabase-of_failure : (held : Image) (Fails : Held (FileStore D g) → Held (FileStore D g) → OpenFault → Type 0) (old new : Held (FileStore D g)) (fault : OpenFault) (told : RunFault) (rest : Left D g)
+  pub IsOfDatabase-of_failure : (held : Image) (Fails : Held (FileStore D g) → Held (FileStore D g) → OpenFault → Type 0) (old new : Held (FileStore D g)) (fault : OpenFault) (returned : RunFault) (rest : Left D g)
       → OpensOn held old → doubt (file_state old).is_clean ≤ doubt (file_state new).is_clean → Fails old new fault
-      → told ≡ run_fault.Open fault → LeavesStore (GivesUpAs new) rest → IsOfDatabase held Fails told rest
-  IsOfDatabase-of_failure held Fails old new fault told rest opens later fails is gives =
+      → returned ≡ run_fault.Open fault → LeavesStore (GivesUpAs new) rest → IsOfDatabase held Fails returned rest
+  IsOfDatabase-of_failure held Fails old new fault returned rest opens later fails is gives =
       let there : LeavesStore (λ (store : FileStore D g). IsClean (view store) → FailsThere held Fails fault store) rest =
       LeavesStore-weaker (GivesUpAs new) (λ store. IsClean (view store) → FailsThere held Fails fault store) rest (λ store given clean.
       let kept = given.ends clean in
@@ -48,7 +48,7 @@ module _ {D : Type 0} {g : Ghosts D} where
           clean = early;
           closed = it.closed;
           error = it.error;
-          told = it.told;
+          returned = it.returned;
           cause = it.cause clean;
         },
   )

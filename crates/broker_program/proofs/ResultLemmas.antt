@@ -39,11 +39,11 @@ Ok-unique_flag {F} r a b is_a is_b = subst (λ (t : Result Bool F). MatchResult 
 -- whether nothing is in a result, as it was looked at
 module _ {T X F Q : Type 0} (f : X → F) (s : Result Bool F) where
   pub is_none-true : (r : Result (Option T) X) → MatchResult r (λ found. s ≡ Ok (is_none found)) (λ e. s ≡ Err (f e)) → s ≡ Ok true → IfOk r (λ found. found ≡ None → Q) → Q
-  is_none-true (Ok None) told is q = q refl
-  is_none-true (Ok (Some x)) told is q = absurd (let bad : false ≡ true = Ok-unique_flag s _ _ told is in cc)
-  is_none-true (Err e) told is q = absurd (Err-not_ok s (f e) true told is)
+  is_none-true (Ok None) returned is q = q refl
+  is_none-true (Ok (Some x)) returned is q = absurd (let bad : false ≡ true = Ok-unique_flag s _ _ returned is in cc)
+  is_none-true (Err e) returned is q = absurd (Err-not_ok s (f e) true returned is)
 
   pub is_none-false : (r : Result (Option T) X) → MatchResult r (λ found. s ≡ Ok (is_none found)) (λ e. s ≡ Err (f e)) → s ≡ Ok false → IfOk r (λ found. IfSome found (λ _. Q)) → Q
-  is_none-false (Ok None) told is q = absurd (let bad : true ≡ false = Ok-unique_flag s _ _ told is in cc)
-  is_none-false (Ok (Some x)) told is q = q
-  is_none-false (Err e) told is q = absurd (Err-not_ok s (f e) false told is)
+  is_none-false (Ok None) returned is q = absurd (let bad : true ≡ false = Ok-unique_flag s _ _ returned is in cc)
+  is_none-false (Ok (Some x)) returned is q = q
+  is_none-false (Err e) returned is q = absurd (Err-not_ok s (f e) false returned is)

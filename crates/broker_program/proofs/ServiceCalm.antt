@@ -12,11 +12,13 @@ use Rattle.broker_tables.specs.Readable.{IsReadable}
 use Rattle.command_facts.specs.Primitives.{broker_primitives}
 use Rattle.broker_database.specs.{BrokerView.{BrokerView}, Calls.{Applied}, Sessions.{RunsCalls, exit_of}, Stored.{HoldsState, Stores}}
 use Rattle.broker_database.specs.{Causes.{IsToBeDone, StaysReadable}, Life.{IsKeptIn, AreTreesOf, Kept, LifeLeads, Period, PeriodLeads}}
-use Rattle.broker_database.{specs.{Life.Kept.{Blank, OfToday}, Life.Period.{Serving}}, proofs.{SchemaLemmas.{Lists-unique_schema}, StoreFailures.{HasFailed-disk_at_fault}}}
+use Rattle.broker_database.{specs.{Life.Kept.{Blank, OfToday}, Life.Period.{Serving}}, proofs.SchemaLemmas.{Lists-unique_schema}}
+use Rattle.broker_database.proofs.StoreFailures.{HasFailed-disk_at_fault}
 use Rattle.sqlite_store.specs.Laws.{settled_at}
 use Rattle.broker_program.specs.{Calm.{AllStopCalmly, DiskWorked, DiskWorks, ServesCalmly, StopsAtChange, StopsCalmly, StopsFrom}, Life.{periods_of}}
 use Rattle.broker_program.specs.Serving.{StartsAfter, Work, Works}
-use Rattle.broker_program.proofs.{CallLemmas.{IsBefore, IsBefore-refl, IsBefore-calls, IsBefore-peers, RunsCalls-work, HasCleanDisk-before_works}, PeriodLemmas.{Begins, Begins-after_works}}
+use Rattle.broker_program.proofs.CallLemmas.{IsBefore, IsBefore-refl, IsBefore-calls, IsBefore-peers, RunsCalls-work, HasCleanDisk-before_works}
+use Rattle.broker_program.proofs.PeriodLemmas.{Begins, Begins-after_works}
 use Rattle.broker_core.specs.declared.answer.Answer.TheVariants as answers
 
 -- an answer that is a step ends the call so

@@ -41,9 +41,9 @@ module _ {D : Type 0} {g : Ghosts D} where
   ServesPeers-append (first ∷ visits) visit s mid t more it = (more.0, more.1, ServesPeers-append visits visit more.0 mid t more.2 it)
 
   -- one that was let in, served, and let go from the queue that has the door as it was then
-  pub ServesNext-visited : (old mid behind new : Queue) (before after : Peer) (s t : BrokerView (FileStore D g)) → IsLetIn old mid before → behind ≡ mid → IsLetGo behind new after → s.is_stopped ≡ false
+  pub ServesNext-visited : (old mid following new : Queue) (before after : Peer) (s t : BrokerView (FileStore D g)) → IsLetIn old mid before → following ≡ mid → IsLetGo following new after → s.is_stopped ≡ false
       → (result : Result Served StreamFault) → IsServed file_state s t before.sends after.sends before.took after.took result → ServesNext s t old new
-  ServesNext-visited old mid behind new before after s t let_in same let_go runs result served =
+  ServesNext-visited old mid following new before after s t let_in same let_go runs result served =
       inr (record { before = before; after = after }, (mid, let_in, subst (λ (q : Queue). IsLetGo q new after) same let_go), (runs, result, served))
 
   pub ServesMore-none : (held : Image) (queue : Queue) (broker : BrokerView (FileStore D g)) → OpensBroker held broker → ServesMore held queue queue broker

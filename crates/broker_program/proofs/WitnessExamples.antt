@@ -23,7 +23,7 @@ module _ {D : Type 0} {g : Ghosts D} (s t : BrokerView (FileStore D g)) (old new
 -- `status_halved_in_process`: words that are no command line don't end with 1, for any streams
 module _ {D I O E : Type 0} {g : Ghosts D} (held : Image) (remaining : I → Option (List ℕ)) (contents : O → Option (List ℕ)) (shows : E → Option (List ℕ)) where
   pub RanOver-mistake_not_1 : (words : List Text) (end : Ended D g) → is_line words ≢ true → RanOver held remaining contents shows words end → end.status ≢ 1
-  RanOver-mistake_not_1 words end mistaken (before, after, old, new, untold, told, ran) is = elim (ran.told_of mistaken) [
+  RanOver-mistake_not_1 words end mistaken (before, after, old, new, silent, returned, ran) is = elim (ran.returned_of mistaken) [
     | inl mistake ↦ let clash = sym is ∙ mistake.1.0 in absurd cc
     | inr (inl (asks, inl shown)) ↦ let clash = sym is ∙ shown.0 in absurd cc
     | inr (inl (asks, inr lost)) ↦ let clash = sym is ∙ lost.0 in absurd cc

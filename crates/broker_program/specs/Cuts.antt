@@ -19,7 +19,7 @@ use Rattle.program_io.specs.Entrance.{AreVisited, Queue, Visit}
 use Rattle.program_io.specs.Reported.{IsFromOutside}
 use Rattle.program_io.specs.declared.fault.RunFault.{RunFault}
 use Rattle.program_io.specs.declared.fault.RunFault.TheVariants as run_fault
-use Rattle.broker_program.specs.FileRefusals.{IsNotClosed, IsReopeningFault, OpensNone, told_of}
+use Rattle.broker_program.specs.FileRefusals.{IsNotClosed, IsReopeningFault, OpensNone, returned_of}
 use Rattle.broker_program.specs.Serving.{IsPeerOf, LosesFiles, ServesOver, ServesTo, StartsAfter, Work, visits_of}
 use Rattle.broker_program.specs.Files.{Leaves, LeavesCut}
 use Rattle.broker_program.specs.declared.left.CutService.{CutService}
@@ -36,7 +36,7 @@ module _ {D : Type 0} {g : Ghosts D} where
   pub record AreRefused (files : Files D) (fault : RunFault) (rest : Leftover D g) : Type 0 where
     -- why, and Memory is reported only if memory ran out
     pub error : Error
-    pub told : fault ≡ told_of error
+    pub returned : fault ≡ returned_of error
     pub cause : IsCleanLeft rest → FailsToOpenFiles files rest error
     -- a crash leaves what was there
     pub left : IsCleanLeft rest → LeavesFiles files rest

@@ -28,9 +28,9 @@ use Rattle.broker_program.specs.declared.left.Left.{Left}
 use Rattle.broker_program.specs.declared.left.Left.TheVariants.{Nothing, Unopened}
 
 -- the fault that reports an error of the files: Memory only if memory ran out
-abbrev pub told_of : Error → RunFault
-told_of (SqliteFailure OutOfMemory) = run_fault.Memory
-told_of _ = run_fault.File
+abbrev pub returned_of : Error → RunFault
+returned_of (SqliteFailure OutOfMemory) = run_fault.Memory
+returned_of _ = run_fault.File
 
 -- a broker couldn't be made
 abbrev pub IsOpeningFault : RunFault → Type 0
@@ -47,7 +47,7 @@ module _ {D : Type 0} {g : Ghosts D} where
   pub record IsNotClosed (conn : Held (FileStore D g)) (fault : RunFault) (store : FileStore D g) : Type 0 where
     pub closed : IsClosed conn store
     pub error : Error
-    pub told : fault ≡ told_of error
+    pub returned : fault ≡ returned_of error
     pub cause : IsClean (view store) → FailsToClose conn store error
 
   -- ---- the calls that fail, from a connection to what they leave of it
@@ -79,7 +79,7 @@ module _ {D : Type 0} {g : Ghosts D} (held : Image) where
     pub settled : (image : Image) → outcomes g files.log files.db image → image ≡ held
     -- why, and Memory is reported only if memory ran out
     pub error : Error
-    pub told : fault ≡ told_of error
+    pub returned : fault ≡ returned_of error
     pub cause : IsCleanLeft rest → FailsToOpenFiles files rest error
     -- a crash leaves what was there; if there was no database, perhaps a beginning of one
     pub left : IsCleanLeft rest → LeavesFiles files rest
@@ -103,7 +103,7 @@ module _ {D : Type 0} {g : Ghosts D} (held : Image) where
     pub closed : IsClosed end store
     -- why, and Memory is reported only if memory ran out
     pub error : Error
-    pub told : fault ≡ told_of error
+    pub returned : fault ≡ returned_of error
     pub cause : FailsToClose end store error
 
   -- the same, if the disk is clean to the end

@@ -1,5 +1,5 @@
 pub mod Replays
-pub mod Told
+pub mod Returned
 pub mod Files
 pub mod Asked
 pub mod Serving

@@ -26,7 +26,7 @@ use Rattle.broker_program.specs.Cuts.{FindsNoBroker, IsNotReopened, StaysShut, S
 use Rattle.broker_program.specs.Files.{EndsClean}
 use Rattle.broker_program.specs.Making.{MakesBroker, MigratesFile}
 use Rattle.broker_program.specs.Serving.{ServesOver, ServesTo, Work}
-use Rattle.broker_program.specs.Told.{BrokerAnswers}
+use Rattle.broker_program.specs.Returned.{BrokerAnswers}
 use Rattle.broker_program.specs.declared.seed.NoSeed.{NoSeed}
 
 -- the periods in which this was done, from the first to the last: the last is given first

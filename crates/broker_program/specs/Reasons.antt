@@ -21,7 +21,7 @@ use Rattle.broker_program.specs.Making.{MakesOn, MigratesOn}
 use Rattle.broker_program.specs.FileRefusals.{EndsUnclosed, FailsToConnect, IsLeftUnserved, IsOfDatabase}
 use Rattle.broker_program.specs.FileRefusals.{MakesNone, MigratesNone, OpensNone}
 use Rattle.broker_program.specs.Replays.{ReplaysUpTo}
-use Rattle.broker_program.specs.Told.{AnswersQuestion, permission, question}
+use Rattle.broker_program.specs.Returned.{AnswersQuestion, permission, question}
 use Rattle.broker_program.specs.declared.can_i_deploy.Question.{Question}
 use Rattle.broker_program.specs.declared.left.Left.{Left}
 

@@ -16,11 +16,11 @@ use Rattle.broker_program.specs.Reasons.{IsFaultOf}
 use Rattle.program_io.specs.Faults.{fault_text}
 use Rattle.program_io.specs.Reported.{IsReported}
 use Rattle.broker_program.specs.Serving.{ServesFile}
-use Rattle.broker_program.specs.Told.{Asks, AsksUntil, question}
+use Rattle.broker_program.specs.Returned.{Asks, AsksUntil, question}
 use Rattle.program_io.specs.Written.{Checks, ChecksUntil, IsLineOut, Normalises, NormalisesUntil}
 use Rattle.program_io.specs.declared.fault.RunFault.{RunFault}
 use Rattle.program_io.specs.declared.fault.RunFault.TheVariants as run_fault
-use Rattle.broker_program.specs.Words.{TellsOfWords}
+use Rattle.broker_program.specs.Words.{ReportsOfWords}
 use Rattle.broker_program.specs.declared.left.Ended.{Ended}
 use Rattle.broker_program.specs.declared.left.Left.{Left}
 use Rattle.command_line.specs.declared.line.Line.{Line}
@@ -71,25 +71,25 @@ module _ {D I O : Type 0} {g : Ghosts D} (held : Image) (remaining : I → Optio
   IsFaultOn = IsFaultOf held (remaining before) (remaining after) (contents old) (contents new) rest
 
 -- The texts are the words; the reader was before and is after, standard output was old and is new, standard error was
--- `untold` and is `told`, and shows what it has taken. The end is the status, whether standard error took all that it
+-- `silent` and is `returned`, and shows what it has taken. The end is the status, whether standard error took all that it
 -- was to take, and what is left of the command's file.
 module _ {D I O E : Type 0} {g : Ghosts D} (held : Image) (remaining : I → Option (List ℕ)) (contents : O → Option (List ℕ)) (shows : E → Option (List ℕ)) where
   -- what carrying out a command promises of the status that the program ends with
-  pub record LineRan (line : Line) (before after : I) (old new : O) (untold told : E) (end : Ended D g) : Type 0 where
+  pub record LineRan (line : Line) (before after : I) (old new : O) (silent returned : E) (end : Ended D g) : Type 0 where
     pub statuses : (end.status ≡ 0) ⊎ ((end.status ≡ 1) ⊎ (end.status ≡ 3))
     -- it is done, or its check failed or its version isn't permitted; nothing is on standard error
     pub done : end.status ≡ 0
-        → CommandEndsOn held remaining contents before after old new end.left line true × (told ≡ untold)
+        → CommandEndsOn held remaining contents before after old new end.left line true × (returned ≡ silent)
     pub refused : end.status ≡ 1
-        → CommandEndsOn held remaining contents before after old new end.left line false × (told ≡ untold)
+        → CommandEndsOn held remaining contents before after old new end.left line false × (returned ≡ silent)
     -- it failed, and standard error says why
     pub fails : end.status ≡ 3 → CommandFailsOn held remaining contents before after old new end.left line
     pub reports : end.status ≡ 3
         → (fault : RunFault) × IsFaultOn held remaining contents before after old new end.left line fault
-        × IsReported fault end.line (shows untold) (shows told)
+        × IsReported fault end.line (shows silent) (shows returned)
 
   -- what running the words promises of it
-  pub record Ran (words : List Text) (before after : I) (old new : O) (untold told : E) (end : Ended D g) : Type 0 where
+  pub record Ran (words : List Text) (before after : I) (old new : O) (silent returned : E) (end : Ended D g) : Type 0 where
     pub statuses : (end.status ≡ 0) ⊎ ((end.status ≡ 1) ⊎ ((end.status ≡ 2) ⊎ (end.status ≡ 3)))
     -- what the command was to do is done, and standard output has what it writes
     pub done : end.status ≡ 0 → is_line words ≡ true
@@ -100,15 +100,15 @@ module _ {D I O E : Type 0} {g : Ghosts D} (held : Image) (remaining : I → Opt
         → (line : Line) × Says words line
         × CommandEndsOn held remaining contents before after old new end.left line false
     -- in both nothing is on standard error
-    pub quiet : end.status ≡ 0 → is_line words ≡ true → told ≡ untold
-    pub quiet_refused : end.status ≡ 1 → told ≡ untold
+    pub quiet : end.status ≡ 0 → is_line words ≡ true → returned ≡ silent
+    pub quiet_refused : end.status ≡ 1 → returned ≡ silent
     -- 2 is only for words that are no command line
     pub usage : end.status ≡ 2 → is_line words ≢ true
     -- They run nothing: nothing is read. By what clap finds in them, a mistake is reported on standard error and ends
     -- with 2, and help and version, if they are asked for, are shown on standard output and end with 0.
     pub unread : is_line words ≢ true → after ≡ before
-    pub told_of : is_line words ≢ true
-        → TellsOfWords contents shows (IsFoundIn words) old new untold told end.line end.status
+    pub returned_of : is_line words ≢ true
+        → ReportsOfWords contents shows (IsFoundIn words) old new silent returned end.line end.status
     -- a command that failed has written no more than a beginning of what it would have written
     pub fails : end.status ≡ 3 → is_line words ≡ true
         → ((after ≡ before) × (new ≡ old))
@@ -116,24 +116,24 @@ module _ {D I O E : Type 0} {g : Ghosts D} (held : Image) (remaining : I → Opt
         × CommandFailsOn held remaining contents before after old new end.left line)
     -- one line on standard error says why: there was no memory for the words, or the command failed for this reason
     pub reason : end.status ≡ 3 → is_line words ≡ true
-        → IsReported run_fault.Memory end.line (shows untold) (shows told)
+        → IsReported run_fault.Memory end.line (shows silent) (shows returned)
         ⊎ ((line : Line) × (fault : RunFault) × Says words line
         × IsFaultOn held remaining contents before after old new end.left line fault
-        × IsReported fault end.line (shows untold) (shows told))
+        × IsReported fault end.line (shows silent) (shows returned))
 
   -- these words were run over some streams, and it ended so
   abbrev pub RanOver : List Text → Ended D g → Type 0
   RanOver words end =
-      (before : I) × (after : I) × (old : O) × (new : O) × (untold : E) × (told : E)
-      × Ran words before after old new untold told end
+      (before : I) × (after : I) × (old : O) × (new : O) × (silent : E) × (returned : E)
+      × Ran words before after old new silent returned end
 
 -- these words were run over files of a disk, and it ended with this status
 abbrev pub RanTo : {D I O E : Type 0} (g : Ghosts D) (held : Image) (remaining : I → Option (List ℕ))
     (contents : O → Option (List ℕ)) (shows : E → Option (List ℕ))
-    → List Text → (before after : I) (old new : O) (untold told : E) → ℕ → Type 0
-RanTo {D} g held remaining contents shows words before after old new untold told status =
+    → List Text → (before after : I) (old new : O) (silent returned : E) → ℕ → Type 0
+RanTo {D} g held remaining contents shows words before after old new silent returned status =
     (end : Ended D g) × (status ≡ end.status)
-    × Ran held remaining contents shows words before after old new untold told end
+    × Ran held remaining contents shows words before after old new silent returned end
 
 -- the status of a process whose words can't be read, for an error of this kind: 2 for a word that isn't UTF-8
 abbrev pub IsUnread : ErrorKind → ℕ → Type 0
@@ -145,8 +145,8 @@ unread_text InvalidData = codes "error: a word of the command line isn't UTF-8"
 unread_text _ = fault_text run_fault.Memory
 
 -- nothing else is written, and nothing is read
-abbrev pub TellsUnread : {I O E : Type 0} → (E → Option (List ℕ)) → (before after : I) (old new : O) (untold told : E)
+abbrev pub ReportsUnread : {I O E : Type 0} → (E → Option (List ℕ)) → (before after : I) (old new : O) (silent returned : E)
     → ErrorKind → Result (Unit {0}) WriteFault → ℕ → Type 0
-TellsUnread shows before after old new untold told kind line status =
+ReportsUnread shows before after old new silent returned kind line status =
     (after ≡ before) × (new ≡ old) × IsUnread kind status
-    × IsLineOut (unread_text kind) line (shows untold) (shows told)
+    × IsLineOut (unread_text kind) line (shows silent) (shows returned)

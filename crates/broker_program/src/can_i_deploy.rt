@@ -4,8 +4,8 @@ ghost use Rattle.sqlite.specs.WalFiles.{image_at};
 ghost use Rattle.broker_names.specs.Name.{IsToken};
 ghost use Rattle.broker_program.specs.Reasons.{AsksByNames, FailsToAnswer, FailsToAsk, FailsToOpen};
 ghost use Rattle.broker_program.specs.Reasons.{IsAnswerFault, IsNameFault, IsQuestionFault};
-ghost use Rattle.broker_program.specs.Told.{AnswersFrom, AnswersQuestion, Asks, AsksUntil, asked, permission};
-ghost use Rattle.broker_program.specs.Told.{TellsGate, TellsGateUntil};
+ghost use Rattle.broker_program.specs.Returned.{AnswersFrom, AnswersQuestion, Asks, AsksUntil, asked, permission};
+ghost use Rattle.broker_program.specs.Returned.{ReportsGate, ReportsGateUntil};
 
 use crate::files::{Failed, open_broker, release};
 use crate::left::Left;
@@ -109,11 +109,11 @@ fn permits(answer: &RenderedAnswer) -> Option<bool>
 
 /// Writes the answer and a newline, and says whether the version is permitted. An answer that doesn't say so is a
 /// fault.
-fn tell_answer<W: Write>(answer: RenderedAnswer, output: &mut W) -> Result<bool, RunFault>
-    ensures ok { IfOk result (TellsGate answer (W.contents output.old) (W.contents output.new)) }
+fn print_answer<W: Write>(answer: RenderedAnswer, output: &mut W) -> Result<bool, RunFault>
+    ensures ok { IfOk result (ReportsGate answer (W.contents output.old) (W.contents output.new)) }
     // Nothing was written, or a beginning of the answer.
     ensures err { OnErr result ((output.new ≡ output.old)
-        ⊎ TellsGateUntil answer (W.contents output.old) (W.contents output.new)) }
+        ⊎ ReportsGateUntil answer (W.contents output.old) (W.contents output.new)) }
     ensures cause { IfErr result (IsAnswerFault answer) }
 {
     match permits(&answer) {
@@ -145,7 +145,7 @@ pub(crate) fn ask<S: Start, W: Write>(
     ensures cause { IfErr result.0 (λ fault. FailsToAsk (image_at S.Start) question.entry fault result.1) }
 {
     match answer_to(rt, file, question, start) {
-        Ok((answer, store)) => (tell_answer(answer, output), Left::GivenUp(store)),
+        Ok((answer, store)) => (print_answer(answer, output), Left::GivenUp(store)),
         Err((fault, left)) => (Err(fault), left),
     }
 }

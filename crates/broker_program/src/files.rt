@@ -7,7 +7,7 @@ ghost use Rattle.broker_database.specs.Calls.{Opened};
 ghost use Rattle.broker_program.specs.Files.{ClosesAs, GivesUpAs, LeavesStore, OpensBroker, OpensOn};
 ghost use Rattle.broker_program.specs.Reasons.{FailsToOpen};
 ghost use Rattle.program_io.specs.Reported.{IsFromOutside};
-ghost use Rattle.broker_program.specs.FileRefusals.{FailsToConnect, GivesUpUnopened, IsNotClosed, told_of};
+ghost use Rattle.broker_program.specs.FileRefusals.{FailsToConnect, GivesUpUnopened, IsNotClosed, returned_of};
 
 use crate::left::Left;
 use crate::seed::{store_options, with_pages};
@@ -42,8 +42,8 @@ pub(crate) fn fault_of<S: Start>(failed: Failed<S>) -> RunFault
 }
 
 /// The fault that reports an error of the files.
-pub(crate) fn told_of(error: &Error) -> RunFault
-    ensures same { result ≡ told_of error.now }
+pub(crate) fn returned_of(error: &Error) -> RunFault
+    ensures same { result ≡ returned_of error.now }
     ensures outside { IsFromOutside result }
 {
     match *error {
@@ -133,7 +133,7 @@ pub(crate) fn connect<S: Start>(
             connection.set_clock(rt);
             Ok(connection)
         },
-        Err((error, rest)) => Err((told_of(&error), Left::Unopened(rest))),
+        Err((error, rest)) => Err((returned_of(&error), Left::Unopened(rest))),
     }
 }
 
@@ -174,7 +174,7 @@ pub(crate) fn disconnect<S: Start>(
 {
     match connection.close_files() {
         Ok(files) => Ok(files),
-        Err((error, store)) => Err((told_of(&error), store)),
+        Err((error, store)) => Err((returned_of(&error), store)),
     }
 }
 

@@ -5,7 +5,7 @@ ghost use Rattle.std.specs.Process.{exit_status};
 ghost use Rattle.sqlite.specs.WalFiles.{image_at};
 ghost use Rattle.command_line.specs.Lines.{texts_of};
 ghost use Rattle.program_io.specs.Written.{IsLineOut};
-ghost use Rattle.broker_program.specs.Running.{IsUnread, Ran, RanOver, TellsUnread, unread_text};
+ghost use Rattle.broker_program.specs.Running.{IsUnread, Ran, RanOver, ReportsUnread, unread_text};
 
 use crate::left::{Ended, Processed, Unread};
 use crate::running::run_from;
@@ -58,10 +58,10 @@ fn unread(error: &io::Error) -> (u8, &'static str)
 }
 
 /// Says on `errors` why the words can't be read, and answers the status to end with.
-fn tell_unread<E: Write>(error: io::Error, errors: &mut E) -> (u8, Unread)
+fn report_unread<E: Write>(error: io::Error, errors: &mut E) -> (u8, Unread)
     ensures status { IsUnread (error_kind error) result.0 }
     ensures same { result.1.error ≡ error }
-    ensures told { IsLineOut (unread_text (error_kind error)) result.1.line (E.contents errors.old) (E.contents errors.new) }
+    ensures returned { IsLineOut (unread_text (error_kind error)) result.1.line (E.contents errors.old) (E.contents errors.new) }
 {
     let (status, text) = unread(&error);
     let line = put_line(errors, text);
@@ -81,20 +81,20 @@ fn run_over<S: Start, R: Read, W: Write, E: Write>(
     ensures status { IfOk result.1 (λ run. result.0 ≡ run.ended.status) }
     ensures ran { IfOk result.1 (λ run. Ran (image_at S.Start) R.remaining W.contents E.contents
         (map string_bytes run.words.items) input.old input.new output.old output.new errors.old errors.new run.ended) }
-    ensures unread { IfErr result.1 (λ unread. TellsUnread E.contents input.old input.new output.old output.new
+    ensures unread { IfErr result.1 (λ unread. ReportsUnread E.contents input.old input.new output.old output.new
         errors.old errors.new (error_kind unread.error) unread.line result.0) }
 {
     let words = match words {
         Ok(words) => words,
         Err(error) => {
-            let (status, unread) = tell_unread(error, errors);
+            let (status, unread) = report_unread(error, errors);
             return (status, Err(unread));
         }
     };
     match run_texts(rt, words.as_slice(), start, input, output, errors) {
         Ok(ended) => (ended.status, Ok(Processed { words, ended })),
         Err(error) => {
-            let (status, unread) = tell_unread(io::Error::from(error), errors);
+            let (status, unread) = report_unread(io::Error::from(error), errors);
             (status, Err(unread))
         }
     }

@@ -7,7 +7,7 @@ ghost use Rattle.broker_program.specs.FileRefusals.{IsReopeningFault};
 ghost use Rattle.broker_program.specs.Reopening.{EmptiesLog, FailsToReopen, KeepsServing, OpensBrokerAgain};
 ghost use Rattle.broker_program.specs.Reopening.{OpensFilesAgain};
 
-use crate::files::{FileBroker, broker_of, release, told_of};
+use crate::files::{FileBroker, broker_of, release, returned_of};
 use crate::seed::{NoSeed, store_options};
 use program_io::fault::RunFault;
 use sqlite::{Connection, FileFrom, FileStore, Leftover, Options, Start};
@@ -57,7 +57,7 @@ fn connect_again<D: Disk + Drop>(
     }
     match Connection::open_files_with(alloc, files, options, true) {
         Ok(connection) => Ok(Some(connection)),
-        Err((error, rest)) => Err((told_of(&error), rest)),
+        Err((error, rest)) => Err((returned_of(&error), rest)),
     }
 }
 

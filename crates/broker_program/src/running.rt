@@ -5,7 +5,7 @@ ghost use Rattle.clap.specs.Values.{kind_of};
 ghost use Rattle.command_line.specs.Lines.{texts_of};
 ghost use Rattle.program_io.specs.Reported.{IsReported};
 ghost use Rattle.broker_program.specs.Running.{CommandEndsOn, CommandFailsOn, IsFaultOn, LineRan, Ran, RanTo};
-ghost use Rattle.broker_program.specs.Words.{LacksMemory, TellsMistake, TellsOfWords, TellsText};
+ghost use Rattle.broker_program.specs.Words.{LacksMemory, ReportsMistake, ReportsOfWords, ReportsText};
 
 use crate::can_i_deploy::{Question, ask};
 use crate::init::init;
@@ -28,10 +28,10 @@ use std::alloc::Global;
 use std::io::{Read, Write};
 
 /// A status, and whether standard error took all that it was to take.
-type Told = (u8, Result<(), WriteFault>);
+type Returned = (u8, Result<(), WriteFault>);
 
 /// The status of a command that failed, with the fault on standard error.
-fn fail<E: Write>(fault: &RunFault, errors: &mut E) -> Told
+fn fail<E: Write>(fault: &RunFault, errors: &mut E) -> Returned
     ensures status { result.0 ≡ 3 }
     ensures reported { IsReported fault.now result.1 (E.contents errors.old) (E.contents errors.new) }
 {
@@ -39,15 +39,15 @@ fn fail<E: Write>(fault: &RunFault, errors: &mut E) -> Told
 }
 
 /// Writes what `clap` says: a mistake on standard error, and else what was asked for on standard output.
-fn tell_text<W: Write, E: Write>(
+fn print_text<W: Write, E: Write>(
     is_mistake: bool,
     text: &str,
     output: &mut W,
     errors: &mut E,
-) -> Told
-    ensures mistake { IsTrue is_mistake → TellsMistake W.contents E.contents output.old output.new
+) -> Returned
+    ensures mistake { IsTrue is_mistake → ReportsMistake W.contents E.contents output.old output.new
         errors.old errors.new result.1 result.0 }
-    ensures shown { is_mistake ≡ false → TellsText W.contents E.contents output.old output.new
+    ensures shown { is_mistake ≡ false → ReportsText W.contents E.contents output.old output.new
         errors.old errors.new result.1 result.0 }
 {
     if is_mistake {
@@ -61,10 +61,15 @@ fn tell_text<W: Write, E: Write>(
 
 /// Reports what `clap` says of the words: help on standard output, a mistake on standard error. Its text ends with a
 /// newline.
-fn tell<W: Write, E: Write>(alloc: Global, error: &Error, output: &mut W, errors: &mut E) -> Told
+fn print_usage<W: Write, E: Write>(
+    alloc: Global,
+    error: &Error,
+    output: &mut W,
+    errors: &mut E,
+) -> Returned
     ensures memory { kind_of error.now ≡ ErrorKind.OutOfMemory
         → LacksMemory W.contents E.contents output.old output.new errors.old errors.new result.1 result.0 }
-    ensures told { TellsOfWords W.contents E.contents
+    ensures returned { ReportsOfWords W.contents E.contents
         (λ kind. (kind_of error.now ≢ ErrorKind.OutOfMemory) × (kind_of error.now ≡ kind))
         output.old output.new errors.old errors.new result.1 result.0 }
 {
@@ -74,7 +79,7 @@ fn tell<W: Write, E: Write>(alloc: Global, error: &Error, output: &mut W, errors
     match format!(in alloc; "{error}") {
         Ok(text) => {
             let line = text.as_str().strip_suffix('\n').unwrap_or(text.as_str());
-            tell_text(error.use_stderr(), line, output, errors)
+            print_text(error.use_stderr(), line, output, errors)
         }
         Err(_) => fail(&RunFault::Memory, errors),
     }
@@ -214,7 +219,7 @@ pub fn run_from<S: Start, R: Read, W: Write, E: Write>(
     match read_line(rt.alloc(), &*words) {
         Ok(line) => run_line(rt, line, start, input, output, errors),
         Err(error) => {
-            let (status, line) = tell(rt.alloc(), &error, output, errors);
+            let (status, line) = print_usage(rt.alloc(), &error, output, errors);
             Ended {
                 status,
                 line,

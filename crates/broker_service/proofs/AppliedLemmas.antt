@@ -5,7 +5,7 @@ use Rattle.table_access.specs.{Calls.{HasFailed, KeepsLastCommit}, declared.Stor
 use Rattle.broker_core.specs.{Laws.{IsDone}, State.{State as Broker}, Text.{Text}, declared.answer.Answer.{Answer}, declared.command.Command.{Command}}
 use Rattle.broker_core.specs.SoundNames.{AreNames}
 use Rattle.broker_database.specs.{BrokerView.{BrokerView}, Calls.{Applied}, Causes.{HoldsReadable, IsNotKept, StaysReadable}}
-use Rattle.broker_database.specs.{Ends.{Applies, IsAsBefore, IsUnchangedUnless}, Transaction.{told}, declared.ending.Failure.{Failure}}
+use Rattle.broker_database.specs.{Ends.{Applies, IsAsBefore, IsUnchangedUnless}, Transaction.{returned}, declared.ending.Failure.{Failure}}
 use Rattle.broker_database.{specs.{declared.ending.Failure.TheVariants.{Call, Commit}, Stored.{HoldsState}}, proofs.Transaction.{Survives-refl}}
 use Rattle.broker_service.specs.Transacted.{AppliesOrFails, IsNoFailure, IsSoundCommand, Transacted, failed_as}
 use Rattle.broker_service.proofs.EndLemmas.{RecordsExactly-deployed, RecordsExactly-released}
@@ -45,42 +45,42 @@ answer_of-store (Err fault.Memory) it is = absurd (cc)
 answer_of-store (Err fault.Store) it is = refl
 
 -- a transaction whose fault is Store failed by it in a call, or its COMMIT was refused
-told-store : (r : Result Answer Failure) → told r ≡ Err fault.Store → (r ≡ Err (Call fault.Store)) ⊎ ((why : StoreFault) × (r ≡ Err (Commit why)))
-told-store (Ok answer) is = absurd (cc)
-told-store (Err (Call why)) is = inl (let same : why ≡ fault.Store = (let h = is in cc) in ap (λ (f : StoreFault). let r : Result Answer Failure = Err (Call f) in r) same)
-told-store (Err (Commit why)) is = inr (why, refl)
+returned-store : (r : Result Answer Failure) → returned r ≡ Err fault.Store → (r ≡ Err (Call fault.Store)) ⊎ ((why : StoreFault) × (r ≡ Err (Commit why)))
+returned-store (Ok answer) is = absurd (cc)
+returned-store (Err (Call why)) is = inl (let same : why ≡ fault.Store = (let h = is in cc) in ap (λ (f : StoreFault). let r : Result Answer Failure = Err (Call f) in r) same)
+returned-store (Err (Commit why)) is = inr (why, refl)
 
 module _ {X : Type 0} (shown : Held X → State) where
   -- why it did, of a broker that held a state that can be read back
   Transacted-store_cause : (token : Option Text) (command : Command) (r : Result Answer Failure) (old new : Held X) → Transacted shown token command old new r → HasCleanDisk (shown new) → AreNames command
-      → (s : Broker) → HoldsReadable s (shown old) → told r ≡ Err fault.Store → HasFailed (shown old) (shown new) fault.Store ⊎ IsNotKept shown s token command old new
-  Transacted-store_cause token command r old new it clean named s holds is = elim (told-store r is) [
+      → (s : Broker) → HoldsReadable s (shown old) → returned r ≡ Err fault.Store → HasFailed (shown old) (shown new) fault.Store ⊎ IsNotKept shown s token command old new
+  Transacted-store_cause token command r old new it clean named s holds is = elim (returned-store r is) [
     | inl call ↦ elim (it.calm clean named s holds call) [ inl failed ↦ inl failed | inr inside ↦ inr (inside.0, λ room. inl (inside.1 room)) ]
     | inr commit ↦ elim (it.refused clean s holds commit.0 commit.1) [ inl failed ↦ inl failed | inr lacks ↦ inr (lacks.1, λ room. inr lacks.2) ]
   ]
 
   -- what a running broker's transaction leaves
-  pub Applied-of_transacted : (old : BrokerView X) (token : Option Text) (command : Command) (r : Result Answer Failure) (answer : Answer) (new : BrokerView X) → answer ≡ answer_of (told r)
+  pub Applied-of_transacted : (old : BrokerView X) (token : Option Text) (command : Command) (r : Result Answer Failure) (answer : Answer) (new : BrokerView X) → answer ≡ answer_of (returned r)
       → Transacted shown token command old.connection new.connection r
-      → IfOk (told r) IsNoFailure → (IsTrue new.is_stopped ↔ (answer ≡ answers.Store)) → old.is_stopped ≡ false → IsSoundCommand token command → Applied shown old token command answer new
+      → IfOk (returned r) IsNoFailure → (IsTrue new.is_stopped ↔ (answer ≡ answers.Store)) → old.is_stopped ≡ false → IsSoundCommand token command → Applied shown old token command answer new
   Applied-of_transacted old token command r answer new is it answered stops running (named, reads) = record {
     readable = reads;
     applies = λ clean _. applies clean;
     deployments = λ clean _ step s holds. RecordsExactly-deployed s token command _ answer (applies clean s holds) step;
     releases = λ clean _ step s holds. RecordsExactly-released s token command _ answer (applies clean s holds) step;
-    unchanged = λ clean _ other undone. IsAsBefore-not_done _ _ (told r) (it.unchanged clean) (subst (λ (a : Answer). a ≢ answers.Store) is other) (subst (λ (a : Answer). ¬ (IsDone a)) is undone);
-    fails = λ clean store. KeepsLastCommit-store _ _ (told r) (it.unchanged clean) (sym is ∙ store);
-    calm = λ clean _ store s holds. Transacted-store_cause token command r old.connection new.connection it clean named s holds (answer_of-store (told r) answered (sym is ∙ store));
+    unchanged = λ clean _ other undone. IsAsBefore-not_done _ _ (returned r) (it.unchanged clean) (subst (λ (a : Answer). a ≢ answers.Store) is other) (subst (λ (a : Answer). ¬ (IsDone a)) is undone);
+    fails = λ clean store. KeepsLastCommit-store _ _ (returned r) (it.unchanged clean) (sym is ∙ store);
+    calm = λ clean _ store s holds. Transacted-store_cause token command r old.connection new.connection it clean named s holds (answer_of-store (returned r) answered (sym is ∙ store));
     room = λ clean _. it.room clean;
     over = it.over;
     stops = λ _. stops;
     stopped = λ stopped. absurd (cc);
-    runs = λ _. subst (λ (a : Answer). a ≢ answers.Stopped) (sym is) (answer_of-not_stopped (told r) answered);
+    runs = λ _. subst (λ (a : Answer). a ≢ answers.Stopped) (sym is) (answer_of-not_stopped (returned r) answered);
     survives = it.survives;
   }
     where
       applies : HasCleanDisk (shown new.connection) → (s : Broker) → HoldsState s (shown old.connection) → Applies s token command (shown new.connection) answer
-      applies clean s holds = subst (λ (a : Answer). Applies s token command (shown new.connection) a) (sym is) (Applies-answer_of s token command (shown new.connection) (told r) (it.ends clean s holds))
+      applies clean s holds = subst (λ (a : Answer). Applies s token command (shown new.connection) a) (sym is) (Applies-answer_of s token command (shown new.connection) (returned r) (it.ends clean s holds))
 
   -- what a stopped broker is left as
   pub Applied-stopped : (b : BrokerView X) (token : Option Text) (command : Command) → IsTrue b.is_stopped → StaysReadable token command → Applied shown b token command answers.Stopped b

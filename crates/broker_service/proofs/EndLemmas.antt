@@ -7,7 +7,8 @@ use Rattle.broker_core.{specs.{declared.command.Command.TheVariants.{Deploy, Rel
 use Rattle.broker_core.proofs.Quiet.{OnlyDoneChanges-holds}
 use Rattle.broker_tables.specs.Holds.{Holds}
 use Rattle.command_facts.specs.{Primitives.{broker_primitives}, Patterns.{RefusesPattern, AsksPattern}}
-use Rattle.broker_database.{specs.{Ends.{Steps, KeepsAtPattern, Applies}, Headline.{RecordsExactly}, Stored.{Stores, HoldsState}}, proofs.Sound.{HasSoundContents-step}}
+use Rattle.broker_database.specs.{Ends.{Steps, KeepsAtPattern, Applies}, Headline.{RecordsExactly}, Stored.{Stores, HoldsState}}
+use Rattle.broker_database.proofs.Sound.{HasSoundContents-step}
 use Rattle.registry_tables.proofs.TeamRows.{teams_differ}
 use Rattle.broker_core.proofs.Headline as headline
 

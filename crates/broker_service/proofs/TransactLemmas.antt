@@ -11,7 +11,7 @@ use Rattle.broker_tables.specs.{Calm.{Serves, HasFailedOrMemory, FailsFromBetwee
 use Rattle.broker_tables.proofs.RoomLemmas.{TakesRoom-same}
 use Rattle.command_facts.specs.{Performs.{PerformsBetween, TokensStep, IsToChange, IsMisnamed}, Primitives.{broker_primitives}}
 use Rattle.broker_database.specs.{Causes.{HoldsReadable, IsToBeDone, KeepsRoom}, Ends.{HoldsNext, Steps, KeepsAtPattern}, Stored.{Stores, HoldsState}}
-use Rattle.broker_database.specs.{Transaction.{Concludes, EndsFor, conclusion, told}, declared.ending.Failure.{Failure}}
+use Rattle.broker_database.specs.{Transaction.{Concludes, EndsFor, conclusion, returned}, declared.ending.Failure.{Failure}}
 use Rattle.broker_database.specs.declared.ending.Failure.TheVariants.{Call, Commit}
 use Rattle.broker_database.proofs.Transaction.{WholeTransaction, EndsOrFails-transaction, IsUnchangedUnless-transaction, now-after_transaction, Begins-transaction, LeavesNoTransaction-transaction, CommitsAtMostOnce-whole, Survives-before_whole_end, EndsOrFails-unbegun, IsUnchangedUnless-unbegun, LeavesNoTransaction-unbegun, CommitsAtMostOnce-of_survives}
 use Rattle.broker_database.proofs.StoreFailures.{HasFailed-of_transaction, HasFailed-of_work}
@@ -20,10 +20,10 @@ use Rattle.broker_service.proofs.EndLemmas.{Step-of_done, Stores-next, Steps-of_
 use Rattle.table_access.proofs.EndLemmas as ends
 
 -- an answer of the transaction is that of the work
-pub IfOk-told_conclusion : (P : Answer → Type 0) (worked : Result Answer StoreFault) (ended : Result (Unit {0}) StoreFault) (result : Result Answer Failure) → told result ≡ conclusion worked ended → IfOk worked P → IfOk result P
-IfOk-told_conclusion P worked (Ok u) (Ok answer) is it = subst (λ (r : Result Answer StoreFault). IfOk r P) (sym is) it
-IfOk-told_conclusion P worked (Err fault) (Ok answer) is it = absurd (cc)
-IfOk-told_conclusion P worked ended (Err failure) is it = tt
+pub IfOk-returned_conclusion : (P : Answer → Type 0) (worked : Result Answer StoreFault) (ended : Result (Unit {0}) StoreFault) (result : Result Answer Failure) → returned result ≡ conclusion worked ended → IfOk worked P → IfOk result P
+IfOk-returned_conclusion P worked (Ok u) (Ok answer) is it = subst (λ (r : Result Answer StoreFault). IfOk r P) (sym is) it
+IfOk-returned_conclusion P worked (Err fault) (Ok answer) is it = absurd (cc)
+IfOk-returned_conclusion P worked ended (Err failure) is it = tt
 
 module _ (token : Option Text) (command : Command) where
   -- what the work promises of its answer
@@ -83,9 +83,9 @@ module _ (token : Option Text) (command : Command) where
       ]
 
   module _ {X : Type 0} (shown : Held X → State) where
-    module _ (old mid done new : Held X) (result : Result Answer Failure) (t : WholeTransaction (shown old) (shown mid) (shown done) (shown new) (IsPerformed (shown mid) (shown done)) IsDone (told result)) (clean : HasCleanDisk (shown new)) (s : Broker) (ready : HoldsReadable s (shown old)) where
+    module _ (old mid done new : Held X) (result : Result Answer Failure) (t : WholeTransaction (shown old) (shown mid) (shown done) (shown new) (IsPerformed (shown mid) (shown done)) IsDone (returned result)) (clean : HasCleanDisk (shown new)) (s : Broker) (ready : HoldsReadable s (shown old)) where
       begun_there : Begins (shown old) (shown mid)
-      begun_there = Begins-transaction (shown old) (shown mid) (shown done) (shown new) _ _ (told result) t clean
+      begun_there = Begins-transaction (shown old) (shown mid) (shown done) (shown new) _ _ (returned result) t clean
 
       was : Stores (shown mid).now s
       was = ends.begins (λ db. Stores db s) (shown old) (shown mid) begun_there ready.held
@@ -107,7 +107,7 @@ module _ (token : Option Text) (command : Command) where
             IsToBeDone-of_change s (shown mid).now was change,
             λ room.
                 let failed = EndsBy-weaken (shown mid) (shown done) fault (λ long. long named) (ended (subst (HasRoomFor enough) (sym begun_there.1.now_is) room)) in
-                HasFailed-of_work (shown old) (shown mid) (shown done) (shown new) _ _ clean (told result) t Store (subst (HasFailed (shown mid) (shown done)) is failed),
+                HasFailed-of_work (shown old) (shown mid) (shown done) (shown new) _ _ clean (returned result) t Store (subst (HasFailed (shown mid) (shown done)) is failed),
           )
 
       -- and what was done isn't kept
@@ -122,7 +122,7 @@ module _ (token : Option Text) (command : Command) where
             record {
               worked = done;
               inside = on.0;
-              survives = Survives-before_whole_end (shown old) (shown mid) (shown done) (shown new) _ _ (told result) t;
+              survives = Survives-before_whole_end (shown old) (shown mid) (shown done) (shown new) _ _ (returned result) t;
               last = last (on.1 begun_there.1.is_open);
               next = (answer, next.0, next.1, next.2);
               refused = refused;
@@ -136,33 +136,33 @@ module _ (token : Option Text) (command : Command) where
         by_call named why is =
             let served : Serves (shown mid) s = record { inside = begun_there.1.mode; unlimited = t.begins.limit ∙ ready.unlimited; held = was.tables; readable = ready.readable } in
             let none : EndsFor shown t.keeps t.worked done new (Call Store) = subst (λ (r : Result Answer Failure). IfErr r (EndsFor shown t.keeps t.worked done new)) is refused in
-            HasFailed-of_transaction (shown old) (shown mid) (shown done) (shown new) _ _ (FailsInside s token command (shown old) (shown new)) clean (told result) t
+            HasFailed-of_transaction (shown old) (shown mid) (shown done) (shown new) _ _ (FailsInside s token command (shown old) (shown new)) clean (returned result) t
             (IfErr-weaker t.worked _ _ (λ fault it store. work_fails named fault it store) (why worked_clean s served was.contents))
-            (λ answer performs is_done kept on. absurd (none kept (IsOk-of_done t.worked (t.kept.0 kept)))) (ap told is)
+            (λ answer performs is_done kept on. absurd (none kept (IsOk-of_done t.worked (t.kept.0 kept)))) (ap returned is)
 
         -- why COMMIT was refused
         by_commit : (fault : StoreFault) → result ≡ Err (Commit fault) → HasFailed (shown old) (shown new) Store ⊎ FailsAtCommit shown s token command old new fault
         by_commit fault is =
             let refusal : EndsFor shown t.keeps t.worked done new (Commit fault) = subst (λ (r : Result Answer Failure). IfErr r (EndsFor shown t.keeps t.worked done new)) is refused in
-            HasFailed-of_transaction (shown old) (shown mid) (shown done) (shown new) _ _ (FailsAtCommit shown s token command old new fault) clean (told result) t
+            HasFailed-of_transaction (shown old) (shown mid) (shown done) (shown new) _ _ (FailsAtCommit shown s token command old new fault) clean (returned result) t
             (IfErr-of_ok (λ f. f ≡ Store → HasFailed (shown mid) (shown done) f ⊎ FailsAtCommit shown s token command old new fault) t.worked (IsOk-of_done t.worked (t.kept.0 refusal.0)))
-            (λ answer performs is_done kept on. not_kept answer performs is_done on fault refusal.1) (ap told is)
+            (λ answer performs is_done kept on. not_kept answer performs is_done on fault refusal.1) (ap returned is)
 
     pub transacted : (old mid done new : Held X) (worked : Result Answer StoreFault) (result : Result Answer Failure) (keeps : Bool) → (HasCleanDisk (shown mid) → Begins (shown old) (shown mid)) → Survives (shown old) (shown mid) (λ _. ⊥)
         → PerformsBetween (shown mid) (shown done) (TokensStep token command) worked
-        → FailsFromBetween (shown mid) (shown done) worked (IsMisnamed command) (HasSoundContents broker_primitives) (IsToChange (TokensStep token command)) → (IsTrue keeps ↔ IsOkAnd worked IsDone) → Concludes (shown done) (shown new) keeps worked (told result)
+        → FailsFromBetween (shown mid) (shown done) worked (IsMisnamed command) (HasSoundContents broker_primitives) (IsToChange (TokensStep token command)) → (IsTrue keeps ↔ IsOkAnd worked IsDone) → Concludes (shown done) (shown new) keeps worked (returned result)
         → (HasCleanDisk (shown new) → IfErr result (EndsFor shown keeps worked done new)) → Transacted shown token command old new result
     transacted old mid done new worked result keeps begun begins works calm kept concludes refused = record {
-      ends = AppliesOrFails-of_transaction (shown old) (shown mid) (shown done) (shown new) (told result) t;
-      unchanged = IsUnchangedUnless-transaction (shown old) (shown mid) (shown done) (shown new) _ _ (told result) t;
+      ends = AppliesOrFails-of_transaction (shown old) (shown mid) (shown done) (shown new) (returned result) t;
+      unchanged = IsUnchangedUnless-transaction (shown old) (shown mid) (shown done) (shown new) _ _ (returned result) t;
       calm = λ clean named s ready. by_call old mid done new result t clean s ready (refused clean) named calm;
       refused = λ clean s ready. by_commit old mid done new result t clean s ready (refused clean);
-      room = KeepsRoom-of_transaction (shown old) (shown mid) (shown done) (shown new) (told result) t;
-      over = LeavesNoTransaction-transaction (shown old) (shown mid) (shown done) (shown new) _ _ (told result) t;
-      survives = CommitsAtMostOnce-whole (shown old) (shown mid) (shown done) (shown new) _ _ (told result) t;
+      room = KeepsRoom-of_transaction (shown old) (shown mid) (shown done) (shown new) (returned result) t;
+      over = LeavesNoTransaction-transaction (shown old) (shown mid) (shown done) (shown new) _ _ (returned result) t;
+      survives = CommitsAtMostOnce-whole (shown old) (shown mid) (shown done) (shown new) _ _ (returned result) t;
     }
       where
-        t : WholeTransaction (shown old) (shown mid) (shown done) (shown new) (IsPerformed (shown mid) (shown done)) IsDone (told result)
+        t : WholeTransaction (shown old) (shown mid) (shown done) (shown new) (IsPerformed (shown mid) (shown done)) IsDone (returned result)
         t = record { worked = worked; keeps = keeps; begun = begun; begins = begins; works = works; kept = kept; concludes = concludes }
 
     -- if BEGIN was refused

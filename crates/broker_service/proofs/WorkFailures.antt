@@ -20,18 +20,18 @@ module _ (old new : State) (r : Result Answer StoreFault) (caller : Caller) (giv
       let out : Transition = record { answer = answers.Done it.0; state = it.1 } in
       (it.0, it.1, λ sound. inl (subst (λ (c : Command). IsStepOf caller c s out) (sym same) it.2))
 
-  told : (s : Broker) (fault : StoreFault) → HasFailedOrMemory old new fault ⊎ (IsToChange (IsStepOf caller command) s × (HasRoomFor enough old.now → EndsBy (IsMisnamed command) old new fault))
+  returned : (s : Broker) (fault : StoreFault) → HasFailedOrMemory old new fault ⊎ (IsToChange (IsStepOf caller command) s × (HasRoomFor enough old.now → EndsBy (IsMisnamed command) old new fault))
       → HasFailedOrMemory old new fault ⊎ (IsToChange (CallersStep caller given) s × (HasRoomFor enough old.now → EndsBy (IsMisnamed given) old new fault))
-  told s fault (inl calm) = inl calm
-  told s fault (inr change) = inr (changes s change.0, λ room. EndsBy-weaken old new fault (λ long named. long (subst AreNames same named)) (change.1 room))
+  returned s fault (inl calm) = inl calm
+  returned s fault (inr change) = inr (changes s change.0, λ room. EndsBy-weaken old new fault (λ long named. long (subst AreNames same named)) (change.1 room))
 
   -- a command that may change something
   pub FailsFromBetween-of_change : FailsBetween true old new r (IsMisnamed command) (λ _. ⊤) (IsStepOf caller command) → FailsFromBetween old new r (IsMisnamed given) (HasSoundContents broker_primitives) (IsToChange (CallersStep caller given))
-  FailsFromBetween-of_change why clean s here sound = IfErr-weaker r _ _ (told s) (why clean s here tt)
+  FailsFromBetween-of_change why clean s here sound = IfErr-weaker r _ _ (returned s) (why clean s here tt)
 
   -- such a command, if each stored pact can be read again
   pub FailsFromBetween-of_sound_change : FailsFromBetween old new r (IsMisnamed command) (HasSoundContents broker_primitives) (IsToChange (IsStepOf caller command)) → FailsFromBetween old new r (IsMisnamed given) (HasSoundContents broker_primitives) (IsToChange (CallersStep caller given))
-  FailsFromBetween-of_sound_change why clean s here sound = IfErr-weaker r _ _ (told s) (why clean s here sound)
+  FailsFromBetween-of_sound_change why clean s here sound = IfErr-weaker r _ _ (returned s) (why clean s here sound)
 
 -- a command whose change is never refused
 pub FailsFromBetween-of_calm : (TooBig : Type 0) (old new : State) (r : Result Answer StoreFault) (Allows Changes : Broker → Type 0) → FailsOnlyBy old new r (HasFailedOrMemory old new) → FailsFromBetween old new r TooBig Allows Changes

@@ -15,7 +15,7 @@ use Rattle.broker_core.specs.declared.command.Command.{Command}
 use Rattle.broker_database.specs.Causes.{CommitLacksMemory, HoldsReadable, IsToBeDone, KeepsRoom, StaysReadable}
 use Rattle.broker_database.specs.Ends.{HoldsNext, Steps, KeepsAtPattern, IsUnchangedUnless, CommitsAtMostOnce, LeavesNoTransaction}
 use Rattle.broker_database.specs.Stored.{Stores, HoldsState}
-use Rattle.broker_database.specs.Transaction.{EndsOrFails, told}
+use Rattle.broker_database.specs.Transaction.{EndsOrFails, returned}
 use Rattle.broker_database.specs.declared.ending.Failure.{Failure}
 use Rattle.broker_database.specs.declared.ending.Failure.TheVariants.{Call, Commit}
 use Rattle.broker_tables.specs.Room.{HasRoomFor, enough}
@@ -54,8 +54,8 @@ FailsAtCommit shown s token command old new why =
 pub record Transacted {X : Type 0} (shown : Held X → State) (token : Option Text) (command : Command) (old new : Held X)
     (result : Result Answer Failure) : Type 0 where
   pub ends : HasCleanDisk (shown new) → (s : Broker) → HoldsState s (shown old)
-      → AppliesOrFails s token command (shown new) (told result)
-  pub unchanged : HasCleanDisk (shown new) → IsUnchangedUnless IsDone (shown old) (shown new) (told result)
+      → AppliesOrFails s token command (shown new) (returned result)
+  pub unchanged : HasCleanDisk (shown new) → IsUnchangedUnless IsDone (shown old) (shown new) (returned result)
   -- a call failed by Store: the store failed, or the tables have no numbers left for what was to be done
   pub calm : HasCleanDisk (shown new) → AreNames command → (s : Broker) → HoldsReadable s (shown old)
       → result ≡ Err (Call faults.Store)

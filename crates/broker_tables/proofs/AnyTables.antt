@@ -9,7 +9,8 @@ use Rattle.sqlite_value.specs.declared.keys.Key.{Key}
 use Rattle.sqlite_trees.specs.{declared.error.StoreError.{StoreError}, declared.error.StoreError.TheVariants.{OutOfMemory, Broken, Unstorable}}
 use Rattle.sqlite_schema.specs.declared.schema.Column.{Column}
 use Rattle.table_access.specs.{declared.StoreFault.{StoreFault}, Calls.{HasFailed}, Reading.{IsRefusedAs}, Statements.{from_table, keeps, shows}}
-use Rattle.table_access.proofs.{Answered.{Runs, IsRefusedAs-HasFailed, Shown-of_table_row, slice_get-has_first}, Members.{has_map, has_filter, has_contains, contains_has}}
+use Rattle.table_access.proofs.Answered.{Runs, IsRefusedAs-HasFailed, Shown-of_table_row, slice_get-has_first}
+use Rattle.table_access.proofs.Members.{has_map, has_filter, has_contains, contains_has}
 use Rattle.table_access.proofs.Steps.{Means, IsPermutation-selected_rows, Shown-Answers, Shown-IsUnchanged}
 use Rattle.broker_tables.specs.{Schema.{environments, numbers}, Asking.{IsColumnLike, HasColumns, HasBrokerTables, CanBeAsked}}
 

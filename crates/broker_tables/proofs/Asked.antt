@@ -8,15 +8,17 @@ use Rattle.sqlite_value.specs.declared.keys.Key.{Key}
 use Rattle.sqlite_rules.specs.Lists.{Has}
 use Rattle.table_access.specs.{declared.StoreFault.{StoreFault}, declared.StoreFault.TheVariants.{Store}, Columns.{text, whole_at}}
 use Rattle.table_access.specs.Calls.{CallsTablesBetween, CallsStoreBetween, HasFailed}
-use Rattle.table_access.specs.Reading.{AreRead, FailsToRead, FailsToTake, IsRefusedAs, TellsNumber, TellsText, BeginsWithText, IsNumberRow, IsTextAt}
+use Rattle.table_access.specs.Reading.{AreRead, FailsToRead, FailsToTake, IsRefusedAs, ReportsNumber, ReportsText, BeginsWithText, IsNumberRow, IsTextAt}
 use Rattle.table_access.{specs.Statements.{from_table, from_both, up_to, keeps, keeps_both, shows}, proofs.Members.{map_has, filter_has}}
 use Rattle.table_access.proofs.{Newest.{up_to-take_rows, up_to-take_joined}, Steps.{Means, IsPermutation-kept_rows, Shown-Answers, Shown-IsUnchanged}}
-use Rattle.table_access.proofs.Answered.{Runs, IsRefusedAs-HasFailed, FailsToRead-HasFailed, FailsToTake-TellsNumber, FailsToTake-TellsText, slice_get-has_first, IsPermutation-has_each, take-sound, pair_shown}
+use Rattle.table_access.proofs.Answered.{Runs, IsRefusedAs-HasFailed, FailsToRead-HasFailed, FailsToTake-ReportsNumber, FailsToTake-ReportsText, slice_get-has_first, IsPermutation-has_each, take-sound, pair_shown}
 use Rattle.broker_core.specs.{declared.command.Version.{Version}, State.{State as Broker}}
 use Rattle.broker_tables.specs.{Schema.{broker_schema}, Numbers.{number_of}, Holds.{Holds, IsBroker, IsRead}}
 use Rattle.broker_tables.specs.{Calm.{Serves, HasFailedOrMemory, CalmQueriesBetween, IfNoVersionBetween, NeedsNoRoomBetween}, Readable.{IsReadable}}
-use Rattle.broker_tables.proofs.{Frames.{Means-over_broker_schema, Runs-over_broker_schema, Shown-Holds_same}, NoVersion.{AreRead-no_rows, option_map-no_rows, slice_get-no_rows}, QueryLemmas.{CalmQueriesBetween-read, fault-Memory_if_read}}
-use Rattle.broker_tables.proofs.{ReadableRows.{IsLow, IsNumberAt-of_column}, Listed.{AreRead-complete}}
+use Rattle.broker_tables.proofs.Frames.{Means-over_broker_schema, Runs-over_broker_schema, Shown-Holds_same}
+use Rattle.broker_tables.proofs.NoVersion.{AreRead-no_rows, option_map-no_rows, slice_get-no_rows}
+use Rattle.broker_tables.proofs.{QueryLemmas.{CalmQueriesBetween-read, fault-Memory_if_read}, ReadableRows.{IsLow, IsNumberAt-of_column}}
+use Rattle.broker_tables.proofs.Listed.{AreRead-complete}
 
 -- The text asks this query of the broker's tables, and can be run with these parameters: `refl` finds each field of both,
 -- under `unfolding understood everything`, even if the parameters are variables.
@@ -90,14 +92,14 @@ module _ {sql : List ℕ} {params : Row} {query : Query} (asked : Asked sql para
   IsRefusedAs-explained s at =
       IsRefusedAs-HasFailed sql params old new query asked.names (Means-of_broker at.held.broker) (Runs-of_broker at.held.broker) at.unlimited
 
-  pub FailsToTake-explained_number : EachReads asked old.now IsNumberRow → Explains (HasFailed old new) (FailsToTake TellsNumber sql params old new)
+  pub FailsToTake-explained_number : EachReads asked old.now IsNumberRow → Explains (HasFailed old new) (FailsToTake ReportsNumber sql params old new)
   FailsToTake-explained_number each s at =
-      FailsToTake-TellsNumber sql params old new query asked.names (Means-of_broker at.held.broker) (Runs-of_broker at.held.broker) at.unlimited
+      FailsToTake-ReportsNumber sql params old new query asked.names (Means-of_broker at.held.broker) (Runs-of_broker at.held.broker) at.unlimited
       (λ rows row h head. each s at.held at.readable rows (reads s at.held rows h).0 row (slice_get-has_first rows row head))
 
-  pub FailsToTake-explained_text : FirstReads asked old.now (IsTextAt 0) → Explains (HasFailedOrMemory old new) (FailsToTake TellsText sql params old new)
+  pub FailsToTake-explained_text : FirstReads asked old.now (IsTextAt 0) → Explains (HasFailedOrMemory old new) (FailsToTake ReportsText sql params old new)
   FailsToTake-explained_text first s at =
-      FailsToTake-TellsText sql params old new query asked.names (Means-of_broker at.held.broker) (Runs-of_broker at.held.broker) at.unlimited
+      FailsToTake-ReportsText sql params old new query asked.names (Means-of_broker at.held.broker) (Runs-of_broker at.held.broker) at.unlimited
       (λ rows row h head. first s at.held at.readable rows (reads s at.held rows h).0 row head)
 
   pub FailsToRead-explained : {B : Type 0} {Reads : Row → B → Type 0} {Fails : Row → StoreFault → Type 0} {Is : Row → Type 0} → FailsOnly Fails Is
@@ -107,10 +109,10 @@ module _ {sql : List ℕ} {params : Row} {query : Query} (asked : Asked sql para
       (λ rows row h has fault why. fault-Memory_if_read fault (only row fault why) (each s at.held at.readable rows (reads s at.held rows h).0 row has))
 
   -- if no row is shown and the answer isn't read, the store failed: there is no first row to read
-  pub FailsToTake-no_row_shown : (s : Broker) → Serves old s → FirstShown asked old.now (λ row. ⊥) → (fault : StoreFault) → FailsToTake TellsText sql params old new fault
+  pub FailsToTake-no_row_shown : (s : Broker) → Serves old s → FirstShown asked old.now (λ row. ⊥) → (fault : StoreFault) → FailsToTake ReportsText sql params old new fault
       → HasFailed old new fault
   FailsToTake-no_row_shown s at none fault (inl refused) = IsRefusedAs-explained s at fault refused
-  FailsToTake-no_row_shown s at none fault (inr (rows, shown, row, head, tells)) = absurd (none rows (reads s at.held rows shown).0 row head)
+  FailsToTake-no_row_shown s at none fault (inr (rows, shown, row, head, reports)) = absurd (none rows (reads s at.held rows shown).0 row head)
 
   -- ---- a call that answers what was read of the rows
 
@@ -119,11 +121,11 @@ module _ {sql : List ℕ} {params : Row} {query : Query} (asked : Asked sql para
   Was Read a = (rows : List Row) × Shown sql params old new rows × Read a rows
 
   -- if what was read is Read, it has P of each state that is held
-  abbrev Tells : {A : Type 0} → (A → List Row → Type 0) → (A → Broker → Type 0) → Type 0
-  Tells {A} Read P = (s : Broker) → Holds old.now s → (rows : List Row) → IsShown asked old.now rows → (a : A) → Read a rows → P a s
+  abbrev Matches : {A : Type 0} → (A → List Row → Type 0) → (A → Broker → Type 0) → Type 0
+  Matches {A} Read P = (s : Broker) → Holds old.now s → (rows : List Row) → IsShown asked old.now rows → (a : A) → Read a rows → P a s
 
-  IsRead-of_Tells : {A : Type 0} (Read : A → List Row → Type 0) (P : A → Broker → Type 0) → Tells Read P → (a : A) → Was Read a → IsRead old new P a
-  IsRead-of_Tells Read P tells a h s held = (tells s held h.0 (Shown-IsShown held.broker h.0 h.1) a h.2, Shown-now_same held.broker h.0 h.1)
+  IsRead-of_Reports : {A : Type 0} (Read : A → List Row → Type 0) (P : A → Broker → Type 0) → Matches Read P → (a : A) → Was Read a → IsRead old new P a
+  IsRead-of_Reports Read P reports a h s held = (reports s held h.0 (Shown-IsShown held.broker h.0 h.1) a h.2, Shown-now_same held.broker h.0 h.1)
 
   -- the call fails for this cause
   abbrev FailsFor : {A : Type 0} → Result A StoreFault → (StoreFault → Type 0) → Type 0
@@ -131,10 +133,10 @@ module _ {sql : List ℕ} {params : Row} {query : Query} (asked : Asked sql para
 
   -- a list
   pub CalmQueriesBetween-list : {A B : Type 0} {items : A → List B} {Reads : Row → B → Type 0} {FailsAs : Row → StoreFault → Type 0} {r : Result A StoreFault}
-      {P : A → Broker → Type 0} {Is : Row → Type 0} → FailsOnly FailsAs Is → Tells (λ list rows. AreRead Reads rows (items list)) P
+      {P : A → Broker → Type 0} {Is : Row → Type 0} → FailsOnly FailsAs Is → Matches (λ list rows. AreRead Reads rows (items list)) P
       → EachReads asked old.now Is → CallsTablesBetween old new r (Was (λ list rows. AreRead Reads rows (items list)))
       → FailsFor r (FailsToRead Reads FailsAs sql params old new) → CalmQueriesBetween true old new r P
-  CalmQueriesBetween-list {r = r} {P = P} only tells each = CalmQueriesBetween-read old new r _ P _ (IsRead-of_Tells _ P tells) (FailsToRead-explained only each)
+  CalmQueriesBetween-list {r = r} {P = P} only reports each = CalmQueriesBetween-read old new r _ P _ (IsRead-of_Reports _ P reports) (FailsToRead-explained only each)
 
   -- if nothing is to be listed, no row is shown, and so none was refused
   pub NeedsNoRoomBetween-list : {A B : Type 0} {Reads : Row → B → Type 0} {Is : Row → Type 0} {Nothing : Broker → Type 0} (r : Result A StoreFault) (Fails : Row → StoreFault → Type 0)
@@ -154,28 +156,28 @@ module _ {sql : List ℕ} {params : Row} {query : Query} (asked : Asked sql para
   abbrev IsFirst : Option ℕ → List Row → Type 0
   IsFirst found rows = (option_map (λ n. Int (pos n)) found ≡ option_map (λ row. column row 0) (slice_get rows 0))
 
-  pub CalmQueriesBetween-number : {r : Result (Option ℕ) StoreFault} {P : Option ℕ → Broker → Type 0} → Tells IsFirst P → EachReads asked old.now IsNumberRow
-      → CallsStoreBetween old new r (Was IsFirst) → FailsFor r (FailsToTake TellsNumber sql params old new) → CalmQueriesBetween false old new r P
-  CalmQueriesBetween-number {r = r} {P = P} tells each = CalmQueriesBetween-read old new r _ P _ (IsRead-of_Tells IsFirst P tells) (FailsToTake-explained_number each)
+  pub CalmQueriesBetween-number : {r : Result (Option ℕ) StoreFault} {P : Option ℕ → Broker → Type 0} → Matches IsFirst P → EachReads asked old.now IsNumberRow
+      → CallsStoreBetween old new r (Was IsFirst) → FailsFor r (FailsToTake ReportsNumber sql params old new) → CalmQueriesBetween false old new r P
+  CalmQueriesBetween-number {r = r} {P = P} reports each = CalmQueriesBetween-read old new r _ P _ (IsRead-of_Reports IsFirst P reports) (FailsToTake-explained_number each)
 
   -- a text, or none without a row
   abbrev IsFirstText : {A : Type 0} → (A → List ℕ) → Option A → List Row → Type 0
   IsFirstText view found rows = (option_map view found ≡ option_map (text 0) (slice_get rows 0))
 
-  pub CalmQueriesBetween-text : {A : Type 0} {view : A → List ℕ} {r : Result (Option A) StoreFault} {P : Option A → Broker → Type 0} → Tells (IsFirstText view) P
+  pub CalmQueriesBetween-text : {A : Type 0} {view : A → List ℕ} {r : Result (Option A) StoreFault} {P : Option A → Broker → Type 0} → Matches (IsFirstText view) P
       → FirstReads asked old.now (IsTextAt 0)
       → CallsTablesBetween old new r (λ found. (rows : List Row) × Shown sql params old new rows × IsFirstText view found rows × BeginsWithText rows)
-      → FailsFor r (FailsToTake TellsText sql params old new) → CalmQueriesBetween true old new r P
-  CalmQueriesBetween-text {view = view} {r = r} {P = P} tells first =
-      CalmQueriesBetween-read old new r _ P _ (λ found h. IsRead-of_Tells (IsFirstText view) P tells found (h.0, h.1, h.2)) (FailsToTake-explained_text first)
+      → FailsFor r (FailsToTake ReportsText sql params old new) → CalmQueriesBetween true old new r P
+  CalmQueriesBetween-text {view = view} {r = r} {P = P} reports first =
+      CalmQueriesBetween-read old new r _ P _ (λ found h. IsRead-of_Reports (IsFirstText view) P reports found (h.0, h.1, h.2)) (FailsToTake-explained_text first)
 
   -- whether there is a row
   abbrev IsThere : Bool → List Row → Type 0
   IsThere has rows = (has ≡ is_some (slice_get rows 0))
 
-  pub CalmQueriesBetween-is_there : {r : Result Bool StoreFault} {P : Bool → Broker → Type 0} → Tells IsThere P → CallsStoreBetween old new r (Was IsThere)
+  pub CalmQueriesBetween-is_there : {r : Result Bool StoreFault} {P : Bool → Broker → Type 0} → Matches IsThere P → CallsStoreBetween old new r (Was IsThere)
       → FailsFor r (IsRefusedAs sql params old new) → CalmQueriesBetween false old new r P
-  CalmQueriesBetween-is_there {r = r} {P = P} tells = CalmQueriesBetween-read old new r _ P _ (IsRead-of_Tells _ P tells) IsRefusedAs-explained
+  CalmQueriesBetween-is_there {r = r} {P = P} reports = CalmQueriesBetween-read old new r _ P _ (IsRead-of_Reports _ P reports) IsRefusedAs-explained
 
   -- ---- if no version has the number
 

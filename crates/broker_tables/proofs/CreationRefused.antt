@@ -17,8 +17,9 @@ use Rattle.sqlite_schema.specs.{declared.schema.Index.{Index}, declared.schema.C
 use Rattle.sqlite_schema.specs.Rules.{Keeps, guards, clashes, table_reals, index_reals}
 use Rattle.sqlite_trees.specs.View.{IsStorable}
 use Rattle.sqlite_sql.specs.Catalog.{entry_of}
-use Rattle.table_access.proofs.{Answered.{is_whole}, Refused.{EndsAs-stopped, Fails-weaken, IsMisplaced-never_anywhere, is_anywhere, Executes-change_fails, Ends}, SoundLemmas.{all_of, at_has}}
-use Rattle.table_access.proofs.{Steps.{Means}, Storable.{index_reals-zero, entry_of-IsStorable}}
+use Rattle.table_access.proofs.Answered.{is_whole}
+use Rattle.table_access.proofs.Refused.{EndsAs-stopped, Fails-weaken, IsMisplaced-never_anywhere, is_anywhere, Executes-change_fails, Ends}
+use Rattle.table_access.proofs.{SoundLemmas.{all_of, at_has}, Steps.{Means}, Storable.{index_reals-zero, entry_of-IsStorable}}
 use Rattle.broker_tables.specs.{Schema.{all_indexes}, Making.{AreShortKeys}}
 
 -- ---- a statement whose text is known

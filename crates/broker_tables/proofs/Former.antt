@@ -9,15 +9,16 @@ use Rattle.sqlite_sql.specs.Catalog.{entry_of}
 use Rattle.sqlite_schema.specs.declared.schema.Index.{Index}
 use Rattle.sqlite_rules.{specs.Lists.{Has}, proofs.TableLemmas.{int_is}}
 use Rattle.table_access.specs.{Columns.{text, whole_at, Words}, Sound.{IsKept, IsShortValue}, Statements.{Creates, MakesIndexes, indexed_by}}
-use Rattle.table_access.proofs.{Creation.{Makes-IsKept, AllByRecursion-front}, Indexing.{MakesIndexes-schema, MakesIndexes-KeepsRows, MakesIndexes-IsKept}, Maps.{find-has_row}}
-use Rattle.table_access.proofs.{Members.{map_has, has_contains}, SoundLemmas.{at_has, all_of, has_place, column-Text, column-Int}}
+use Rattle.table_access.proofs.{Creation.{Makes-IsKept, AllByRecursion-front}, Indexing.{MakesIndexes-schema, MakesIndexes-KeepsRows, MakesIndexes-IsKept}}
+use Rattle.table_access.proofs.{Maps.{find-has_row}, Members.{map_has, has_contains}, SoundLemmas.{at_has, all_of, has_place, column-Text, column-Int}}
 use Rattle.sqlite_keyed.proofs.ListLemmas.{all_weaker}
 use Rattle.broker_names.specs.Name.{is_name}
 use Rattle.broker_core.specs.{declared.command.Marks.{Marks}, declared.command.Version.{Version}, State.{State as Broker, Verification}, Text.{version}}
 use Rattle.broker_tables.specs.Schema.{schema_of, all_tables, all_indexes, checked_results, strict_environments, in_meta, in_versions, in_environments, in_contents, in_results, in_checked_results, in_strict_environments, contents_by_digest, contracts_by_content, latest_by_provider_version, versions_by_pacticipant}
 use Rattle.broker_tables.specs.{Making.{AreShortKeys, HasShortKeys}, Readable.{IsReadable, IsNamed}, Rows.{rows_of}}
 use Rattle.broker_tables.specs.Holds.{Holds, IsMeta, format, AreTeams, ArePacticipants, AreVersions, AreBranches, AreEnvironments, AreGrants, AreContents, AreContracts, AreResults, AreLatest, AreDeployed, AreReleased, ResultRow, result_in, result_of, marks_in, with_digest}
-use Rattle.broker_tables.{specs.Former.{HoldsUnmarked, IsUnmarked, former_tables, added_tables}, proofs.{Orders.{text_cmp-antisymmetric}, References.{enumerate_from-row_entry}}}
+use Rattle.broker_tables.{specs.Former.{HoldsUnmarked, IsUnmarked, former_tables, added_tables}, proofs.Orders.{text_cmp-antisymmetric}}
+use Rattle.broker_tables.proofs.References.{enumerate_from-row_entry}
 
 -- ---- the tables of format 1 keep their rows
 

@@ -100,13 +100,13 @@ module _ (changed : List (List ℕ)) (old new : Database) where
   Stays name = is_other changed name ≡ true → rows_of new name ≡ rows_of old name
 
   Known-next : (name : List ℕ) (Was Is : List Row → Type 0) (b : Bool) → is_other changed name ≡ b → MatchBool b (Was (rows_of old name) → Is (rows_of old name)) (Is (rows_of new name)) → Stays name → Was (rows_of old name) → Is (rows_of new name)
-  Known-next name Was Is true other told stays was = subst Is (sym (stays other)) (told was)
-  Known-next name Was Is false other told stays was = told
+  Known-next name Was Is true other returned stays was = subst Is (sym (stays other)) (returned was)
+  Known-next name Was Is false other returned stays was = returned
 
   KnownOfBoth-next : (one two : List ℕ) (Was Is : List Row → List Row → Type 0) (b : Bool) → (is_other changed one && is_other changed two) ≡ b → MatchBool b (Was (rows_of old one) (rows_of old two) → Is (rows_of old one) (rows_of old two)) (Is (rows_of new one) (rows_of new two))
       → Stays one → Stays two → Was (rows_of old one) (rows_of old two) → Is (rows_of new one) (rows_of new two)
-  KnownOfBoth-next one two Was Is true other told first second was = subst₂ Is (sym (first (first_of_both _ _ other))) (sym (second (second_of_both _ _ other))) (told was)
-  KnownOfBoth-next one two Was Is false other told first second was = told
+  KnownOfBoth-next one two Was Is true other returned first second was = subst₂ Is (sym (first (first_of_both _ _ other))) (sym (second (second_of_both _ _ other))) (returned was)
+  KnownOfBoth-next one two Was Is false other returned first second was = returned
 
   -- all fields of the next state
   abbrev pub Next : Broker → Broker → Type 0

@@ -6,18 +6,19 @@ use Rattle.sqlite_rules.specs.Lists.{Has}
 use Rattle.table_access.specs.Columns.{text, text_cmp, whole_at, by_both}
 use Rattle.broker_core.specs.{declared.command.Version.{Version}, Text.{Text, version}, State.{State as Broker, Verification}, Request.{is_known}}
 use Rattle.broker_tables.specs.Schema.{numbers, to, in_branches, in_contracts, in_results, in_latest, in_deployed, in_released}
-use Rattle.broker_tables.specs.{Rows.{rows_of, value_at, stands_at}, Numbers.{numbered, number_of}}
+use Rattle.broker_tables.specs.{Rows.{rows_of, value_at, has_row_at}, Numbers.{numbered, number_of}}
 use Rattle.broker_tables.specs.Holds.{Holds, AreVersions, AreBranches, AreContracts, AreResults, AreLatest, AreDeployed, AreReleased, ResultRow, result_in, result_of}
-use Rattle.broker_tables.proofs.{Frames.{Frame, Holds-next, same}, NumberLemmas.{number_of-append_unseen, number_of-append_same as stays_numbered}, References.{references-not_next_version}}
+use Rattle.broker_tables.proofs.{Frames.{Frame, Holds-next, same}, NumberLemmas.{number_of-append_unseen, number_of-append_same as stays_numbered}}
+use Rattle.broker_tables.proofs.References.{references-not_next_version}
 use Rattle.broker_tables.proofs.Placed.{Placed, at_branches, at_contracts, at_latest, at_released, column_at, listed, column-whole_numbers}
 
 -- ---- no row has the key
 
 module _ {K V : Type 0} (R : K → K → Ordering) (key : Row → K) (value : Row → V) (k : K) where
   -- no row has a key, if no row's key ties with it
-  pub stands_at-none : (rows : List Row) → ((r : Row) → Has rows r → eq_by_cmp R k (key r) ≡ false) → stands_at R key rows k ≡ false
-  stands_at-none [] apart = refl
-  stands_at-none (r ∷ rows) apart = ap (λ b. b || stands_at R key rows k) (apart r (inl refl)) ∙ stands_at-none rows (λ x has. apart x (inr has))
+  pub has_row_at-none : (rows : List Row) → ((r : Row) → Has rows r → eq_by_cmp R k (key r) ≡ false) → has_row_at R key rows k ≡ false
+  has_row_at-none [] apart = refl
+  has_row_at-none (r ∷ rows) apart = ap (λ b. b || has_row_at R key rows k) (apart r (inl refl)) ∙ has_row_at-none rows (λ x has. apart x (inr has))
 
   pub value_at-none : (rows : List Row) → ((r : Row) → Has rows r → eq_by_cmp R k (key r) ≡ false) → value_at R key value rows k ≡ None
   value_at-none [] apart = refl
@@ -67,8 +68,8 @@ module _ (db : Database) (s : Broker) (held : Holds db s) (v : Version) (free : 
 
   AreBranches-append_version : AreBranches more s.branches (rows_of db (codes "branches"))
   AreBranches-append_version w b =
-      number_of-append_unseen (λ o. option_map_or (λ n. stands_at (by_both int_cmp text_cmp) (λ r. (whole_at in_branches.version_number r, text in_branches.branch r)) (db.trees in_branches.tree) (pos n, b)) o false) s.versions v w free
-      (stands_at-none (by_both int_cmp text_cmp) (λ r. (whole_at in_branches.version_number r, text in_branches.branch r)) (text in_branches.branch) (pos next, b)
+      number_of-append_unseen (λ o. option_map_or (λ n. has_row_at (by_both int_cmp text_cmp) (λ r. (whole_at in_branches.version_number r, text in_branches.branch r)) (db.trees in_branches.tree) (pos n, b)) o false) s.versions v w free
+      (has_row_at-none (by_both int_cmp text_cmp) (λ r. (whole_at in_branches.version_number r, text in_branches.branch r)) (text in_branches.branch) (pos next, b)
       (db.trees in_branches.tree)
       (λ r has. ordering_then-first_apart _ _ (apart at_branches in_branches.version_number refl (inl refl) r has)))
       ∙ held.branches w b
@@ -108,8 +109,8 @@ module _ (db : Database) (s : Broker) (held : Holds db s) (v : Version) (free : 
 
   AreReleased-append_version : AreReleased more s.released (rows_of db (codes "released"))
   AreReleased-append_version e w =
-      number_of-append_unseen (λ o. option_map_or (λ n. stands_at (by_both text_cmp int_cmp) (λ r. (text in_released.environment r, whole_at in_released.version_number r)) (db.trees in_released.tree) (e, pos n)) o false) s.versions v w free
-      (stands_at-none (by_both text_cmp int_cmp) (λ r. (text in_released.environment r, whole_at in_released.version_number r)) (text in_released.environment)
+      number_of-append_unseen (λ o. option_map_or (λ n. has_row_at (by_both text_cmp int_cmp) (λ r. (text in_released.environment r, whole_at in_released.version_number r)) (db.trees in_released.tree) (e, pos n)) o false) s.versions v w free
+      (has_row_at-none (by_both text_cmp int_cmp) (λ r. (text in_released.environment r, whole_at in_released.version_number r)) (text in_released.environment)
       (e, pos next) (db.trees in_released.tree)
       (λ r has. ordering_then-second_apart _ _ (apart at_released in_released.version_number refl (inr (inl refl)) r has)))
       ∙ held.released e w

@@ -2,11 +2,11 @@
 use Rattle.broker_core.specs.{State.{State as Broker}, declared.command.Version.{Version}}
 use Rattle.broker_tables.specs.{Holds.{Holds, HoldsAfter, IsBroker, marks_in}, Numbers.{number_of, numbered}, ChangeRefusals.{AreShort, HaveNumbers, HoldsOpen}}
 use Rattle.broker_tables.specs.{Room.{LeaveNumbers}, Rows.{rows_of, value_at}}
-use Rattle.broker_tables.{specs.Schema.{broker_schema, in_environments, in_pacticipants, in_teams, in_versions, to}, proofs.Frames.{Frame, ChangesOnly-Frame, Means-over_broker_schema}}
-use Rattle.broker_tables.proofs.Keyed.{IsFree}
+use Rattle.broker_tables.specs.Schema.{broker_schema, in_environments, in_pacticipants, in_teams, in_versions, to}
+use Rattle.broker_tables.proofs.{Frames.{Frame, ChangesOnly-Frame, Means-over_broker_schema}, Keyed.{IsFree}}
 use Rattle.broker_tables.proofs.Placed.{Need, Placed, at_environments, at_pacticipants, at_teams, calm, plainly-same, listed, Placed-IsNumbered, slice_get-Placed_plainly, plainly, IsBroker-IsReady, column-texts, slice_get-Placed_table}
-use Rattle.broker_tables.proofs.{RoomLemmas.{Grows, HoldsAfter-one_table, Grows-added, fits_i64-next_rowid}, Orders.{text_cmp-antisymmetric}, References.{LeadsTo, LeadsTo-each, enumerate_from-row_number}}
-use Rattle.broker_tables.proofs.VersionRows.{number_of-has_row, version_number}
+use Rattle.broker_tables.proofs.{RoomLemmas.{Grows, HoldsAfter-one_table, Grows-added, fits_i64-next_rowid}, Orders.{text_cmp-antisymmetric}}
+use Rattle.broker_tables.proofs.{References.{LeadsTo, LeadsTo-each, enumerate_from-row_number}, VersionRows.{number_of-has_row, version_number}}
 use Rattle.sqlite.specs.{Cast.{cast_all, cast_row}, Collation.TheVariants.{Binary}, Command.TheVariants.{Insert}, Does.{due}, Edit.{next_rowid, with_rowid}}
 use Rattle.sqlite.specs.{Effect.{Database, value_rows}, Listing.{understood}, Order.{Row, column, value_cmp}, Rows.{Edited, Inserts, Written}, Schema.{Schema}}
 use Rattle.sqlite.specs.{Source.TheVariants.{Values}, State.{Executes, Fails, State, mode_of}, Table.{Table}, Term.{Term}, Tree.{IsAscending, rowid}}

@@ -9,9 +9,9 @@ use Rattle.sqlite_keyed.proofs.SliceLemmas.{is_some-map}
 use Rattle.table_access.specs.{Columns.{by_both, pair_cmp, text, text_cmp, whole_at}, Statements.{from_table, keeps, shows}}
 use Rattle.table_access.proofs.Keys.{Key, HasCells, agree-keys_tie, are_params, keeps-one_key, IsAscending-keys_unique, params_for, text_and, text_key, whole_and, whole_key}
 use Rattle.table_access.proofs.{Maps.{find-first_shown}, SoundLemmas.{all_of}, Steps.{IsPermutation-kept_rows}}
-use Rattle.broker_tables.specs.{Holds.{IsBroker}, Rows.{stands_at, value_at}}
+use Rattle.broker_tables.specs.{Holds.{IsBroker}, Rows.{has_row_at, value_at}}
 use Rattle.broker_tables.specs.Schema.{numbers, texts, in_branches, in_contracts, in_deployed, in_environments, in_grants, in_latest, in_pacticipants, in_released, in_strict_environments, in_teams, in_versions}
-use Rattle.broker_tables.proofs.Standing.{value_at-is_some}
+use Rattle.broker_tables.proofs.Present.{value_at-is_some}
 use Rattle.broker_tables.proofs.Placed.{Placed, column_at, uniques-keys_apart, column-texts, column-whole_numbers, at_branches, at_contracts, at_deployed, at_environments, at_grants, at_latest, at_pacticipants, at_released, at_strict_environments, at_teams, at_versions}
 
 -- columns of a table, as a key: each row of it has the values of one there
@@ -56,8 +56,8 @@ module _ {K : Type 0} {R : K → K → Ordering} {key : Row → K} (t : Keyed R 
   IsAscending-keys_of_table = IsAscending-keys_unique t.columns.of rows (t.columns.typed db broker) (uniques-keys_apart t.at db broker t.places t.unique)
 
   -- a made row is free if no row has its key
-  pub IsFree-of_stands_at : (made : Row) → HasCells t.columns.of made → stands_at R key rows (key made) ≡ false → IsFree rows made t.places
-  IsFree-of_stands_at made cells none r has =
+  pub IsFree-of_has_row_at : (made : Row) → HasCells t.columns.of made → has_row_at R key rows (key made) ≡ false → IsFree rows made t.places
+  IsFree-of_has_row_at made cells none r has =
       agree-keys_tie t.columns.of r made (t.columns.typed db broker r has) cells ∙ (eq_by_cmp_equiv t.columns.of.total).symm (key r) (key made)
       ∙ false_from_ne_true _ (λ hit. let clash : true ≡ false = sym (some_from (λ x. eq_by_cmp R (key made) (key x)) rows r has hit) ∙ none in cc)
 
@@ -76,7 +76,7 @@ module _ {K : Type 0} {R : K → K → Ordering} {key : Row → K} (t : Keyed R 
 
     -- and a row is found if and only if some row has the key
     pub finds_row : {project : List Term} (out : List Row) → Answers db (record { lets = []; body = from_table t.table.tree (are_params t.places 0) project [] }) params out
-        → is_some (slice_get out 0) ≡ stands_at R key rows k
+        → is_some (slice_get out 0) ≡ has_row_at R key rows k
     finds_row out h =
         sym (is_some-map (λ r. tt {0}) (slice_get out 0)) ∙ ap is_some (finds (λ r. tt {0}) (λ r. tt {0}) (λ r. refl) out h) ∙ value_at-is_some R key (λ r. tt {0}) rows k
 

@@ -9,7 +9,7 @@ pub mod ReadableSteps
 pub mod Placed
 pub mod Keyed
 pub mod Orders
-pub mod Standing
+pub mod Present
 pub mod Ties
 pub mod NumberLemmas
 pub mod References

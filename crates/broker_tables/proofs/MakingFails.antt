@@ -11,8 +11,9 @@ use Rattle.table_access.proofs.{Indexing.{MakesIndexes-KeepsRows, MakesIndexes-I
 use Rattle.sqlite_keyed.proofs.ListLemmas.{all_weaker, all_both}
 use Rattle.broker_tables.specs.Schema.{no_schema, schema_of, all_tables, all_indexes}
 use Rattle.broker_tables.specs.Making.{Maker, makes_of, AreNext, CanMake, MakesTexts, HasTables, AreShortKeys, HasShortKeys, IsCalmOverBetween, table_texts, index_texts}
-use Rattle.broker_tables.proofs.{CreationRefused.{DefinesTable, DefinesIndex, Executes-table_fails, Executes-index_fails}, Definitions.{AreDefinedTables-table_texts, AreDefinedIndexes-index_texts}}
-use Rattle.broker_tables.proofs.{Opening.{IsEmpty}, Written.{MakesPart-next, Creates-schema, DefinesTable-Creates, IndexesTable-schema, DefinesIndex-IndexesTable}}
+use Rattle.broker_tables.proofs.CreationRefused.{DefinesTable, DefinesIndex, Executes-table_fails, Executes-index_fails}
+use Rattle.broker_tables.proofs.{Definitions.{AreDefinedTables-table_texts, AreDefinedIndexes-index_texts}, Opening.{IsEmpty}}
+use Rattle.broker_tables.proofs.Written.{MakesPart-next, Creates-schema, DefinesTable-Creates, IndexesTable-schema, DefinesIndex-IndexesTable}
 
 -- the first of such texts are next too
 AreNext-take : {X : Type 0} (next : Schema → X → Schema) (start : Schema) (all : List (Maker X)) (texts : List (List ℕ)) (n : ℕ) (schema : Schema)

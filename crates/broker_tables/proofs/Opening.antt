@@ -5,8 +5,8 @@ use Rattle.sqlite.specs.{Table.{Table}, Schema.{Schema}, Order.{Row}, Tree.{Tree
 use Rattle.sqlite_rules.specs.Lists.{Has}
 use Rattle.sqlite_keyed.proofs.ListLemmas.{all-append, all_both}
 use Rattle.table_access.specs.{Statements.{Makes, new_trees, MakesIndexes, indexed_by}, Sound.{IsKept, IsNumbered}}
-use Rattle.table_access.proofs.{Creation.{Makes-schema, Makes-KeepsRows, Makes-new_tables_empty, Makes-IsKept}, Indexing.{MakesIndexes-schema, MakesIndexes-KeepsRows, MakesIndexes-IsKept}}
-use Rattle.table_access.proofs.SoundLemmas.{at_has}
+use Rattle.table_access.proofs.Creation.{Makes-schema, Makes-KeepsRows, Makes-new_tables_empty, Makes-IsKept}
+use Rattle.table_access.proofs.{Indexing.{MakesIndexes-schema, MakesIndexes-KeepsRows, MakesIndexes-IsKept}, SoundLemmas.{at_has}}
 use Rattle.broker_core.specs.{Text.{Text, same_text}, State.{opening}}
 use Rattle.broker_tables.specs.{Schema.{schema_of, all_tables, all_indexes, in_meta}, Room.{LeaveNumbers, HasAllNumbers}, Making.{IsBlank, HasTables, HasAll}}
 use Rattle.broker_tables.specs.Holds.{Holds, IsMeta, format, AreTeams, ArePacticipants, AreVersions, AreBranches, AreEnvironments, AreGrants, AreContents, AreContracts, AreResults, AreLatest, AreDeployed, AreReleased}

@@ -8,8 +8,8 @@ use Rattle.sqlite_value.specs.{declared.keys.Order.{Order}, Keys.{plain}}
 use Rattle.sqlite_rules.specs.Lists.{Has}
 use Rattle.sqlite_tied.specs.Compute.{everything}
 use Rattle.table_access.specs.{Columns.{text, whole_at}, Sound.{IsNumbered}, Statements.{IsCalm, plain_table}}
-use Rattle.table_access.proofs.{SoundLemmas.{at_has, has_place, column-Text, column-Int}, Keys.{IsKept-unique_index_apart}, Members.{has_map, map_has, filter_has}}
-use Rattle.table_access.proofs.UpsertRefused.{key_of}
+use Rattle.table_access.proofs.{SoundLemmas.{at_has, has_place, column-Text, column-Int}, Keys.{IsKept-unique_index_apart}}
+use Rattle.table_access.proofs.{Members.{has_map, map_has, filter_has}, UpsertRefused.{key_of}}
 use Rattle.broker_tables.specs.{Holds.{IsBroker}, Rows.{tree_of}}
 use Rattle.broker_tables.specs.Schema.{in_meta, in_teams, in_pacticipants, in_versions, in_branches, in_environments, in_grants, in_contents, in_contracts, in_results, in_latest, in_deployed, in_released, in_checked_results, in_strict_environments}
 use Rattle.broker_tables.proofs.Frames.{is_among}

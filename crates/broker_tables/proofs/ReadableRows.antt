@@ -10,8 +10,10 @@ use Rattle.table_access.proofs.SoundLemmas.{IsDatabase-passes_checks}
 use Rattle.broker_core.specs.{declared.command.Version.{Version}, Limit.{limit}, Text.{Text, version}, State.{State as Broker}}
 use Rattle.broker_tables.specs.{Schema.{to, in_pacticipants, in_versions, in_contents, in_results, in_checked_results}, Rows.{IsTruthAt}, Names.{IsNameAt}}
 use Rattle.broker_tables.specs.{Numbers.{numbered}, Holds.{Holds, with_digest, result_in, result_of}, Readable.{IsReadable, IsNamed, AreFew}}
-use Rattle.broker_tables.proofs.{Orders.{text_cmp-antisymmetric}, Keyed.{pacticipants_by_name, IsAscending-keys_of_table}, Placed.{results, at_results, listed, column-whole_numbers}}
-use Rattle.broker_tables.proofs.{References.{enumerate_from-row_number, enumerate_from-row_entry, references-version, references-content, references-result, references-pacticipant}, TruthLemmas.{is_truth-bounds}}
+use Rattle.broker_tables.proofs.{Orders.{text_cmp-antisymmetric}, Keyed.{pacticipants_by_name, IsAscending-keys_of_table}}
+use Rattle.broker_tables.proofs.Placed.{results, at_results, listed, column-whole_numbers}
+use Rattle.broker_tables.proofs.References.{enumerate_from-row_number, enumerate_from-row_entry, references-version, references-content, references-result, references-pacticipant}
+use Rattle.broker_tables.proofs.TruthLemmas.{is_truth-bounds}
 
 -- it is a number below 2^32
 abbrev pub IsLow : ℤ → Type 0

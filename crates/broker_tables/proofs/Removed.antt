@@ -8,8 +8,10 @@ use Rattle.table_access.specs.{declared.StoreFault.{StoreFault}, Calls.{HasFaile
 use Rattle.table_access.{specs.Statements.{ChangesOnly, from_table, keeps}, proofs.{Answered.{Runs}, Deleted.{IsLeaf, delete_fails}, Edits.{IsAlone}}}
 use Rattle.table_access.proofs.{SoundLemmas.{has_place}, Steps.{Means, deletes}}
 use Rattle.broker_core.specs.State.{State as Broker}
-use Rattle.broker_tables.{specs.{Schema.{broker_schema}, Holds.{IsBroker, Holds, HoldsAfter}}, proofs.Frames.{Frame, ChangesOnly-Frame, Means-over_broker_schema, Runs-over_broker_schema}}
-use Rattle.broker_tables.proofs.{Inserted.{apart}, Placed.{Placed, calm, Placed-IsNumbered, slice_get-Placed_plainly, plainly}, RoomLemmas.{Grows, HoldsAfter-one_table, Grows-filter}}
+use Rattle.broker_tables.specs.{Schema.{broker_schema}, Holds.{IsBroker, Holds, HoldsAfter}}
+use Rattle.broker_tables.proofs.{Frames.{Frame, ChangesOnly-Frame, Means-over_broker_schema, Runs-over_broker_schema}, Inserted.{apart}}
+use Rattle.broker_tables.proofs.Placed.{Placed, calm, Placed-IsNumbered, slice_get-Placed_plainly, plainly}
+use Rattle.broker_tables.proofs.RoomLemmas.{Grows, HoldsAfter-one_table, Grows-filter}
 
 -- The text, with these parameters, takes the rows that WHERE keeps out of the table. `refl` finds each field but the last,
 -- under `unfolding understood everything`.

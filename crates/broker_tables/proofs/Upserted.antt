@@ -14,10 +14,12 @@ use Rattle.sqlite_schema.specs.{declared.command.Conflict.TheVariants.{Abort}, R
 use Rattle.sqlite_rules.specs.{Keys.{AreConflicts, conflicts}, Lists.{Has}, Steps.{PassAlone}}
 use Rattle.table_access.{specs.{Calls.{fault_of}, Sound.{IsNumbered, IsShortValue}, Statements.{ChangesOnly, IsAdded, shows}}, proofs.Answered.{is_whole}}
 use Rattle.table_access.proofs.{Edits.{IsAlone}, SoundLemmas.{has_place, at_has}, Steps.{Means}, Upsert.{setting, Upserted, Executes-upsert}}
-use Rattle.table_access.proofs.{Changes.{find-after_upsert}, Keys.{agree-keys_tie, cells_at}, UpsertRefused.{Takes, key_of, upsert_fails}, Values.{cast-Null, cast_row-kept}}
+use Rattle.table_access.proofs.{Changes.{find-after_upsert}, Keys.{agree-keys_tie, cells_at}, UpsertRefused.{Takes, key_of, upsert_fails}}
+use Rattle.table_access.proofs.Values.{cast-Null, cast_row-kept}
 use Rattle.broker_tables.specs.{Schema.{broker_schema}, Holds.{IsBroker}, ChangeRefusals.{AreShort}, Room.{LeavesAbove, LeaveNumbers}, Rows.{value_at}}
 use Rattle.broker_tables.proofs.{Frames.{Means-over_broker_schema}, Keyed.{Keyed, IsAscending-keys_of_table}, Inserted.{apart, storable, EndsOnly}}
-use Rattle.broker_tables.proofs.{Placed.{Placed, calm, Placed-IsNumbered, slice_get-Placed_plainly, plainly}, RoomLemmas.{Grows, Grows-added, Grows-changed, fits_i64-next_rowid}}
+use Rattle.broker_tables.proofs.Placed.{Placed, calm, Placed-IsNumbered, slice_get-Placed_plainly, plainly}
+use Rattle.broker_tables.proofs.RoomLemmas.{Grows, Grows-added, Grows-changed, fits_i64-next_rowid}
 
 -- The text, with these parameters, puts one row into the table, or sets columns of the one that has its key.
 -- The row has these columns beside its number, and its key is the one of the table. `refl` finds each field, under

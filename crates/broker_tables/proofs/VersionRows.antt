@@ -11,7 +11,8 @@ use Rattle.table_access.{specs.{Columns.{text, whole_at}, Sound.{IsNumbered}}, p
 use Rattle.table_access.proofs.{Maps.{find-has_row, find-of_row}, Changes.{IsAscending-same_or_apart}}
 use Rattle.broker_core.specs.{declared.command.Version.{Version}, Text.{Text as Words, version}}
 use Rattle.broker_tables.{specs.{Numbers.{number_of}, Holds.{IsBroker, AreVersions}, Schema.{in_versions}}, proofs.NumberLemmas.{value_at-version_row}}
-use Rattle.broker_tables.proofs.{Orders.{text_cmp-antisymmetric, pair_cmp-IsTotalOrder, pair_cmp-IsAntisymmetric}, Keyed.{IsAscending-keys_of_table, versions_by_name}, Placed.{at_versions, Placed-IsNumbered, column-texts}}
+use Rattle.broker_tables.proofs.Orders.{text_cmp-antisymmetric, pair_cmp-IsTotalOrder, pair_cmp-IsAntisymmetric}
+use Rattle.broker_tables.proofs.{Keyed.{IsAscending-keys_of_table, versions_by_name}, Placed.{at_versions, Placed-IsNumbered, column-texts}}
 -- a truth value that can't be true is false
 pub use Rattle.std.proofs.lemmas.Bool.{false_from_ne_true as false_if}
 

@@ -4,8 +4,8 @@ use Rattle.std.proofs.Common.{◌≡◌, ℕ, List, [], ◌∷◌, ◌++◌, map
 use Rattle.std.proofs.{lemmas.List.{map-append, append_assoc, take_more}, lemmas.List.Sums.{fold-append}}
 use Rattle.sqlite.specs.{Table.{Table}, Schema.{Schema}, Change.{created}, Effect.{Database}, State.{State, Executes}}
 use Rattle.sqlite_schema.specs.declared.schema.Index.{Index}
-use Rattle.table_access.{specs.Statements.{Creates, IndexesTable, MakesEach, with_index}, proofs.Creation.{Executes-Creates_of_text, MakesEach-schema, MakesEach-append}}
-use Rattle.table_access.proofs.Indexing.{Executes-Indexes_of_text}
+use Rattle.table_access.specs.Statements.{Creates, IndexesTable, MakesEach, with_index}
+use Rattle.table_access.proofs.{Creation.{Executes-Creates_of_text, MakesEach-schema, MakesEach-append}, Indexing.{Executes-Indexes_of_text}}
 use Rattle.broker_tables.specs.{Schema.{no_schema, schema_of, all_tables}, Making.{Maker, makes_of, texts_of, MakesPart, MakesTexts, table_texts, index_texts}}
 use Rattle.broker_tables.proofs.CreationRefused.{DefinesTable, DefinesIndex}
 

@@ -30,12 +30,12 @@ abbrev pub CanBeAsked : State → Type 0
 CanBeAsked c = (c.step_limit ≡ None) × HasBrokerTables c.now.schema
 
 -- if the tables can be asked, the answer has P of what the database held, or there is this cause of the fault
-abbrev pub TellsOfAnyBetween : {A : Type 0} → State → State → Result A StoreFault → (A → Database → Type 0)
+abbrev pub ReportsOfAnyBetween : {A : Type 0} → State → State → Result A StoreFault → (A → Database → Type 0)
     → (State → State → StoreFault → Type 0) → Type 0
-TellsOfAnyBetween old new r P Cause =
+ReportsOfAnyBetween old new r P Cause =
     HasCleanDisk new → CanBeAsked old → MatchResult r (λ a. P a old.now) (Cause old new)
 
 -- of a connection over this store
 module _ {X A : Type 0} (store : Ghosts X) (old new : Held X) (r : Result A StoreFault) where
-  abbrev pub TellsOfAny : (A → Database → Type 0) → (State → State → StoreFault → Type 0) → Type 0
-  TellsOfAny = TellsOfAnyBetween (state store old) (state store new) r
+  abbrev pub ReportsOfAny : (A → Database → Type 0) → (State → State → StoreFault → Type 0) → Type 0
+  ReportsOfAny = ReportsOfAnyBetween (state store old) (state store new) r

@@ -20,7 +20,7 @@ use Rattle.broker_core.specs.State.{State as Broker, Verification, latest_result
 use Rattle.broker_tables.specs.Schema.{broker_schema, in_meta, in_teams, in_pacticipants, in_versions, in_branches}
 use Rattle.broker_tables.specs.Schema.{in_environments, in_grants, in_contents, in_contracts, in_results, in_latest}
 use Rattle.broker_tables.specs.Schema.{in_deployed, in_released, in_checked_results, in_strict_environments}
-use Rattle.broker_tables.specs.Rows.{rows_of, truth, run_in, value_at, stands_at}
+use Rattle.broker_tables.specs.Rows.{rows_of, truth, run_in, value_at, has_row_at}
 use Rattle.broker_tables.specs.Room.{TakesRoom}
 use Rattle.broker_tables.specs.Numbers.{numbered, number_of}
 
@@ -62,7 +62,7 @@ AreVersions versions rows =
 abbrev pub AreBranches : List Version → (Version × Text → Bool) → List Row → Type 0
 AreBranches versions branches rows = (v : Version) (branch : Text)
     → option_map_or
-    (λ n. stands_at (by_both int_cmp text_cmp) (λ r. (whole_at in_branches.version_number r, text in_branches.branch r))
+    (λ n. has_row_at (by_both int_cmp text_cmp) (λ r. (whole_at in_branches.version_number r, text in_branches.branch r))
     rows (pos n, branch))
     (number_of versions v) false
     ≡ branches (v, branch)
@@ -71,7 +71,7 @@ AreBranches versions branches rows = (v : Version) (branch : Text)
 abbrev pub marks_in : List Row → Row → Marks
 marks_in strict r = record {
   gated = truth in_environments.gated r;
-  strict = stands_at text_cmp (text in_strict_environments.environment) strict (text in_environments.name r);
+  strict = has_row_at text_cmp (text in_strict_environments.environment) strict (text in_environments.name r);
 }
 
 abbrev pub AreEnvironments : (Text → Option Marks) → List Row → List Row → Type 0
@@ -81,7 +81,7 @@ AreEnvironments environments rows strict =
 -- a team, and an environment for which it has a grant
 abbrev pub AreGrants : (Text × Text → Bool) → List Row → Type 0
 AreGrants grants rows = (team e : Text)
-    → stands_at (by_both text_cmp text_cmp) (λ r. (text in_grants.team r, text in_grants.environment r)) rows (team, e)
+    → has_row_at (by_both text_cmp text_cmp) (λ r. (text in_grants.team r, text in_grants.environment r)) rows (team, e)
     ≡ grants (team, e)
 
 -- a text with its digest
@@ -121,7 +121,7 @@ result_in checked r = record {
   provider = text in_results.provider r;
   version = Some (whole_at in_results.provider_version r);
   pass = truth in_results.pass r;
-  checked = stands_at int_cmp (whole_at in_checked_results.result) checked (whole_at in_results.number r);
+  checked = has_row_at int_cmp (whole_at in_checked_results.result) checked (whole_at in_results.number r);
   run = run_in (whole_at in_results.number r) (column r in_results.run);
 }
 
@@ -172,7 +172,7 @@ AreDeployed versions deployed rows = (e p instance : Text)
 abbrev pub AreReleased : List Version → (Text × Version → Bool) → List Row → Type 0
 AreReleased versions released rows = (e : Text) (v : Version)
     → option_map_or
-    (λ n. stands_at (by_both text_cmp int_cmp) (λ r. (text in_released.environment r, whole_at in_released.version_number r))
+    (λ n. has_row_at (by_both text_cmp int_cmp) (λ r. (text in_released.environment r, whole_at in_released.version_number r))
     rows (e, pos n))
     (number_of versions v) false
     ≡ released (e, v)

@@ -66,5 +66,5 @@ abbrev pub value_at : {K V : Type 0} → (K → K → Ordering) → (Row → K) 
 value_at order key value rows k = find order k (map (λ r. (key r, value r)) rows)
 
 -- whether there is a row with this key
-abbrev pub stands_at : {K : Type 0} → (K → K → Ordering) → (Row → K) → List Row → K → Bool
-stands_at order key rows k = list_any (λ r. eq_by_cmp order k (key r)) rows
+abbrev pub has_row_at : {K : Type 0} → (K → K → Ordering) → (Row → K) → List Row → K → Bool
+has_row_at order key rows k = list_any (λ r. eq_by_cmp order k (key r)) rows

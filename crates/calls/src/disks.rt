@@ -186,9 +186,9 @@ pub(crate) enum Act<'a> {
 }
 
 /// Whether the answers were right, or why there was no broker; `Store` also if the files weren't opened.
-pub(crate) type Told = Result<bool, OpenFault>;
+pub(crate) type Returned = Result<bool, OpenFault>;
 
-fn run<S: Alter>(conn: &mut Connection<S>, statements: &[&str]) -> Told {
+fn run<S: Alter>(conn: &mut Connection<S>, statements: &[&str]) -> Returned {
     for statement in statements {
         if conn.execute_batch(statement).is_err() {
             return Err(OpenFault::Store);
@@ -202,7 +202,7 @@ fn play<S: Alter>(
     opened: Opened<S>,
     script: &Script,
     course: &mut Course,
-) -> (Told, Connection<S>) {
+) -> (Returned, Connection<S>) {
     match opened {
         Ok(mut broker) => {
             let is_right = script.play(alloc, &mut broker, course);
@@ -236,7 +236,7 @@ fn act_on<S: Alter>(
     conn: Connection<S>,
     act: Act<'_>,
     course: &mut Course,
-) -> (Told, Connection<S>) {
+) -> (Returned, Connection<S>) {
     let mut conn = conn;
     match act {
         Act::Run(statements) => (run(&mut conn, statements), conn),
@@ -253,9 +253,9 @@ fn done<S: Alter + Drop>(
     conn: Connection<S>,
     act: Act<'_>,
     course: &mut Course,
-) -> (Told, S) {
-    let (told, conn) = act_on(alloc, conn, act, course);
-    (told, conn.into_store())
+) -> (Returned, S) {
+    let (returned, conn) = act_on(alloc, conn, act, course);
+    (returned, conn.into_store())
 }
 
 /// Does this over files, and gives them back as they are.
@@ -264,11 +264,11 @@ fn done_over<D: Disk + Drop>(
     files: Files<D>,
     act: Act<'_>,
     course: &mut Course,
-) -> (Told, Files<D>) {
+) -> (Returned, Files<D>) {
     match connect(alloc, files) {
         Ok(conn) => {
-            let (told, store) = done(alloc, conn, act, course);
-            (told, store.close())
+            let (returned, store) = done(alloc, conn, act, course);
+            (returned, store.close())
         },
         Err(files) => (Err(OpenFault::Store), files),
     }
@@ -281,8 +281,8 @@ pub(crate) fn session(
     fuses: Fuses,
     act: Act<'_>,
     course: &mut Course,
-) -> Result<(Told, Left), Fail> {
+) -> Result<(Returned, Left), Fail> {
     let files = files(alloc, held, fuses)?;
-    let (told, files) = done_over(alloc, files, act, course);
-    Ok((told, left_of(alloc, files)?))
+    let (returned, files) = done_over(alloc, files, act, course);
+    Ok((returned, left_of(alloc, files)?))
 }

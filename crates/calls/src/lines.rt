@@ -42,10 +42,10 @@ fn ran(rt: &HostRuntime, words: &[&str], input: &str) -> (u8, Vec<u8>, Vec<u8>) 
 
 #[test]
 fn runs(rt: HostRuntime) -> Result<(), Fail> {
-    for (words, input, wanted, told, reported) in RUNS {
+    for (words, input, wanted, returned, reported) in RUNS {
         let (status, output, errors) = ran(&rt, words, input);
         assert_eq!(rt; status, wanted);
-        assert!(rt; output.as_slice() == told.as_bytes());
+        assert!(rt; output.as_slice() == returned.as_bytes());
         assert!(rt; errors.as_slice() == reported.as_bytes());
     }
     Ok(())

@@ -102,23 +102,23 @@ impl Script {
     }
 
     /// Whether these are the answers to the questions after so many requests.
-    fn is_shown(&self, told: &[u8], done: usize) -> bool {
+    fn is_shown(&self, returned: &[u8], done: usize) -> bool {
         match self.shown.get(done) {
-            Some(text) => text.as_bytes() == told,
+            Some(text) => text.as_bytes() == returned,
             None => false,
         }
     }
 
     /// Asks the questions, and says whether the answers are right.
     fn ask<S: Alter>(&self, alloc: Global, broker: &mut Broker<S>, course: &mut Course) -> bool {
-        let told = answered(alloc, broker, self.questions.as_bytes());
-        course.settle(self, &told)
+        let returned = answered(alloc, broker, self.questions.as_bytes());
+        course.settle(self, &returned)
     }
 
     /// Sends the requests that aren't done, and says whether the answers are right.
     fn send<S: Alter>(&self, alloc: Global, broker: &mut Broker<S>, course: &mut Course) -> bool {
-        let told = answered(alloc, broker, self.rest(course.done));
-        course.advance(self, &told)
+        let returned = answered(alloc, broker, self.rest(course.done));
+        course.advance(self, &returned)
     }
 
     /// Goes on with a broker: the questions, the requests that aren't done, and if all are, the questions again. Says
@@ -145,15 +145,15 @@ impl Script {
         &self,
         place: usize,
         may_be_done: bool,
-        told: &'a [u8],
+        returned: &'a [u8],
     ) -> Option<&'a [u8]> {
         let answer = self.answers.get(place)?;
-        if let Some(rest) = told.strip_prefix(answer.as_bytes()) {
+        if let Some(rest) = returned.strip_prefix(answer.as_bytes()) {
             return Some(rest);
         }
         let again = self.again.get(place)?;
         if may_be_done {
-            told.strip_prefix(again.as_bytes())
+            returned.strip_prefix(again.as_bytes())
         } else {
             None
         }
@@ -167,8 +167,8 @@ const STOPPED: &str =
     "HTTP/1.1 503 Service Unavailable\r\ncontent-type: application/json\r\ncontent-length: 20\r\n\r\n{\"answer\":\"stopped\"}";
 
 /// Whether these are the answers to so many requests, of which a stop cut the first.
-fn are_refusals(told: &[u8], count: usize) -> bool {
-    let mut rest = told;
+fn are_refusals(returned: &[u8], count: usize) -> bool {
+    let mut rest = returned;
     for place in 0..count {
         let refusal = if place == 0 { STORE } else { STOPPED };
         match rest.strip_prefix(refusal.as_bytes()) {
@@ -194,10 +194,10 @@ pub(crate) const BEGIN: Course = Course {
 
 impl Course {
     /// Takes the answers to the questions, which show whether the cut request was done; says whether they are right.
-    fn settle(&mut self, script: &Script, told: &[u8]) -> bool {
+    fn settle(&mut self, script: &Script, returned: &[u8]) -> bool {
         let next = self.done.saturating_add(1);
-        let is_here = script.is_shown(told, self.done);
-        let is_next = self.maybe_next && script.is_shown(told, next);
+        let is_here = script.is_shown(returned, self.done);
+        let is_next = self.maybe_next && script.is_shown(returned, next);
         if is_next && !is_here {
             self.done = next;
         }
@@ -207,8 +207,8 @@ impl Course {
 
     /// Goes on by what is answered to the requests that aren't done, and says whether it is right: the first ones are
     /// answered, and one is cut.
-    fn advance(&mut self, script: &Script, told: &[u8]) -> bool {
-        let mut rest = told;
+    fn advance(&mut self, script: &Script, returned: &[u8]) -> bool {
+        let mut rest = returned;
         for place in self.done..script.len() {
             match script.after_answer(place, self.maybe_next, rest) {
                 Some(after) => rest = after,

@@ -72,9 +72,9 @@ fn plays(
     fuses: Fuses,
     course: &mut Course,
 ) -> Result<(Ended, Left), Fail> {
-    let (told, left) = session(plan.alloc, held, fuses, plan.act, course)?;
+    let (returned, left) = session(plan.alloc, held, fuses, plan.act, course)?;
     course.maybe_next = course.done < plan.script.len();
-    let ended = match told {
+    let ended = match returned {
         Ok(true) if course.maybe_next && !left.is_stopped => Ended::Wrong,
         Ok(true) | Err(OpenFault::Store) if left.is_stopped => Ended::Stopped,
         Ok(true) => Ended::Whole,
@@ -174,8 +174,8 @@ fn stops_all(rt: &impl Abort, plan: &Plan<'_>) -> Result<(), Fail> {
 /// What this leaves on files that hold nothing.
 fn left_by(alloc: Global, act: Act<'_>) -> Result<Held, Fail> {
     let mut course = BEGIN;
-    let (told, left) = session(alloc, &Held::new(alloc), NEVER, act, &mut course)?;
-    if told != Ok(true) {
+    let (returned, left) = session(alloc, &Held::new(alloc), NEVER, act, &mut course)?;
+    if returned != Ok(true) {
         return Err(Fail::from("what comes first"));
     }
     left.held(alloc, false, false)
@@ -200,7 +200,7 @@ fn base_of(alloc: Global, office: &Token, first: First) -> Result<Held, Fail> {
     }
 }
 
-fn tells(rt: &impl Abort, alloc: Global, story: &Story) -> Result<(), Fail> {
+fn reports(rt: &impl Abort, alloc: Global, story: &Story) -> Result<(), Fail> {
     let office = Token::new(alloc, OFFICE)?;
     let script = Script::new(alloc, story)?;
     let base = base_of(alloc, &office, story.first)?;
@@ -219,21 +219,21 @@ fn tells(rt: &impl Abort, alloc: Global, story: &Story) -> Result<(), Fail> {
 
 #[test]
 fn first_deployment(rt: HostRuntime) -> Result<(), Fail> {
-    tells(&rt, rt.alloc(), &FIRST_DEPLOYMENT)
+    reports(&rt, rt.alloc(), &FIRST_DEPLOYMENT)
 }
 
 #[test]
 fn gated_deployments(rt: HostRuntime) -> Result<(), Fail> {
-    tells(&rt, rt.alloc(), &GATED_DEPLOYMENTS)
+    reports(&rt, rt.alloc(), &GATED_DEPLOYMENTS)
 }
 
 #[test]
 fn replies_and_runs(rt: HostRuntime) -> Result<(), Fail> {
-    tells(&rt, rt.alloc(), &REPLIES)?;
-    tells(&rt, rt.alloc(), &RESULT_OF_RUN)
+    reports(&rt, rt.alloc(), &REPLIES)?;
+    reports(&rt, rt.alloc(), &RESULT_OF_RUN)
 }
 
 #[test]
 fn migration(rt: HostRuntime) -> Result<(), Fail> {
-    tells(&rt, rt.alloc(), &MIGRATION)
+    reports(&rt, rt.alloc(), &MIGRATION)
 }

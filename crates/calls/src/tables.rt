@@ -124,7 +124,7 @@ fn is_version(version: &Version, pacticipant: &str, name: &str) -> bool {
 }
 
 /// What is there by a deployment or a release, once each.
-fn has_standing<S: Alter>(
+fn has_present<S: Alter>(
     rt: &impl Abort,
     alloc: Global,
     conn: &mut Connection<S>,
@@ -193,7 +193,7 @@ fn tries<S: Alter>(
     has_marks(rt, conn);
     adds_version(rt, conn);
     adds_results(rt, conn, run);
-    has_standing(rt, alloc, conn)?;
+    has_present(rt, alloc, conn)?;
     has_needs(rt, alloc, conn)
 }
 

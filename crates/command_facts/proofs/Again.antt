@@ -9,7 +9,8 @@ use Rattle.command_facts.specs.Primitives.{broker_primitives}
 use Rattle.pact_rules.specs.{Lists.{IsIn}, Reading.{just, Follows, ◌>>=◌, EachRead}, declared.rule_fault.RuleFault.TheVariants.{Pattern}}
 use Rattle.pact_file.specs.{Headers.{HeadersRead}, Normal.{Normal, IsRefusal}, Pact.{Interaction, Pact, normal_text}, Words.{number_text}}
 use Rattle.pact_file.specs.{declared.fault.PactFault.{PactFault}, declared.fault.PactFault.TheVariants.{Rules}, declared.fault.Part.TheVariants.{Headers}}
-use Rattle.pact_file.proofs.{Again.{Normal-normal_text, Normal-unique_pact}, Agreement.{IsDefinite-Normal}, HeaderSets.{HasHeaders-unique}, SetLemmas.{AllByRecursion-member}, Steps.{Ok-injective}}
+use Rattle.pact_file.proofs.{Again.{Normal-normal_text, Normal-unique_pact}, Agreement.{IsDefinite-Normal}, HeaderSets.{HasHeaders-unique}}
+use Rattle.pact_file.proofs.{SetLemmas.{AllByRecursion-member}, Steps.{Ok-injective}}
 use Rattle.reply_check.specs.{Recorded.{Reply}, ReplyParts.{file_of, items_of, at, parts_at}, Replies.{ReplyRead, Apart, RepliesRead}}
 use Rattle.reply_check.specs.{Verdicts.{IsAscending, AreFailing}, declared.fault.RepliesFault.{RepliesFault}}
 use Rattle.broker_core.specs.declared.command.FormFault.TheVariants as fault
@@ -32,8 +33,8 @@ ReadsAgain-broker_primitives file consumer provider text reads = Reads-of_normal
 
 ReadsRefusal-of_refusal : (reading : Reading) (answer : Result Pact PactFault) → reading ≡ reading_of answer → IsRefusal answer → ReadsRefusal is_refusal reading
 ReadsRefusal-of_refusal reading answer is (i, refused) =
-    let told : IsRefused (fault.Pact (number_text (Rules i Pattern))) ≡ reading = sym (is ∙ ap reading_of refused) in
-    subst (ReadsRefusal is_refusal) told refl
+    let returned : IsRefused (fault.Pact (number_text (Rules i Pattern))) ≡ reading = sym (is ∙ ap reading_of refused) in
+    subst (ReadsRefusal is_refusal) returned refl
 
 Reads-unique : (file : Text) (a b : Reading) → Reads file a → Reads file b → (a ≡ b) ⊎ (ReadsRefusal is_refusal a ⊎ ReadsRefusal is_refusal b)
 Reads-unique file a b h k =

@@ -6,20 +6,21 @@ use Rattle.pact_file.specs.{declared.fault.PactFault.TheVariants.{Rules, TooLong
 use Rattle.pact_file.specs.{File.{most_bytes, file_of, sides_of, items_of}, Interactions.{at, parts_at}, Headers.{HeadersRead}}
 use Rattle.pact_file.specs.{Normal.{InteractionRead, InteractionsRead, InOrder, Normal, IsRefusal, if_short}, Pact.{Header, Interaction, Pact, normal_text}}
 use Rattle.pact_file.specs.{Parts.{optional_at}, Rules.{TableRead, rules_or_fault, RulesRead, IsRulesOf}, declared.fault.PactFault.{PactFault}}
-use Rattle.pact_file.proofs.{Agreement.{IsDefinite-Normal}, Again.{Normal-unique_pact}, SetLemmas.{OneOf-member}, Steps.{Ok-injective, Ok-not_Err, Err-injective}}
-use Rattle.command_facts.specs.Readings.{TellsRefusal, HasPatternIfPact, IsNoPact, IsPatternAsked}
+use Rattle.pact_file.proofs.{Agreement.{IsDefinite-Normal}, Again.{Normal-unique_pact}, SetLemmas.{OneOf-member}}
+use Rattle.pact_file.proofs.Steps.{Ok-injective, Ok-not_Err, Err-injective}
+use Rattle.command_facts.specs.Readings.{ReportsRefusal, HasPatternIfPact, IsNoPact, IsPatternAsked}
 use Rattle.pact_rules.specs.{Lists.{OneOf, IsIn}, Rules.{Rules as Table, has_regex}, declared.rule_fault.RuleFault.{RuleFault}}
 use Rattle.pact_rules.specs.{declared.rule_fault.RuleFault.TheVariants.{Pattern}, Reading.{just, Follows, ◌>>=◌, EachRead}}
 use Rattle.pact_rules.proofs.ReadingLemmas.{has_regex-of_refusal}
 use Rattle.reply_check.specs.{Recorded.{Reply}, Verdicts.{IsKnown, AreKnown, IsFirstUnknown, UsesPattern}, Meeting.{HasPattern}}
 
 -- what may be read as x, if the same reading may be refused, has P
-abbrev Tells : {A : Type 0} → (A → Type 0) → (Result A PactFault → Type 0) → Type 0
-Tells {A} P reads = (r : Result A PactFault) (x : A) → IsRefusal r → reads r → reads (Ok x) → P x
+abbrev Matches : {A : Type 0} → (A → Type 0) → (Result A PactFault → Type 0) → Type 0
+Matches {A} P reads = (r : Result A PactFault) (x : A) → IsRefusal r → reads r → reads (Ok x) → P x
 
 -- a function reads only one value, so it isn't both read and refused
-Tells-just : {A : Type 0} (P : A → Type 0) (read : Result A PactFault) → Tells P (just read)
-Tells-just P read r x (i, is) h k = let clash : Path _ (Err (Rules i Pattern)) (Ok x) = sym is ∙ sym h ∙ k in absurd cc
+Matches-just : {A : Type 0} (P : A → Type 0) (read : Result A PactFault) → Matches P (just read)
+Matches-just P read r x (i, is) h k = let clash : Path _ (Err (Rules i Pattern)) (Ok x) = sym is ∙ sym h ∙ k in absurd cc
 
 module _ {A B : Type 0} (P : B → Type 0) (first : Result A PactFault → Type 0) (next : A → Result B PactFault → Type 0) where
   Follows-of_ok : (r : Result A PactFault) (y : B) → Follows r next (Ok y) → (x : A) × (r ≡ Ok x) × next x (Ok y)
@@ -31,10 +32,10 @@ module _ {A B : Type 0} (P : B → Type 0) (first : Result A PactFault → Type 
   Follows-of_refusal (Err e) s (i, is) h = inl (i, ap Err (Err-injective e (Rules i Pattern) (sym h ∙ is)))
 
   -- the result has P if the first reading may be refused, and if the second may be refused
-  Tells-bind : ((x : A) (y : B) (r : Result A PactFault) → IsRefusal r → first r → first (Ok x) → next x (Ok y) → P y)
+  Matches-bind : ((x : A) (y : B) (r : Result A PactFault) → IsRefusal r → first r → first (Ok x) → next x (Ok y) → P y)
       → ((x z : A) (y : B) (s : Result B PactFault) → first (Ok x) → first (Ok z) → IsRefusal s → next x s → next z (Ok y) → P y)
-      → Tells P (first >>= next)
-  Tells-bind early late s y is h k =
+      → Matches P (first >>= next)
+  Matches-bind early late s y is h k =
       let went = Follows-of_ok k.0 y k.2 in
       let read = subst first went.1 k.1 in
       ⊎_elim (λ refused. early went.0 y h.0 refused h.1 read went.2)
@@ -42,11 +43,11 @@ module _ {A B : Type 0} (P : B → Type 0) (first : Result A PactFault → Type 
       (Follows-of_refusal h.0 s is h.2)
 
 -- a function comes first
-Tells-just_bind : {A B : Type 0} (P : B → Type 0) (read : Result A PactFault) (next : A → Result B PactFault → Type 0) → ((x : A) → read ≡ Ok x → Tells P (next x)) → Tells P (just read >>= next)
-Tells-just_bind {A} P read next tells =
-    Tells-bind P (just read) next
-    (λ x y r is h k more. absurd (Tells-just (λ (z : A). ⊥) read r x is h k))
-    (λ x z y s h k is more last. tells z k s y is (subst (λ w. next w s) (Ok-injective _ _ (sym h ∙ k)) more) last)
+Matches-just_bind : {A B : Type 0} (P : B → Type 0) (read : Result A PactFault) (next : A → Result B PactFault → Type 0) → ((x : A) → read ≡ Ok x → Matches P (next x)) → Matches P (just read >>= next)
+Matches-just_bind {A} P read next reports =
+    Matches-bind P (just read) next
+    (λ x y r is h k more. absurd (Matches-just (λ (z : A). ⊥) read r x is h k))
+    (λ x z y s h k is more last. reports z k s y is (subst (λ w. next w s) (Ok-injective _ _ (sym h ∙ k)) more) last)
 
 -- ---- an interaction
 
@@ -67,51 +68,51 @@ rules_or_fault-ok i (Err e) t h = absurd cc
 abbrev HasRegexIn : Data → Table → Type 0
 HasRegexIn response t = IsRulesOf response t × (has_regex t ≡ true)
 
-Tells-RulesRead : (i : ℕ) (response : Data) → Tells (HasRegexIn response) (RulesRead i response)
+Matches-RulesRead : (i : ℕ) (response : Data) → Matches (HasRegexIn response) (RulesRead i response)
 unfolding RulesRead IsRulesOf
-Tells-RulesRead i response s t is h k =
+Matches-RulesRead i response s t is h k =
     let read = subst (TableRead (optional_at (codes "matchingRules") response)) (rules_or_fault-ok i k.0 t k.2) k.1 in
     (read, TableRead-has_regex (optional_at (codes "matchingRules") response) t (subst (TableRead (optional_at (codes "matchingRules") response)) (rules_or_fault-refused i h.0 s is h.2) h.1) read)
 
-Tells-InteractionRead : (i : ℕ) (d : Data) → Tells HasPattern (InteractionRead i d)
+Matches-InteractionRead : (i : ℕ) (d : Data) → Matches HasPattern (InteractionRead i d)
 unfolding InteractionRead
-Tells-InteractionRead i d =
-    Tells-just_bind HasPattern (parts_at i d) _ (λ x e.
-    Tells-bind HasPattern (HeadersRead (at i Headers) x.response) _
+Matches-InteractionRead i d =
+    Matches-just_bind HasPattern (parts_at i d) _ (λ x e.
+    Matches-bind HasPattern (HeadersRead (at i Headers) x.response) _
     (λ headers y r is h k more. no_twins x y r headers is h k)
     (λ headers others y s h k is more last.
-    Tells-bind HasPattern (RulesRead i x.response) _
-    (λ t y r is h k more. let told = Tells-RulesRead i x.response r t is h k in subst HasPattern (Ok-injective _ _ more) (t, told.0, told.1))
-    (λ t u y s h k is more last. Tells-just HasPattern (Ok x) s y is more last)
+    Matches-bind HasPattern (RulesRead i x.response) _
+    (λ t y r is h k more. let returned = Matches-RulesRead i x.response r t is h k in subst HasPattern (Ok-injective _ _ more) (t, returned.0, returned.1))
+    (λ t u y s h k is more last. Matches-just HasPattern (Ok x) s y is more last)
     s y is more last)) where
       no_twins : (x y : Interaction) (r : Result (List Header) PactFault) (headers : List Header) → IsRefusal r → HeadersRead (at i Headers) x.response r → HeadersRead (at i Headers) x.response (Ok headers) → HasPattern y
       no_twins x y (Ok xs) headers (j, is) h k = absurd cc
       no_twins x y (Err e) headers is h k = absurd (h.0 headers k)
 
-abbrev Behind : Interaction → ℕ → List Data → Result (List Interaction) PactFault → Type 0
-Behind x i ds = EachRead InteractionRead (i + 1) ds >>= (λ others. just (Ok (x ∷ others)))
+abbrev Following : Interaction → ℕ → List Data → Result (List Interaction) PactFault → Type 0
+Following x i ds = EachRead InteractionRead (i + 1) ds >>= (λ others. just (Ok (x ∷ others)))
 
-Behind-ok : (x : Interaction) (i : ℕ) (ds : List Data) (ys : List Interaction) → Behind x i ds (Ok ys) → (others : List Interaction) × EachRead InteractionRead (i + 1) ds (Ok others) × (x ∷ others ≡ ys)
-Behind-ok x i ds ys h =
+Following-ok : (x : Interaction) (i : ℕ) (ds : List Data) (ys : List Interaction) → Following x i ds (Ok ys) → (others : List Interaction) × EachRead InteractionRead (i + 1) ds (Ok others) × (x ∷ others ≡ ys)
+Following-ok x i ds ys h =
     let went = Follows-of_ok (OneOf HasPattern) (EachRead InteractionRead (i + 1) ds) (λ others. just (Ok (x ∷ others))) h.0 ys h.2 in
     (went.0, subst (EachRead InteractionRead (i + 1) ds) went.1 h.1, Ok-injective _ _ went.2)
 
-Behind-refused : (x : Interaction) (i : ℕ) (ds : List Data) (s : Result (List Interaction) PactFault) → IsRefusal s → Behind x i ds s → (r : Result (List Interaction) PactFault) × IsRefusal r × EachRead InteractionRead (i + 1) ds r
-Behind-refused x i ds s is h =
+Following-refused : (x : Interaction) (i : ℕ) (ds : List Data) (s : Result (List Interaction) PactFault) → IsRefusal s → Following x i ds s → (r : Result (List Interaction) PactFault) × IsRefusal r × EachRead InteractionRead (i + 1) ds r
+Following-refused x i ds s is h =
     ⊎_elim (λ refused. (h.0, refused, h.1))
-    (λ later. absurd (Tells-just (λ (w : List Interaction). ⊥) (Ok (x ∷ later.0)) s (x ∷ later.0) is later.2 refl))
+    (λ later. absurd (Matches-just (λ (w : List Interaction). ⊥) (Ok (x ∷ later.0)) s (x ∷ later.0) is later.2 refl))
     (Follows-of_refusal (OneOf HasPattern) (EachRead InteractionRead (i + 1) ds) (λ others. just (Ok (x ∷ others))) h.0 s is h.2)
 
-Tells-EachRead : (i : ℕ) (ds : List Data) → Tells (OneOf HasPattern) (EachRead InteractionRead i ds)
+Matches-EachRead : (i : ℕ) (ds : List Data) → Matches (OneOf HasPattern) (EachRead InteractionRead i ds)
 unfolding EachRead
-Tells-EachRead i [] = Tells-just (OneOf HasPattern) (Ok [])
-Tells-EachRead i (d ∷ ds) =
-    Tells-bind (OneOf HasPattern) (InteractionRead i d) (λ x. Behind x i ds)
-    (λ x ys r is h k more. let last = Behind-ok x i ds ys more in subst (OneOf HasPattern) last.2 (inl (Tells-InteractionRead i d r x is h k)))
+Matches-EachRead i [] = Matches-just (OneOf HasPattern) (Ok [])
+Matches-EachRead i (d ∷ ds) =
+    Matches-bind (OneOf HasPattern) (InteractionRead i d) (λ x. Following x i ds)
+    (λ x ys r is h k more. let last = Following-ok x i ds ys more in subst (OneOf HasPattern) last.2 (inl (Matches-InteractionRead i d r x is h k)))
     (λ x z ys s h k is more last.
-    let early = Behind-refused x i ds s is more in
-    let late = Behind-ok z i ds ys last in
-    subst (OneOf HasPattern) late.2 (inr (Tells-EachRead (i + 1) ds early.0 late.0 early.1 early.2 late.1)))
+    let early = Following-refused x i ds s is more in
+    let late = Following-ok z i ds ys last in
+    subst (OneOf HasPattern) late.2 (inr (Matches-EachRead (i + 1) ds early.0 late.0 early.1 early.2 late.1)))
 
 -- ---- a file
 
@@ -126,22 +127,22 @@ InOrder-has_pattern : (found others xs : List Interaction) (s : Result (List Int
 InOrder-has_pattern found others xs (Ok ys) (i, is) h k = absurd cc
 InOrder-has_pattern found others xs (Err e) (i, is) h k = absurd cc
 
-Tells-InteractionsRead : (file : Data) → Tells (OneOf HasPattern) (InteractionsRead file)
+Matches-InteractionsRead : (file : Data) → Matches (OneOf HasPattern) (InteractionsRead file)
 unfolding InteractionsRead
-Tells-InteractionsRead file =
-    Tells-just_bind (OneOf HasPattern) (items_of file) _ (λ items e.
-    Tells-bind (OneOf HasPattern) (EachRead InteractionRead 0 items) InOrder
-    (λ found xs r is h k more. OneOf-more HasPattern found xs more.1.kept (Tells-EachRead 0 items r found is h k))
+Matches-InteractionsRead file =
+    Matches-just_bind (OneOf HasPattern) (items_of file) _ (λ items e.
+    Matches-bind (OneOf HasPattern) (EachRead InteractionRead 0 items) InOrder
+    (λ found xs r is h k more. OneOf-more HasPattern found xs more.1.kept (Matches-EachRead 0 items r found is h k))
     (λ found others xs s h k is more last. InOrder-has_pattern found others xs s is more last))
 
 -- a file is read as a pact, and a pattern may be refused: the pact has one
 pub Normal-refused_has_pattern : (bytes : List ℕ) (answer : Result Pact PactFault) (p : Pact) → IsRefusal answer → Normal bytes answer → Normal bytes (Ok p) → OneOf HasPattern p.interactions
 unfolding Normal
 Normal-refused_has_pattern bytes answer p is h k =
-    Tells-just_bind (λ (p : Pact). OneOf HasPattern p.interactions) (file_of bytes) _ (λ file e.
-    Tells-just_bind (λ (p : Pact). OneOf HasPattern p.interactions) (sides_of file) _ (λ sides f.
-    Tells-bind (λ (p : Pact). OneOf HasPattern p.interactions) (InteractionsRead file) _
-    (λ xs p r is h k more. subst (λ (p : Pact). OneOf HasPattern p.interactions) (short_same _ p more) (Tells-InteractionsRead file r xs is h k))
+    Matches-just_bind (λ (p : Pact). OneOf HasPattern p.interactions) (file_of bytes) _ (λ file e.
+    Matches-just_bind (λ (p : Pact). OneOf HasPattern p.interactions) (sides_of file) _ (λ sides f.
+    Matches-bind (λ (p : Pact). OneOf HasPattern p.interactions) (InteractionsRead file) _
+    (λ xs p r is h k more. subst (λ (p : Pact). OneOf HasPattern p.interactions) (short_same _ p more) (Matches-InteractionsRead file r xs is h k))
     (λ xs ys p s h k is more last. absurd (short_refused _ s is more))))
     answer p is h k where
       cond_same : (b : Bool) (p q : Pact) → ◌≡◌ {A = Result Pact PactFault} (cond b (Ok p) (Err TooLong)) (Ok q) → p ≡ q
@@ -160,14 +161,14 @@ Normal-refused_has_pattern bytes answer p is h k =
 
 -- ---- a text that wasn't read
 
-pub no_pact : (text : List ℕ) (e : PactFault) → ¬ (TellsRefusal e) → Normal text (Err e) → IsNoPact text
+pub no_pact : (text : List ℕ) (e : PactFault) → ¬ (ReportsRefusal e) → Normal text (Err e) → IsNoPact text
 no_pact text e other h p k =
     ⊎_elim (λ same. Ok-not_Err p e (sym same)) (⊎_elim (λ r. other (r.0, Err-injective e (Rules r.0 Pattern) r.1)) (λ r. Ok-not_Err p (Rules r.0 Pattern) r.1)) (IsDefinite-Normal text (Err e) (Ok p) h k)
 
-HasPatternIfPact-of_refusal : (text : List ℕ) (e : PactFault) → TellsRefusal e → Normal text (Err e) → HasPatternIfPact text
+HasPatternIfPact-of_refusal : (text : List ℕ) (e : PactFault) → ReportsRefusal e → Normal text (Err e) → HasPatternIfPact text
 HasPatternIfPact-of_refusal text e (i, is) h p k = Normal-refused_has_pattern text (Err e) p (i, ap Err is) h k
 
-pub IsPatternAsked-of_refusal : (text : List ℕ) (replies : List Reply) (e : PactFault) → TellsRefusal e → Normal text (Err e) → HasPatternIfPact text × IsPatternAsked text replies
+pub IsPatternAsked-of_refusal : (text : List ℕ) (replies : List Reply) (e : PactFault) → ReportsRefusal e → Normal text (Err e) → HasPatternIfPact text × IsPatternAsked text replies
 IsPatternAsked-of_refusal text replies e is h = (HasPatternIfPact-of_refusal text e is h, inl (e, is, h))
 
 pub IfOk-both : {A F : Type 0} (r : Result A F) (P Q R : A → Type 0) → ((x : A) → P x → Q x → R x) → IfOk r P → IfOk r Q → IfOk r R
@@ -182,7 +183,7 @@ AreKnown-at interactions (q ∷ replies) zero r all h = subst (IsKnown interacti
 AreKnown-at interactions (q ∷ replies) (suc i) r all h = AreKnown-at interactions replies i r all.1 h
 
 pub AreKnown-not_if_unknown : (interactions : List Interaction) (replies : List Reply) (i : ℕ) → IsFirstUnknown interactions replies i → ¬ (AreKnown interactions replies)
-AreKnown-not_if_unknown interactions replies i first all = first.unknown (AreKnown-at interactions replies i first.reply all first.stands)
+AreKnown-not_if_unknown interactions replies i first all = first.unknown (AreKnown-at interactions replies i first.reply all first.is_present)
 
 UsesPattern-has_pattern : (interactions : List Interaction) (replies : List Reply) → UsesPattern interactions replies → OneOf HasPattern interactions
 UsesPattern-has_pattern [] replies h = absurd h

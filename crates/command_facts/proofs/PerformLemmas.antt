@@ -1,11 +1,13 @@
 -- How a command is put together from calls on the tables.
 use Rattle.std.proofs.Common.{Bool, true, ◌≡◌, ◌≤◌, ◌+◌, ℕ, Ok, Result, inl, refl, sym, subst, ◌∙◌, arith}
 use Rattle.sqlite.specs.State.{State}
-use Rattle.table_access.{specs.declared.StoreFault.{StoreFault}, proofs.CallLemmas.{CallsBetween-weaken, CallsBetween-then_Ok, CallsBetween-then_call, CallsBetween-no_call}}
+use Rattle.table_access.specs.declared.StoreFault.{StoreFault}
+use Rattle.table_access.proofs.CallLemmas.{CallsBetween-weaken, CallsBetween-then_Ok, CallsBetween-then_call, CallsBetween-no_call}
 use Rattle.broker_core.specs.{State.{State as Broker}, Change.{Transition, unchanged_with}, declared.answer.Answer.{Answer}, Machine.{StepOfCaller}}
 use Rattle.broker_core.specs.{declared.command.Command.{Command}, declared.policy.Caller.{Caller}}
 use Rattle.broker_tables.specs.Holds.{Holds, HoldsAfter, QueriesBetween, ChangesTakingBetween, ChangesBetween, ChangesAndAnswersBetween, AnswersTakingBetween}
-use Rattle.broker_tables.{specs.Room.{TakesRoom, enough}, proofs.{QueryLemmas.{Holds-same_database}, RoomLemmas.{TakesRoom-same, TakesRoom-more, TakesRoom-trans}}}
+use Rattle.broker_tables.{specs.Room.{TakesRoom, enough}, proofs.QueryLemmas.{Holds-same_database}}
+use Rattle.broker_tables.proofs.RoomLemmas.{TakesRoom-same, TakesRoom-more, TakesRoom-trans}
 use Rattle.command_facts.specs.{Performs.{PerformsBetween, PerformsWhereBetween, CallersStep}, Primitives.{broker_primitives}}
 
 -- ---- the state that is held

@@ -84,9 +84,9 @@ pub record CarriesBetween (changes : Bool) (old new : State) (Allows Open : Brok
   pub calm : FailsBetween changes old new r TooBig Open P
 
 -- what a command answers by its change
-abbrev pub told_done : Result (Unit {0}) StoreFault → Result Answer StoreFault
-told_done (Ok u) = Ok (Done Plain)
-told_done (Err e) = Err e
+abbrev pub returned_done : Result (Unit {0}) StoreFault → Result Answer StoreFault
+returned_done (Ok u) = Ok (Done Plain)
+returned_done (Err e) = Err e
 
 -- ---- the same of a connection over this store
 

@@ -72,8 +72,8 @@ abbrev pub IsNoPact : Text → Type 0
 IsNoPact text = (p : Pact) → ¬ (Normal text (Ok p))
 
 -- the fault says that a pattern was refused as a file was read
-abbrev pub TellsRefusal : PactFault → Type 0
-TellsRefusal found = (i : ℕ) × (found ≡ Rules i rule_fault.Pattern)
+abbrev pub ReportsRefusal : PactFault → Type 0
+ReportsRefusal found = (i : ℕ) × (found ≡ Rules i rule_fault.Pattern)
 
 -- if the text is read as a pact, it has a pattern
 abbrev pub HasPatternIfPact : Text → Type 0
@@ -81,7 +81,7 @@ HasPatternIfPact text = (p : Pact) → Normal text (Ok p) → OneOf InteractionH
 
 -- a pattern is refused as the text is read
 abbrev pub IsReadToRefusal : Text → Type 0
-IsReadToRefusal text = (found : PactFault) × TellsRefusal found × Normal text (Err found)
+IsReadToRefusal text = (found : PactFault) × ReportsRefusal found × Normal text (Err found)
 
 -- the text is read as a pact that knows each reply, and an interaction that has one has a pattern
 abbrev pub IsComparedByPattern : Text → List Reply → Type 0
@@ -94,8 +94,8 @@ abbrev pub IsPatternAsked : Text → List Reply → Type 0
 IsPatternAsked text replies = IsReadToRefusal text ⊎ IsComparedByPattern text replies
 
 -- what the comparison of a stored pact with replies says
-abbrev pub Tells : Text → List Reply → Comparison → Type 0
-Tells text replies (Failing places) = Compared text replies (Some places)
-Tells text replies UnknownReply = Compared text replies None
-Tells text replies Pattern = HasPatternIfPact text × IsPatternAsked text replies
-Tells text replies NoPact = IsNoPact text
+abbrev pub Matches : Text → List Reply → Comparison → Type 0
+Matches text replies (Failing places) = Compared text replies (Some places)
+Matches text replies UnknownReply = Compared text replies None
+Matches text replies Pattern = HasPatternIfPact text × IsPatternAsked text replies
+Matches text replies NoPact = IsNoPact text

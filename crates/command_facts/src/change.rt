@@ -1,6 +1,6 @@
 //! What a command answers by its change.
 ghost use Rattle.std.specs.Prelude.{◌≡◌};
-ghost use Rattle.command_facts.specs.Performs.{told_done};
+ghost use Rattle.command_facts.specs.Performs.{returned_done};
 
 use broker_core::answer::{Answer, Detail};
 use table_access::StoreFault;
@@ -9,8 +9,8 @@ use table_access::StoreFault;
 ///
 /// # Errors
 /// That of the change.
-pub fn told(change: Result<(), StoreFault>) -> Result<Answer, StoreFault>
-    ensures { result ≡ told_done change }
+pub fn returned(change: Result<(), StoreFault>) -> Result<Answer, StoreFault>
+    ensures { result ≡ returned_done change }
 {
     match change {
         Ok(()) => Ok(Answer::Done(Detail::Plain)),

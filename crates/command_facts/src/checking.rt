@@ -2,7 +2,7 @@
 ghost use Rattle.std.specs.Prelude.{◌≡◌, ℕ, List, false, Ok, Err, IfOk, IfErr, IsTrue};
 ghost use Rattle.pact_file.specs.Normal.{Normal};
 ghost use Rattle.reply_check.specs.Recorded.{Reply};
-ghost use Rattle.command_facts.specs.Readings.{TellsRefusal, Tells};
+ghost use Rattle.command_facts.specs.Readings.{ReportsRefusal, Matches};
 
 use broker_core::answer::Places;
 use pact_file::{Pact, PactFault, read_pact};
@@ -36,7 +36,7 @@ fn places_of(alloc: Global, failing: &[usize]) -> Result<Places, AllocError>
 
 /// What a check of replies against a pact says of the text that was read as this pact.
 fn compare_pact(alloc: Global, pact: &Pact, replies: &Replies) -> Result<Comparison, AllocError>
-    ensures { IfOk result (λ told. (text : List ℕ) → Normal text (Ok pact.now) → Tells text replies.now told) }
+    ensures { IfOk result (λ returned. (text : List ℕ) → Normal text (Ok pact.now) → Matches text replies.now returned) }
 {
     match check(alloc, pact, replies) {
         Ok(verdict) => Ok(Comparison::Failing(places_of(alloc, verdict.failing())?)),
@@ -48,8 +48,8 @@ fn compare_pact(alloc: Global, pact: &Pact, replies: &Replies) -> Result<Compari
 
 /// Whether the fault says that a pattern was refused.
 fn is_refusal(fault: &PactFault) -> bool
-    ensures refusal { IsTrue result → TellsRefusal fault.now }
-    ensures other { result ≡ false → ¬ (TellsRefusal fault.now) }
+    ensures refusal { IsTrue result → ReportsRefusal fault.now }
+    ensures other { result ≡ false → ¬ (ReportsRefusal fault.now) }
 {
     matches!(fault, PactFault::Rules(_, RuleFault::Pattern))
 }
@@ -59,8 +59,8 @@ fn is_refusal(fault: &PactFault) -> bool
 fn unread(fault: &PactFault) -> Result<Comparison, AllocError>
     ensures other { IfOk result (λ _. ¬ (fault.now ≡ PactFault.Memory)) }
     ensures memory { IfErr result (λ _. fault.now ≡ PactFault.Memory) }
-    ensures told { IfOk result (λ told. (text : List ℕ) (replies : List Reply) → Normal text (Err fault.now)
-        → Tells text replies told) }
+    ensures returned { IfOk result (λ returned. (text : List ℕ) (replies : List Reply) → Normal text (Err fault.now)
+        → Matches text replies returned) }
 {
     if matches!(fault, PactFault::Memory) {
         return Err(AllocError);
@@ -75,7 +75,7 @@ fn unread(fault: &PactFault) -> Result<Comparison, AllocError>
 /// unknown reply is looked for before the replies are compared. An error means out of memory. (This project's own
 /// choice.)
 pub fn compare(alloc: Global, text: &str, replies: &Replies) -> Result<Comparison, AllocError>
-    ensures { IfOk result (λ told. Tells text.now replies.now told) }
+    ensures { IfOk result (λ returned. Matches text.now replies.now returned) }
 {
     match read_pact(alloc, text.as_bytes()) {
         Ok(pact) => compare_pact(alloc, &pact, replies),

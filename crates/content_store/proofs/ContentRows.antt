@@ -17,9 +17,10 @@ use Rattle.table_access.proofs.{Steps.{IsPermutation-kept_rows}, Newest.{Shown-n
 use Rattle.table_access.proofs.{Keys.{keeps-one_key, IsNumbered-whole_at_unique, text_key, whole_key}, Maps.{find-first_shown}, SoundLemmas.{at_has, all_of}}
 use Rattle.table_access.proofs.ReadLemmas.{option_map-compose}
 use Rattle.broker_tables.specs.{Schema.{in_contents, broker_schema}, Numbers.{numbered}, Holds.{IsBroker, with_digest}, Rows.{rows_of}}
-use Rattle.broker_tables.proofs.{Inserted.{EndsFrom, Puts, Executes-insert_adds, EndsOnly-insert, is_taken-next_number}, Newest.{unwrap_or-newest as newest_count}, Asked.{Asked, IsShown}}
-use Rattle.broker_tables.proofs.{Frames.{Means-over_broker_schema, ChangesOnly-Frame, Frame, is_other, Frame-IsBroker}, Placed.{contents, at_contents, Placed-IsNumbered, column-texts}}
-use Rattle.broker_tables.proofs.{NextRow.{IsAdded-numbered}, ByNumber.{find-numbered}}
+use Rattle.broker_tables.proofs.Inserted.{EndsFrom, Puts, Executes-insert_adds, EndsOnly-insert, is_taken-next_number}
+use Rattle.broker_tables.proofs.{Newest.{unwrap_or-newest as newest_count}, Asked.{Asked, IsShown}}
+use Rattle.broker_tables.proofs.Frames.{Means-over_broker_schema, ChangesOnly-Frame, Frame, is_other, Frame-IsBroker}
+use Rattle.broker_tables.proofs.{Placed.{contents, at_contents, Placed-IsNumbered, column-texts}, NextRow.{IsAdded-numbered}, ByNumber.{find-numbered}}
 use Rattle.broker_core.specs.{Limit.{has_room}, Text.{same_text}}
 use Rattle.content_store.specs.Contents.{ContentsBy, AreContentsBy, with_digest_by, text_in, is_among, found_in, IsPut}
 use Rattle.content_store.proofs.TextNumbers.{same_is, position_or_len-absent}

@@ -4,11 +4,12 @@ use Rattle.std.proofs.Common.{◌≡◌, ℕ, Option, Some, None, List, [], ◌�
 use Rattle.std.proofs.lemmas.Result.{IfErr-weaker}
 use Rattle.sqlite.specs.{Table.{Table}, Effect.{Database}, State.{State, HasCleanDisk}}
 use Rattle.sha2.specs.Sha256.{sha256}
-use Rattle.table_access.{specs.{declared.StoreFault.{StoreFault}, Calls.{CallsTablesBetween, CallsStoreBetween}}, proofs.CallLemmas.{CallsBetween-weaken, EndsBy-later_call}}
+use Rattle.table_access.specs.{declared.StoreFault.{StoreFault}, Calls.{CallsTablesBetween, CallsStoreBetween}}
+use Rattle.table_access.proofs.CallLemmas.{CallsBetween-weaken, EndsBy-later_call}
 use Rattle.broker_core.specs.{Text.{Text, same_text}, State.{State as Broker}, Change.{is_stored, content_number, stored}}
 use Rattle.broker_tables.specs.{Schema.{broker_schema}, Rows.{rows_of}, Holds.{Holds, HoldsAfter, QueriesBetween, ChangesAndAnswersBetween}}
-use Rattle.broker_tables.{specs.ChangeRefusals.{HoldsOpen, IsCalmUnlessBetween}, proofs.{Frames.{Frame, is_other, Holds-contents}, QueryLemmas.{Holds-same_database}}}
-use Rattle.broker_tables.proofs.RoomLemmas.{TakesRoom-same, HoldsAfter-one_table}
+use Rattle.broker_tables.{specs.ChangeRefusals.{HoldsOpen, IsCalmUnlessBetween}, proofs.Frames.{Frame, is_other, Holds-contents}}
+use Rattle.broker_tables.proofs.{QueryLemmas.{Holds-same_database}, RoomLemmas.{TakesRoom-same, HoldsAfter-one_table}}
 use Rattle.content_store.specs.Contents.{hex_of, ContentsBy, IsReadByAny, IsPut, IsPutIfRoom, StoresIfRoom}
 
 -- what a state says of contents is that they are stored by SHA-256
@@ -68,6 +69,6 @@ pub IsCalmUnlessBetween-then : {A B : Type 0} (old mid new : State) (a : A) (r :
 IsCalmUnlessBetween-then old mid new a r P Q TooBig Allows Then one two more calm clean s here allowed room =
     let mid_clean : HasCleanDisk mid = omega (arith, two.survives.clean, clean) in
     let on = one.goes_on mid_clean here.inside in
-    let told = more (one.ok mid_clean) s here.held allowed in
-    let now : HoldsOpen mid s = record { inside = on.0; unlimited = one.survives.limit ∙ here.unlimited; held = subst (λ d. Holds d s) (sym told.1) here.held } in
-    IfErr-weaker r _ _ (λ e why. EndsBy-later_call old mid new e on one.survives.counts why) (calm clean s now told.0 room)
+    let returned = more (one.ok mid_clean) s here.held allowed in
+    let now : HoldsOpen mid s = record { inside = on.0; unlimited = one.survives.limit ∙ here.unlimited; held = subst (λ d. Holds d s) (sym returned.1) here.held } in
+    IfErr-weaker r _ _ (λ e why. EndsBy-later_call old mid new e on one.survives.counts why) (calm clean s now returned.0 room)

@@ -78,8 +78,8 @@ with_text texts body = if is_among texts body then texts else texts ++ body ∷ 
 -- ---- how a call is stated
 
 -- Store, if one of these rows has no number below 2^32, or no text in UTF-8 after it
-abbrev pub TellsUnreadable : List Row → StoreFault → Type 0
-TellsUnreadable rows fault =
+abbrev pub ReportsUnreadable : List Row → StoreFault → Type 0
+ReportsUnreadable rows fault =
     (fault ≡ Store) × ((row : Row) × Has rows row × (¬ (IsNumberRow row × IsTextAt 1 row)))
 
 -- an answer about the contents, all stored by this digest; nothing changes

@@ -12,7 +12,7 @@ ghost use Rattle.broker_core.specs.Text.{Text, same_text};
 ghost use Rattle.broker_tables.specs.Calm.{IsCalm, IsCalmInPlace, NeedsNoRoom};
 ghost use Rattle.broker_tables.specs.Readable.{IsReadable};
 ghost use Rattle.broker_tables.specs.ChangeRefusals.{IsCalmStoring};
-ghost use Rattle.content_store.specs.Contents.{StaysBroker, IsNextContent, hex_of, is_among, found_in, text_in, IsTextOf, TellsUnreadable, IsReadBy, IsReadByAny, IsPutBy, IsPutUnder, IsNewBy, IsNewAfter, IsNewIfRoom, IsPutIfRoom, CanBeAdded, FailsToAdd};
+ghost use Rattle.content_store.specs.Contents.{StaysBroker, IsNextContent, hex_of, is_among, found_in, text_in, IsTextOf, ReportsUnreadable, IsReadBy, IsReadByAny, IsPutBy, IsPutUnder, IsNewBy, IsNewAfter, IsNewIfRoom, IsPutIfRoom, CanBeAdded, FailsToAdd};
 
 use crate::digester::{Digester, digest_digits};
 use broker_core::limit::room;
@@ -77,7 +77,7 @@ fn number_among(rows: &[Row], body: &str) -> Result<Option<u32>, StoreFault>
     ensures ok { IfOk result
         (λ found. option_map (λ n. Int (pos n)) found ≡ option_map (λ row. column row 0)
         (first (λ row. same_text body.now (text 1 row)) rows.now)) }
-    ensures cause { IfErr result (TellsUnreadable rows.now) }
+    ensures cause { IfErr result (ReportsUnreadable rows.now) }
 {
     for row in rows {
         if done!(has_text(row, body)) {

@@ -20,24 +20,24 @@ use Rattle.broker_core.specs.declared.answer.Missing.TheVariants as missing
 
 module _ (versions : List Version) where
   -- from this number on
-  abbrev pub StandFrom : ℕ → List Version → Type 0
-  StandFrom n [] = Unit {0}
-  StandFrom n (x ∷ xs) = (number_of versions x ≡ Some n) × StandFrom (n + 1) xs
+  abbrev pub ArePresentFrom : ℕ → List Version → Type 0
+  ArePresentFrom n [] = Unit {0}
+  ArePresentFrom n (x ∷ xs) = (number_of versions x ≡ Some n) × ArePresentFrom (n + 1) xs
 
   module _ (test : Version → Bool) where
     -- if none passes, none is the last
-    none_last : (n : ℕ) (xs : List Version) → StandFrom n xs → (o : Option Version) → ((v : Version) (k : ℕ) → number_of versions v ≡ Some k → n ≤ k → test v ≡ false) → last_or o (filter test xs) ≡ o
-    none_last n [] stand o none = refl
-    none_last n (x ∷ xs) stand o none =
-        ap (λ b. last_or o (cond b (x ∷ filter test xs) (filter test xs))) (none x n stand.0 (omega arith))
-        ∙ none_last (n + 1) xs stand.1 o (λ v k is low. none v k is (omega (arith, low)))
+    none_last : (n : ℕ) (xs : List Version) → ArePresentFrom n xs → (o : Option Version) → ((v : Version) (k : ℕ) → number_of versions v ≡ Some k → n ≤ k → test v ≡ false) → last_or o (filter test xs) ≡ o
+    none_last n [] are_there o none = refl
+    none_last n (x ∷ xs) are_there o none =
+        ap (λ b. last_or o (cond b (x ∷ filter test xs) (filter test xs))) (none x n are_there.0 (omega arith))
+        ∙ none_last (n + 1) xs are_there.1 o (λ v k is low. none v k is (omega (arith, low)))
 
     -- the one with the greatest number that passes is the last
-    greatest_last : (n : ℕ) (xs : List Version) → StandFrom n xs → (o : Option Version) (v : Version) (k : ℕ) → number_of versions v ≡ Some k → test v ≡ true
+    greatest_last : (n : ℕ) (xs : List Version) → ArePresentFrom n xs → (o : Option Version) (v : Version) (k : ℕ) → number_of versions v ≡ Some k → test v ≡ true
         → ((w : Version) (m : ℕ) → number_of versions w ≡ Some m → test w ≡ true → m ≤ k) → n ≤ k → k < n + length xs → last_or o (filter test xs) ≡ Some v
-    greatest_last n [] stand o v k is passes top low high = absurd (omega (arith, low, high))
-    greatest_last n (x ∷ xs) stand o v k is passes top low high =
-        go (nat_lt n k) refl (λ p over below. greatest_last (n + 1) xs stand.1 p v k is passes top over below)
+    greatest_last n [] are_there o v k is passes top low high = absurd (omega (arith, low, high))
+    greatest_last n (x ∷ xs) are_there o v k is passes top low high =
+        go (nat_lt n k) refl (λ p over below. greatest_last (n + 1) xs are_there.1 p v k is passes top over below)
       where
         pick : (u : Bool) → ((p : Option Version) → last_or p (filter test xs) ≡ Some v) → last_or o (cond u (x ∷ filter test xs) (filter test xs)) ≡ Some v
         pick true later = later (Some x)
@@ -50,9 +50,9 @@ module _ (versions : List Version) where
         go false e later =
             let near = ltb-false n k e in
             let nats : n ≡ k = omega (arith, low, near) in
-            let same : x ≡ v = number_of-injective versions x v k (stand.0 ∙ ap Some nats) is in
+            let same : x ≡ v = number_of-injective versions x v k (are_there.0 ∙ ap Some nats) is in
             ap (λ b. last_or o (cond b (x ∷ filter test xs) (filter test xs))) (ap test same ∙ passes)
-            ∙ none_last (n + 1) xs stand.1 (Some x) (λ w m at far. false_if (test w) (λ passing. let over = top w m at passing in omega (arith, far, over, near))) ∙ ap Some same
+            ∙ none_last (n + 1) xs are_there.1 (Some x) (λ w m at far. false_if (test w) (λ passing. let over = top w m at passing in omega (arith, far, over, near))) ∙ ap Some same
 
 -- ---- and so do those of a state that a database holds
 
@@ -71,17 +71,17 @@ module _ (versions : List Version) where
   abbrev HasNumber : Row → Type 0
   HasNumber r = (k : ℕ) × (number_of versions (version (text in_versions.pacticipant r) (text in_versions.version r)) ≡ Some k) × (whole_at in_versions.number r ≡ pos k)
 
-  StandFrom-enumerate : (n : ℕ) (xs : List Version) (rows : List Row) → map entry rows ≡ map (λ e. (pos e.0, e.1)) (enumerate_from n xs) → AllByRecursion HasNumber rows → StandFrom versions n xs
-  StandFrom-enumerate n [] rows is each = tt
-  StandFrom-enumerate n (x ∷ xs) [] is each = absurd (let e = is in cc)
-  StandFrom-enumerate n (x ∷ xs) (r ∷ rows) is each =
+  ArePresentFrom-enumerate : (n : ℕ) (xs : List Version) (rows : List Row) → map entry rows ≡ map (λ e. (pos e.0, e.1)) (enumerate_from n xs) → AllByRecursion HasNumber rows → ArePresentFrom versions n xs
+  ArePresentFrom-enumerate n [] rows is each = tt
+  ArePresentFrom-enumerate n (x ∷ xs) [] is each = absurd (let e = is in cc)
+  ArePresentFrom-enumerate n (x ∷ xs) (r ∷ rows) is each =
       let here : entry r ≡ (pos n, x) = ap (head_of (pos n, x)) is in
       let ints : pos each.0.0 ≡ pos n = sym each.0.2 ∙ ap (λ (e : ℤ × Version). e.0) here in
       let nats : each.0.0 ≡ n = cc in
-      (ap (number_of versions) (sym (ap (λ (e : ℤ × Version). e.1) here)) ∙ each.0.1 ∙ ap Some nats, StandFrom-enumerate (n + 1) xs rows (ap rest_of is) each.1)
+      (ap (number_of versions) (sym (ap (λ (e : ℤ × Version). e.1) here)) ∙ each.0.1 ∙ ap Some nats, ArePresentFrom-enumerate (n + 1) xs rows (ap rest_of is) each.1)
 
-StandFrom-versions : (db : Database) (s : State) → Holds db s → StandFrom s.versions 1 s.versions
-StandFrom-versions db s held = StandFrom-enumerate s.versions 1 s.versions (db.trees in_versions.tree) held.versions (all_of (HasNumber s.versions) (db.trees in_versions.tree) (λ r has. number_of-version_row db held.broker s.versions held.versions r has))
+ArePresentFrom-versions : (db : Database) (s : State) → Holds db s → ArePresentFrom s.versions 1 s.versions
+ArePresentFrom-versions db s held = ArePresentFrom-enumerate s.versions 1 s.versions (db.trees in_versions.tree) held.versions (all_of (HasNumber s.versions) (db.trees in_versions.tree) (λ r has. number_of-version_row db held.broker s.versions held.versions r has))
 
 -- ---- the version that the branch shows
 
@@ -124,7 +124,7 @@ module _ (s : State) (provider consumer branch : Text) where
   module _ (db : Database) (held : Holds db s) where
     -- no version is left
     pub none_shown : (bound : ℕ) → NoneFrom s provider consumer branch bound → IsNextBelow s provider consumer branch bound None → IsBranchContent s provider consumer branch None
-    none_shown bound none found = none_last s.versions passes 1 s.versions (StandFrom-versions db s held) None (λ v n is low. false_if (passes v) (λ passing.
+    none_shown bound none found = none_last s.versions passes 1 s.versions (ArePresentFrom-versions db s held) None (λ v n is low. false_if (passes v) (λ passing.
         let it = passes-parts v passing in
         let near = passes-below_bound bound none v n is passing in
         let far = found n (v, is, it.0, it.1) in
@@ -139,7 +139,7 @@ module _ (s : State) (provider consumer branch : Text) where
         let fits = number_of-bounds s.versions v next on.1 in
         let all : passes v ≡ true = (λ i. same_text (on.2 i) consumer && (on.3 i && is_some (has i))) ∙ ap (λ b. b && true) (same_itself consumer) in (
           v,
-          greatest_last s.versions passes 1 s.versions (StandFrom-versions db s held) None v next on.1 all
+          greatest_last s.versions passes 1 s.versions (ArePresentFrom-versions db s held) None v next on.1 all
               (λ w m is also. let it = passes-parts w also in found.0.2 m (w, is, it.0, it.1) (passes-below_bound bound none w m is also))
               fits.0 (omega (arith, fits.1)),
           has,

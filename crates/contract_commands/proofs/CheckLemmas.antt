@@ -9,7 +9,7 @@ use Rattle.broker_core.specs.{declared.command.PactPath.{PactPath}, declared.com
 use Rattle.broker_core.specs.{declared.answer.Answer.TheVariants.{BadForm, Done}, declared.answer.Detail.{Detail}}
 use Rattle.pact_file.specs.{Normal.{Normal}, Pact.{Pact}, declared.fault.PactFault.{PactFault}}
 use Rattle.reply_check.specs.{Recorded.{Reply}, Replies.{RepliesRead}}
-use Rattle.command_facts.specs.{Readings.{Tells, reading_of}, declared.checking.Comparison.{Comparison}}
+use Rattle.command_facts.specs.{Readings.{Matches, reading_of}, declared.checking.Comparison.{Comparison}}
 use Rattle.command_facts.specs.{declared.checking.Comparison.TheVariants.{Failing, UnknownReply, Pattern, NoPact}, Performs.{CallersStep}}
 use Rattle.command_facts.{specs.Primitives.{broker_primitives}, proofs.CallerSteps.{StepOfCaller-effect, StepOfCaller-refused}}
 use Rattle.contract_commands.specs.Checks.{Leads, Checks}
@@ -28,17 +28,17 @@ module _ (s : State) (caller : Caller) (path : PactPath) (r : Report) (body : Te
     pub replies_refused : (answer : Answer) → refusal s caller (PostReplies path r body) ≡ Some answer → CallersStep caller (PostReplies path r body) s (unchanged_with s answer)
     replies_refused answer is = λ sound. inl (StepOfCaller-refused s caller (PostReplies path r body) well_formed answer is)
 
-    by_told : (out : Transition) (content : ℕ) (text : Text) (told : Comparison) → s.contracts (consumer_version path, path.provider) ≡ Some content → refusal s caller (PostReplies path r body) ≡ None → text_of s content ≡ Some text
-        → Tells text replies told → Leads s path.provider r content told out → CallersStep caller (PostReplies path r body) s out
-    by_told out content text (Failing places) is none has tells leads = λ sound. inl (StepOfCaller-effect s caller (PostReplies path r body) well_formed out none (content, is, (text, has, (Some places, (replies, reads, tells), leads))))
-    by_told out content text UnknownReply is none has tells leads = λ sound. inl (StepOfCaller-effect s caller (PostReplies path r body) well_formed out none (content, is, (text, has, (None, (replies, reads, tells), leads))))
-    by_told out content text Pattern is none has tells leads = λ sound. inr (leads, (none, (text, ap (option_and_then (text_of s)) is ∙ has, (replies, reads, tells.1))))
-    by_told out content text NoPact is none has tells leads = absurd leads
+    by_returned : (out : Transition) (content : ℕ) (text : Text) (returned : Comparison) → s.contracts (consumer_version path, path.provider) ≡ Some content → refusal s caller (PostReplies path r body) ≡ None → text_of s content ≡ Some text
+        → Matches text replies returned → Leads s path.provider r content returned out → CallersStep caller (PostReplies path r body) s out
+    by_returned out content text (Failing places) is none has reports leads = λ sound. inl (StepOfCaller-effect s caller (PostReplies path r body) well_formed out none (content, is, (text, has, (Some places, (replies, reads, reports), leads))))
+    by_returned out content text UnknownReply is none has reports leads = λ sound. inl (StepOfCaller-effect s caller (PostReplies path r body) well_formed out none (content, is, (text, has, (None, (replies, reads, reports), leads))))
+    by_returned out content text Pattern is none has reports leads = λ sound. inr (leads, (none, (text, ap (option_and_then (text_of s)) is ∙ has, (replies, reads, reports.1))))
+    by_returned out content text NoPact is none has reports leads = absurd leads
 
     -- they are compared with the contract
     pub replies_checked : (out : Transition) (content : ℕ) → s.contracts (consumer_version path, path.provider) ≡ Some content → refusal s caller (PostReplies path r body) ≡ None → Checks s path.provider r content replies out
         → CallersStep caller (PostReplies path r body) s out
-    replies_checked out content is none it = by_told out content it.0 it.2.0 is none it.1 it.2.1 it.2.2
+    replies_checked out content is none it = by_returned out content it.0 it.2.0 is none it.1 it.2.1 it.2.2
 
     -- if something is to change, it is a step
     pub step_checked : (detail : Detail) (t : State) (content : ℕ) → HasSoundContents broker_primitives s → s.contracts (consumer_version path, path.provider) ≡ Some content → refusal s caller (PostReplies path r body) ≡ None
@@ -59,11 +59,11 @@ HasSoundContents-pact s path content sound is =
     by_answer (Err found) reads is = absurd cc
 
 -- a comparison with it doesn't answer `NoPact`
-pub Tells-not_NoPact : (s : State) (content : ℕ) (text : Text) (replies : List Reply) (told : Comparison) → text_of s content ≡ Some text → ((old : Text) × (text_of s content ≡ Some old) × ((p : Pact) × Normal old (Ok p))) → Tells text replies told → ¬ (told ≡ NoPact)
-Tells-not_NoPact s content text replies told stored has tells is =
+pub Matches-not_NoPact : (s : State) (content : ℕ) (text : Text) (replies : List Reply) (returned : Comparison) → text_of s content ≡ Some text → ((old : Text) × (text_of s content ≡ Some old) × ((p : Pact) × Normal old (Ok p))) → Matches text replies returned → ¬ (returned ≡ NoPact)
+Matches-not_NoPact s content text replies returned stored has reports is =
     let both : Some has.0 ≡ Some text = sym has.1 ∙ stored in
     let same : has.0 ≡ text = cc in
-    subst (λ (c : Comparison). Tells text replies c) is tells has.2.0 (subst (λ t. Normal t (Ok has.2.0)) same has.2.1)
+    subst (λ (c : Comparison). Matches text replies c) is reports has.2.0 (subst (λ t. Normal t (Ok has.2.0)) same has.2.1)
 
 -- no interaction fails if the list of those that do is empty
 pub length-zero_is_empty : (failing : List ℕ) → (length failing == 0) ≡ is_empty failing

@@ -9,7 +9,8 @@ use Rattle.broker_core.specs.{Text.{Text}, State.{State}, Change.{text_of}, Requ
 use Rattle.broker_core.specs.{declared.command.PactPath.{PactPath}, declared.command.Version.{Version}, declared.policy.Caller.{Caller}}
 use Rattle.broker_core.specs.declared.policy.Rule.{Rule}
 use Rattle.broker_tables.specs.{Schema.{in_contents, in_contracts}, Holds.{Holds, with_digest}, Numbers.{number_of}}
-use Rattle.broker_tables.proofs.{Orders.{by_both-total_int_text, by_both-exact_int_text}, Placed.{contracts, at_contracts, listed}, References.{references-content}}
+use Rattle.broker_tables.proofs.{Orders.{by_both-total_int_text, by_both-exact_int_text}, Placed.{contracts, at_contracts, listed}}
+use Rattle.broker_tables.proofs.References.{references-content}
 use Rattle.contract_tables.proofs.ContractRows.{key, content_at, contents}
 use Rattle.contract_commands.specs.{BranchPact.{ReachesBranch}, Pacts.{HasContent, Reaches, HasReachedContent}}
 

@@ -12,7 +12,8 @@ use Rattle.broker_core.specs.{declared.answer.Detail.TheVariants.{Content}, decl
 use Rattle.broker_core.proofs.Effects.{versions_with, contents_with, named-versions_with, stored-contents_with}
 use Rattle.content_store.{specs.Contents.{is_among}, proofs.TextNumbers.{same_itself, position_or_len-absent}}
 use Rattle.contract_tables.specs.Verified.{AddsContract}
-use Rattle.command_facts.{specs.{declared.reading.ReadFault.TheVariants.{Form}, Primitives.{broker_primitives}}, proofs.CallerSteps.{StepOfCaller-refused, StepOfCaller-effect}}
+use Rattle.command_facts.specs.{declared.reading.ReadFault.TheVariants.{Form}, Primitives.{broker_primitives}}
+use Rattle.command_facts.proofs.CallerSteps.{StepOfCaller-refused, StepOfCaller-effect}
 use Rattle.contract_commands.specs.Numbering.{NamesAs}
 use Rattle.contract_commands.specs.Pacts.{AreSidesRead, missing_side, missing_part, Admits, IsPlaceRead, CanPublish, CanRecord, contracted, Publishes, AsksContract, Reaches, ShowsReached}
 use Rattle.contract_commands.specs.{declared.numbers.VersionNumber.{VersionNumber}, declared.sides.ContractPlace.{ContractPlace}, declared.sides.Sides.{Sides}}
@@ -75,7 +76,7 @@ put_pact-first s v provider text b none is =
     ∙ ap (λ t. cond t (record { answer = Done (Content (content_number s text)); state = published s v provider text }) (unchanged_with s Full)) is)
 
 pub put_pact-again : (s : State) (v : Version) (provider text : Text) (content : ℕ) (answer : Answer) → s.contracts (v, provider) ≡ Some content → answer ≡ republished s text content → unchanged_with s answer ≡ put_pact s v provider text
-put_pact-again s v provider text content answer is told = ap (unchanged_with s) told ∙ sym (ap (λ (q : Option ℕ). option_map_or (λ n. unchanged_with s (republished s text n)) q (first_put s v provider text)) is)
+put_pact-again s v provider text content answer is returned = ap (unchanged_with s) returned ∙ sym (ap (λ (q : Option ℕ). option_map_or (λ n. unchanged_with s (republished s text n)) q (first_put s v provider text)) is)
 
 -- the number of a text that is stored is one of those that there are
 position_or_len-below_length : (texts : List Text) (body : Text) → is_among texts body ≡ true → position_or_len (same_text body) texts + 1 ≤ length texts

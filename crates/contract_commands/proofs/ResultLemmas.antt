@@ -11,9 +11,9 @@ use Rattle.broker_core.specs.Change.{Transition, unchanged_with, can_name, repor
 use Rattle.broker_core.specs.{Request.{is_known, Asked, contract_of, first_absent, unless, is_allowed, refused, refusal}, declared.policy.Caller.{Caller}}
 use Rattle.broker_core.specs.{declared.policy.Rule.TheVariants.{A4}, declared.command.Command.{Command}, declared.command.PactPath.{PactPath}}
 use Rattle.broker_core.specs.{declared.command.Report.{Report}, declared.answer.Detail.{Detail}, declared.answer.Missing.{Missing}}
-use Rattle.contract_tables.specs.{Verified.{Told, told_of, RecordsResult, AllowsResult}, declared.lookups.ResultRow.{ResultRow}}
+use Rattle.contract_tables.specs.{Verified.{Returned, returned_of, RecordsResult, AllowsResult}, declared.lookups.ResultRow.{ResultRow}}
 use Rattle.contract_commands.specs.{Numbering.{NamesAs}, Pacts.{AsksContract}}
-use Rattle.contract_commands.specs.Results.{HasPacticipant, reported_version, reported_result, Reports, told_row, IsRowOf, IsNumbered, AllowsReport, recorded}
+use Rattle.contract_commands.specs.Results.{HasPacticipant, reported_version, reported_result, Reports, returned_row, IsRowOf, IsNumbered, AllowsReport, recorded}
 use Rattle.contract_commands.specs.{declared.results.Finding.{Finding}, declared.results.Reported.TheVariants.{Recorded, Full}}
 use Rattle.contract_commands.{specs.declared.numbers.VersionNumber.{VersionNumber}, proofs.ContentThere.{HasContent-bounds}}
 use Rattle.contract_commands.proofs.PactLemmas.{named-contents, named-results}
@@ -30,21 +30,21 @@ refused-first_present command false may what rest h = absurd cc
 -- the provider is there
 pub HasPacticipant-of_allowed : (s : State) (caller : Caller) (path : PactPath) (command : Command) → AsksContract path A4 (path.provider ∷ []) command → refusal s caller command ≡ None → HasPacticipant s path.provider
 HasPacticipant-of_allowed s caller path command is none =
-    let told : refused command (first_absent s (contract_of path)) (is_allowed s caller command) ≡ None = sym (ap (λ (a : Asked). refused command (first_absent s a.wanted) (is_allowed s caller command)) is) ∙ none in
-    refused-first_present command (is_some (s.pacticipants path.provider)) (is_allowed s caller command) missing.Pacticipant _ told
+    let returned : refused command (first_absent s (contract_of path)) (is_allowed s caller command) ≡ None = sym (ap (λ (a : Asked). refused command (first_absent s a.wanted) (is_allowed s caller command)) is) ∙ none in
+    refused-first_present command (is_some (s.pacticipants path.provider)) (is_allowed s caller command) missing.Pacticipant _ returned
 
 -- ---- a run that was used
 
 -- the result that a row gives
-pub IsRowOf-of_some : (s : State) (o : Option (ℕ × Verification)) (found : Option ResultRow) (row : ResultRow) → found ≡ Some row → option_map told_row found ≡ option_map (told_of s.versions) o → (e : ℕ × Verification) × (o ≡ Some e) × IsRowOf s row e
-IsRowOf-of_some s o found row is h = by_result o (sym (ap (option_map told_row) is) ∙ h) where
-  by_result : (o : Option (ℕ × Verification)) → Some (told_row row) ≡ option_map (told_of s.versions) o → (e : ℕ × Verification) × (o ≡ Some e) × IsRowOf s row e
+pub IsRowOf-of_some : (s : State) (o : Option (ℕ × Verification)) (found : Option ResultRow) (row : ResultRow) → found ≡ Some row → option_map returned_row found ≡ option_map (returned_of s.versions) o → (e : ℕ × Verification) × (o ≡ Some e) × IsRowOf s row e
+IsRowOf-of_some s o found row is h = by_result o (sym (ap (option_map returned_row) is) ∙ h) where
+  by_result : (o : Option (ℕ × Verification)) → Some (returned_row row) ≡ option_map (returned_of s.versions) o → (e : ℕ × Verification) × (o ≡ Some e) × IsRowOf s row e
   by_result None g = absurd cc
-  by_result (Some e) g = (e, refl, (let same : told_row row ≡ told_of s.versions e = cc in same))
+  by_result (Some e) g = (e, refl, (let same : returned_row row ≡ returned_of s.versions e = cc in same))
 
-pub told_row-none : (s : State) (o : Option (ℕ × Verification)) (found : Option ResultRow) → found ≡ None → option_map told_row found ≡ option_map (told_of s.versions) o → o ≡ None
-told_row-none s o found is h = by_result o (sym (ap (option_map told_row) is) ∙ h) where
-  by_result : (o : Option (ℕ × Verification)) → None ≡ option_map (told_of s.versions) o → o ≡ None
+pub returned_row-none : (s : State) (o : Option (ℕ × Verification)) (found : Option ResultRow) → found ≡ None → option_map returned_row found ≡ option_map (returned_of s.versions) o → o ≡ None
+returned_row-none s o found is h = by_result o (sym (ap (option_map returned_row) is) ∙ h) where
+  by_result : (o : Option (ℕ × Verification)) → None ≡ option_map (returned_of s.versions) o → o ≡ None
   by_result None g = refl
   by_result (Some e) g = absurd cc
 
@@ -63,8 +63,8 @@ module _ (s : State) (r : Verification) (unused : result_of_run s r.version.pact
 
   pub Reports-recorded : (number : ℕ) (t : State) → (can_name s r.version && has_room s.results) ≡ true → number ≡ length s.results + 1 → t ≡ recorded s r → Reports s r (Recorded number) t
   Reports-recorded number t place is next = λ detail.
-      let told : ◌≡◌ {A = Transition} (record { answer = answer.Done (detail number); state = t }) (record { answer = answer.Done (detail (length s.results + 1)); state = recorded s r }) = (λ i. record { answer = answer.Done (detail (is i)); state = next i }) in
-      told ∙ newly-report detail true place
+      let returned : ◌≡◌ {A = Transition} (record { answer = answer.Done (detail number); state = t }) (record { answer = answer.Done (detail (length s.results + 1)); state = recorded s r }) = (λ i. record { answer = answer.Done (detail (is i)); state = next i }) in
+      returned ∙ newly-report detail true place
 
   pub Reports-full : (can_name s r.version && has_room s.results) ≡ false → Reports s r Full s
   Reports-full none = λ detail. newly-report detail false none
@@ -73,16 +73,16 @@ module _ (s : State) (r : Verification) (unused : result_of_run s r.version.pact
 
 module _ (s : State) (provider : Text) (r : Report) (found : Finding) (row : ResultRow) (e : ℕ × Verification) (h : IsRowOf s row e) where
   row-content : row.content ≡ e.1.content
-  row-content = ap (λ (t : Told). t.1) h
+  row-content = ap (λ (t : Returned). t.1) h
 
   row-version_number : Some row.provider_version ≡ number_of s.versions e.1.version
-  row-version_number = ap (λ (t : Told). t.2) h
+  row-version_number = ap (λ (t : Returned). t.2) h
 
   row-pass : row.pass ≡ e.1.pass
-  row-pass = ap (λ (t : Told). t.3) h
+  row-pass = ap (λ (t : Returned). t.3) h
 
   row-checked : row.checked ≡ e.1.checked
-  row-checked = ap (λ (t : Told). t.4) h
+  row-checked = ap (λ (t : Returned). t.4) h
 
   pub says_same-of_row : (n : ℕ) → number_of s.versions (reported_version provider r) ≡ Some n
       → (row.content == found.content && (row.provider_version == n && (same_bool row.pass found.pass && same_bool row.checked found.checked))) ≡ says_same e.1 (reported_result provider r found)

@@ -9,7 +9,7 @@ use Rattle.broker_core.specs.declared.command.Report.{Report}
 use Rattle.reply_check.specs.Recorded.{Reply}
 use Rattle.pact_file.specs.Pact.{Pact}
 use Rattle.pact_file.specs.Normal.{Normal}
-use Rattle.command_facts.specs.Readings.{Tells}
+use Rattle.command_facts.specs.Readings.{Matches}
 use Rattle.command_facts.specs.declared.checking.Comparison.{Comparison}
 use Rattle.command_facts.specs.declared.checking.Comparison.TheVariants.{Failing, UnknownReply, Pattern, NoPact}
 use Rattle.command_facts.specs.Patterns.{RefusesPattern}
@@ -28,11 +28,11 @@ Leads s provider r content NoPact out = ⊥
 abbrev pub Checks : State → Text → Report → ℕ → List Reply → Transition → Type 0
 Checks s provider r content replies out =
     (text : Text) × (text_of s content ≡ Some text)
-    × ((told : Comparison) × Tells text replies told × Leads s provider r content told out)
+    × ((returned : Comparison) × Matches text replies returned × Leads s provider r content returned out)
 
 -- the provider and the content are there, and a pact was read
 abbrev pub CanLead : Text → ℕ → Comparison → State → Type 0
-CanLead provider content told s = CanReceive provider content s × (¬ (told ≡ NoPact))
+CanLead provider content returned s = CanReceive provider content s × (¬ (returned ≡ NoPact))
 
 -- the provider is there, and the content has a text that is read as a pact
 abbrev pub CanCheck : Text → ℕ → State → Type 0

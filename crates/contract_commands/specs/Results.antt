@@ -14,7 +14,7 @@ use Rattle.broker_core.specs.declared.answer.Detail.TheVariants as detail
 use Rattle.broker_core.specs.declared.answer.Clash.TheVariants as clash
 use Rattle.broker_tables.specs.Numbers.{number_of}
 use Rattle.broker_tables.specs.ChangeRefusals.{AreShort}
-use Rattle.contract_tables.specs.Verified.{Told, told, told_of, result_for}
+use Rattle.contract_tables.specs.Verified.{Returned, returned, returned_of, result_for}
 use Rattle.contract_tables.specs.declared.lookups.ResultRow.{ResultRow}
 use Rattle.contract_commands.specs.Numbering.{CanName}
 use Rattle.contract_commands.specs.Pacts.{HasContent}
@@ -49,15 +49,15 @@ reported_result provider report found =
     result_for found.content (reported_version provider report) found.pass found.checked report.run
 
 -- what is answered for a result, with this detail beside its number
-abbrev pub told_as : (ℕ → Detail) → Reported → Answer
-told_as detail (Recorded number) = answer.Done (detail number)
-told_as detail (Known number) = answer.Already (detail number)
-told_as detail RunTaken = answer.Taken clash.Run
-told_as detail Full = answer.Full
+abbrev pub returned_as : (ℕ → Detail) → Reported → Answer
+returned_as detail (Recorded number) = answer.Done (detail number)
+returned_as detail (Known number) = answer.Already (detail number)
+returned_as detail RunTaken = answer.Taken clash.Run
+returned_as detail Full = answer.Full
 
 -- the result comes in: this is reported of it, for any detail, and the next state is t
 abbrev pub Reports : Broker → Verification → Reported → Broker → Type 0
-Reports s r it t = (detail : ℕ → Detail) → record { answer = told_as detail it; state = t } ≡ report s r detail
+Reports s r it t = (detail : ℕ → Detail) → record { answer = returned_as detail it; state = t } ≡ report s r detail
 
 -- a report of what was found comes in: this is reported of it, and the next state is t
 abbrev pub Receives : Text → Report → Finding → Reported → Broker → Broker → Type 0
@@ -73,23 +73,23 @@ Claims provider r content success s out =
     out ≡ report s (claimed_result content (reported_version provider r) success r.run) detail.Result
 
 -- the row as a result of the tables
-abbrev pub told_row : ResultRow → Told
-told_row row = told row.number row.content row.provider_version row.pass row.checked
+abbrev pub returned_row : ResultRow → Returned
+returned_row row = returned row.number row.content row.provider_version row.pass row.checked
 
 -- the row is this result with its number
 abbrev pub IsRowOf : Broker → ResultRow → ℕ × Verification → Type 0
-IsRowOf s row e = told_row row ≡ told_of s.versions e
+IsRowOf s row e = returned_row row ≡ returned_of s.versions e
 
 -- whether the result of the row says the same as what was found by any report whose version has this number
-abbrev pub TellsSame : Broker → ResultRow → Option ℕ → Finding → Bool → Type 0
-TellsSame s row number found same =
+abbrev pub ReportsSame : Broker → ResultRow → Option ℕ → Finding → Bool → Type 0
+ReportsSame s row number found same =
     (provider : Text) (report : Report) (e : ℕ × Verification) → IsRowOf s row e
     → number_of s.versions (reported_version provider report) ≡ number
     → same ≡ says_same e.1 (reported_result provider report found)
 
 -- what is reported of any such report whose run was used for the result of the row; nothing changes
-abbrev pub TellsAgain : Broker → ResultRow → Option ℕ → Finding → Reported → Type 0
-TellsAgain s row number found it =
+abbrev pub ReportsAgain : Broker → ResultRow → Option ℕ → Finding → Reported → Type 0
+ReportsAgain s row number found it =
     (provider : Text) (report : Report) (e : ℕ × Verification) → IsRowOf s row e
     → number_of s.versions (reported_version provider report) ≡ number → result_of_run s provider report.run ≡ Some e
     → Reports s (reported_result provider report found) it s

@@ -10,7 +10,7 @@ use broker_core::limit::room;
 use broker_names::name::Name;
 use broker_tables::next_number;
 use contract_tables::result_count;
-use registry_tables::{add_version_as, version_count};
+use registry_tables::{insert_version, version_count};
 use sqlite::{Alter, Connection};
 use table_access::StoreFault;
 
@@ -83,7 +83,7 @@ pub(crate) fn ensure_named<S: Alter>(
     match number {
         VersionNumber::Old(number) => Ok(number),
         VersionNumber::New(number) => {
-            done!(add_version_as(conn, number, pacticipant.as_str(), name.as_str()));
+            done!(insert_version(conn, number, pacticipant.as_str(), name.as_str()));
             Ok(number)
         }
     }

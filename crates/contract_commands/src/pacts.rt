@@ -3,7 +3,7 @@ ghost use Rattle.std.specs.Prelude.{◌≡◌, ℕ, List, Some, Ok, IfErr};
 ghost use Rattle.broker_core.specs.Change.{text_of};
 ghost use Rattle.contract_commands.specs.Pacts.{ShowsReached, HasContent, HasReachedContent};
 ghost use Rattle.broker_core.specs.declared.command.Command.TheVariants.{GetPact};
-ghost use Rattle.broker_core.specs.declared.answer.Answer.TheVariants as told;
+ghost use Rattle.broker_core.specs.declared.answer.Answer.TheVariants as returned;
 ghost use Rattle.broker_core.specs.declared.answer.Shown.TheVariants as shown;
 ghost use Rattle.broker_tables.specs.Holds.{Queries};
 ghost use Rattle.broker_tables.specs.Calm.{IsCalmFrom};
@@ -20,7 +20,7 @@ use table_access::StoreFault;
 fn show_pact_text<S: Alter>(conn: &mut Connection<S>, content: u32) -> Result<Answer, StoreFault>
     ensures answers { Queries S.Store conn.old conn.new result
         (λ answer s. (text : List ℕ) × (text_of s content ≡ Some text)
-        × (answer ≡ told.Shown (shown.Pact text))) }
+        × (answer ≡ returned.Shown (shown.Pact text))) }
     ensures calm { IsCalmFrom S.Store conn.old conn.new result (λ s. HasContent s content) }
 {
     let text = done!(read_text(conn, content));

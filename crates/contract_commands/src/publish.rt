@@ -54,7 +54,7 @@ fn read_form(alloc: Global, path: &PactPath, file: &Body) -> Result<ReadPact, Re
 }
 
 /// What is reported if the contract has this text already.
-fn told_again(old: &Text, text: &Text, content: u32) -> Answer
+fn returned_again(old: &Text, text: &Text, content: u32) -> Answer
     ensures { (s : BrokerState) → text_of s content ≡ Some old.now → result ≡ republished s text.now content }
 {
     if old.as_str() == text.as_str() {
@@ -75,7 +75,7 @@ fn publish_again<S: Alter>(
     ensures calm { IsCalmFrom S.Store conn.old conn.new result (λ s. HasContent s content) }
 {
     let old = done!(read_text(conn, content));
-    Ok(told_again(&old, text, content))
+    Ok(returned_again(&old, text, content))
 }
 
 /// The number of the text, which is stored if it wasn't; `None` if it isn't and there is no room for one more content,
@@ -175,7 +175,7 @@ fn publish<S: Alter>(
 }
 
 /// What is reported of a file or of replies that weren't read.
-pub(crate) fn tell_unread(fault: ReadFault) -> Result<Answer, StoreFault>
+pub(crate) fn report_unread(fault: ReadFault) -> Result<Answer, StoreFault>
     ensures { result ≡ answer_to fault }
 {
     match fault {
@@ -196,6 +196,6 @@ pub fn put_pact<S: Alter>(
 {
     match read_form(alloc, path, file) {
         Ok(pact) => publish(conn, caller, path, &pact.text),
-        Err(fault) => tell_unread(fault),
+        Err(fault) => report_unread(fault),
     }
 }

@@ -7,10 +7,10 @@ ghost use Rattle.reply_check.specs.Replies.{RepliesRead};
 ghost use Rattle.broker_core.specs.Contents.{HasSoundContents};
 ghost use Rattle.command_facts.specs.Performs.{Performs, PerformsWhere, FailsToChangeFrom, FailsToDoFrom, CallersStep, IsStepOf};
 ghost use Rattle.command_facts.specs.Primitives.{broker_primitives};
-ghost use Rattle.contract_commands.specs.Results.{AreLong, HasPacticipant, CanReceive, told_as};
+ghost use Rattle.contract_commands.specs.Results.{AreLong, HasPacticipant, CanReceive, returned_as};
 ghost use Rattle.contract_commands.specs.Checks.{Leads, Checks, CanLead, CanCheck};
 
-use crate::publish::tell_unread;
+use crate::publish::report_unread;
 use crate::results::{Finding, Reported, receive};
 use crate::sides::{read_contract_to_verify, read_text};
 use broker_core::answer::{Answer, Clash, Detail, Places};
@@ -23,8 +23,8 @@ use std::alloc::Global;
 use table_access::StoreFault;
 
 /// The answer to replies by which these interactions fail.
-fn tell_replies(failing: Places, success: bool, it: Reported) -> Answer
-    ensures { result ≡ told_as (λ n. detail.Replies failing n success) it }
+fn replies_answer(failing: Places, success: bool, it: Reported) -> Answer
+    ensures { result ≡ returned_as (λ n. detail.Replies failing n success) it }
 {
     match it {
         Reported::Recorded(number) => Answer::Done(Detail::Replies {
@@ -63,24 +63,24 @@ fn report_failing<S: Alter>(
         checked: true,
     };
     let it = done!(receive(conn, provider, report, found));
-    Ok(tell_replies(failing, pass, it))
+    Ok(replies_answer(failing, pass, it))
 }
 
 /// What the comparison of a content with replies leads to.
-fn tell_compared<S: Alter>(
+fn answer_compared<S: Alter>(
     conn: &mut Connection<S>,
     provider: &Name,
     report: &Report,
     content: u32,
-    told: Comparison,
+    returned: Comparison,
 ) -> Result<Answer, StoreFault>
     ensures answers { PerformsWhere S.Store conn.old conn.new result (λ s. HasPacticipant s provider.now)
-        (λ s out. Leads s provider.now report.now content told out) }
+        (λ s out. Leads s provider.now report.now content returned out) }
     ensures calm { FailsToChangeFrom S.Store conn.old conn.new result
-        (AreLong provider.now report.now) (CanLead provider.now content told)
-        (λ s out. Leads s provider.now report.now content told out) }
+        (AreLong provider.now report.now) (CanLead provider.now content returned)
+        (λ s out. Leads s provider.now report.now content returned out) }
 {
-    match told {
+    match returned {
         Comparison::Failing(failing) => report_failing(conn, provider, report, content, failing),
         Comparison::UnknownReply => Ok(Answer::BadForm(FormFault::UnknownReply)),
         Comparison::Pattern => Ok(Answer::Pattern),
@@ -105,7 +105,7 @@ fn check_content<S: Alter>(
 {
     let text = done!(read_text(conn, content));
     match compare(alloc, text.as_str(), replies) {
-        Ok(told) => tell_compared(conn, provider, report, content, told),
+        Ok(returned) => answer_compared(conn, provider, report, content, returned),
         Err(_) => Err(StoreFault::Memory),
     }
 }
@@ -147,6 +147,6 @@ pub fn post_replies<S: Alter>(
 {
     match read_replies_body(alloc, body.as_slice()) {
         Ok(replies) => check_replies(alloc, conn, caller, path, report, &replies),
-        Err(fault) => tell_unread(fault),
+        Err(fault) => report_unread(fault),
     }
 }

@@ -1,7 +1,7 @@
 //! Results of verification: how one comes in, and those that their senders claim.
 ghost use Rattle.std.specs.Prelude.{◌≡◌, ◌==◌, ◌&&◌, option_map};
 ghost use Rattle.sqlite.specs.Held.{state};
-ghost use Rattle.table_access.specs.Calls.{TellsMemory};
+ghost use Rattle.table_access.specs.Calls.{ReportsMemory};
 ghost use Rattle.broker_core.specs.Text.{same_bool};
 ghost use Rattle.broker_core.specs.State.{State as BrokerState};
 ghost use Rattle.broker_core.specs.Change.{result_of_run as run_result};
@@ -10,10 +10,10 @@ ghost use Rattle.broker_core.specs.declared.command.Command.TheVariants.{PostRes
 ghost use Rattle.broker_tables.specs.Holds.{AnswersTaking};
 ghost use Rattle.broker_tables.specs.Calm.{CalmQueriesInPlace, FailsFrom};
 ghost use Rattle.broker_tables.specs.ChangeRefusals.{IsCalmTaking};
-ghost use Rattle.contract_tables.specs.Verified.{told_of};
+ghost use Rattle.contract_tables.specs.Verified.{returned_of};
 ghost use Rattle.command_facts.specs.Performs.{Carries, PerformsWhere, FailsToChangeFrom};
 ghost use Rattle.contract_commands.specs.Pacts.{HasContent};
-ghost use Rattle.contract_commands.specs.Results.{names_of, AreLong, HasPacticipant, CanReceive, IsToReport, told_as, Receives, Claims, told_row, TellsSame, TellsAgain, IsUnused, CanReport, CanRecordReport, AllowsReport, RecordsReport};
+ghost use Rattle.contract_commands.specs.Results.{names_of, AreLong, HasPacticipant, CanReceive, IsToReport, returned_as, Receives, Claims, returned_row, ReportsSame, ReportsAgain, IsUnused, CanReport, CanRecordReport, AllowsReport, RecordsReport};
 
 use crate::numbers::{VersionNumber, ensure_named, next_result, number_for};
 use crate::sides::read_contract_to_verify;
@@ -54,7 +54,7 @@ fn read_run<S: Alter>(
     run: &Option<Name>,
 ) -> Result<Option<ResultRow>, StoreFault>
     ensures { CalmQueriesInPlace S.Store conn.old conn.new result
-        (λ found s. option_map told_row found ≡ option_map (told_of s.versions) (run_result s provider.now run.now)) }
+        (λ found s. option_map returned_row found ≡ option_map (returned_of s.versions) (run_result s provider.now run.now)) }
 {
     match run {
         Some(run) => result_of_run(conn, provider.as_str(), run),
@@ -75,7 +75,7 @@ fn has_outcome(row: ResultRow, number: u32, found: Finding) -> bool
 
 /// Whether a result that is there says the same as one of the version of this number, if it has one.
 fn says_same(row: ResultRow, number: Option<u32>, found: Finding) -> bool
-    ensures { (s : BrokerState) → TellsSame s row number found result }
+    ensures { (s : BrokerState) → ReportsSame s row number found result }
 {
     match number {
         Some(number) => has_outcome(row, number, found),
@@ -84,8 +84,8 @@ fn says_same(row: ResultRow, number: Option<u32>, found: Finding) -> bool
 }
 
 /// What is reported of a result of a run that was used.
-fn tell_again(row: ResultRow, number: Option<u32>, found: Finding) -> Reported
-    ensures { (s : BrokerState) → TellsAgain s row number found result }
+fn answer_again(row: ResultRow, number: Option<u32>, found: Finding) -> Reported
+    ensures { (s : BrokerState) → ReportsAgain s row number found result }
 {
     if says_same(row, number, found) {
         Reported::Known(row.number)
@@ -178,14 +178,14 @@ pub(crate) fn receive<S: Alter>(
 {
     let number = done!(version_of(conn, provider.as_str(), report.provider_version.as_str()));
     match done!(read_run(conn, provider, &report.run)) {
-        Some(row) => Ok(tell_again(row, number, found)),
+        Some(row) => Ok(answer_again(row, number, found)),
         None => receive_new(conn, provider, report, found, number),
     }
 }
 
 /// The answer to a result that was claimed.
-fn tell_result(it: Reported) -> Answer
-    ensures { result ≡ told_as detail.Result it }
+fn answer_result(it: Reported) -> Answer
+    ensures { result ≡ returned_as detail.Result it }
 {
     match it {
         Reported::Recorded(number) => Answer::Done(Detail::Result(number as u64)),
@@ -208,7 +208,7 @@ fn claim<S: Alter>(
     ensures calm { FailsToChangeFrom S.Store conn.old conn.new result
         (AreLong provider.now report.now) (CanReceive provider.now content)
         (Claims provider.now report.now content success) }
-    ensures memory { TellsMemory (state S.Store conn.old) (state S.Store conn.new) result }
+    ensures memory { ReportsMemory (state S.Store conn.old) (state S.Store conn.new) result }
 {
     let found = Finding {
         content,
@@ -216,7 +216,7 @@ fn claim<S: Alter>(
         checked: false,
     };
     let it = done!(receive(conn, provider, report, found));
-    Ok(tell_result(it))
+    Ok(answer_result(it))
 }
 
 /// Records the result that is claimed of a contract, or says why not.

@@ -7,15 +7,18 @@ use Rattle.sqlite.specs.{Collation.TheVariants.{Binary}, Effect.{Database}, Stat
 use Rattle.sqlite_sql.specs.{declared.ops.BinaryOp.TheVariants.{Compare}, declared.ops.CompareOp.TheVariants.{Eq}, declared.ops.UnaryOp.TheVariants.{ToNumeric}}
 use Rattle.sqlite_sql.specs.Ops.{binary, unary, is_true}
 use Rattle.sqlite_rules.specs.Lists.{Has}
-use Rattle.table_access.specs.{declared.StoreFault.{StoreFault}, Reading.{AreRead, IsNumberAt, IsNumberRow, TellsNumber, FailsToRead}, Statements.{keeps_both}}
-use Rattle.table_access.proofs.{Answered.{slice_get-has_first, pair_shown}, Members.{pairs-complete, has_contains, contains_has}}
+use Rattle.table_access.specs.{declared.StoreFault.{StoreFault}, Reading.{AreRead, IsNumberAt, IsNumberRow, ReportsNumber, FailsToRead}}
+use Rattle.table_access.{specs.Statements.{keeps_both}, proofs.Answered.{slice_get-has_first, pair_shown}}
+use Rattle.table_access.proofs.Members.{pairs-complete, has_contains, contains_has}
 use Rattle.broker_tables.specs.{Schema.{in_results, in_latest, in_checked_results}, Rows.{truth, truth_in, mark_of, IsTruthAt}}
-use Rattle.broker_tables.{specs.Asking.{HasBrokerTables, CanBeAsked}, proofs.AnyTables.{Shown-Answers_query, IsRefusedAs-ends, HasFailed-after_query, slice_get-None_empty, Shown-any_kept}}
+use Rattle.broker_tables.specs.Asking.{HasBrokerTables, CanBeAsked}
+use Rattle.broker_tables.proofs.AnyTables.{Shown-Answers_query, IsRefusedAs-ends, HasFailed-after_query, slice_get-None_empty, Shown-any_kept}
 use Rattle.broker_tables.proofs.{Listed.{AreRead-sound, AreRead-complete}, VersionRows.{binary-Eq_same_Int}}
 use Rattle.contract_tables.specs.{declared.version_results.ContentPass.{ContentPass}, declared.version_results.LatestResult.{LatestResult}}
 use Rattle.contract_tables.specs.{Verified.{PassCells, pass_cells, pass_of}, VersionResults.{IsOfItsPair, IsPassRow, ReadsAsLatest, FailsAsLatest, marked}}
 use Rattle.contract_tables.specs.LatestRows.{AreEqual, NamesFor, NamesResult, IsResultOf, IsSoundPair, IsPassIn, IsMarkedChecked, NamesChecked, IsCheckedFor, NamesPass, ArePassesIn, AreLatestIn, IsUnsoundFor, FailsAsListed, IsMarkedOf}
-use Rattle.contract_tables.proofs.{ItemLists.{and-two_tests, and-true_test}, JoinRows.{pair_shown as shows_pair}, VersionResults.{passes_project, marks_project, order}}
+use Rattle.contract_tables.proofs.{ItemLists.{and-two_tests, and-true_test}, JoinRows.{pair_shown as shows_pair}}
+use Rattle.contract_tables.proofs.VersionResults.{passes_project, marks_project, order}
 use Rattle.contract_tables.proofs.AnyTexts.{given_to, pair_terms, version_terms, pair_sql, passes_sql, marks_sql, checked_sql, pair_params, one_param, AsksOf-pair_sql, AsksOf-passes_sql, AsksOf-marks_sql, AsksOf-checked_sql, is_strict}
 
 -- ---- what ON and WHERE test
@@ -193,7 +196,7 @@ module _ (n : ℕ) (old new : State) (asked : CanBeAsked old) (fault : StoreFaul
   FailsAsListed-passes (inr (rows, shown, row, has, inl why)) = inr (why.0, inl (NamesFor-unsound_row n old new asked.1 rows shown row has why.1))
   FailsAsListed-passes (inr (rows, shown, row, has, inr room)) = inl (inr room.0)
 
-  pub FailsAsListed-marks : FailsToRead (λ row number. column row 0 ≡ Int (pos number)) TellsNumber marks_sql (one_param n) old new fault → FailsAsListed n old new fault
+  pub FailsAsListed-marks : FailsToRead (λ row number. column row 0 ≡ Int (pos number)) ReportsNumber marks_sql (one_param n) old new fault → FailsAsListed n old new fault
   FailsAsListed-marks (inl refused) = inl (inl (IsRefusedAs-ends old new (AsksOf-marks_sql old.now.schema asked.1 n) asked.0 fault refused))
   FailsAsListed-marks (inr (rows, shown, row, has, inl why)) = inr (why.0, inr (NamesChecked-unsound_row n old new asked.1 rows shown row has why.1))
   FailsAsListed-marks (inr (rows, shown, row, has, inr room)) = inl (inr room.0)

@@ -9,7 +9,8 @@ use Rattle.sqlite_schema.specs.declared.schema.Column.{Column}
 use Rattle.sqlite_tied.specs.Compute.{everything}
 use Rattle.table_access.specs.Statements.{from_table, from_both}
 use Rattle.broker_tables.specs.Schema.{broker_schema, numbers, results, latest, checked_results, in_results, in_latest, in_checked_results}
-use Rattle.broker_tables.{specs.Asking.{HasColumns, HasBrokerTables}, proofs.AnyTables.{laid_out, laid_out-of_HasColumns, named_as, set_out, set_out-of_IsColumnLike, AsksOf}}
+use Rattle.broker_tables.specs.Asking.{HasColumns, HasBrokerTables}
+use Rattle.broker_tables.proofs.AnyTables.{laid_out, laid_out-of_HasColumns, named_as, set_out, set_out-of_IsColumnLike, AsksOf}
 use Rattle.contract_tables.proofs.VersionResults.{passes_project, marks_project, order}
 
 -- ---- the schema

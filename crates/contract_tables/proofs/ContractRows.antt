@@ -16,12 +16,15 @@ use Rattle.broker_core.specs.{Text.{Text as Words, version, same_text, same_vers
 use Rattle.broker_core.specs.{Machine.{version_cmp}, State.{State as Broker}}
 use Rattle.broker_tables.specs.{Schema.{in_versions, in_contracts}, Rows.{value_at}, Numbers.{number_of}, Holds.{Holds, HoldsAfter, IsBroker}}
 use Rattle.broker_tables.proofs.VersionRows.{binary-Eq_same_Int, binary-Eq_same_Text, version_number, IsNumbered-versions, column-version_pacticipant, names, number_of-version_row, number_of-has_row, IsAscending-one_row, option_and_then-Some, versions-unique_names as one_version}
-use Rattle.broker_tables.proofs.{Keyed.{contracts_by_key, finds, IsFree-of_stands_at, IsAscending-keys_of_table}, Frames.{Holds-contracts}}
-use Rattle.broker_tables.proofs.{Orders.{by_both-total_int_text, by_both-exact_int_text, text_cmp-antisymmetric, pair_cmp-IsAntisymmetric}, Ties.{both_eq, and-same}, Standing.{value_at-is_some}}
-use Rattle.broker_tables.proofs.{NumberLemmas.{number_of-same_version, same_version-unknown}, Placed.{at_contracts, Placed-IsNumbered, column-texts, column-whole_numbers}, References.{LeadsTo-each}}
-use Rattle.broker_tables.proofs.{Asked.{Asked, IsShown}, Inserted.{EndsFrom, Adds, HoldsAfter-added, EndsOnly-added, added, IsThere-version, IsThere-pacticipant}}
+use Rattle.broker_tables.proofs.{Keyed.{contracts_by_key, finds, IsFree-of_has_row_at, IsAscending-keys_of_table}, Frames.{Holds-contracts}}
+use Rattle.broker_tables.proofs.Orders.{by_both-total_int_text, by_both-exact_int_text, text_cmp-antisymmetric, pair_cmp-IsAntisymmetric}
+use Rattle.broker_tables.proofs.{Ties.{both_eq, and-same}, Present.{value_at-is_some}, NumberLemmas.{number_of-same_version, same_version-unknown}}
+use Rattle.broker_tables.proofs.{Placed.{at_contracts, Placed-IsNumbered, column-texts, column-whole_numbers}, References.{LeadsTo-each}}
+use Rattle.broker_tables.proofs.Asked.{Asked, IsShown}
+use Rattle.broker_tables.proofs.Inserted.{EndsFrom, Adds, HoldsAfter-added, EndsOnly-added, added, IsThere-version, IsThere-pacticipant}
 use Rattle.contract_tables.specs.{Verified.{AddsContract}, declared.listings.Contract.{Contract}, Listings.{contract_cmp, IsContractRow, IsConsumerRow}}
-use Rattle.contract_tables.proofs.{ReferredRows.{has_parent-number, HasRowWith-content}, ItemLists.{and-two_tests, and-true_test, value_cmp-last_Text, IsShown-Answers, Lists-of_rows, Lists-of_pairs}}
+use Rattle.contract_tables.proofs.ReferredRows.{has_parent-number, HasRowWith-content}
+use Rattle.contract_tables.proofs.ItemLists.{and-two_tests, and-true_test, value_cmp-last_Text, IsShown-Answers, Lists-of_rows, Lists-of_pairs}
 
 abbrev pub key : Row → ℤ × List ℕ
 key r = (whole_at in_contracts.version_number r, text in_contracts.provider r)
@@ -71,10 +74,10 @@ module _ (db : Database) (s : Broker) (held : Holds db s) (v : Version) (n : ℕ
   pub contracts-of_row : (r : Row) (p : List ℕ) (content : ℕ) → Has (db.trees in_contracts.tree) r → whole_at in_contracts.version_number r ≡ pos n
       → text in_contracts.provider r ≡ p → whole_at in_contracts.content r ≡ pos content
       → s.contracts (v, p) ≡ Some content
-  contracts-of_row r p content has number provider told = option_map-pos_injective (s.contracts (v, p)) (Some content) (
+  contracts-of_row r p content has number provider returned = option_map-pos_injective (s.contracts (v, p)) (Some content) (
       sym (content_at-contracts db s v n p held is)
       ∙ ap (value_at (by_both int_cmp text_cmp) key (whole_at in_contracts.content) (db.trees in_contracts.tree)) (λ i. (sym number i, sym provider i))
-      ∙ find-of_row by_both-total_int_text by_both-exact_int_text key (whole_at in_contracts.content) (db.trees in_contracts.tree) r (IsAscending-keys_of_table contracts_by_key db held.broker) has ∙ ap Some told
+      ∙ find-of_row by_both-total_int_text by_both-exact_int_text key (whole_at in_contracts.content) (db.trees in_contracts.tree) r (IsAscending-keys_of_table contracts_by_key db held.broker) has ∙ ap Some returned
       )
 
   -- and the version has a row for its contract
@@ -229,7 +232,7 @@ module _ (n : ℕ) (p : List ℕ) (content : ℕ) (old new : State) where
       let held = here.held in
       let made = added (Adds-contract n p content) old new held.broker in
       EndsOnly-added (Adds-contract n p content) old new held.broker room.0 (record { typed = refl; present = refl; checked = refl }) (
-        IsFree-of_stands_at contracts_by_key old.now held.broker made refl
+        IsFree-of_has_row_at contracts_by_key old.now held.broker made refl
             (sym (value_at-is_some (by_both int_cmp text_cmp) key (whole_at in_contracts.content) rows (pos n, p)) ∙ ap is_some (content_at-None s v held is free)),
         tt,
       )

@@ -10,7 +10,8 @@ use Rattle.sqlite_rules.specs.Lists.{Has}
 use Rattle.sqlite_keyed.proofs.{ListLemmas.{ascending-filter}, RuleLemmas.{first_of_both, second_of_both}}
 use Rattle.table_access.specs.{Columns.{text_cmp, whole_at}, Sound.{IsNumbered}, Reading.{AreRead}}
 use Rattle.table_access.specs.Statements.{from_table, from_both, keeps, keeps_both, pairs_kept}
-use Rattle.table_access.proofs.{Members.{IsAscending-map_on, pairs, pairs-IsAscending, pairs-complete, pairs-sound, has_filter, filter_has}, Keys.{IsNumbered-whole_at_unique}}
+use Rattle.table_access.proofs.Members.{IsAscending-map_on, pairs, pairs-IsAscending, pairs-complete, pairs-sound, has_filter, filter_has}
+use Rattle.table_access.proofs.Keys.{IsNumbered-whole_at_unique}
 use Rattle.broker_core.specs.Listing.{Lists}
 use Rattle.broker_tables.proofs.{Listed.{sorts, Lists-of_table, Lists-of_join}, Asked.{Asked, IsShown}}
 

@@ -70,9 +70,9 @@ latest_result-content_version s content v e is =
 pub option_map-with_mark : {A B : Type 0} (s : Broker) (o : Option (ℕ × Verification)) (f : ℕ × Verification → A) (make_item : A → Bool → B) (number : A → ℕ)
     (a : A) (checked : Bool) → ((e : ℕ × Verification) → o ≡ Some e → (result_with s e.0 ≡ Some e.1) × (number (f e) ≡ e.0)) → Some a ≡ option_map f o
     → ((r : Verification) → result_with s (number a) ≡ Some r → checked ≡ r.checked) → Some (make_item a checked) ≡ option_map (λ e. make_item (f e) e.1.checked) o
-option_map-with_mark s None f make_item number a checked stands row mark = absurd cc
-option_map-with_mark s (Some e) f make_item number a checked stands row mark =
+option_map-with_mark s None f make_item number a checked is_present row mark = absurd cc
+option_map-with_mark s (Some e) f make_item number a checked is_present row mark =
     let same : a ≡ f e = cc in
-    let it = stands e refl in
+    let it = is_present e refl in
     let checked_is = mark e.1 (ap (result_with s) (ap number same ∙ it.1) ∙ it.0) in
     λ i. Some (make_item (same i) (checked_is i))

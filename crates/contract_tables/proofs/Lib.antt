@@ -11,7 +11,7 @@ pub mod Rising
 pub mod VersionResults
 pub mod QueryLemmas
 pub mod JoinRows
-pub mod ToldResults
+pub mod ListedResults
 pub mod ReadableRows
 pub mod AnyTexts
 pub mod AnyLatest

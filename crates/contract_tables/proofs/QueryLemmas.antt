@@ -1,7 +1,8 @@
 -- A computation after a query, and an answer without one, over the state that the database holds.
 use Rattle.std.proofs.{Common.{Bool, true, ◌≡◌, inr, Ok, Err, Result, IfOk, IfErr}, lemmas.Result.{IfErr-weaker}}
 use Rattle.sqlite.specs.State.{State}
-use Rattle.table_access.{specs.{declared.StoreFault.{StoreFault}, declared.StoreFault.TheVariants.{Memory}}, proofs.CallLemmas.{CallsBetween-then_Ok, CallsBetween-then_stop}}
+use Rattle.table_access.specs.{declared.StoreFault.{StoreFault}, declared.StoreFault.TheVariants.{Memory}}
+use Rattle.table_access.proofs.CallLemmas.{CallsBetween-then_Ok, CallsBetween-then_stop}
 use Rattle.broker_core.specs.State.{State as Broker}
 use Rattle.broker_tables.specs.{Holds.{IsRead, QueriesBetween}, Calm.{CalmQueriesBetween}}
 

@@ -12,12 +12,13 @@ use Rattle.table_access.proofs.Keys.{is_param}
 use Rattle.broker_core.specs.{State.{State as Broker}, declared.command.Version.{Version}}
 use Rattle.broker_tables.specs.{Schema.{in_versions, in_contracts, in_results, in_latest}, Holds.{Holds}, Readable.{IsReadable}, Numbers.{number_of}}
 use Rattle.broker_tables.proofs.ReadableRows.{IsLow, IsNumberAt-of_column, IsNameAt-of_column, IsTruthAt-of_column, IsLow-result, to_version_low, to_content_low, to_result_low, IsNamed-version, IsNamed-reference, whole_at-pass_low}
-use Rattle.broker_tables.proofs.{Placed.{contracts, at_contracts, results, at_results, latest, at_latest, listed, column-whole_numbers}, NoVersion.{references-not_unknown_version}}
-use Rattle.broker_tables.proofs.{VersionRows.{column-version_pacticipant, names, binary-Eq_same_Int}, Asked.{Asked, EachReads, NoneFor, EachShown-of_table, EachShown-of_both, EachShown-up_to, EachShown-IsNumberRow}}
+use Rattle.broker_tables.proofs.Placed.{contracts, at_contracts, results, at_results, latest, at_latest, listed, column-whole_numbers}
+use Rattle.broker_tables.proofs.{NoVersion.{references-not_unknown_version}, VersionRows.{column-version_pacticipant, names, binary-Eq_same_Int}}
+use Rattle.broker_tables.proofs.Asked.{Asked, EachReads, NoneFor, EachShown-of_table, EachShown-of_both, EachShown-up_to, EachShown-IsNumberRow}
 use Rattle.contract_tables.specs.{Listings.{ReadsAsMarked, ReadsAsNames}, VersionResults.{ReadsAsLatest}, Verified.{ReadsAsResult}}
 use Rattle.contract_tables.proofs.ContractRows.{column-contract_version_number, contents, column-contract_provider, content, project, own, users_project, users}
 use Rattle.contract_tables.proofs.ResultRows.{contents as latest_contents, versions, numbers as latest_numbers}
-use Rattle.contract_tables.proofs.{VerifiedList.{project as verified_project, verifiers}, ToldResults.{told_marks, told_marks_project}}
+use Rattle.contract_tables.proofs.{VerifiedList.{project as verified_project, verifiers}, ListedResults.{returned_marks, returned_marks_project}}
 use Rattle.contract_tables.proofs.VersionResults.{terms, order, passes_project, marks_project, marks, join, latest-pair_of_its_result}
 use Rattle.contract_tables.proofs.ResultLookups.{IsNumbered-results, count, run_project, run}
 
@@ -119,10 +120,10 @@ EachReads-marks n db s held readable = EachShown-of_both (marks n) db _ (λ l r 
     let content = IsLowAt-latest_content db s held readable l hl in
     IsNumberAt-of_column (eval_all marks_project ([] ∷ l ∷ r ∷ [])) 0 (whole_at in_latest.content l) (omega arith) content.0 content.1)
 
-pub EachReads-told_marks : (c : ℕ) (db : Database) → EachReads (told_marks c) db IsNumberRow
-EachReads-told_marks c db s held readable = EachShown-of_both (told_marks c) db _ (λ l r hl hr kept.
+pub EachReads-returned_marks : (c : ℕ) (db : Database) → EachReads (returned_marks c) db IsNumberRow
+EachReads-returned_marks c db s held readable = EachShown-of_both (returned_marks c) db _ (λ l r hl hr kept.
     let number = IsLowAt-latest_result db s held readable l hl in
-    IsNumberAt-of_column (eval_all told_marks_project ([] ∷ l ∷ r ∷ [])) 0 (whole_at in_latest.result l) (omega arith) number.0 number.1)
+    IsNumberAt-of_column (eval_all returned_marks_project ([] ∷ l ∷ r ∷ [])) 0 (whole_at in_latest.result l) (omega arith) number.0 number.1)
 
 -- ---- results
 

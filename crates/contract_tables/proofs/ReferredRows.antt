@@ -9,8 +9,9 @@ use Rattle.sqlite_rules.proofs.{ListLemmas.{some_from}, TableLemmas.{int_is}}
 use Rattle.table_access.{specs.Columns.{text, text_cmp, whole_at}, proofs.{Values.{binary-Eq_Int}, Maps.{find-has_row}, SoundLemmas.{at_has}}}
 use Rattle.broker_core.specs.{State.{State as Broker}, declared.command.Version.{Version}}
 use Rattle.broker_tables.specs.{Schema.{in_pacticipants, in_versions, in_contents, broker_schema, to}, Holds.{Holds, with_digest}, Numbers.{number_of}}
-use Rattle.broker_tables.proofs.{Placed.{at_contents, versions, at_versions, listed, Placed-IsNumbered}, References.{LeadsTo, references-pacticipant}, Inserted.{IsThere-of_row}}
-use Rattle.broker_tables.proofs.{Standing.{value_at-is_some}, VersionRows.{number_of-has_row, version_number, column-version_pacticipant}, ByNumber.{find-numbered}}
+use Rattle.broker_tables.proofs.{Placed.{at_contents, versions, at_versions, listed, Placed-IsNumbered}, References.{LeadsTo, references-pacticipant}}
+use Rattle.broker_tables.proofs.{Inserted.{IsThere-of_row}, Present.{value_at-is_some}}
+use Rattle.broker_tables.proofs.{VersionRows.{number_of-has_row, version_number, column-version_pacticipant}, ByNumber.{find-numbered}}
 use Rattle.contract_tables.specs.Verified.{HasRowWith}
 
 -- the row is there that a reference to this number leads to

@@ -16,13 +16,14 @@ use Rattle.sqlite_rules.{specs.Lists.{Has}, proofs.{ListLemmas.{has_kept}, Table
 use Rattle.sqlite_keyed.proofs.{ListLemmas.{filter-map, ascending-filter}, RuleLemmas.{first_of_both, second_of_both}}
 use Rattle.table_access.specs.{Columns.{text, whole_at}, Sound.{IsNumbered, whole}, Statements.{from_table, by_two, up_to, newest, keeps, shows}}
 use Rattle.table_access.proofs.{Steps.{IsPermutation-kept_rows}, Newest.{Shown-newest_number}, Maps.{find-first_shown, find-has_row, IsPermutation-at_most_one}}
-use Rattle.table_access.proofs.{Keys.{is_param, keeps-one_key, IsNumbered-whole_at_unique, whole_key}, Values.{binary-Eq_Text, binary-Eq_Text_sound}, Members.{filter_has, has_map, map_has}}
-use Rattle.table_access.proofs.{SoundLemmas.{at_has, all_of}, ReadLemmas.{option_map-compose, option_map-whole_pos}}
+use Rattle.table_access.proofs.{Keys.{is_param, keeps-one_key, IsNumbered-whole_at_unique, whole_key}, Values.{binary-Eq_Text, binary-Eq_Text_sound}}
+use Rattle.table_access.proofs.{Members.{filter_has, has_map, map_has}, SoundLemmas.{at_has, all_of}, ReadLemmas.{option_map-compose, option_map-whole_pos}}
 use Rattle.broker_core.specs.{Text.{same_text}, Change.{result_of_run}, State.{State as Broker, Verification}}
-use Rattle.broker_tables.specs.{Schema.{in_results, in_checked_results}, Rows.{value_at, stands_at, no_run, run_in}, Numbers.{number_of}}
-use Rattle.broker_tables.{specs.Holds.{Holds, IsBroker, ResultRow, result_in, result_of}, proofs.{Frames.{Means-over_broker_schema}, Standing.{value_at-is_some}}}
-use Rattle.broker_tables.proofs.{Placed.{uniques-keys_apart, at_results, at_checked_results, Placed-IsNumbered, column-texts}, ByNumber.{find-numbered}, Newest.{unwrap_or-newest_result}}
-use Rattle.broker_tables.proofs.{Asked.{Asked, IsShown}, Keyed.{IsFree}, Ties.{and-same}, References.{enumerate_from-row_number}}
+use Rattle.broker_tables.specs.{Schema.{in_results, in_checked_results}, Rows.{value_at, has_row_at, no_run, run_in}, Numbers.{number_of}}
+use Rattle.broker_tables.{specs.Holds.{Holds, IsBroker, ResultRow, result_in, result_of}, proofs.Frames.{Means-over_broker_schema}}
+use Rattle.broker_tables.proofs.{Present.{value_at-is_some}, Placed.{uniques-keys_apart, at_results, at_checked_results, Placed-IsNumbered, column-texts}}
+use Rattle.broker_tables.proofs.{ByNumber.{find-numbered}, Newest.{unwrap_or-newest_result}, Asked.{Asked, IsShown}, Keyed.{IsFree}, Ties.{and-same}}
+use Rattle.broker_tables.proofs.References.{enumerate_from-row_number}
 use Rattle.contract_tables.specs.Verified.{Cells, cells, cells_of, ByNumbers, by_numbers, numbers_are, result_with, run_text}
 use Rattle.contract_tables.proofs.RunTexts.{has_run, run_in-Eq_Text, run_in-no_run_of_another}
 use Rattle.broker_names.specs.Name.{IsName}
@@ -76,7 +77,7 @@ IsShown-checked n db rows s r held is h =
     let row = find-has_row int_cmp_total int_cmp-IsAntisymmetric (whole_at 0) (result_in marks) (pos n) (result_of s.versions r) (db.trees in_results.tree) (value_at-result_with db s n held ∙ ap (option_map (result_of s.versions)) is) in
     ap is_some (find-first_shown int_cmp_total int_cmp-IsAntisymmetric (whole_at 0) (whole_at 0) _ (whole_at 0) (λ r. refl) (pos n) _ marks rows (keeps-by_result_number marks rising n) (IsNumbered-whole_at_unique marks rising)
     (IsPermutation-kept_rows db _ in_checked_results.tree _ _ _ rows h))
-    ∙ value_at-is_some int_cmp (whole_at 0) (whole_at 0) marks (pos n) ∙ ap (stands_at int_cmp (whole_at 0) marks) row.2 ∙ ap (λ (x : ResultRow). x.checked) row.3
+    ∙ value_at-is_some int_cmp (whole_at 0) (whole_at 0) marks (pos n) ∙ ap (has_row_at int_cmp (whole_at 0) marks) row.2 ∙ ap (λ (x : ResultRow). x.checked) row.3
 
 -- ---- the result of a run
 

@@ -9,14 +9,15 @@ use Rattle.sqlite_rules.{specs.{Lists.{Has}, Steps.{PassAlone}, Edit.{is_taken}}
 use Rattle.sqlite_value.proofs.OrderLemmas.{value_cmp-Int}
 use Rattle.sqlite_tied.specs.Compute.{everything}
 use Rattle.table_access.{specs.{Columns.{whole_at}, Sound.{IsNumbered}}, proofs.{Values.{cast-Null, cast-Int}, SoundLemmas.{at_has}, Storable.{IsShortRow}}}
-use Rattle.broker_tables.specs.{Schema.{in_results, in_latest, in_checked_results}, Rows.{stands_at}, Holds.{IsBroker, result_in, result_of}}
+use Rattle.broker_tables.specs.{Schema.{in_results, in_latest, in_checked_results}, Rows.{has_row_at}, Holds.{IsBroker, result_in, result_of}}
 use Rattle.broker_tables.specs.ChangeRefusals.{AreShort}
-use Rattle.broker_tables.proofs.{Placed.{results, at_results, checked_results, at_checked_results, at_latest, Placed-IsNumbered, column-whole_numbers}, References.{LeadsTo-each}}
+use Rattle.broker_tables.proofs.Placed.{results, at_results, checked_results, at_checked_results, at_latest, Placed-IsNumbered, column-whole_numbers}
+use Rattle.broker_tables.proofs.References.{LeadsTo-each}
 use Rattle.broker_tables.proofs.Inserted.{EndsFrom, EndsOnly, Puts, Executes-insert_adds, EndsOnly-insert, is_taken-next_number, IsThere-pacticipant, IsThere-version}
 use Rattle.broker_tables.proofs.{Keyed.{latest_by_key}, Upserted.{PutsOver, PutsAt, Executes-upsert_value, shows-set_row, upsert_ends}}
 use Rattle.contract_tables.specs.Verified.{run_text, result_row, AllowsResult, AllowsMark, AllowsPoint, PutsRow, Points, texts_of}
-use Rattle.contract_tables.proofs.{ReferredRows.{has_parent-number, HasRowWith-content, HasRowWith-owner}, ResultLookups.{IsNumbered-results, IsNumbered-checked_results, IsFree-new_run}}
-use Rattle.contract_tables.proofs.RunTexts.{length-run_text-le}
+use Rattle.contract_tables.proofs.ReferredRows.{has_parent-number, HasRowWith-content, HasRowWith-owner}
+use Rattle.contract_tables.proofs.{ResultLookups.{IsNumbered-results, IsNumbered-checked_results, IsFree-new_run}, RunTexts.{length-run_text-le}}
 use Rattle.broker_names.specs.Name.{IsName}
 
 -- ---- a result
@@ -83,12 +84,12 @@ abbrev pub mark_sql : List ℕ
 mark_sql = codes "INSERT INTO checked_results (result) VALUES (?1)"
 
 -- a number that no row has isn't taken
-is_taken-not_stands_at : (rows : List Row) → IsNumbered rows → (n : ℕ) → stands_at int_cmp (whole_at 0) rows (pos n) ≡ false → is_taken rows (Int (pos n) ∷ []) ≡ false
-is_taken-not_stands_at rows rising n off = false_from_ne_true _ (λ taken.
+is_taken-not_has_row_at : (rows : List Row) → IsNumbered rows → (n : ℕ) → has_row_at int_cmp (whole_at 0) rows (pos n) ≡ false → is_taken rows (Int (pos n) ∷ []) ≡ false
+is_taken-not_has_row_at rows rising n off = false_from_ne_true _ (λ taken.
     let hit = some_has (λ r. is_eq (value_cmp (rowid r) (Int (pos n)))) rows taken in
     let ties : eq_by_cmp int_cmp (pos n) (whole_at 0 hit.0) ≡ true =
     (eq_by_cmp_equiv int_cmp_total).symm (pos n) (whole_at 0 hit.0) ∙ sym (ap is_eq (value_cmp-Int (whole_at 0 hit.0) (pos n))) ∙ ap (λ v. is_eq (value_cmp v (Int (pos n)))) (sym (int_is (rowid hit.0) (at_has _ rows hit.0 rising.1 hit.1))) ∙ hit.2 in
-    let stands : stands_at int_cmp (whole_at 0) rows (pos n) ≡ true = some_from (λ r. eq_by_cmp int_cmp (pos n) (whole_at 0 r)) rows hit.0 hit.1 ties in
+    let is_present : has_row_at int_cmp (whole_at 0) rows (pos n) ≡ true = some_from (λ r. eq_by_cmp int_cmp (pos n) (whole_at 0 r)) rows hit.0 hit.1 ties in
     cc)
 
 Puts-mark : (number : ℕ) → Puts at_checked_results mark_sql (Int (pos number) ∷ []) (Int (pos number) ∷ Null ∷ [])
@@ -112,7 +113,7 @@ module _ (number : ℕ) (old new : State) (broker : IsBroker old.now) where
         pass = record { typed = refl; present = refl; checked = refl };
         fits = lt-ltb number (2 ^ 63) (omega (arith, few));
         keyed = refl;
-        fresh = is_taken-not_stands_at (old.now.trees in_checked_results.tree) (IsNumbered-checked_results old.now broker) number off;
+        fresh = is_taken-not_has_row_at (old.now.trees in_checked_results.tree) (IsNumbered-checked_results old.now broker) number off;
         free = tt;
         parents = (has_parent-number _ old.now mark_made 0 number refl (LeadsTo-each 0).2 there, tt);
       }) [] (λ are. record { wide = omega arith; narrow = omega arith; short = (tt, (tt, tt)) })

@@ -7,11 +7,12 @@ use Rattle.sqlite_rules.{specs.Lists.{Has}, proofs.TableLemmas.{int_is}}
 use Rattle.table_access.{specs.{Columns.{whole_at, by_both}, Sound.{IsNumbered}, Statements.{IsAdded}}, proofs.{SoundLemmas.{at_has}, Members.{has_right}}}
 use Rattle.broker_core.specs.{State.{State as Broker, Verification, latest_result}, Text.{same_version}, declared.command.Version.{Version}}
 use Rattle.broker_tables.specs.Schema.{in_results, in_latest, in_checked_results}
-use Rattle.broker_tables.specs.{Holds.{Holds, HoldsAfter, IsBroker, AreResults, AreLatest, ResultRow, result_in, result_of}, Rows.{stands_at, truth_in}}
+use Rattle.broker_tables.specs.{Holds.{Holds, HoldsAfter, IsBroker, AreResults, AreLatest, ResultRow, result_in, result_of}, Rows.{has_row_at, truth_in}}
 use Rattle.broker_tables.specs.{Numbers.{numbered, number_of}, ChangeRefusals.{HaveNumbers}}
-use Rattle.broker_tables.proofs.{Frames.{Frame, ChangesOnly-Frame, Frame-trans, Frame-IsBroker, Holds-results}, Growth.{stands_at-none}, Ties.{both_eq, and-same, eqb-int_cmp}}
-use Rattle.broker_tables.proofs.{References.{references-result, enumerate_from-row_number}, Placed.{checked_results, at_checked_results, listed}}
-use Rattle.broker_tables.proofs.{RoomLemmas.{Grows, TakesRoom-more, TakesRoom-one_row}, NextRow.{IsAdded-numbered}, NumberLemmas.{same_version-pair_cmp, number_of-same_version, same_version-unknown}}
+use Rattle.broker_tables.proofs.{Frames.{Frame, ChangesOnly-Frame, Frame-trans, Frame-IsBroker, Holds-results}, Growth.{has_row_at-none}}
+use Rattle.broker_tables.proofs.{Ties.{both_eq, and-same, eqb-int_cmp}, References.{references-result, enumerate_from-row_number}}
+use Rattle.broker_tables.proofs.{Placed.{checked_results, at_checked_results, listed}, RoomLemmas.{Grows, TakesRoom-more, TakesRoom-one_row}}
+use Rattle.broker_tables.proofs.{NextRow.{IsAdded-numbered}, NumberLemmas.{same_version-pair_cmp, number_of-same_version, same_version-unknown}}
 use Rattle.broker_tables.proofs.Orders.{pair_cmp-IsTotalOrder, by_both-total_int_int}
 use Rattle.contract_tables.specs.Verified.{latest_at, result_row, result_for, PutsRow, Marks, Points, HasRowWith, AllowsResult, AllowsMark, AllowsPoint}
 use Rattle.contract_tables.proofs.{ContractRows.{option_map-cond}, ReferredRows.{HasRowWith-content, HasRowWith-version}, LastRow.{last_row-append_one}}
@@ -39,15 +40,15 @@ module _ (s : Broker) where
       ap (eq_by_cmp int_cmp (pos next)) it.1 ∙ sym (eqb-int_cmp next it.0) ∙ ne_eqb next it.0 (λ same. omega (arith, it.2, count, same))
 
   -- so none of that number is marked as checked
-  stands_at-next_unmarked : (db : Database) → Holds db s → stands_at int_cmp (whole_at 0) (db.trees in_checked_results.tree) (pos next) ≡ false
-  stands_at-next_unmarked db held = stands_at-none int_cmp (whole_at 0) (whole_at 0) (pos next) (db.trees in_checked_results.tree) (λ r has.
+  has_row_at-next_unmarked : (db : Database) → Holds db s → has_row_at int_cmp (whole_at 0) (db.trees in_checked_results.tree) (pos next) ≡ false
+  has_row_at-next_unmarked db held = has_row_at-none int_cmp (whole_at 0) (whole_at 0) (pos next) (db.trees in_checked_results.tree) (λ r has.
       let number = int_is (rowid r) (at_has _ (db.trees in_checked_results.tree) r (IsNumbered-checked_results db held.broker).1 has) in
       let x = references-result db held.broker checked_results (listed at_checked_results db held.broker) 0 (inl refl) r has number in
       ap (eq_by_cmp int_cmp (pos next)) (sym x.2) ∙ eq_by_cmp-not_next_result (db.trees in_checked_results.tree) (db.trees in_results.tree) held.results x.0 x.1)
 
 -- what the second statement makes of the marks
 abbrev pub MarksGrow : Bool → ℕ → List Row → List Row → Type 0
-MarksGrow checked number old new = (k : ℤ) → stands_at int_cmp (whole_at 0) new k ≡ ((checked && eq_by_cmp int_cmp k (pos number)) || stands_at int_cmp (whole_at 0) old k)
+MarksGrow checked number old new = (k : ℤ) → has_row_at int_cmp (whole_at 0) new k ≡ ((checked && eq_by_cmp int_cmp k (pos number)) || has_row_at int_cmp (whole_at 0) old k)
 
 truth_in-if : (b : Bool) → truth_in (Int (if b then pos 1 else pos 0)) ≡ b
 truth_in-if true = refl
@@ -94,14 +95,14 @@ module _ (s : Broker) (r : Verification) (n : ℕ) (is : number_of s.versions r.
       → AreResults s.versions (s.results ++ r ∷ []) rows marks
   AreResults-append db held rows marks rising added grow =
       let kept : (x : Row) → Has (db.trees in_results.tree) x
-      → stands_at int_cmp (whole_at 0) marks (whole_at 0 x) ≡ stands_at int_cmp (whole_at 0) (db.trees in_checked_results.tree) (whole_at 0 x) = λ x has.
+      → has_row_at int_cmp (whole_at 0) marks (whole_at 0 x) ≡ has_row_at int_cmp (whole_at 0) (db.trees in_checked_results.tree) (whole_at 0 x) = λ x has.
       let apart = (eq_by_cmp_equiv int_cmp_total).symm (whole_at 0 x) (pos (next s)) ∙ eq_by_cmp-not_next_result s (db.trees in_checked_results.tree) (db.trees in_results.tree) held.results x has in
-      grow (whole_at 0 x) ∙ ap (λ b. b || stands_at int_cmp (whole_at 0) (db.trees in_checked_results.tree) (whole_at 0 x)) (and_right r.checked _ apart) in
+      grow (whole_at 0 x) ∙ ap (λ b. b || has_row_at int_cmp (whole_at 0) (db.trees in_checked_results.tree) (whole_at 0 x)) (and_right r.checked _ apart) in
       let are : map {B = ℤ × ResultRow} (λ x. (whole_at 0 x, result_in marks x)) (db.trees in_results.tree) ≡ numbered (rows_held s) =
       map-same (λ x. (whole_at 0 x, result_in marks x)) (λ x. (whole_at 0 x, result_in (db.trees in_checked_results.tree) x)) (db.trees in_results.tree)
       (λ x has i. (whole_at 0 x, record (result_in (db.trees in_checked_results.tree) x) { checked = kept x has i })) ∙ held.results in
-      let mark : stands_at int_cmp (whole_at 0) marks (pos (next s)) ≡ r.checked =
-      grow (pos (next s)) ∙ (λ i. (r.checked && (eq_by_cmp_equiv int_cmp_total).refl (pos (next s)) i) || stands_at-next_unmarked s db held i) ∙ or-false (r.checked && true) ∙ and-true r.checked in
+      let mark : has_row_at int_cmp (whole_at 0) marks (pos (next s)) ≡ r.checked =
+      grow (pos (next s)) ∙ (λ i. (r.checked && (eq_by_cmp_equiv int_cmp_total).refl (pos (next s)) i) || has_row_at-next_unmarked s db held i) ∙ or-false (r.checked && true) ∙ and-true r.checked in
       let last : result_in marks made ≡ result_of s.versions r =
       λ i. record { content = pos r.content; provider = r.version.pacticipant; version = option_map pos (sym is i); pass = truth_in-if r.pass i; checked = mark i; run = run_in-run_text (next s) r.run name i } in
       IsAdded-numbered (result_in marks) (rows_held s) (db.trees in_results.tree) rows made are rising (ap (λ k. pos (k + 1)) (sym (length-map s.results (result_of s.versions)))) added
@@ -163,7 +164,7 @@ module _ (number content : ℕ) (provider : List ℕ) (version : ℕ) (pass : Bo
   HasRowWith-result = (result_row number content provider version pass run, subst (λ rows. Has rows (result_row number content provider version pass run)) (sym put.1.is) (has_right put.1.front _ _ (inl refl)), refl)
 
   pub AllowsMark-after_put : AllowsMark number one.now
-  AllowsMark-after_put = (HasRowWith-result, (λ i. stands_at int_cmp (whole_at 0) (first.others.1.1.1.1.1.1.1.1.1.1.1.1.1.0 refl i) (pos (allowed.3 i))) ∙ stands_at-next_unmarked s old.now held)
+  AllowsMark-after_put = (HasRowWith-result, (λ i. has_row_at int_cmp (whole_at 0) (first.others.1.1.1.1.1.1.1.1.1.1.1.1.1.0 refl i) (pos (allowed.3 i))) ∙ has_row_at-next_unmarked s old.now held)
 
   pub AllowsPoint-after_mark : (checked : Bool) (two : State) → HaveNumbers (codes "latest" ∷ []) old.now → Marks checked number one two → AllowsPoint content version number two.now
   AllowsPoint-after_mark checked two room marks =

@@ -13,9 +13,11 @@ use Rattle.broker_core.specs.{declared.command.Version.{Version}, Listing.{Lists
 use Rattle.broker_core.specs.State.{State as Broker, Verification, latest_result}
 use Rattle.broker_tables.{specs.{Schema.{in_versions, in_latest}, Rows.{value_at}, Numbers.{number_of}, Holds.{Holds}}, proofs.Asked.{Asked, IsShown}}
 use Rattle.broker_tables.proofs.VersionRows.{binary-Eq_same_Int, binary-Eq_same_Text, option_and_then-Some, version_number, IsNumbered-versions, column-version_pacticipant, names, versions-unique_names, number_of-version_row, number_of-has_row, IsAscending-one_row}
-use Rattle.broker_tables.proofs.{Orders.{text_cmp-antisymmetric, by_both-total_int_int, by_both-exact_int_int}, Keyed.{IsAscending-keys_of_table, latest_by_key}}
-use Rattle.contract_tables.specs.{declared.listings.NumberedName.{NumberedName}, ToldVersions.{named_cmp}, Listings.{IsNumberedName}, Verified.{latest_at}}
-use Rattle.contract_tables.proofs.{ItemLists.{and-two_tests, and-true_test, value_cmp-last_Text, IsShown-Answers, Lists-of_pairs}, ResultRows.{key, contents, versions, IsNumbered-latest}}
+use Rattle.broker_tables.proofs.Orders.{text_cmp-antisymmetric, by_both-total_int_int, by_both-exact_int_int}
+use Rattle.broker_tables.proofs.Keyed.{IsAscending-keys_of_table, latest_by_key}
+use Rattle.contract_tables.specs.{declared.listings.NumberedName.{NumberedName}, ResultsByVersion.{named_cmp}, Listings.{IsNumberedName}, Verified.{latest_at}}
+use Rattle.contract_tables.proofs.ItemLists.{and-two_tests, and-true_test, value_cmp-last_Text, IsShown-Answers, Lists-of_pairs}
+use Rattle.contract_tables.proofs.ResultRows.{key, contents, versions, IsNumbered-latest}
 
 -- a result from what is said of it
 pub option_map-Some_sound : {A B : Type 0} (f : A → B) (o : Option A) (b : B) → option_map f o ≡ Some b → (e : A) × (o ≡ Some e) × (f e ≡ b)

@@ -10,20 +10,24 @@ use Rattle.sqlite_value.specs.{declared.keys.Key.{Key}, Keys.{ascending}}
 use Rattle.sqlite_rules.{specs.Lists.{Has}, proofs.TableLemmas.{int_is}}
 use Rattle.sqlite_tied.specs.Compute.{everything}
 use Rattle.table_access.specs.{Columns.{text, whole_at}, Sound.{IsNumbered, whole}, Statements.{from_both, keeps_both}, Reading.{AreRead}}
-use Rattle.table_access.proofs.{Maps.{find-has_row}, Members.{pairs-complete, any_has, contains_has, has_contains}, Keys.{IsNumbered-whole_at_unique}, SoundLemmas.{any_of, at_has}}
-use Rattle.table_access.proofs.ReadLemmas.{option_map-compose}
+use Rattle.table_access.proofs.{Maps.{find-has_row}, Members.{pairs-complete, any_has, contains_has, has_contains}, Keys.{IsNumbered-whole_at_unique}}
+use Rattle.table_access.proofs.{SoundLemmas.{any_of, at_has}, ReadLemmas.{option_map-compose}}
 use Rattle.broker_core.specs.{declared.command.Version.{Version}, Text.{version}, Listing.{Lists}}
-use Rattle.broker_core.{specs.{State.{State as Broker, Verification, latest_result, latest, said_by}, declared.need.Latest.{Latest}}, proofs.Lists.{Some-injective}}
+use Rattle.broker_core.specs.{State.{State as Broker, Verification, latest_result, latest, said_by}, declared.need.Latest.{Latest}}
+use Rattle.broker_core.proofs.Lists.{Some-injective}
 use Rattle.broker_tables.specs.{Schema.{in_results, in_latest, in_checked_results, in_versions}, Rows.{truth}, Numbers.{number_of}}
-use Rattle.broker_tables.{specs.Holds.{Holds, ResultRow, result_in, result_of}, proofs.{Asked.{Asked, IsShown, EachShown, EachShown-of_both}, Listed.{Lists-AreRead}}}
-use Rattle.broker_tables.proofs.{Orders.{by_both-total_int_int}, Placed.{latest as latest_table, at_latest, listed}, References.{references-version}}
-use Rattle.broker_tables.proofs.{VersionRows.{binary-Eq_same_Int, IsAscending-one_row, number_of-version_row}, Keyed.{IsAscending-keys_of_table, latest_by_key}}
+use Rattle.broker_tables.{specs.Holds.{Holds, ResultRow, result_in, result_of}, proofs.Asked.{Asked, IsShown, EachShown, EachShown-of_both}}
+use Rattle.broker_tables.proofs.{Listed.{Lists-AreRead}, Orders.{by_both-total_int_int}, Placed.{latest as latest_table, at_latest, listed}}
+use Rattle.broker_tables.proofs.{References.{references-version}, VersionRows.{binary-Eq_same_Int, IsAscending-one_row, number_of-version_row}}
+use Rattle.broker_tables.proofs.Keyed.{IsAscending-keys_of_table, latest_by_key}
 use Rattle.contract_tables.specs.VersionResults.{pass_cmp, latest_cmp, IsPassOf, IsLatestOf, said_of, IsPassRow, is_among, marked}
 use Rattle.contract_tables.specs.Verified.{result_with, PassCells, pass_cells, pass_of, Passed, passed_of, passed_as}
 use Rattle.contract_tables.specs.{declared.version_results.ContentPass.{ContentPass}, declared.version_results.LatestResult.{LatestResult}}
-use Rattle.contract_tables.proofs.{ItemLists.{and-two_tests, and-true_test, value_cmp-last_Int, int_cmp-nat_cmp_Less, IsShown-Answers, Lists-of_pairs}, JoinRows.{pair_shown}}
-use Rattle.contract_tables.proofs.{LastRow.{latest_result-content_version, latest_result-result_with}, Rising.{sorted as in_order}, VerifiedList.{option_map-Some_sound, latest_result-of_row, latest_result-has_row}}
-use Rattle.contract_tables.proofs.{ResultLookups.{IsNumbered-results, IsNumbered-checked_results, value_at-result_with}, ResultRows.{key, contents, versions, numbers, IsNumbered-latest}}
+use Rattle.contract_tables.proofs.ItemLists.{and-two_tests, and-true_test, value_cmp-last_Int, int_cmp-nat_cmp_Less, IsShown-Answers, Lists-of_pairs}
+use Rattle.contract_tables.proofs.{JoinRows.{pair_shown}, LastRow.{latest_result-content_version, latest_result-result_with}, Rising.{sorted as in_order}}
+use Rattle.contract_tables.proofs.VerifiedList.{option_map-Some_sound, latest_result-of_row, latest_result-has_row}
+use Rattle.contract_tables.proofs.ResultLookups.{IsNumbered-results, IsNumbered-checked_results, value_at-result_with}
+use Rattle.contract_tables.proofs.ResultRows.{key, contents, versions, numbers, IsNumbered-latest}
 
 -- ---- the two statements
 
@@ -103,9 +107,9 @@ module _ (db : Database) (s : Broker) (held : Holds db s) where
       let e = latest_result-of_row db s held w known.0 known.1 l c hl content number in
       let stored = result_with-of_row db s held e.0.0 e.0.1 (latest_result-result_with s c w e.0 e.1) r hr (joined ∙ e.2) in
       let pair = latest_result-content_version s c w e.0 e.1 in
-      let told : Some (whole_at in_results.provider_version r) ≡ Some (pos known.0) =
+      let returned : Some (whole_at in_results.provider_version r) ≡ Some (pos known.0) =
       ap (λ (y : ResultRow). y.version) stored ∙ ap (λ u. option_map pos (number_of s.versions u)) pair.1 ∙ ap (option_map pos) known.1 in
-      (ap (λ (y : ResultRow). y.content) stored ∙ ap pos pair.0 ∙ sym content, Some-injective _ _ told ∙ sym number)
+      (ap (λ (y : ResultRow). y.content) stored ∙ ap pos pair.0 ∙ sym content, Some-injective _ _ returned ∙ sym number)
 
 module _ (db : Database) (s : Broker) (held : Holds db s) (v : Version) (n : ℕ) (is : number_of s.versions v ≡ Some n) where
   abbrev params : Row
@@ -133,7 +137,7 @@ module _ (db : Database) (s : Broker) (held : Holds db s) (v : Version) (n : ℕ
         → ((x : Y) → Q x → (e : ℕ × Verification) × (latest_result s (content x) v ≡ Some e) × (r : Row) × Has (db.trees u) r × (whole_at 0 r ≡ pos e.0)
         × ((l : Row) (y : Y) → reads (eval_all project (params ∷ l ∷ r ∷ [])) y → content y ≡ content x → y ≡ x))
         → (rows : List Row) (items : List Y) → IsShown asked db rows → AreRead reads rows items → Lists (λ x y. nat_cmp (content x) (content y)) Q items
-    list_results asked reads Q content read tells told =
+    list_results asked reads Q content read reports returned =
         Lists-of_pairs db reads (λ x y. nat_cmp (content x) (content y)) Q int_cmp-IsAntisymmetric (λ x. pos (content x)) (λ x y. int_cmp-nat_cmp_Less (content x) (content y))
         (IsShown-Answers asked db) IsJoined (IsNumbered-latest db held.broker) rising joined (record {
           key = λ q. whole_at in_latest.content q.0;
@@ -148,9 +152,9 @@ module _ (db : Database) (s : Broker) (held : Holds db s) (v : Version) (n : ℕ
           read = λ q x shown. ap id_in (read q.0 q.1 x shown);
           sound = λ q x it shown.
               let e = latest_result-of_row db s held v n is q.0 (content x) it.0 (ap id_in (read q.0 q.1 x shown)) it.2.1 in
-              tells q.0 q.1 x e.0 e.1 it.1 (it.2.0 ∙ e.2) shown;
+              reports q.0 q.1 x e.0 e.1 it.1 (it.2.0 ∙ e.2) shown;
           complete = λ x there.
-              let it = told x there in
+              let it = returned x there in
               let l = latest_result-has_row db s held v n is (content x) it.0 it.1 in
               ((l.0, it.2), (l.1, it.3, (it.4 ∙ sym l.4, l.3)), λ y shown. it.5 l.0 y shown (ap whole (sym (ap id_in (read l.0 it.2 y shown)) ∙ l.2)));
         })
@@ -198,7 +202,7 @@ module _ (s : Broker) (v : Version) (checked : List ℕ) (marked_are : Lists nat
       let it = any_has (λ c. c == content) checked here in
       let there = (marked_are.exactly it.0).0 (has_contains checked it.0 it.1) in
       let found_there = ap (λ c. latest_result s c v) (eqb-true it.0 content it.2) ∙ found in
-      let told : Some e.1.checked ≡ Some true = sym (ap (option_map (λ (e : ℕ × Verification). e.1.checked)) found_there) ∙ there in
+      let returned : Some e.1.checked ≡ Some true = sym (ap (option_map (λ (e : ℕ × Verification). e.1.checked)) found_there) ∙ there in
       cc)
       (λ mark.
       let there = (marked_are.exactly content).1 (ap (option_map (λ (e : ℕ × Verification). e.1.checked)) found ∙ ap Some mark) in
@@ -271,11 +275,11 @@ module _ (db : Database) (s : Broker) (held : Holds db s) (v : Version) (content
       (and-true_test (binary-Eq_same_Int (column l in_latest.provider_version) (Int (pos n)) (whole_at in_latest.provider_version l) (pos n) (versions db held.broker l hl) refl)))
 
   -- a row that is shown has the latest result
-  abbrev Tells : Row → Type 0
-  Tells row = (option_map passed_of (latest_result s content v) ≡ Some (passed_as (whole (whole_at 0 row)) (truth 1 row)))
+  abbrev Matches : Row → Type 0
+  Matches row = (option_map passed_of (latest_result s content v) ≡ Some (passed_as (whole (whole_at 0 row)) (truth 1 row)))
 
-  told : EachShown (join content n) db Tells
-  told = EachShown-of_both (join content n) db Tells (λ l r hl hr kept.
+  returned : EachShown (join content n) db Matches
+  returned = EachShown-of_both (join content n) db Matches (λ l r hl hr kept.
       let it = (keeps_both-one_terms l r hl hr).0 kept in
       let e = latest_result-of_row db s held v n is l content hl it.1.0 it.1.1 in
       let stored = result_with-of_row db s held e.0.0 e.0.1 (latest_result-result_with s content v e.0 e.1) r hr (it.0 ∙ e.2) in
@@ -306,4 +310,4 @@ IsShown-join number pass content n db rows found s v held is h read =
     first : (rows : List Row) → IsShown (join content n) db rows
         → option_map by_cells (option_map pass_cells (slice_get rows 0)) ≡ option_map passed_of (latest_result s content v)
     first [] h = none (latest_result s content v) h refl
-    first (row ∷ rows) h = sym (told db s held v content n is (row ∷ rows) h row (inl refl))
+    first (row ∷ rows) h = sym (returned db s held v content n is (row ∷ rows) h row (inl refl))

@@ -2,5 +2,5 @@ pub mod Verified
 pub mod Listings
 pub mod VersionResults
 pub mod LatestRows
-pub mod ToldVersions
+pub mod ResultsByVersion
 pub mod CheckedTable

@@ -19,7 +19,7 @@ use Rattle.broker_core.specs.Change.{result_of_run}
 use Rattle.broker_core.specs.Limit.{has_room}
 use Rattle.table_access.specs.Reading.{IsNumberAt}
 use Rattle.broker_tables.specs.Schema.{in_versions, in_contents, in_results, in_latest, in_checked_results}
-use Rattle.broker_tables.specs.Rows.{value_at, stands_at, truth, no_run, IsTruthAt}
+use Rattle.broker_tables.specs.Rows.{value_at, has_row_at, truth, no_run, IsTruthAt}
 use Rattle.broker_tables.specs.Numbers.{number_of}
 use Rattle.broker_tables.specs.Holds.{IsBroker}
 use Rattle.broker_tables.specs.Room.{LeaveNumbers}
@@ -122,14 +122,14 @@ passed_as number pass = (number, pass)
 -- ---- what is said of a result: its number, its content, the number of its version, whether it is a pass
 
 -- with the mark whether the broker checked it
-abbrev pub Told : Type 0
-Told = ℕ × ℕ × Option ℕ × Bool × Bool
+abbrev pub Returned : Type 0
+Returned = ℕ × ℕ × Option ℕ × Bool × Bool
 
-abbrev pub told_of : List Version → ℕ × Verification → Told
-told_of versions e = (e.0, e.1.content, number_of versions e.1.version, e.1.pass, e.1.checked)
+abbrev pub returned_of : List Version → ℕ × Verification → Returned
+returned_of versions e = (e.0, e.1.content, number_of versions e.1.version, e.1.pass, e.1.checked)
 
-abbrev pub told : ℕ → ℕ → ℕ → Bool → Bool → Told
-told number content version pass checked = (number, content, Some version, pass, checked)
+abbrev pub returned : ℕ → ℕ → ℕ → Bool → Bool → Returned
+returned number content version pass checked = (number, content, Some version, pass, checked)
 
 -- ---- for private clauses: the statements that record a result. Between them the database holds no state, so each is
 -- said by the rows; what all of them do is `RecordsResult`
@@ -169,8 +169,8 @@ Points content version result old new =
 abbrev pub Marks : Bool → ℕ → State → State → Type 0
 Marks checked number old new =
     ChangesOnly in_checked_results.tree old new
-    × ((k : ℤ) → stands_at int_cmp (whole_at 0) (new.now.trees in_checked_results.tree) k
-    ≡ ((checked && eq_by_cmp int_cmp k (pos number)) || stands_at int_cmp (whole_at 0) (old.now.trees in_checked_results.tree) k))
+    × ((k : ℤ) → has_row_at int_cmp (whole_at 0) (new.now.trees in_checked_results.tree) k
+    ≡ ((checked && eq_by_cmp int_cmp k (pos number)) || has_row_at int_cmp (whole_at 0) (old.now.trees in_checked_results.tree) k))
 
 -- such a statement fails in a database of the broker that allows it only as the store fails
 abbrev pub IsCalmOn : {A : Type 0} → State → State → Result A StoreFault → (Database → Type 0) → Type 0
@@ -184,7 +184,7 @@ HasRowWith tree number db = (row : Row) × Has (db.trees tree) row × (column ro
 -- the result is there, and its number isn't among those of checked results
 abbrev pub AllowsMark : ℕ → Database → Type 0
 AllowsMark number db =
-    HasRowWith in_results.tree number db × (stands_at int_cmp (whole_at 0) (db.trees in_checked_results.tree) (pos number) ≡ false)
+    HasRowWith in_results.tree number db × (has_row_at int_cmp (whole_at 0) (db.trees in_checked_results.tree) (pos number) ≡ false)
 
 -- the content, the version and the result are there, and there is a number for the row
 abbrev pub AllowsPoint : ℕ → ℕ → ℕ → Database → Type 0

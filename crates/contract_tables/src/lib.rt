@@ -23,7 +23,7 @@ mod lookups;
 mod making;
 mod migration;
 mod results;
-mod told_versions;
+mod results_by_version;
 mod version_results;
 
 pub use contracts::{add_contract, contract_of};
@@ -32,5 +32,5 @@ pub use lookups::{ResultRow, latest_of, result_count, result_of_run};
 pub use making::{make_checked_results, make_indexes, make_tables};
 pub use migration::to_format_2;
 pub use results::{add_result, record_result};
-pub use told_versions::verified_versions;
+pub use results_by_version::verified_versions;
 pub use version_results::{LatestResult, latest_among, latest_results};

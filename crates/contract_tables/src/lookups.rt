@@ -8,10 +8,10 @@ ghost use Rattle.broker_core.specs.State.{Verification, latest_result, latest};
 ghost use Rattle.broker_core.specs.Change.{result_of_run as run_result};
 ghost use Rattle.broker_tables.specs.Numbers.{number_of};
 ghost use Rattle.broker_tables.specs.Calm.{CalmQueriesInPlace, IfNoVersion};
-ghost use Rattle.broker_tables.specs.Asking.{TellsOfAny, CanBeAsked};
+ghost use Rattle.broker_tables.specs.Asking.{ReportsOfAny, CanBeAsked};
 ghost use Rattle.broker_tables.specs.Rows.{IsTruthAt};
 ghost use Rattle.sqlite.specs.Order.{Row as SqlRow};
-ghost use Rattle.contract_tables.specs.Verified.{result_with, cells, cells_of, ReadsAsResult, pass_cells, pass_of, passed_of, passed_as, by_numbers, numbers_are, told_of, told};
+ghost use Rattle.contract_tables.specs.Verified.{result_with, cells, cells_of, ReadsAsResult, pass_cells, pass_of, passed_of, passed_as, by_numbers, numbers_are, returned_of, returned};
 ghost use Rattle.contract_tables.specs.VersionResults.{IsOfItsPair, ReadsAsLatest};
 ghost use Rattle.contract_tables.specs.LatestRows.{IsLatestIn, IsPassIn, IsMarkedChecked, FailsAsNamed};
 
@@ -42,7 +42,7 @@ pub fn result_count<S: Alter>(conn: &mut Connection<S>) -> Result<u64, StoreFaul
 fn is_checked<S: Alter>(conn: &mut Connection<S>, number: u32) -> Result<bool, StoreFault>
     ensures answers { CalmQueriesInPlace S.Store conn.old conn.new result
         (λ checked s. (r : Verification) → result_with s number ≡ Some r → checked ≡ r.checked) }
-    ensures mark { TellsOfAny S.Store conn.old conn.new result
+    ensures mark { ReportsOfAny S.Store conn.old conn.new result
         (λ checked db. IsTrue checked ↔ IsMarkedChecked number db) HasFailed }
 {
     has_row(
@@ -79,7 +79,7 @@ fn latest_pass<S: Alter>(
         (λ found s. (v : VersionModel) → number_of s.versions v ≡ Some provider_version →
         option_map (λ r. passed_as r.result r.pass) found ≡ option_map passed_of (latest_result s content v)) }
     ensures unknown { IfNoVersion S.Store conn.old conn.new result provider_version (λ found. found ≡ None) }
-    ensures mark { TellsOfAny S.Store conn.old conn.new result
+    ensures mark { ReportsOfAny S.Store conn.old conn.new result
         (IsPassIn content provider_version) (FailsAsNamed content provider_version) }
     ensures stays { HasCleanDisk (state S.Store conn.new) → CanBeAsked (state S.Store conn.old) →
         IfOk result (λ _. IsUnchanged (state S.Store conn.old) (state S.Store conn.new)) }
@@ -108,7 +108,7 @@ pub fn latest_of<S: Alter>(
         (λ found s. (v : VersionModel) → number_of s.versions v ≡ Some version_number →
         found ≡ latest s content v) }
     ensures unknown { IfNoVersion S.Store conn.old conn.new result version_number (λ found. found ≡ None) }
-    ensures mark { TellsOfAny S.Store conn.old conn.new result
+    ensures mark { ReportsOfAny S.Store conn.old conn.new result
         (IsLatestIn content version_number) (FailsAsNamed content version_number) }
 {
     match done!(latest_pass(conn, content, version_number)) {
@@ -208,8 +208,8 @@ pub fn result_of_run<S: Alter>(
     run: &Name,
 ) -> Result<Option<ResultRow>, StoreFault>
     ensures { CalmQueriesInPlace S.Store conn.old conn.new result
-        (λ found s. option_map (λ r. told r.number r.content r.provider_version r.pass r.checked) found
-        ≡ option_map (told_of s.versions) (run_result s provider.now (Some run.now))) }
+        (λ found s. option_map (λ r. returned r.number r.content r.provider_version r.pass r.checked) found
+        ≡ option_map (returned_of s.versions) (run_result s provider.now (Some run.now))) }
 {
     match done!(stored_of_run(conn, provider, run)) {
         Some(stored) => {

@@ -11,7 +11,7 @@ ghost use Rattle.broker_core.specs.Listing.{Lists};
 ghost use Rattle.broker_core.specs.State.{State as Broker, latest_result, latest};
 ghost use Rattle.broker_tables.specs.Numbers.{number_of};
 ghost use Rattle.broker_tables.specs.Calm.{CalmQueries, IfNoVersion};
-ghost use Rattle.broker_tables.specs.Asking.{TellsOfAny, CanBeAsked};
+ghost use Rattle.broker_tables.specs.Asking.{ReportsOfAny, CanBeAsked};
 ghost use Rattle.contract_tables.specs.VersionResults.{pass_cmp, latest_cmp, IsPassOf, IsLatestOf, IsPassRow, AreSame, FailsAsLatest, is_among};
 ghost use Rattle.contract_tables.specs.LatestRows.{ArePassesIn, IsCheckedFor, AreLatestIn, IsMarkedOf, FailsAsListed};
 ghost use Rattle.contract_tables.specs.declared.version_results.LatestResult.{LatestResult as LatestModel};
@@ -94,7 +94,7 @@ fn passes_of<S: Alter>(
         (λ found s. (v : VersionModel) → number_of s.versions v ≡ Some version_number →
         Lists pass_cmp (IsPassOf s v) found.items) }
     ensures unknown { IfNoVersion S.Store conn.old conn.new result version_number (λ found. found.items ≡ []) }
-    ensures mark { TellsOfAny S.Store conn.old conn.new result
+    ensures mark { ReportsOfAny S.Store conn.old conn.new result
         (λ found db. ArePassesIn version_number found.items db) (FailsAsListed version_number) }
     ensures stays { HasCleanDisk (state S.Store conn.new) → CanBeAsked (state S.Store conn.old) →
         IfOk result (λ _. IsUnchanged (state S.Store conn.old) (state S.Store conn.new)) }
@@ -119,7 +119,7 @@ fn checked_of<S: Alter>(
         Lists nat_cmp
         (λ content. option_map (λ e. e.1.checked) (latest_result s content v) ≡ Some true) found.items) }
     ensures unknown { IfNoVersion S.Store conn.old conn.new result version_number (λ found. found.items ≡ []) }
-    ensures mark { TellsOfAny S.Store conn.old conn.new result
+    ensures mark { ReportsOfAny S.Store conn.old conn.new result
         (λ found db. (k : ℕ) → Contains found.items k → IsCheckedFor version_number db k) (FailsAsListed version_number) }
 {
     list_of::<NumberRow, S>(
@@ -185,7 +185,7 @@ pub fn latest_results<S: Alter>(
         (λ found s. (v : VersionModel) → number_of s.versions v ≡ Some version_number →
         Lists latest_cmp (IsLatestOf s v) found.items) }
     ensures unknown { IfNoVersion S.Store conn.old conn.new result version_number (λ found. found.items ≡ []) }
-    ensures mark { TellsOfAny S.Store conn.old conn.new result
+    ensures mark { ReportsOfAny S.Store conn.old conn.new result
         (λ found db. AreLatestIn version_number found.items db) (FailsAsListed version_number) }
 {
     let passes = done!(passes_of(alloc, conn, version_number));

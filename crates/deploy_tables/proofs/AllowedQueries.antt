@@ -2,9 +2,11 @@
 -- `QueryLemmas` of broker_tables has it of those that each state allows.
 use Rattle.std.{specs.Prelude.{⊤}, proofs.Common.{Bool, Ok, Err, Result, true}}
 use Rattle.sqlite.specs.State.{State}
-use Rattle.table_access.{specs.declared.StoreFault.{StoreFault}, proofs.CallLemmas.{CallsBetween-may_take_memory, CallsBetween-then_call, CallsBetween-pass_Err}}
+use Rattle.table_access.specs.declared.StoreFault.{StoreFault}
+use Rattle.table_access.proofs.CallLemmas.{CallsBetween-may_take_memory, CallsBetween-then_call, CallsBetween-pass_Err}
 use Rattle.broker_core.specs.State.{State as Broker}
-use Rattle.broker_tables.{specs.{Calm.{CalmQueriesBetween, IsCalmFromBetween}, Holds.{IsRead, QueriesBetween}}, proofs.FailLemmas.{IsCalmFromBetween-after_query}}
+use Rattle.broker_tables.specs.{Calm.{CalmQueriesBetween, IsCalmFromBetween}, Holds.{IsRead, QueriesBetween}}
+use Rattle.broker_tables.proofs.FailLemmas.{IsCalmFromBetween-after_query}
 use Rattle.broker_tables.proofs.QueryLemmas.{IsRead-both, CalmQueriesBetween-other_answer, CalmQueriesBetween-from_both, CalmQueriesBetween-Ok}
 
 -- another answer

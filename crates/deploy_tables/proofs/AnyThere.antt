@@ -11,8 +11,8 @@ use Rattle.table_access.specs.{Reading.{AreRead}, Statements.{from_table}}
 use Rattle.broker_core.specs.{declared.answer.DeployedItem.{DeployedItem}, declared.command.Version.{Version}}
 use Rattle.broker_tables.specs.Schema.{broker_schema, texts, numbers, versions, contracts, deployed, released, in_versions, in_contracts, in_deployed, in_released}
 use Rattle.broker_tables.specs.Asking.{HasColumns, HasBrokerTables}
-use Rattle.broker_tables.proofs.{AnyTables.{laid_out, laid_out-of_HasColumns, named_as, set_out, set_out-of_IsColumnLike, AsksOf, Shown-Answers_query, Shown-first_kept, Shown-none_kept}, Listed.{AreRead-complete}}
-use Rattle.broker_tables.proofs.VersionRows.{binary-Eq_same_Text}
+use Rattle.broker_tables.proofs.AnyTables.{laid_out, laid_out-of_HasColumns, named_as, set_out, set_out-of_IsColumnLike, AsksOf, Shown-Answers_query, Shown-first_kept, Shown-none_kept}
+use Rattle.broker_tables.proofs.{Listed.{AreRead-complete}, VersionRows.{binary-Eq_same_Text}}
 use Rattle.contract_tables.{specs.{Listings.{IsNumberedName}, declared.listings.NumberedName.{NumberedName}}, proofs.ItemLists.{and-true_test}}
 use Rattle.deploy_tables.specs.{Listings.{IsDeployedRow, IsReleasedRow}, AnyThere.{HasNull, IsOfAVersion, EachDeployedIsThere, EachReleasedIsThere}}
 use Rattle.deploy_tables.specs.{ContractsThere.{IsContractIfAny}, declared.contracts_there.NumberedContract.{NumberedContract}}

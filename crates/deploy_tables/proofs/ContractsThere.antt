@@ -5,18 +5,18 @@ use Rattle.std.proofs.Common.{◌≡◌, ◌++◌, inl, inr, ℕ, ℤ, pos, code
 use Rattle.sqlite_rules.specs.Lists.{Has}
 use Rattle.sqlite_tied.specs.Compute.{everything}
 use Rattle.broker_tables.specs.{Schema.{in_versions, in_contracts, in_deployed, in_released}, Numbers.{number_of}, Holds.{Holds}}
-use Rattle.broker_tables.proofs.{Asked.{Asked, IsShown}, VersionRows.{binary-Eq_same_Int, binary-Eq_same_Text, number_of-version_row}, References.{references-version}}
-use Rattle.broker_tables.proofs.{Listed.{AreRead-sound, AreRead-complete}, Placed.{contracts, at_contracts, listed}}
+use Rattle.broker_tables.proofs.{Asked.{Asked, IsShown}, VersionRows.{binary-Eq_same_Int, binary-Eq_same_Text, number_of-version_row}}
+use Rattle.broker_tables.proofs.{References.{references-version}, Listed.{AreRead-sound, AreRead-complete}, Placed.{contracts, at_contracts, listed}}
 use Rattle.deploy_tables.specs.declared.contracts_there.NumberedContract.{NumberedContract}
-use Rattle.deploy_tables.specs.ContractsThere.{IsDeployedIn, IsReleasedIn, IsContractThere, TellsContracts, TellsContractsIfAny, IsNumberedRow, IsContractIfAny}
-use Rattle.deploy_tables.proofs.{DeployedState.{Names-IsDeployedIn}, LeftRows.{from_left_by, rows-has_env, rows-of_env, beside-has}, ReleasedRows.{Names-IsReleasedIn}}
-use Rattle.deploy_tables.proofs.{VersionRows.{pos-injective, Names, in_environment}, MatrixLoop.{iff-trans, Contains-append}}
+use Rattle.deploy_tables.specs.ContractsThere.{IsDeployedIn, IsReleasedIn, IsContractThere, ReportsContracts, ReportsContractsIfAny, IsNumberedRow, IsContractIfAny}
+use Rattle.deploy_tables.proofs.{DeployedState.{Names-IsDeployedIn}, LeftRows.{from_left_by, rows-has_env, rows-of_env, beside-has}}
+use Rattle.deploy_tables.proofs.{ReleasedRows.{Names-IsReleasedIn}, VersionRows.{pos-injective, Names, in_environment}, MatrixLoop.{iff-trans, Contains-append}}
 use Rattle.contract_tables.proofs.{ItemLists.{and-two_tests, and-true_test}, JoinRows.{items-of_kept_pair, items-has_kept_pair}}
 use Rattle.sqlite.specs.{Edit.{id_in}, declared.types.Value.TheVariants.{Null, Int, Text}, Order.{Row, column}, Term.{Term, col, op2, holds, eval_all}}
 use Rattle.sqlite.specs.{Query.{Query}, Collation.TheVariants.{Binary}, Effect.{Database}, Listing.{understood}}
 use Rattle.sqlite_sql.specs.{declared.ops.BinaryOp.TheVariants.{Compare}, declared.ops.CompareOp.TheVariants.{Eq}}
 use Rattle.table_access.{specs.{Columns.{text, whole_at}, Statements.{from_both, keeps_both}, Reading.{AreRead}}, proofs.Members.{pairs-sound, pairs-complete}}
-use Rattle.broker_core.specs.{declared.command.Version.{Version}, Text.{Text as Words, version}, State.{State as Broker}, Gate.{Stands}}
+use Rattle.broker_core.specs.{declared.command.Version.{Version}, Text.{Text as Words, version}, State.{State as Broker}, Gate.{IsPresent}}
 use Rattle.broker_core.proofs.Lists.{Contains-from_filter_map, Contains-filter_map}
 use Rattle.contract_tables.proofs.ContractRows as contract_rows
 
@@ -129,9 +129,9 @@ module _ (db : Database) (s : Broker) (held : Holds db s) (e p : Words) where
   list_all-holds_in_environment : (r c : Row) → Has (db.trees in_deployed.tree) r → (list_all (holds (params ∷ r ∷ c ∷ [])) in_environment ≡ true) ↔ (text in_deployed.environment r ≡ e)
   list_all-holds_in_environment r c has = and-true_test (is_there in_deployed.tree in_deployed.version_number (IsDeployedIn s e) deployed r c has)
 
-  pub TellsContractsIfAny-deployed : (rows : List Row) (items : List (Option NumberedContract)) → IsShown (of_deployed e p) db rows → AreRead IsContractIfAny rows items
-      → TellsContractsIfAny s p (IsDeployedIn s e) items
-  TellsContractsIfAny-deployed rows items h read x = (
+  pub ReportsContractsIfAny-deployed : (rows : List Row) (items : List (Option NumberedContract)) → IsShown (of_deployed e p) db rows → AreRead IsContractIfAny rows items
+      → ReportsContractsIfAny s p (IsDeployedIn s e) items
+  ReportsContractsIfAny-deployed rows items h read x = (
     λ c.
         let row = AreRead-sound IsContractIfAny rows items (Some x) read c in
         let it = rows-of_env db params in_deployed.tree in_contracts.tree ons in_environment if_any [] rows h row.0 row.1 in
@@ -164,8 +164,8 @@ module _ (db : Database) (s : Broker) (held : Holds db s) (e p : Words) where
       and-two_tests (is_of_version in_released.tree in_released.version_number (IsReleasedIn s e) released r c hr hc)
       (and-two_tests (is_there in_released.tree in_released.version_number (IsReleasedIn s e) released r c hr) (and-true_test (holds-with_provider r c hc)))
 
-  pub TellsContracts-released : (rows : List Row) (items : List NumberedContract) → IsShown (of_released e p) db rows → AreRead IsNumberedRow rows items → TellsContracts s p (IsReleasedIn s e) items
-  TellsContracts-released rows items h read x = (
+  pub ReportsContracts-released : (rows : List Row) (items : List NumberedContract) → IsShown (of_released e p) db rows → AreRead IsNumberedRow rows items → ReportsContracts s p (IsReleasedIn s e) items
+  ReportsContracts-released rows items h read x = (
     λ c.
         let q = items-of_kept_pair db params terms project IsNumberedRow rows items read in_released.tree in_contracts.tree h x c in
         let it = pairs-sound joins (db.trees in_contracts.tree) (db.trees in_released.tree) q.0 q.1 in
@@ -180,19 +180,19 @@ module _ (db : Database) (s : Broker) (held : Holds db s) (e p : Words) where
 
 -- ---- those that there are
 
-pub TellsContracts-filter_map : (s : Broker) (p : Words) (Is : Version → Type 0) (found : List (Option NumberedContract)) (those : List NumberedContract) → those ≡ filter_map (λ one. one) found
-    → TellsContractsIfAny s p Is found → TellsContracts s p Is those
-TellsContracts-filter_map s p Is found those are told x = iff-trans (
+pub ReportsContracts-filter_map : (s : Broker) (p : Words) (Is : Version → Type 0) (found : List (Option NumberedContract)) (those : List NumberedContract) → those ≡ filter_map (λ one. one) found
+    → ReportsContractsIfAny s p Is found → ReportsContracts s p Is those
+ReportsContracts-filter_map s p Is found those are returned x = iff-trans (
   λ c.
       let it = Contains-from_filter_map (λ one. one) found x (subst (λ xs. Contains xs x) are c) in
       subst (Contains found) it.2 it.1,
   λ c. subst (λ xs. Contains xs x) (sym are) (Contains-filter_map (λ one. one) found (Some x) x c refl),
-) (told x)
+) (returned x)
 
 -- ---- both
 
-pub TellsContracts-append : (s : Broker) (e p : Words) (one two all : List NumberedContract) → TellsContracts s p (IsDeployedIn s e) one → TellsContracts s p (IsReleasedIn s e) two → all ≡ one ++ two → TellsContracts s p (Stands s e) all
-TellsContracts-append s e p one two all is_one is_two same x = iff-trans (Contains-append one two all same x (is_one x) (is_two x)) (
+pub ReportsContracts-append : (s : Broker) (e p : Words) (one two all : List NumberedContract) → ReportsContracts s p (IsDeployedIn s e) one → ReportsContracts s p (IsReleasedIn s e) two → all ≡ one ++ two → ReportsContracts s p (IsPresent s e) all
+ReportsContracts-append s e p one two all is_one is_two same x = iff-trans (Contains-append one two all same x (is_one x) (is_two x)) (
   λ found. elim found [ inl first ↦ (first.0, inl first.1, first.2, first.3) | inr second ↦ (second.0, inr second.1, second.2, second.3) ],
   λ is. elim is.1 [ inl there ↦ inl (is.0, there, is.2, is.3) | inr there ↦ inr (is.0, there, is.2, is.3) ],
 )

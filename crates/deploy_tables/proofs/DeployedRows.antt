@@ -6,10 +6,10 @@ use Rattle.sqlite_value.specs.Keys.{plain}
 use Rattle.sqlite_catalog.proofs.ListFacts.{filter_all}
 use Rattle.sqlite_tied.specs.Compute.{everything}
 use Rattle.table_access.specs.{Columns.{text, text_cmp, whole_at, by_both}, Statements.{from_table, keeps, ChangesOnly}}
-use Rattle.table_access.proofs.{Keys.{is_param, keeps-one_key, whole_key}, CountLemmas.{length-filter-list_any, list_any-same_tests, list_any-false}, Maps.{find-of_row}, SoundLemmas.{all_of}}
-use Rattle.table_access.proofs.Values.{cast-Int}
+use Rattle.table_access.proofs.{Keys.{is_param, keeps-one_key, whole_key}, CountLemmas.{length-filter-list_any, list_any-same_tests, list_any-false}}
+use Rattle.table_access.proofs.{Maps.{find-of_row}, SoundLemmas.{all_of}, Values.{cast-Int}}
 use Rattle.broker_tables.{specs.{Schema.{in_deployed}, Rows.{value_at}, Holds.{IsBroker}}, proofs.Keyed.{deployed_by_place, finds, IsAscending-keys_of_table}}
-use Rattle.broker_tables.proofs.{Asked.{Asked, IsShown}, Orders.{by_both-total_texts, by_both-exact_texts}, Standing.{value_at-is_some, value_at-removed}}
+use Rattle.broker_tables.proofs.{Asked.{Asked, IsShown}, Orders.{by_both-total_texts, by_both-exact_texts}, Present.{value_at-is_some, value_at-removed}}
 use Rattle.broker_tables.proofs.{Placed.{at_deployed, column-texts, column-whole_numbers}, RoomLemmas.{Grows, Grows-filter}, Upserted.{PutsOver, PutsAt}}
 use Rattle.broker_tables.proofs.Removed.{TakesFrom, Executes-delete_rows}
 use Rattle.sqlite.specs.{declared.types.Value.TheVariants.{Null, Int, Text}, Order.{Row, column}, Term.{Term, col, lit, holds}, Effect.{Database}}

@@ -7,7 +7,7 @@ use Rattle.broker_core.specs.{State.{State as Broker}, Machine.{deployed_cmp}, d
 use Rattle.broker_core.specs.{Text.{Text as Words, same_text, same_place, version}, Change.{is_text}, declared.answer.DeployedItem.{DeployedItem}}
 use Rattle.broker_core.{specs.Listing.{Lists}, proofs.{Lists.{Some-injective}, Judgement.{same_text-refl}}}
 use Rattle.contract_tables.proofs.{ItemLists.{Lists-of_pairs}, ReferredRows.{HasRowWith-owner}}
-use Rattle.deploy_tables.specs.Deployments.{MayBeDeployed, RecordsDeployed, IsVersionOf, TakesOutAndTells, FindsNothing, without_instance}
+use Rattle.deploy_tables.specs.Deployments.{MayBeDeployed, RecordsDeployed, IsVersionOf, TakesOutAndReports, FindsNothing, without_instance}
 use Rattle.deploy_tables.specs.{Listings.{IsDeployedRow}, ContractsThere.{IsDeployedIn}}
 use Rattle.deploy_tables.proofs.DeployedRows.{Place, place_of, place_cmp, record_sql, row_for, recording, PutsAt-deployed, end_sql, is_number, number_in, at_place, Executes-end_deployment, environments, pacticipants, column-deployed_instance, numbers}
 use Rattle.deploy_tables.proofs.VersionRows.{pos-injective, joined_by, on_number, in_environment, references-named_version, ordering_then-still_less, value_cmp-two_texts, Names, IsOf, keeps_both-joined_by}
@@ -15,10 +15,13 @@ use Rattle.deploy_tables.proofs.LeftRows.{from_left, Answers-from_left_as_join}
 use Rattle.sqlite_typing.specs.Types.{accepts_program}
 use Rattle.broker_tables.specs.{Schema.{in_versions, in_deployed, broker_schema}, Numbers.{number_of}, Holds.{Holds, HoldsAfter}}
 use Rattle.broker_tables.proofs.VersionRows.{false_if, number_of-has_row, number_of-version_row, option_map-pos_Some, IsAscending-one_row, IsNumbered-versions}
-use Rattle.broker_tables.proofs.{NumberLemmas.{number_of-injective, number_of-same_version}, Keyed.{deployed_by_place, IsAscending-keys_of_table}, Frames.{Frame, ChangesOnly-Frame, Holds-deployed}}
-use Rattle.broker_tables.proofs.{Inserted.{EndsFrom, IsThere-environment, IsThere-pacticipant, IsThere-version}, Placed.{deployed, at_deployed, listed, Placed-IsNumbered}}
-use Rattle.broker_tables.proofs.{RoomLemmas.{Grows, HoldsAfter-one_table}, Upserted.{Executes-upsert_value, shows-set_row, upsert_ends}, Orders.{pair_cmp-IsAntisymmetric, by_both-exact_texts, by_both-total_texts}}
-use Rattle.broker_tables.proofs.{Ties.{and-same, both_eq, eqb-int_cmp}, Asked.{Asked, IsShown}}
+use Rattle.broker_tables.proofs.{NumberLemmas.{number_of-injective, number_of-same_version}, Keyed.{deployed_by_place, IsAscending-keys_of_table}}
+use Rattle.broker_tables.proofs.Frames.{Frame, ChangesOnly-Frame, Holds-deployed}
+use Rattle.broker_tables.proofs.Inserted.{EndsFrom, IsThere-environment, IsThere-pacticipant, IsThere-version}
+use Rattle.broker_tables.proofs.{Placed.{deployed, at_deployed, listed, Placed-IsNumbered}, RoomLemmas.{Grows, HoldsAfter-one_table}}
+use Rattle.broker_tables.proofs.Upserted.{Executes-upsert_value, shows-set_row, upsert_ends}
+use Rattle.broker_tables.proofs.{Orders.{pair_cmp-IsAntisymmetric, by_both-exact_texts, by_both-total_texts}, Ties.{and-same, both_eq, eqb-int_cmp}}
+use Rattle.broker_tables.proofs.Asked.{Asked, IsShown}
 use Rattle.sqlite_rules.specs.Lists.{Has}
 use Rattle.sqlite_tied.specs.Compute.{everything}
 use Rattle.table_access.specs.{Columns.{text, text_cmp, whole_at, by_both}, Sound.{text_in}, Statements.{from_both, ChangesOnly}, Reading.{AreRead}}
@@ -126,13 +129,13 @@ module _ (e p i : Words) (n : ℕ) (old new : State) (count : ℕ) (s : Broker) 
   HoldsAfter-without_instance b is = HoldsAfter-one_table 2 (omega arith) (codes "deployed") old new _ frame (λ counted. it.1) (go b is)
 
   -- the version isn't deployed there any more, and the count says whether it was; another version stays
-  pub HoldsAfter-TakesOutAndTells : IsVersionOf p n s → (t : Broker) × TakesOutAndTells e p i n (nat_lt 0 count) s t × HoldsAfter 2 old new t
-  HoldsAfter-TakesOutAndTells v =
-      let told : (w : Version) → number_of s.versions w ≡ Some n → w.pacticipant ≡ p → is_number n there ≡ is_text w.name (s.deployed (e, p, i)) =
+  pub HoldsAfter-TakesOutAndReports : IsVersionOf p n s → (t : Broker) × TakesOutAndReports e p i n (nat_lt 0 count) s t × HoldsAfter 2 old new t
+  HoldsAfter-TakesOutAndReports v =
+      let returned : (w : Version) → number_of s.versions w ≡ Some n → w.pacticipant ≡ p → is_number n there ≡ is_text w.name (s.deployed (e, p, i)) =
       λ w is owner. is_number-is_text s.versions p there (s.deployed (e, p, i)) (held.deployed e p i) w n is owner in (
         if is_text v.0.name (s.deployed (e, p, i)) then without_instance s e p i else s,
-        ((v.0, v.1, v.2, refl), λ w is owner. it.3 ∙ told w is owner),
-        HoldsAfter-without_instance (is_text v.0.name (s.deployed (e, p, i))) (told v.0 v.1 v.2),
+        ((v.0, v.1, v.2, refl), λ w is owner. it.3 ∙ returned w is owner),
+        HoldsAfter-without_instance (is_text v.0.name (s.deployed (e, p, i))) (returned v.0 v.1 v.2),
       )
 
   -- if the pacticipant has no version of that number, all stays

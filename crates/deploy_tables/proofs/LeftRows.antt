@@ -10,8 +10,8 @@ use Rattle.sqlite_sql.specs.Query.{left, or_nulls}
 use Rattle.sqlite_value.specs.declared.keys.Key.{Key}
 use Rattle.sqlite_typing.specs.Types.{accepts_program}
 use Rattle.sqlite_rules.specs.Lists.{Has}
-use Rattle.table_access.{specs.Statements.{from_both}, proofs.{Members.{has_filter, filter_has, has_map, map_has, has_contains, contains_has}, Steps.{overlay-nil}}}
-use Rattle.table_access.proofs.Answered.{IsPermutation-has_each}
+use Rattle.table_access.{specs.Statements.{from_both}, proofs.Members.{has_filter, filter_has, has_map, map_has, has_contains, contains_has}}
+use Rattle.table_access.proofs.{Steps.{overlay-nil}, Answered.{IsPermutation-has_each}}
 use Rattle.broker_core.proofs.Judgement.{Contains-flat_map, Contains-from_flat_map}
 
 -- SELECT project FROM a table LEFT JOIN another ON ons WHERE terms ORDER BY order; by one test

@@ -10,9 +10,10 @@ use Rattle.deploy_tables.specs.Matrix.{HasNone, IsOfContract, IsOfSome, IsConsum
 use Rattle.deploy_tables.proofs.MatrixLoop.{iff-trans, Contains-append}
 use Rattle.broker_core.specs.{Listing.{Lists}, declared.command.Version.{Version}, declared.need.Latest.{Latest}, declared.answer.MatrixRow.{MatrixRow}}
 use Rattle.broker_core.specs.{declared.answer.Verified.{Verified}, Text.{Text, version}, State.{State, Verification, latest_result, said_by}}
-use Rattle.broker_core.{specs.Machine.{matrix_cmp, verified_version, IsLatest, IsMatrixRow}, proofs.Order.{text_cmp-equal, option_cmp-equal, ordering_then-equal}}
+use Rattle.broker_core.specs.Machine.{matrix_cmp, verified_version, IsLatest, IsMatrixRow}
+use Rattle.broker_core.proofs.Order.{text_cmp-equal, option_cmp-equal, ordering_then-equal}
 use Rattle.broker_core.proofs.Lists.{Some-injective, Contains-empty, Contains-cons_cases, Contains-here}
-use Rattle.contract_tables.specs.{declared.listings.Contract.{Contract}, ToldVersions.{verified_cmp}, VersionResults.{said_of}}
+use Rattle.contract_tables.specs.{declared.listings.Contract.{Contract}, ResultsByVersion.{verified_cmp}, VersionResults.{said_of}}
 
 -- ---- lists
 

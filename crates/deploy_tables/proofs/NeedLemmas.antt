@@ -6,14 +6,15 @@ use Rattle.std.proofs.Common.{◌≡◌, ◌≢◌, ◌⊎◌, ℕ, List, [], �
 use Rattle.std.proofs.lemmas.Bool.{eqb-true}
 use Rattle.broker_tables.{specs.Numbers.{number_of}, proofs.NumberLemmas.{number_of-injective}}
 use Rattle.contract_tables.specs.declared.listings.Contract.{Contract}
-use Rattle.deploy_tables.specs.Needs.{AreFaults, need_cmp, is_good, is_wanted, is_left_out, need_with, need_used, IsWanted, IsWithPartner, IsNeedOfContract, IsOwnNeed, IsUsed, IsNeedOfOthers}
-use Rattle.deploy_tables.specs.{declared.contracts_there.NumberedContract.{NumberedContract}, Matrix.{IsOfSome}, ContractsThere.{TellsContracts}}
-use Rattle.deploy_tables.specs.{declared.wanted_needs.Wanted.{Wanted}, declared.wanted_needs.Wanted.TheVariants.{All, Open}}
+use Rattle.deploy_tables.specs.Needs.{AreFaults, need_cmp, is_good, is_selected, is_left_out, need_with, need_used, IsSelected, IsWithPartner, IsNeedOfContract, IsOwnNeed, IsUsed, IsNeedOfOthers}
+use Rattle.deploy_tables.specs.{declared.contracts_there.NumberedContract.{NumberedContract}, Matrix.{IsOfSome}, ContractsThere.{ReportsContracts}}
+use Rattle.deploy_tables.specs.{declared.selected_needs.Selection.{Selection}, declared.selected_needs.Selection.TheVariants.{All, Open}}
 use Rattle.deploy_tables.{specs.Partners.{ArePartners, AreNumbered}, proofs.MatrixLoop.{iff-trans, Contains-append, Contains-one, Contains-single}}
 use Rattle.broker_core.specs.{declared.command.Version.{Version}, declared.need.Need.{Need}, declared.need.Latest.{Latest}, declared.need.Kind.{Kind}}
-use Rattle.broker_core.specs.{declared.need.PairFault.{PairFault}, Text.{Text, same_text, version}, State.{State, latest}, Gate.{Stands, consumer_of, IsNeed}}
-use Rattle.broker_core.{specs.{Faults.{fault_of, fault_cmp, kind_of, IsFaultAmong}, Listing.{Lists}}, proofs.Lists.{Some-injective, Contains-empty, Contains-here}}
-use Rattle.broker_core.proofs.{Order.{text_cmp-equal, option_cmp-equal, ordering_then-equal}, Judgement.{same_text-equal, same_text-refl}}
+use Rattle.broker_core.specs.{declared.need.PairFault.{PairFault}, Text.{Text, same_text, version}, State.{State, latest}}
+use Rattle.broker_core.specs.{Gate.{IsPresent, consumer_of, IsNeed}, Faults.{fault_of, fault_cmp, kind_of, IsFaultAmong}, Listing.{Lists}}
+use Rattle.broker_core.proofs.{Lists.{Some-injective, Contains-empty, Contains-here}, Order.{text_cmp-equal, option_cmp-equal, ordering_then-equal}}
+use Rattle.broker_core.proofs.Judgement.{same_text-equal, same_text-refl}
 
 -- ---- a latest result, and lists of at most one
 
@@ -28,28 +29,28 @@ kind_of-is_good strict w (Some l) = go l.pass l.checked strict
     go _ _ _ = refl
 
 -- so what is left out isn't wanted
-is_wanted-is_left_out : (wanted : Wanted) (u : Version) (p w : Text) (said : Option Latest) → is_wanted wanted (need_with u p (Some w) said) ≡ not (is_left_out wanted said)
-is_wanted-is_left_out All u p w said = refl
-is_wanted-is_left_out (Open strict) u p w said = kind_of-is_good strict w said
+is_selected-is_left_out : (selection : Selection) (u : Version) (p w : Text) (said : Option Latest) → is_selected selection (need_with u p (Some w) said) ≡ not (is_left_out selection said)
+is_selected-is_left_out All u p w said = refl
+is_selected-is_left_out (Open strict) u p w said = kind_of-is_good strict w said
 
 -- and a provider that isn't there always is
-IsWanted-absent : (wanted : Wanted) (v : Version) (p : Text) → IsWanted wanted (need_with v p None None)
-IsWanted-absent All v p = refl
-IsWanted-absent (Open strict) v p = refl
+IsSelected-absent : (selection : Selection) (v : Version) (p : Text) → IsSelected selection (need_with v p None None)
+IsSelected-absent All v p = refl
+IsSelected-absent (Open strict) v p = refl
 
 -- ---- a contract with one version, and one with the pacticipant of v, by what the latest result says
 
-module _ (s : State) (v : Version) (wanted : Wanted) (said : Option Latest) (good : Bool) (says_good : good ≡ is_left_out wanted said) where
-  is_wanted-not_good : (x : Need) (u : Version) (p w : Text) → x ≡ need_with u p (Some w) said → is_wanted wanted x ≡ not good
-  is_wanted-not_good x u p w is = ap (is_wanted wanted) is ∙ is_wanted-is_left_out wanted u p w said ∙ ap not (sym says_good)
+module _ (s : State) (v : Version) (selection : Selection) (said : Option Latest) (good : Bool) (says_good : good ≡ is_left_out selection said) where
+  is_selected-not_good : (x : Need) (u : Version) (p w : Text) → x ≡ need_with u p (Some w) said → is_selected selection x ≡ not good
+  is_selected-not_good x u p w is = ap (is_selected selection) is ∙ is_selected-is_left_out selection u p w said ∙ ap not (sym says_good)
 
   -- one that isn't left out is in the answer, with the version of this number
   pub IsWithPartner-open : (c : Contract) (n : ℕ) → good ≡ false → ((w : Version) → number_of s.versions w ≡ Some n → said ≡ latest s c.content w)
       → (w : Version) → number_of s.versions w ≡ Some n → (found : List Need) → found ≡ need_with v c.provider (Some w.name) said ∷ [] → (x : Need)
-      → Contains found x ↔ IsWithPartner s v c wanted n x
+      → Contains found x ↔ IsWithPartner s v c selection n x
   IsWithPartner-open c n otherwise says w known found is x =
       iff-trans (Contains-single found (need_with v c.provider (Some w.name) said) is x) (
-        λ same. (w, known, is_wanted-not_good x v c.provider w.name same ∙ ap not otherwise, same ∙ ap (need_with v c.provider (Some w.name)) (says w known)),
+        λ same. (w, known, is_selected-not_good x v c.provider w.name same ∙ ap not otherwise, same ∙ ap (need_with v c.provider (Some w.name)) (says w known)),
         λ is.
             let alike : is.0 ≡ w = number_of-injective s.versions is.0 w n is.1 known in
             is.3 ∙ (λ i. need_with v c.provider (Some (alike i).name) (latest s c.content (alike i))) ∙ ap (need_with v c.provider (Some w.name)) (sym (says w known)),
@@ -60,10 +61,10 @@ module _ (s : State) (v : Version) (wanted : Wanted) (said : Option Latest) (goo
   option_to_list-unless_same p q false is y x = (λ c. (λ same. true≢false (sym (ap (same_text p) (sym same) ∙ same_text-refl p) ∙ is), (Contains-one y x).0 c), λ h. (Contains-one y x).1 h.1)
 
   pub IsUsed-open : (c : NumberedContract) → good ≡ false → said ≡ latest s c.content v → (w : Version) → number_of s.versions w ≡ Some c.number
-      → (x : Need) → Contains (option_to_list (need_used v said w)) x ↔ IsUsed s v wanted c x
+      → (x : Need) → Contains (option_to_list (need_used v said w)) x ↔ IsUsed s v selection c x
   IsUsed-open c otherwise says w known x =
       iff-trans (option_to_list-unless_same w.pacticipant v.pacticipant (same_text w.pacticipant v.pacticipant) refl (need_with w v.pacticipant (Some v.name) said) x) (
-        λ it. (w, known, it.0, is_wanted-not_good x w v.pacticipant v.name it.1 ∙ ap not otherwise, it.1 ∙ ap (need_with w v.pacticipant (Some v.name)) says),
+        λ it. (w, known, it.0, is_selected-not_good x w v.pacticipant v.name it.1 ∙ ap not otherwise, it.1 ∙ ap (need_with w v.pacticipant (Some v.name)) says),
         λ is.
             let alike : is.0 ≡ w = number_of-injective s.versions is.0 w c.number is.1 known in
             (subst (λ (u : Version). u.pacticipant ≢ v.pacticipant) alike is.2, is.4 ∙ (λ i. need_with (alike i) v.pacticipant (Some v.name) (sym says i))),
@@ -71,8 +72,8 @@ module _ (s : State) (v : Version) (wanted : Wanted) (said : Option Latest) (goo
 
 -- ---- a contract with all versions that are there
 
-module _ (s : State) (v : Version) (e : Text) (wanted : Wanted) (c : Contract) (numbered : AreNumbered s e) where
-  pub IsNeedOfContract-with_some : (there : List ℕ) → ArePartners s c.provider (Stands s e) there → (length there == 0) ≡ false → (x : Need) → IsOfSome (λ n. IsWithPartner s v c wanted n x) there ↔ IsNeedOfContract s v e wanted c x
+module _ (s : State) (v : Version) (e : Text) (selection : Selection) (c : Contract) (numbered : AreNumbered s e) where
+  pub IsNeedOfContract-with_some : (there : List ℕ) → ArePartners s c.provider (IsPresent s e) there → (length there == 0) ≡ false → (x : Need) → IsOfSome (λ n. IsWithPartner s v c selection n x) there ↔ IsNeedOfContract s v e selection c x
   IsNeedOfContract-with_some there are some x = (
     λ is.
         let it = (are is.0).0 is.1 in
@@ -85,52 +86,52 @@ module _ (s : State) (v : Version) (e : Text) (wanted : Wanted) (c : Contract) (
     ],
   )
     where
-      never : (ns : List ℕ) → (length ns == 0) ≡ false → ArePartners s c.provider (Stands s e) ns → ((w : Text) → ¬ (Stands s e (version c.provider w))) → ⊥
+      never : (ns : List ℕ) → (length ns == 0) ≡ false → ArePartners s c.provider (IsPresent s e) ns → ((w : Text) → ¬ (IsPresent s e (version c.provider w))) → ⊥
       never [] some are none = absurd cc
       never (n ∷ ns) some are none = let it = (are n).0 (Contains-here n ns) in none it.0 it.1
 
-  pub IsNeedOfContract-with_none : (there : List ℕ) → ArePartners s c.provider (Stands s e) there → (length there == 0) ≡ true → (found : List Need)
-      → found ≡ need_with v c.provider None None ∷ [] → (x : Need) → Contains found x ↔ IsNeedOfContract s v e wanted c x
+  pub IsNeedOfContract-with_none : (there : List ℕ) → ArePartners s c.provider (IsPresent s e) there → (length there == 0) ≡ true → (found : List Need)
+      → found ≡ need_with v c.provider None None ∷ [] → (x : Need) → Contains found x ↔ IsNeedOfContract s v e selection c x
   IsNeedOfContract-with_none there are none found is x = iff-trans (Contains-single found (need_with v c.provider None None) is x)
       (λ same. inr (nobody, same), λ is. elim is [ inl one ↦ absurd (nobody one.0 one.1) | inr none ↦ none.1 ])
     where
-      nobody : (w : Text) → Stands s e (version c.provider w) → ⊥
-      nobody w stands =
-          let it = numbered (version c.provider w) stands in
-          let has = (are it.0).1 (w, stands, it.1) in
+      nobody : (w : Text) → IsPresent s e (version c.provider w) → ⊥
+      nobody w is_present =
+          let it = numbered (version c.provider w) is_present in
+          let has = (are it.0).1 (w, is_present, it.1) in
           omega (arith, has.1, eqb-true (length there) 0 none)
 
 -- ---- both sides
 
-abbrev IsWantedNeed : State → Version → Text → Wanted → Need → Type 0
-IsWantedNeed s v e wanted x = IsNeed s v e x × IsWanted wanted x
+abbrev IsWantedNeed : State → Version → Text → Selection → Need → Type 0
+IsWantedNeed s v e selection x = IsNeed s v e x × IsSelected selection x
 
-module _ (s : State) (v : Version) (e : Text) (wanted : Wanted) where
+module _ (s : State) (v : Version) (e : Text) (selection : Selection) where
   -- what the contract of v gives is a need
-  IsOwnNeed-IsWantedNeed : (x : Need) → IsOwnNeed s v e wanted x → IsWantedNeed s v e wanted x
-  IsOwnNeed-IsWantedNeed x (c, mine, inl (w, stands, lacking, is)) =
-      subst (λ y. IsWantedNeed s v e wanted y) (sym is) (record { content = c.content; contract = mine; between = inl (refl, stands); result = refl }, subst (IsWanted wanted) is lacking)
+  IsOwnNeed-IsWantedNeed : (x : Need) → IsOwnNeed s v e selection x → IsWantedNeed s v e selection x
+  IsOwnNeed-IsWantedNeed x (c, mine, inl (w, is_present, lacking, is)) =
+      subst (λ y. IsWantedNeed s v e selection y) (sym is) (record { content = c.content; contract = mine; between = inl (refl, is_present); result = refl }, subst (IsSelected selection) is lacking)
   IsOwnNeed-IsWantedNeed x (c, mine, inr (none, is)) =
-      subst (λ y. IsWantedNeed s v e wanted y) (sym is) (record { content = c.content; contract = mine; between = inr (inl (refl, refl, none)); result = refl }, IsWanted-absent wanted v c.provider)
+      subst (λ y. IsWantedNeed s v e selection y) (sym is) (record { content = c.content; contract = mine; between = inr (inl (refl, refl, none)); result = refl }, IsSelected-absent selection v c.provider)
 
-  IsNeedOfOthers-IsWantedNeed : (x : Need) → IsNeedOfOthers s v e wanted x → IsWantedNeed s v e wanted x
-  IsNeedOfOthers-IsWantedNeed x (c, (u, stands, numbered, uses), (w, number, other, lacking, is)) =
+  IsNeedOfOthers-IsWantedNeed : (x : Need) → IsNeedOfOthers s v e selection x → IsWantedNeed s v e selection x
+  IsNeedOfOthers-IsWantedNeed x (c, (u, is_present, numbered, uses), (w, number, other, lacking, is)) =
       let alike : u ≡ w = number_of-injective s.versions u w c.number numbered number in
-      subst (λ y. IsWantedNeed s v e wanted y) (sym is) (
+      subst (λ y. IsWantedNeed s v e selection y) (sym is) (
         record {
           content = c.content;
           contract = subst (λ y. s.contracts (y, v.pacticipant) ≡ Some c.content) alike uses;
-          between = inr (inr (other, subst (Stands s e) alike stands, refl, refl));
+          between = inr (inr (other, subst (IsPresent s e) alike is_present, refl, refl));
           result = refl;
         },
-        subst (IsWanted wanted) is lacking,
+        subst (IsSelected selection) is lacking,
       )
 
   alike : (a b : Need) → a.consumer ≡ b.consumer → a.consumer_version ≡ b.consumer_version → a.provider ≡ b.provider → a.provider_version ≡ b.provider_version → a.latest ≡ b.latest → a ≡ b
   alike a b one two three four five = λ i. record { consumer = one i; consumer_version = two i; provider = three i; provider_version = four i; latest = five i }
 
-  IsOwnNeed-complete : (x : Need) (content : ℕ) → s.contracts (consumer_of x, x.provider) ≡ Some content → consumer_of x ≡ v → (o : Option Text) → x.provider_version ≡ o → IsSomeAnd o (λ w. Stands s e (version x.provider w))
-      → x.latest ≡ option_and_then (λ w. latest s content (version x.provider w)) o → IsWanted wanted x → IsOwnNeed s v e wanted x
+  IsOwnNeed-complete : (x : Need) (content : ℕ) → s.contracts (consumer_of x, x.provider) ≡ Some content → consumer_of x ≡ v → (o : Option Text) → x.provider_version ≡ o → IsSomeAnd o (λ w. IsPresent s e (version x.provider w))
+      → x.latest ≡ option_and_then (λ w. latest s content (version x.provider w)) o → IsSelected selection x → IsOwnNeed s v e selection x
   IsOwnNeed-complete x content contract mine None is there result lacking = absurd there
   IsOwnNeed-complete x content contract mine (Some w) is there result lacking = (
     record { provider = x.provider; content = content },
@@ -139,7 +140,7 @@ module _ (s : State) (v : Version) (e : Text) (wanted : Wanted) where
   )
 
   -- and each need that is wanted is found
-  IsNeed-own_or_of_others : (x : Need) → AreNumbered s e → IsNeed s v e x → IsWanted wanted x → IsOwnNeed s v e wanted x ⊎ IsNeedOfOthers s v e wanted x
+  IsNeed-own_or_of_others : (x : Need) → AreNumbered s e → IsNeed s v e x → IsSelected selection x → IsOwnNeed s v e selection x ⊎ IsNeedOfOthers s v e selection x
   IsNeed-own_or_of_others x numbered is lacking = elim is.between [
     | inl there ↦ inl (IsOwnNeed-complete x is.content is.contract there.0 x.provider_version refl there.1 is.result lacking)
     | inr (inl none) ↦ inl (
@@ -168,15 +169,15 @@ module _ (s : State) (v : Version) (e : Text) (wanted : Wanted) where
   ]
 
   -- what is found of the contracts that are there
-  pub IsNeedOfOthers-found : (there : List NumberedContract) (found : List Need) → TellsContracts s v.pacticipant (Stands s e) there → ((x : Need) → Contains found x ↔ IsOfSome (λ c. IsUsed s v wanted c x) there) → (x : Need) → Contains found x ↔ IsNeedOfOthers s v e wanted x
-  IsNeedOfOthers-found there found told here x = (
-    λ c. let it = (here x).0 c in (it.0, (told it.0).0 it.1, it.2),
-    λ is. (here x).1 (is.0, (told is.0).1 is.1, is.2),
+  pub IsNeedOfOthers-found : (there : List NumberedContract) (found : List Need) → ReportsContracts s v.pacticipant (IsPresent s e) there → ((x : Need) → Contains found x ↔ IsOfSome (λ c. IsUsed s v selection c x) there) → (x : Need) → Contains found x ↔ IsNeedOfOthers s v e selection x
+  IsNeedOfOthers-found there found returned here x = (
+    λ c. let it = (here x).0 c in (it.0, (returned it.0).0 it.1, it.2),
+    λ is. (here x).1 (is.0, (returned is.0).1 is.1, is.2),
   )
 
-  pub IsWantedNeed-append : AreNumbered s e → (mine theirs all : List Need) → all ≡ mine ++ theirs → ((x : Need) → Contains mine x ↔ IsOwnNeed s v e wanted x)
-      → ((x : Need) → Contains theirs x ↔ IsNeedOfOthers s v e wanted x)
-      → (x : Need) → Contains all x ↔ IsWantedNeed s v e wanted x
+  pub IsWantedNeed-append : AreNumbered s e → (mine theirs all : List Need) → all ≡ mine ++ theirs → ((x : Need) → Contains mine x ↔ IsOwnNeed s v e selection x)
+      → ((x : Need) → Contains theirs x ↔ IsNeedOfOthers s v e selection x)
+      → (x : Need) → Contains all x ↔ IsWantedNeed s v e selection x
   IsWantedNeed-append numbered mine theirs all same are_mine are_theirs x = iff-trans (Contains-append mine theirs all same x (are_mine x) (are_theirs x)) (
     λ found. elim found [ inl one ↦ IsOwnNeed-IsWantedNeed x one | inr two ↦ IsNeedOfOthers-IsWantedNeed x two ],
     λ is. IsNeed-own_or_of_others x numbered is.0 is.1,
@@ -206,8 +207,8 @@ IsNeed-one_need s v e x y is are tied =
 -- ---- their faults
 
 -- a need that has a fault isn't good
-fault_of-IsWanted : (strict : Bool) (x : Need) (f : PairFault) → fault_of strict x ≡ Some f → IsWanted (Open strict) x
-fault_of-IsWanted strict x f is = go _ (kind_of strict x.provider_version x.latest) is
+fault_of-IsSelected : (strict : Bool) (x : Need) (f : PairFault) → fault_of strict x ≡ Some f → IsSelected (Open strict) x
+fault_of-IsSelected strict x f is = go _ (kind_of strict x.provider_version x.latest) is
   where
     go : (fault : Kind → PairFault) (o : Option Kind) → option_map fault o ≡ Some f → is_some o ≡ true
     go fault None none = absurd cc
@@ -220,6 +221,6 @@ AreFaults-listed s v e strict needs faults are listed same = record {
     λ c. let it = (listed.exactly f).0 c in (it.0, ((are it.0).0 it.1).0, ap (λ b. fault_of b it.0) same ∙ it.2),
     λ is.
         let fault : fault_of strict is.0 ≡ Some f = ap (λ b. fault_of b is.0) (sym same) ∙ is.2 in
-        (listed.exactly f).1 (is.0, (are is.0).1 (is.1, fault_of-IsWanted strict is.0 f fault), fault),
+        (listed.exactly f).1 (is.0, (are is.0).1 (is.1, fault_of-IsSelected strict is.0 f fault), fault),
   );
 }

@@ -7,11 +7,12 @@ use Rattle.table_access.{specs.{Columns.{text}, Statements.{from_table, keeps}, 
 use Rattle.broker_tables.{specs.{Schema.{in_deployed}, Numbers.{number_of}, Holds.{Holds}}, proofs.{Asked.{Asked, IsShown}, VersionRows.{binary-Eq_same_Text}}}
 use Rattle.contract_tables.{specs.declared.listings.NumberedName.{NumberedName}, proofs.ItemLists.{and-two_tests, and-true_test}}
 use Rattle.deploy_tables.specs.{ContractsThere.{IsDeployedIn}, Partners.{ArePartners, AreReleasedNumbers, AreNumbered, number_if}}
-use Rattle.deploy_tables.proofs.{DeployedRows.{environments, pacticipants}, VersionRows.{pos-injective, rows_told}, DeployedState.{deployed-of_row, deployed-has_row}}
-use Rattle.deploy_tables.proofs.{ReleasedRows.{IsReleasedIn-has_number}, MatrixLoop.{iff-trans, Contains-append}}
+use Rattle.deploy_tables.proofs.{DeployedRows.{environments, pacticipants}, VersionRows.{pos-injective, rows_returned}}
+use Rattle.deploy_tables.proofs.{DeployedState.{deployed-of_row, deployed-has_row}, ReleasedRows.{IsReleasedIn-has_number}}
+use Rattle.deploy_tables.proofs.MatrixLoop.{iff-trans, Contains-append}
 use Rattle.sqlite.specs.{Edit.{id_in}, declared.types.Value.TheVariants.{Int, Text}, Order.{Row, column}, Term.{Term, col}, Effect.{Database}}
 use Rattle.sqlite.specs.Listing.{understood}
-use Rattle.broker_core.specs.{Text.{Text as Words, same_text, version}, State.{State as Broker}, Gate.{Stands}}
+use Rattle.broker_core.specs.{Text.{Text as Words, same_text, version}, State.{State as Broker}, Gate.{IsPresent}}
 use Rattle.broker_core.proofs.{Lists.{Some-injective, Contains-from_filter_map, Contains-filter_map}, Judgement.{same_text-equal, same_text-refl, cond-some}}
 
 abbrev by_owner : List Term
@@ -36,7 +37,7 @@ module _ (db : Database) (s : Broker) (held : Holds db s) (e p : Words) where
       (and-true_test (binary-Eq_same_Text (column r in_deployed.pacticipant) (Text p) (text in_deployed.pacticipant r) p (pacticipants db held.broker r has) refl))
 
   pub ArePartners-deployed : (rows : List Row) (items : List ℕ) → IsShown (numbers_of e p) db rows → AreRead (λ row n. column row 0 ≡ Int (pos n)) rows items → ArePartners s p (IsDeployedIn s e) items
-  ArePartners-deployed rows items h read = rows_told db params by_owner number_project (λ row n. column row 0 ≡ Int (pos n)) rows items read in_deployed.tree h
+  ArePartners-deployed rows items h read = rows_returned db params by_owner number_project (λ row n. column row 0 ≡ Int (pos n)) rows items read in_deployed.tree h
       (λ n. (name : Words) × IsDeployedIn s e (version p name) × (number_of s.versions (version p name) ≡ Some n))
       (λ r n has kept shown.
       let at = (keeps-by_owner r has).0 kept in
@@ -55,7 +56,7 @@ Holds-AreNumbered db s held e w (inr there) = IsReleasedIn-has_number db s held 
 
 -- what is deployed and what is released of the provider is what is there
 pub ArePartners-append : (s : Broker) (e p : Words) (deployed : List ℕ) (released : List NumberedName) → ArePartners s p (IsDeployedIn s e) deployed → AreReleasedNumbers s e released
-    → ArePartners s p (Stands s e) (deployed ++ filter_map (number_if p) released)
+    → ArePartners s p (IsPresent s e) (deployed ++ filter_map (number_if p) released)
 ArePartners-append s e p deployed released are_deployed are_released n = iff-trans
     (Contains-append deployed (filter_map (number_if p) released) (deployed ++ filter_map (number_if p) released) refl n (are_deployed n) (λ c. c, λ c. c)) (
       λ found. elim found [
@@ -64,7 +65,7 @@ ArePartners-append s e p deployed released are_deployed are_released n = iff-tra
             let x = Contains-from_filter_map (number_if p) released n two in
             let of = cond-some (same_text x.0.name p) x.0.number n x.2 in
             let it = (are_released x.0).0 x.1 in
-            subst (λ q. (name : Words) × Stands s e (version q name) × (number_of s.versions (version q name) ≡ Some n)) (same_text-equal _ _ of.0)
+            subst (λ q. (name : Words) × IsPresent s e (version q name) × (number_of s.versions (version q name) ≡ Some n)) (same_text-equal _ _ of.0)
             (it.0, inr it.1, it.2 ∙ ap Some of.1)
       ],
       λ is. elim is.1 [

@@ -7,7 +7,8 @@ use Rattle.broker_core.specs.State.{State as Broker}
 use Rattle.broker_tables.specs.{Schema.{in_versions, in_contracts, in_deployed, in_released}, Holds.{Holds}, Readable.{IsReadable, IsNamed}}
 use Rattle.broker_tables.proofs.Asked.{Asked, IsShown, EachShown, EachReads, EachShown-of_both, EachShown-of_table, EachShown-IsNumberRow}
 use Rattle.broker_tables.proofs.Placed.{contracts, at_contracts, deployed, at_deployed, released, at_released, listed, column-whole_numbers}
-use Rattle.broker_tables.proofs.{ReadableRows.{IsNumberAt-of_column, IsNameAt-of_column, to_version_low, IsNamed-version, IsNamed-reference}, VersionRows.{column-version_pacticipant, names}}
+use Rattle.broker_tables.proofs.ReadableRows.{IsNumberAt-of_column, IsNameAt-of_column, to_version_low, IsNamed-version, IsNamed-reference}
+use Rattle.broker_tables.proofs.VersionRows.{column-version_pacticipant, names}
 use Rattle.deploy_tables.specs.{Listings.{ReadsAsDeployed, ReadsAsReleased}, ContractsThere.{ReadsAsContractIfAny}}
 use Rattle.deploy_tables.proofs.{ContractsThere.{project, ons, if_any, of_deployed}, VersionNames.{names_of, name_project}, VersionRows.{in_environment}}
 use Rattle.deploy_tables.proofs.LeftRows.{rows-of_env}

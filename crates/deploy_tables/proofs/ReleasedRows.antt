@@ -6,16 +6,20 @@ use Rattle.std.proofs.Math.Bool.{and-false, or-true}
 use Rattle.sqlite_rules.specs.Lists.{Has}
 use Rattle.sqlite_tied.specs.Compute.{everything}
 use Rattle.table_access.specs.{Columns.{text, text_cmp, whole_at, by_both}, Statements.{from_table, keeps, from_both}, Sound.{text_in}, Reading.{AreRead}}
-use Rattle.table_access.proofs.{Members.{any_has}, Values.{cast-Int}, SoundLemmas.{any_of}, CountLemmas.{length-filter-list_any, list_any-same_tests}, Keys.{is_param, keeps-one_key}}
+use Rattle.table_access.proofs.{Members.{any_has}, Values.{cast-Int}, SoundLemmas.{any_of}, CountLemmas.{length-filter-list_any, list_any-same_tests}}
+use Rattle.table_access.proofs.Keys.{is_param, keeps-one_key}
 use Rattle.broker_core.specs.{State.{State as Broker}, declared.command.Version.{Version}}
 use Rattle.broker_core.specs.{Text.{Text as Words, version, put_at, same_text, same_pair, same_version}, Listing.{Lists}, Machine.{version_cmp}}
-use Rattle.broker_tables.specs.{Schema.{in_versions, in_released, broker_schema}, Rows.{stands_at}, Numbers.{number_of}, Holds.{Holds, IsBroker, HoldsAfter}}
-use Rattle.broker_tables.proofs.{Asked.{Asked, IsShown, EachShown-of_table}, Inserted.{EndsFrom, Adds, HoldsAfter-added, EndsOnly-added, added, IsThere-environment, IsThere-version}}
-use Rattle.broker_tables.proofs.Keyed.{finds_row, IsFree-of_stands_at, kept_by, IsAscending-keys_of_table, released_by_key}
+use Rattle.broker_tables.specs.{Schema.{in_versions, in_released, broker_schema}, Rows.{has_row_at}, Numbers.{number_of}, Holds.{Holds, IsBroker, HoldsAfter}}
+use Rattle.broker_tables.proofs.Asked.{Asked, IsShown, EachShown-of_table}
+use Rattle.broker_tables.proofs.Inserted.{EndsFrom, Adds, HoldsAfter-added, EndsOnly-added, added, IsThere-environment, IsThere-version}
+use Rattle.broker_tables.proofs.Keyed.{finds_row, IsFree-of_has_row_at, kept_by, IsAscending-keys_of_table, released_by_key}
 use Rattle.broker_tables.proofs.VersionRows.{column-version_pacticipant, names, IsAscending-one_row, IsNumbered-versions, versions-unique_names as same_row}
-use Rattle.broker_tables.proofs.{Orders.{by_both-total_text_int, by_both-exact_text_int, pair_cmp-IsAntisymmetric}, NoVersion.{references-not_unknown_version, slice_get-no_rows}, Frames.{Holds-released}}
-use Rattle.broker_tables.proofs.{NumberLemmas.{number_of-same_version, same_version-unknown}, Standing.{stands_at-set, stands_at-removed}, Ties.{and-same, both_eq}}
-use Rattle.broker_tables.proofs.{Placed.{released, at_released, listed, Placed-IsNumbered, column-texts, column-whole_numbers}, Removed.{TakesFrom, HoldsAfter-deleted, Executes-delete_rows}}
+use Rattle.broker_tables.proofs.Orders.{by_both-total_text_int, by_both-exact_text_int, pair_cmp-IsAntisymmetric}
+use Rattle.broker_tables.proofs.{NoVersion.{references-not_unknown_version, slice_get-no_rows}, Frames.{Holds-released}}
+use Rattle.broker_tables.proofs.{NumberLemmas.{number_of-same_version, same_version-unknown}, Present.{has_row_at-set, has_row_at-removed}}
+use Rattle.broker_tables.proofs.{Ties.{and-same, both_eq}, Placed.{released, at_released, listed, Placed-IsNumbered, column-texts, column-whole_numbers}}
+use Rattle.broker_tables.proofs.Removed.{TakesFrom, HoldsAfter-deleted, Executes-delete_rows}
 use Rattle.sqlite.specs.{Listing.{understood}, Edit.{id_in}, declared.types.Value.TheVariants.{Int, Text, Null}, Order.{Row, column}, Term.{Term, col, lit}}
 use Rattle.sqlite.specs.{Collation.TheVariants.{Binary}, Effect.{Database, Answers}, Query.{Query}, State.{State, Executes}}
 use Rattle.sqlite_keyed.proofs.RuleLemmas.{first_of_both, second_of_both}
@@ -83,8 +87,8 @@ module _ (db : Database) (broker : IsBroker db) where
 
 module _ (db : Database) (s : Broker) (held : Holds db s) (e : Words) where
   -- the place of a version has a row if and only if the version is released there
-  pub stands_at-released : (w : Version) (n : ℕ) → number_of s.versions w ≡ Some n → stands_at placed place_of (db.trees in_released.tree) (e, pos n) ≡ s.released (e, w)
-  stands_at-released w n known = sym (ap (λ o. option_map_or (λ m. stands_at placed place_of (db.trees in_released.tree) (e, pos m)) o false) known) ∙ held.released e w
+  pub has_row_at-released : (w : Version) (n : ℕ) → number_of s.versions w ≡ Some n → has_row_at placed place_of (db.trees in_released.tree) (e, pos n) ≡ s.released (e, w)
+  has_row_at-released w n known = sym (ap (λ o. option_map_or (λ m. has_row_at placed place_of (db.trees in_released.tree) (e, pos m)) o false) known) ∙ held.released e w
 
   pub Names-IsReleasedIn : Names db s in_released.tree in_released.version_number e (IsReleasedIn s e)
   Names-IsReleasedIn = record {
@@ -92,10 +96,10 @@ module _ (db : Database) (s : Broker) (held : Holds db s) (e : Words) where
     numbers = numbers db held.broker;
     row_is = λ r w n has there known number.
         let place : (e, pos n) ≡ place_of r = (λ i. (sym there i, sym number i)) in
-        sym (stands_at-released w n known) ∙ any_of (λ q. eq_by_cmp placed (e, pos n) (place_of q)) (db.trees in_released.tree) r has
+        sym (has_row_at-released w n known) ∙ any_of (λ q. eq_by_cmp placed (e, pos n) (place_of q)) (db.trees in_released.tree) r has
         (ap (eq_by_cmp placed (e, pos n)) (sym place) ∙ (eq_by_cmp_equiv by_both-total_text_int).refl (e, pos n));
     is_row = λ w n known there.
-        let d = any_has (λ q. eq_by_cmp placed (e, pos n) (place_of q)) (db.trees in_released.tree) (stands_at-released w n known ∙ there) in
+        let d = any_has (λ q. eq_by_cmp placed (e, pos n) (place_of q)) (db.trees in_released.tree) (has_row_at-released w n known ∙ there) in
         let place : (e, pos n) ≡ place_of d.0 = by_both-exact_text_int (e, pos n) (place_of d.0) ((Equal-is (placed (e, pos n) (place_of d.0))).0 d.2) in
         (d.0, d.1, sym (ap (λ x. x.0) place), sym (ap (λ x. x.1) place));
   }
@@ -104,7 +108,7 @@ module _ (db : Database) (s : Broker) (held : Holds db s) (e : Words) where
   pub IsReleasedIn-has_number : (v : Version) → IsReleasedIn s e v → (n : ℕ) × (number_of s.versions v ≡ Some n)
   IsReleasedIn-has_number v there = go (number_of s.versions v) (held.released e v ∙ there)
     where
-      go : (o : Option ℕ) → option_map_or (λ n. stands_at placed place_of (db.trees in_released.tree) (e, pos n)) o false ≡ true → (n : ℕ) × (o ≡ Some n)
+      go : (o : Option ℕ) → option_map_or (λ n. has_row_at placed place_of (db.trees in_released.tree) (e, pos n)) o false ≡ true → (n : ℕ) × (o ≡ Some n)
       go None h = absurd cc
       go (Some n) h = (n, refl)
 
@@ -185,24 +189,24 @@ IsShown-release_none e n db rows s held none h = slice_get-no_rows rows (EachSho
 pub IsShown-release : (e : Words) (n : ℕ) (db : Database) (rows : List Row) (s : Broker) (v : Version) → Holds db s → number_of s.versions v ≡ Some n → IsShown (release e n) db rows
     → is_some (slice_get rows 0) ≡ s.released (e, v)
 IsShown-release e n db rows s v held is h =
-    finds_row released_by_key db held.broker (Text e ∷ Int (pos n) ∷ []) (e, pos n) refl rows h ∙ stands_at-released db s held e v n is
+    finds_row released_by_key db held.broker (Text e ∷ Int (pos n) ∷ []) (e, pos n) refl rows h ∙ has_row_at-released db s held e v n is
 
 -- ---- a change of one place
 
 -- the rows that hold the releases, once one place was set
 module _ (old new : Database) (s : Broker) (held : Holds old s) (e : Words) (n : ℕ) (v : Version) (is : number_of s.versions v ≡ Some n) (set : Bool)
-    (now : (q : Words × ℤ) → stands_at placed place_of (new.trees in_released.tree) q ≡ cond (eq_by_cmp placed q (e, pos n)) set (stands_at placed place_of (old.trees in_released.tree) q)) where
-  pub each : (f : Words) (w : Version) (o : Option ℕ) → number_of s.versions w ≡ o → option_map_or (λ k. stands_at placed place_of (new.trees in_released.tree) (f, pos k)) (number_of s.versions w) false ≡ put_at (same_pair same_text same_version) s.released (e, v) set (f, w)
+    (now : (q : Words × ℤ) → has_row_at placed place_of (new.trees in_released.tree) q ≡ cond (eq_by_cmp placed q (e, pos n)) set (has_row_at placed place_of (old.trees in_released.tree) q)) where
+  pub each : (f : Words) (w : Version) (o : Option ℕ) → number_of s.versions w ≡ o → option_map_or (λ k. has_row_at placed place_of (new.trees in_released.tree) (f, pos k)) (number_of s.versions w) false ≡ put_at (same_pair same_text same_version) s.released (e, v) set (f, w)
   each f w None none =
-      let was : s.released (f, w) ≡ false = sym (held.released f w) ∙ ap (λ o. option_map_or (λ k. stands_at placed place_of (old.trees in_released.tree) (f, pos k)) o false) none in
-      ap (λ o. option_map_or (λ k. stands_at placed place_of (new.trees in_released.tree) (f, pos k)) o false) none
+      let was : s.released (f, w) ≡ false = sym (held.released f w) ∙ ap (λ o. option_map_or (λ k. has_row_at placed place_of (old.trees in_released.tree) (f, pos k)) o false) none in
+      ap (λ o. option_map_or (λ k. has_row_at placed place_of (new.trees in_released.tree) (f, pos k)) o false) none
       ∙ sym (ap (λ t. cond (same_text f e && t) set (s.released (f, w))) (same_version-unknown s.versions w v n none is)
       ∙ ap (λ t. cond t set (s.released (f, w))) (and-false (same_text f e)) ∙ was)
   each f w (Some k) some =
-      let was = stands_at-released old s held f w k some in
+      let was = has_row_at-released old s held f w k some in
       let same : (same_text f e && same_version w v) ≡ eq_by_cmp placed (f, pos k) (e, pos n) =
       and-same (same_text f e) (same_version w v) (eq_by_cmp text_cmp f e) (eq_by_cmp int_cmp (pos k) (pos n)) (texts_ties f e) (number_of-same_version s.versions w v k n some is) ∙ both_eq (text_cmp f e) (int_cmp (pos k) (pos n)) in
-      ap (λ o. option_map_or (λ m. stands_at placed place_of (new.trees in_released.tree) (f, pos m)) o false) some ∙ now (f, pos k)
+      ap (λ o. option_map_or (λ m. has_row_at placed place_of (new.trees in_released.tree) (f, pos m)) o false) some ∙ now (f, pos k)
       ∙ (λ i. cond (sym same i) set (was i))
 
 -- ---- a release
@@ -220,7 +224,7 @@ recording e n = record {
 pub HoldsAfter-RecordsReleased : (e : Words) (n : ℕ) (old new : State) (s : Broker) → Holds old.now s → (t : Broker) → RecordsReleased e n s t → (count : ℕ) → Executes record_sql (Text e ∷ Int (pos n) ∷ []) old new (Ok count) → HoldsAfter 2 old new t
 HoldsAfter-RecordsReleased e n old new s held t (v, is, off, next) count h = HoldsAfter-added (recording e n) old new held.broker (omega arith) count h (λ frame it.
     subst (Holds new.now) (sym next) (Holds-released old.now new.now s _ held frame (λ f w. each old.now new.now s held e n v is true
-    (stands_at-set placed place_of (old.now.trees in_released.tree) (new.now.trees in_released.tree) _ it) f w (number_of s.versions w) refl)))
+    (has_row_at-set placed place_of (old.now.trees in_released.tree) (new.now.trees in_released.tree) _ it) f w (number_of s.versions w) refl)))
 
 -- that a version is released fails only as the store fails, or since the environment's name is too long
 pub EndsFrom-MayBeReleased : (e : Words) (n : ℕ) (old new : State) → EndsFrom (codes "released" ∷ []) (e ∷ []) record_sql (Text e ∷ Int (pos n) ∷ []) old new (MayBeReleased e n)
@@ -228,7 +232,7 @@ EndsFrom-MayBeReleased e n old new s here (there, (v, is, free)) numbers =
     let held = here.held in
     let made = added (recording e n) old new held.broker in
     EndsOnly-added (recording e n) old new held.broker numbers.0 (record { typed = refl; present = refl; checked = refl })
-    (IsFree-of_stands_at released_by_key old.now held.broker made refl (sym (ap (λ o. option_map_or (λ k. stands_at placed place_of (old.now.trees in_released.tree) (e, pos k)) o false) is) ∙ held.released e v ∙ free), tt)
+    (IsFree-of_has_row_at released_by_key old.now held.broker made refl (sym (ap (λ o. option_map_or (λ k. has_row_at placed place_of (old.now.trees in_released.tree) (e, pos k)) o false) is) ∙ held.released e v ∙ free), tt)
     (IsThere-environment old.now s held made in_released.environment e there refl, (IsThere-version old.now s held made in_released.version_number v n is refl, tt)) (e ∷ []) (λ are. (are.0, (tt, tt))) (omega arith) (omega arith) here.unlimited
 
 -- ---- the end of support
@@ -244,7 +248,7 @@ pub HoldsAfter-release_ended : (e : Words) (n : ℕ) (old new : State) (count : 
     → HoldsAfter 2 old new (record s { released = put_at (same_pair same_text same_version) s.released (e, v) false })
 HoldsAfter-release_ended e n old new count s v held is h = HoldsAfter-deleted (ending e n) old new held.broker (omega arith) count h (λ frame left.
     Holds-released old.now new.now s _ held frame (λ f w. each old.now new.now s held e n v is false
-    (stands_at-removed by_both-total_text_int by_both-exact_text_int place_of (e, pos n) (keeps by_place (Text e ∷ Int (pos n) ∷ [])) (old.now.trees in_released.tree) (new.now.trees in_released.tree)
+    (has_row_at-removed by_both-total_text_int by_both-exact_text_int place_of (e, pos n) (keeps by_place (Text e ∷ Int (pos n) ∷ [])) (old.now.trees in_released.tree) (new.now.trees in_released.tree)
     (kept_by released_by_key old.now held.broker (Text e ∷ Int (pos n) ∷ []) (e, pos n) refl) left) f w (number_of s.versions w) refl))
 
 -- and the count says whether it was released
@@ -255,4 +259,4 @@ Executes-end_release_count e n old new count s v held is h =
     let params = Text e ∷ Int (pos n) ∷ [] in
     ap (nat_lt 0) (Executes-delete_rows (ending e n) old new held.broker count h).2
     ∙ length-filter-list_any (keeps by_place params) rows ∙ list_any-same_tests (keeps by_place params) (λ r. eq_by_cmp placed (e, pos n) (place_of r)) rows (λ r has. keeps-one_key released_by_key.columns.of 0 params (e, pos n) refl r (released_by_key.columns.typed old.now held.broker r has))
-    ∙ stands_at-released old.now s held e v n is
+    ∙ has_row_at-released old.now s held e v n is

@@ -6,7 +6,7 @@ use Rattle.broker_core.specs.{declared.command.Version.{Version}, Text.{version}
 use Rattle.broker_tables.{specs.{Schema.{in_versions}, Numbers.{number_of}, Holds.{Holds}}, proofs.{Asked.{Asked, IsShown}, NumberLemmas.{number_of-injective}}}
 use Rattle.broker_tables.proofs.VersionRows.{binary-Eq_same_Int, version_number, number_of-version_row, number_of-has_row}
 use Rattle.contract_tables.proofs.ItemLists.{and-true_test}
-use Rattle.deploy_tables.{specs.{Listings.{IsReleasedRow}, Releases.{IsOfNumber}}, proofs.VersionRows.{pos-injective, rows_told}}
+use Rattle.deploy_tables.{specs.{Listings.{IsReleasedRow}, Releases.{IsOfNumber}}, proofs.VersionRows.{pos-injective, rows_returned}}
 use Rattle.sqlite.specs.{declared.types.Value.TheVariants.{Int}, Order.{Row, column}, Term.{Term, col, op2}, Collation.TheVariants.{Binary}, Effect.{Database}}
 use Rattle.sqlite.specs.Listing.{understood}
 use Rattle.sqlite_sql.specs.{declared.ops.BinaryOp.TheVariants.{Compare}, declared.ops.CompareOp.TheVariants.{Eq}}
@@ -32,7 +32,7 @@ module _ (db : Database) (s : Broker) (held : Holds db s) (n : ℕ) where
 
   -- the version of this number is listed, and no other
   pub Contains-names_of_number : (rows : List Row) (items : List Version) → IsShown (names_of n) db rows → AreRead IsReleasedRow rows items → (w : Version) → Contains items w ↔ (number_of s.versions w ≡ Some n)
-  Contains-names_of_number rows items h read = rows_told db params by_number name_project IsReleasedRow rows items read in_versions.tree h
+  Contains-names_of_number rows items h read = rows_returned db params by_number name_project IsReleasedRow rows items read in_versions.tree h
       (λ w. number_of s.versions w ≡ Some n) (λ r w has kept shown.
       let it = number_of-version_row db held.broker s.versions held.versions r has in
       let number : it.0 ≡ n = pos-injective it.0 n (sym it.2 ∙ (keeps-by_number r has).0 kept) in

@@ -6,15 +6,15 @@ use Rattle.std.proofs.lemmas.List.Sorted.{Contains-permutation}
 use Rattle.sqlite_value.proofs.OrderLemmas.{value_cmp-Text, then-Equal}
 use Rattle.sqlite_rules.specs.Lists.{Has}
 use Rattle.broker_tables.specs.{Schema.{in_versions, in_deployed, to}, Numbers.{number_of}, Holds.{IsBroker, Holds}}
-use Rattle.broker_tables.proofs.{VersionRows.{binary-Eq_same_Int, binary-Eq_same_Text, number_of-version_row, number_of-has_row, version_number}, Listed.{AreRead-sound, AreRead-complete}}
-use Rattle.broker_tables.proofs.References.{references-version}
+use Rattle.broker_tables.proofs.VersionRows.{binary-Eq_same_Int, binary-Eq_same_Text, number_of-version_row, number_of-has_row, version_number}
+use Rattle.broker_tables.proofs.{Listed.{AreRead-sound, AreRead-complete}, References.{references-version}}
 use Rattle.contract_tables.proofs.ItemLists.{and-two_tests, and-true_test}
 use Rattle.sqlite.specs.{declared.types.Value.{Value}, declared.types.Value.TheVariants.{Int, Text}, Order.{Row, column, value_cmp}}
 use Rattle.sqlite.specs.{Term.{Term, col, op2, holds}, Table.{Table}, Collation.TheVariants.{Binary}, Effect.{Database, Answers}}
 use Rattle.sqlite_sql.specs.{declared.ops.BinaryOp.TheVariants.{Compare}, declared.ops.CompareOp.TheVariants.{Eq}}
 use Rattle.table_access.specs.{Columns.{text, whole_at, pair_cmp}, Statements.{keeps_both, pairs_kept, from_table, keeps, shows}, Reading.{AreRead}}
-use Rattle.table_access.proofs.{Members.{pairs-complete, pairs-sound, contains_has, has_contains, has_map, map_has, has_filter, filter_has}, Steps.{IsPermutation-kept_rows}}
-use Rattle.table_access.proofs.Answered.{IsPermutation-has_each}
+use Rattle.table_access.proofs.Members.{pairs-complete, pairs-sound, contains_has, has_contains, has_map, map_has, has_filter, filter_has}
+use Rattle.table_access.proofs.{Steps.{IsPermutation-kept_rows}, Answered.{IsPermutation-has_each}}
 use Rattle.broker_core.specs.{declared.command.Version.{Version}, Text.{Text as Words, version}, State.{State as Broker}}
 
 module _ {Y : Type 0} (db : Database) (params : Row) (terms project : List Term) (reads : Row → Y → Type 0) (rows : List Row) (items : List Y)
@@ -24,10 +24,10 @@ module _ {Y : Type 0} (db : Database) (params : Row) (terms project : List Term)
     all = map (shows project params) (filter (keeps terms params) (db.trees t))
 
     -- the items are those that meet Q: each row that WHERE keeps reads as such, and each such item is read of one
-    pub rows_told : (Q : Y → Type 0) → ((r : Row) (x : Y) → Has (db.trees t) r → keeps terms params r ≡ true → reads (shows project params r) x → Q x)
+    pub rows_returned : (Q : Y → Type 0) → ((r : Row) (x : Y) → Has (db.trees t) r → keeps terms params r ≡ true → reads (shows project params r) x → Q x)
         → ((x : Y) → Q x → (r : Row) × Has (db.trees t) r × (keeps terms params r ≡ true) × ((y : Y) → reads (shows project params r) y → y ≡ x))
         → (x : Y) → Contains items x ↔ Q x
-    rows_told Q sound complete x = (
+    rows_returned Q sound complete x = (
       λ c.
           let row = AreRead-sound reads rows items x read c in
           let one = map_has (shows project params) (filter (keeps terms params) (db.trees t)) row.0

@@ -25,11 +25,11 @@ IsContractThere s p Is x =
     (w : Version) × Is w × (number_of s.versions w ≡ Some x.number) × (s.contracts (w, p) ≡ Some x.content)
 
 -- these are all of them; they are, beside such versions without one
-abbrev pub TellsContracts : State → Text → (Version → Type 0) → List NumberedContract → Type 0
-TellsContracts s p Is contracts = (x : NumberedContract) → Contains contracts x ↔ IsContractThere s p Is x
+abbrev pub ReportsContracts : State → Text → (Version → Type 0) → List NumberedContract → Type 0
+ReportsContracts s p Is contracts = (x : NumberedContract) → Contains contracts x ↔ IsContractThere s p Is x
 
-abbrev pub TellsContractsIfAny : State → Text → (Version → Type 0) → List (Option NumberedContract) → Type 0
-TellsContractsIfAny s p Is found = (x : NumberedContract) → Contains found (Some x) ↔ IsContractThere s p Is x
+abbrev pub ReportsContractsIfAny : State → Text → (Version → Type 0) → List (Option NumberedContract) → Type 0
+ReportsContractsIfAny s p Is found = (x : NumberedContract) → Contains found (Some x) ↔ IsContractThere s p Is x
 
 -- the columns are the version's number and the content
 abbrev pub IsNumberedRow : Row → NumberedContract → Type 0

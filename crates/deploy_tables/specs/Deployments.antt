@@ -36,19 +36,19 @@ TakesOut e p instance number s t =
     × (t ≡ (if is_text v.name (s.deployed (e, p, instance)) then without_instance s e p instance else s))
 
 -- whether the version of this number, one of the pacticipant, is deployed in that instance
-abbrev pub TellsDeployed : Text → Text → Text → ℕ → Bool → State → Type 0
-TellsDeployed e p instance number stood s =
+abbrev pub ReportsDeployed : Text → Text → Text → ℕ → Bool → State → Type 0
+ReportsDeployed e p instance number stood s =
     (v : Version) → number_of s.versions v ≡ Some number → v.pacticipant ≡ p → stood ≡ is_text v.name (s.deployed (e, p, instance))
 
 -- the same, and nothing is deployed by a number that no version of the pacticipant has
 abbrev pub FindsDeployed : Text → Text → Text → ℕ → Bool → State → Type 0
 FindsDeployed e p instance number stood s =
-    TellsDeployed e p instance number stood s × ((¬ IsVersionOf p number s) → stood ≡ false)
+    ReportsDeployed e p instance number stood s × ((¬ IsVersionOf p number s) → stood ≡ false)
 
 -- nothing is done, and nothing was there
 abbrev pub FindsNothing : Bool → State → State → Type 0
 FindsNothing stood s t = (stood ≡ false) × (t ≡ s)
 
 -- it is taken out, and the answer says whether it was there
-abbrev pub TakesOutAndTells : Text → Text → Text → ℕ → Bool → State → State → Type 0
-TakesOutAndTells e p instance number stood s t = TakesOut e p instance number s t × TellsDeployed e p instance number stood s
+abbrev pub TakesOutAndReports : Text → Text → Text → ℕ → Bool → State → State → Type 0
+TakesOutAndReports e p instance number stood s t = TakesOut e p instance number s t × ReportsDeployed e p instance number stood s

@@ -10,7 +10,7 @@ use Rattle.broker_core.specs.declared.need.Latest.{Latest}
 use Rattle.broker_core.specs.declared.need.PairFault.{PairFault}
 use Rattle.broker_core.specs.Text.{Text, same_text, text_cmp, version}
 use Rattle.broker_core.specs.State.{State, latest, is_strict}
-use Rattle.broker_core.specs.Gate.{Stands, IsNeed, IsFault}
+use Rattle.broker_core.specs.Gate.{IsPresent, IsNeed, IsFault}
 use Rattle.broker_core.specs.Faults.{kind_of, fault_cmp}
 use Rattle.broker_core.specs.Listing.{Lists}
 use Rattle.broker_tables.specs.Numbers.{number_of}
@@ -18,8 +18,8 @@ use Rattle.contract_tables.specs.declared.listings.Contract.{Contract}
 use Rattle.contract_tables.specs.declared.version_results.LatestResult.{LatestResult}
 use Rattle.contract_tables.specs.VersionResults.{latest_cmp, IsLatestOf}
 use Rattle.deploy_tables.specs.Releases.{IsVersion, IsOfNumber}
-use Rattle.deploy_tables.specs.declared.wanted_needs.Wanted.{Wanted}
-use Rattle.deploy_tables.specs.declared.wanted_needs.Wanted.TheVariants.{All, Open}
+use Rattle.deploy_tables.specs.declared.selected_needs.Selection.{Selection}
+use Rattle.deploy_tables.specs.declared.selected_needs.Selection.TheVariants.{All, Open}
 use Rattle.deploy_tables.specs.declared.contracts_there.NumberedContract.{NumberedContract}
 
 -- ---- the faults
@@ -65,26 +65,26 @@ AreOfVersions s contracts = (c : NumberedContract) → Contains contracts c → 
 -- ---- the needs that are wanted
 
 -- all of them are, or those of which something is lacking
-abbrev pub is_wanted : Wanted → Need → Bool
-is_wanted All need = true
-is_wanted (Open strict) need = is_some (kind_of strict need.provider_version need.latest)
+abbrev pub is_selected : Selection → Need → Bool
+is_selected All need = true
+is_selected (Open strict) need = is_some (kind_of strict need.provider_version need.latest)
 
-abbrev pub IsWanted : Wanted → Need → Type 0
-IsWanted wanted need = IsTrue (is_wanted wanted need)
+abbrev pub IsSelected : Selection → Need → Type 0
+IsSelected selection need = IsTrue (is_selected selection need)
 
 -- whether a need is good, by what the latest result for its contract says, if the provider has a version there
 abbrev pub is_good : Bool → Option Latest → Bool
 is_good strict said = option_map_or (λ l. l.pass && (l.checked || not strict)) said false
 
 -- so it isn't wanted
-abbrev pub is_left_out : Wanted → Option Latest → Bool
+abbrev pub is_left_out : Selection → Option Latest → Bool
 is_left_out All said = false
 is_left_out (Open strict) said = is_good strict said
 
 -- so it is by one of these results, which is for this content
-abbrev pub IsLeftOutBy : List LatestResult → Wanted → ℕ → Type 0
-IsLeftOutBy results wanted content = (x : LatestResult) × Contains results x × (x.content ≡ content)
-    × IsTrue (is_left_out wanted (Some x.latest))
+abbrev pub IsLeftOutBy : List LatestResult → Selection → ℕ → Type 0
+IsLeftOutBy results selection content = (x : LatestResult) × Contains results x × (x.content ≡ content)
+    × IsTrue (is_left_out selection (Some x.latest))
 
 -- the need of a contract of v with this version of the provider
 abbrev pub need_with : Version → Text → Option Text → Option Latest → Need
@@ -102,29 +102,29 @@ need_used v said w =
     if same_text w.pacticipant v.pacticipant then None else Some (need_with w v.pacticipant (Some v.name) said)
 
 -- the contract c of v, with the version of this number
-abbrev pub IsWithPartner : State → Version → Contract → Wanted → ℕ → Need → Type 0
-IsWithPartner s v c wanted n x = (w : Version) × (number_of s.versions w ≡ Some n) × IsWanted wanted x
+abbrev pub IsWithPartner : State → Version → Contract → Selection → ℕ → Need → Type 0
+IsWithPartner s v c selection n x = (w : Version) × (number_of s.versions w ≡ Some n) × IsSelected selection x
     × (x ≡ need_with v c.provider (Some w.name) (latest s c.content w))
 
 -- the contract c of v, with a version of its provider that is in e, or with none if no version of it is
-abbrev pub IsNeedOfContract : State → Version → Text → Wanted → Contract → Need → Type 0
-IsNeedOfContract s v e wanted c x =
-    ((w : Text) × Stands s e (version c.provider w) × IsWanted wanted x
+abbrev pub IsNeedOfContract : State → Version → Text → Selection → Contract → Need → Type 0
+IsNeedOfContract s v e selection c x =
+    ((w : Text) × IsPresent s e (version c.provider w) × IsSelected selection x
     × (x ≡ need_with v c.provider (Some w) (latest s c.content (version c.provider w))))
-    ⊎ (((w : Text) → ¬ (Stands s e (version c.provider w))) × (x ≡ need_with v c.provider None None))
+    ⊎ (((w : Text) → ¬ (IsPresent s e (version c.provider w))) × (x ≡ need_with v c.provider None None))
 
 -- v is the consumer
-abbrev pub IsOwnNeed : State → Version → Text → Wanted → Need → Type 0
-IsOwnNeed s v e wanted x = (c : Contract) × IsOwnContract s v c × IsNeedOfContract s v e wanted c x
+abbrev pub IsOwnNeed : State → Version → Text → Selection → Need → Type 0
+IsOwnNeed s v e selection x = (c : Contract) × IsOwnContract s v c × IsNeedOfContract s v e selection c x
 
 -- a contract of the version of another pacticipant that has this number, with the pacticipant of v, and v
-abbrev pub IsUsed : State → Version → Wanted → NumberedContract → Need → Type 0
-IsUsed s v wanted c x = (w : Version) × (number_of s.versions w ≡ Some c.number) × (w.pacticipant ≢ v.pacticipant)
-    × IsWanted wanted x × (x ≡ need_with w v.pacticipant (Some v.name) (latest s c.content v))
+abbrev pub IsUsed : State → Version → Selection → NumberedContract → Need → Type 0
+IsUsed s v selection c x = (w : Version) × (number_of s.versions w ≡ Some c.number) × (w.pacticipant ≢ v.pacticipant)
+    × IsSelected selection x × (x ≡ need_with w v.pacticipant (Some v.name) (latest s c.content v))
 
 -- v is the provider
-abbrev pub IsNeedOfOthers : State → Version → Text → Wanted → Need → Type 0
-IsNeedOfOthers s v e wanted x = (c : NumberedContract)
-    × ((w : Version) × Stands s e w × (number_of s.versions w ≡ Some c.number)
+abbrev pub IsNeedOfOthers : State → Version → Text → Selection → Need → Type 0
+IsNeedOfOthers s v e selection x = (c : NumberedContract)
+    × ((w : Version) × IsPresent s e w × (number_of s.versions w ≡ Some c.number)
     × (s.contracts (w, v.pacticipant) ≡ Some c.content))
-    × IsUsed s v wanted c x
+    × IsUsed s v selection c x

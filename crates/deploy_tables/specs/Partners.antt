@@ -3,7 +3,7 @@ use Rattle.std.specs.Prelude.{Contains, ◌≡◌, ◌↔◌, ℕ, List, Option,
 use Rattle.broker_core.specs.declared.command.Version.{Version}
 use Rattle.broker_core.specs.Text.{Text, same_text, version}
 use Rattle.broker_core.specs.State.{State}
-use Rattle.broker_core.specs.Gate.{Stands}
+use Rattle.broker_core.specs.Gate.{IsPresent}
 use Rattle.broker_tables.specs.Numbers.{number_of}
 use Rattle.contract_tables.specs.declared.listings.NumberedName.{NumberedName}
 use Rattle.deploy_tables.specs.ContractsThere.{IsReleasedIn}
@@ -22,7 +22,7 @@ AreReleasedNumbers s e xs = (x : NumberedName) → Contains xs x
 
 -- each version that is there has a number
 abbrev pub AreNumbered : State → Text → Type 0
-AreNumbered s e = (w : Version) → Stands s e w → (n : ℕ) × (number_of s.versions w ≡ Some n)
+AreNumbered s e = (w : Version) → IsPresent s e w → (n : ℕ) × (number_of s.versions w ≡ Some n)
 
 -- each number is that of a version
 abbrev pub AreNumbersOfVersions : State → List ℕ → Type 0

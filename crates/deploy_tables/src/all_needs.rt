@@ -12,8 +12,8 @@ ghost use Rattle.broker_tables.specs.Calm.{CalmQueries};
 ghost use Rattle.deploy_tables.specs.AnyThere.{AnswersOnlyIf, IsOfAVersion, EachReleasedIsThere};
 ghost use Rattle.deploy_tables.specs.Needs.{need_cmp, ListsNeeds};
 
+use crate::selected_needs::{Selection, selected_needs};
 use crate::version_names::find_version;
-use crate::wanted_needs::{Wanted, wanted_needs};
 use broker_core::command::Version;
 use broker_core::need::Need;
 use sqlite::{Alter, Connection};
@@ -60,7 +60,7 @@ fn needs_numbered<S: Alter>(
         Lists need_cmp (IsNeed s version.now environment.now) found.items) }
     ensures named { AnswersOnlyIf S.Store conn.old conn.new result (EachReleasedIsThere environment.now) }
 {
-    let found = done!(wanted_needs(alloc, conn, number, version, environment, Wanted::All));
+    let found = done!(selected_needs(alloc, conn, number, version, environment, Selection::All));
     Ok(each_need_once(found))
 }
 

@@ -3,10 +3,10 @@ ghost use Rattle.std.specs.Prelude.{◌≡◌, ◌↔◌, IfOk, IsTrue, filter_m
 ghost use Rattle.sqlite.specs.Order.{column};
 ghost use Rattle.sqlite.specs.declared.types.Value.TheVariants.{Null};
 ghost use Rattle.deploy_tables.specs.AnyThere.{AnswersOnlyIf, HasNull};
-ghost use Rattle.broker_core.specs.Gate.{Stands};
+ghost use Rattle.broker_core.specs.Gate.{IsPresent};
 ghost use Rattle.broker_tables.specs.Calm.{CalmQueries};
 ghost use Rattle.contract_tables.specs.Listings.{FailsAsNumbers};
-ghost use Rattle.deploy_tables.specs.ContractsThere.{IsDeployedIn, IsReleasedIn, TellsContracts, TellsContractsIfAny, IsNumberedRow, IsContractIfAny, FailsAsContractIfAny};
+ghost use Rattle.deploy_tables.specs.ContractsThere.{IsDeployedIn, IsReleasedIn, ReportsContracts, ReportsContractsIfAny, IsNumberedRow, IsContractIfAny, FailsAsContractIfAny};
 
 use crate::lists::add;
 use sqlite::types::ValueRef;
@@ -82,7 +82,7 @@ fn contracts_if_any<S: Alter>(
     provider: &str,
 ) -> Result<Vec<Option<NumberedContract>>, StoreFault>
     ensures answers { CalmQueries S.Store conn.old conn.new result
-        (λ found s. TellsContractsIfAny s provider.now (IsDeployedIn s environment.now) found.items) }
+        (λ found s. ReportsContractsIfAny s provider.now (IsDeployedIn s environment.now) found.items) }
     ensures null { AnswersOnlyIf S.Store conn.old conn.new result (λ db. ¬ (HasNull environment.now db)) }
 {
     list_of::<ContractIfAnyRow, S>(
@@ -118,7 +118,7 @@ fn deployed_contracts<S: Alter>(
     provider: &str,
 ) -> Result<Vec<NumberedContract>, StoreFault>
     ensures answers { CalmQueries S.Store conn.old conn.new result
-        (λ found s. TellsContracts s provider.now (IsDeployedIn s environment.now) found.items) }
+        (λ found s. ReportsContracts s provider.now (IsDeployedIn s environment.now) found.items) }
     ensures null { AnswersOnlyIf S.Store conn.old conn.new result (λ db. ¬ (HasNull environment.now db)) }
 {
     let found = done!(contracts_if_any(alloc, conn, environment, provider));
@@ -136,7 +136,7 @@ fn released_contracts<S: Alter>(
     provider: &str,
 ) -> Result<Vec<NumberedContract>, StoreFault>
     ensures { CalmQueries S.Store conn.old conn.new result
-        (λ found s. TellsContracts s provider.now (IsReleasedIn s environment.now) found.items) }
+        (λ found s. ReportsContracts s provider.now (IsReleasedIn s environment.now) found.items) }
 {
     list_of::<NumberedRow, S>(
         alloc,
@@ -159,7 +159,7 @@ pub(crate) fn contracts_there<S: Alter>(
     provider: &str,
 ) -> Result<Vec<NumberedContract>, StoreFault>
     ensures answers { CalmQueries S.Store conn.old conn.new result
-        (λ found s. TellsContracts s provider.now (Stands s environment.now) found.items) }
+        (λ found s. ReportsContracts s provider.now (IsPresent s environment.now) found.items) }
     ensures null { AnswersOnlyIf S.Store conn.old conn.new result (λ db. ¬ (HasNull environment.now db)) }
 {
     let mut all = done!(deployed_contracts(alloc, conn, environment, provider));

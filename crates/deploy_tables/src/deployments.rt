@@ -4,7 +4,7 @@ ghost use Rattle.std.specs.Option.{option_map_or};
 ghost use Rattle.broker_tables.specs.Holds.{Changes, ChangesAndAnswers};
 ghost use Rattle.broker_tables.specs.Calm.{CalmQueriesInPlace, IsCalmInPlace};
 ghost use Rattle.broker_tables.specs.ChangeRefusals.{IsCalmStoring};
-ghost use Rattle.deploy_tables.specs.Deployments.{RecordsDeployed, MayBeDeployed, IsVersionOf, FindsDeployed, TakesOutAndTells, FindsNothing};
+ghost use Rattle.deploy_tables.specs.Deployments.{RecordsDeployed, MayBeDeployed, IsVersionOf, FindsDeployed, TakesOutAndReports, FindsNothing};
 
 use sqlite::{Alter, Connection, params};
 use table_access::{StoreFault, change, change_counted, find_number};
@@ -84,7 +84,7 @@ pub fn take_out<S: Alter>(
     number: u32,
 ) -> Result<bool, StoreFault>
     ensures taken { ChangesAndAnswers S.Store conn.old conn.new result (IsVersionOf pacticipant.now number)
-        (TakesOutAndTells environment.now pacticipant.now instance.now number) }
+        (TakesOutAndReports environment.now pacticipant.now instance.now number) }
     ensures unknown { ChangesAndAnswers S.Store conn.old conn.new result
         (λ s. ¬ (IsVersionOf pacticipant.now number s)) FindsNothing }
     ensures calm { IsCalmInPlace S.Store conn.old conn.new result }

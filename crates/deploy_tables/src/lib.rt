@@ -29,9 +29,9 @@ mod matrix_rows;
 mod partners;
 mod releases;
 mod rows;
+mod selected_needs;
 mod version_names;
 mod versions_there;
-mod wanted_needs;
 
 pub use all_needs::needs;
 pub use deployments::{is_deployed, record_deployed, take_out};

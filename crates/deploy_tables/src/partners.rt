@@ -1,6 +1,6 @@
 //! The versions of a provider that are in an environment, by their numbers.
 ghost use Rattle.std.specs.Prelude.{◌≡◌, ◌++◌, ◌↔◌, IfOk, filter_map};
-ghost use Rattle.broker_core.specs.Gate.{Stands};
+ghost use Rattle.broker_core.specs.Gate.{IsPresent};
 ghost use Rattle.broker_tables.specs.Calm.{CalmQueries};
 ghost use Rattle.deploy_tables.specs.AnyThere.{AnswersOnlyIf, EachReleasedIsThere};
 ghost use Rattle.deploy_tables.specs.ContractsThere.{IsDeployedIn};
@@ -90,7 +90,7 @@ pub(crate) fn partners<S: Alter>(
 ) -> Result<Vec<u32>, StoreFault>
     ensures { CalmQueries S.Store conn.old conn.new result
         (λ found s. AreReleasedThere s environment.now released.now →
-        ArePartners s provider.now (Stands s environment.now) found.items) }
+        ArePartners s provider.now (IsPresent s environment.now) found.items) }
 {
     let deployed = done!(deployed_partners(alloc, conn, environment, provider.as_str()));
     match with_released(deployed, released, provider) {

@@ -1,6 +1,6 @@
 //! The versions that are in an environment.
 ghost use Rattle.std.specs.Prelude.{◌≡◌, IfOk, Contains, map};
-ghost use Rattle.broker_core.specs.Gate.{Stands};
+ghost use Rattle.broker_core.specs.Gate.{IsPresent};
 ghost use Rattle.broker_core.specs.Listing.{Lists};
 ghost use Rattle.broker_core.specs.Machine.{version_cmp};
 ghost use Rattle.broker_tables.specs.Calm.{CalmQueries};
@@ -67,7 +67,7 @@ pub fn standing<S: Alter>(
     environment: &str,
 ) -> Result<Vec<Version>, StoreFault>
     ensures { CalmQueries S.Store conn.old conn.new result
-        (λ found s. Lists version_cmp (Stands s environment.now) found.items) }
+        (λ found s. Lists version_cmp (IsPresent s environment.now) found.items) }
 {
     let deployed = done!(deployed(alloc, conn, environment));
     let released = done!(released(alloc, conn, environment));

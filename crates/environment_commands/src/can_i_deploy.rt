@@ -7,7 +7,7 @@ ghost use Rattle.command_facts.specs.Performs.{CarriesCalmly};
 ghost use Rattle.environment_commands.specs.Effects.{IsGateShown, shows_gate};
 ghost use Rattle.environment_commands.specs.Places.{IsVersionRead, GateHasRefusal};
 
-use crate::gate::judge;
+use crate::gate::gate_verdict;
 use crate::places::{Admitted, VersionFacts, number_among, read_version};
 use broker_core::answer::{Answer, Faults, Missing, Shown};
 use broker_core::command::{Marks, Version};
@@ -86,7 +86,7 @@ fn show_gate<S: Alter>(
     ensures { CalmQueries S.Store conn.old conn.new result
         (IsGateShown environment.now version.now place) }
 {
-    let (permitted, faults) = done!(judge(alloc, conn, environment, version, place));
+    let (permitted, faults) = done!(gate_verdict(alloc, conn, environment, version, place));
     Ok(done!(gate_answer(environment, place.marks, permitted, faults)))
 }
 

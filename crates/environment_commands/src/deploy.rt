@@ -1,18 +1,18 @@
 //! Deployment of a version.
 ghost use Rattle.sqlite.specs.Held.{state};
-ghost use Rattle.table_access.specs.Calls.{TellsMemory};
+ghost use Rattle.table_access.specs.Calls.{ReportsMemory};
 ghost use Rattle.broker_core.specs.declared.command.Command.TheVariants.{Deploy};
 ghost use Rattle.command_facts.specs.Performs.{Carries, CarriesFrom};
 ghost use Rattle.environment_commands.specs.Effects.{CarriesOut, Deploys};
 ghost use Rattle.environment_commands.specs.Places.{HasNumber, HasPlace, IsLongPlace, IsAdmitted};
 
-use crate::gate::judge;
+use crate::gate::gate_verdict;
 use crate::places::{Admitted, instance_text, read_admitted};
 use broker_core::answer::{Answer, Detail, Faults};
 use broker_core::command::Version;
 use broker_core::policy::Caller;
 use broker_names::name::Name;
-use command_facts::change::told;
+use command_facts::change::returned;
 use deploy_tables::{is_deployed, record_deployed};
 use sqlite::{Alter, Connection};
 use std::alloc::Global;
@@ -29,7 +29,7 @@ fn record_deployment<S: Alter>(
     ensures carries { CarriesFrom S.Store conn.old conn.new result (HasNumber version.now number)
         (HasPlace environment.now version.now number) (IsLongPlace environment.now version.now instance.now)
         (Deploys environment.now version.now instance.now) }
-    ensures memory { TellsMemory (state S.Store conn.old) (state S.Store conn.new) result }
+    ensures memory { ReportsMemory (state S.Store conn.old) (state S.Store conn.new) result }
 {
     if done!(is_deployed(
         conn,
@@ -40,7 +40,7 @@ fn record_deployment<S: Alter>(
     )) {
         return Ok(Answer::Already(Detail::Plain));
     }
-    told(record_deployed(
+    returned(record_deployed(
         conn,
         environment.as_str(),
         version.pacticipant.as_str(),
@@ -61,7 +61,7 @@ fn deploy_judged<S: Alter>(
     ensures { CarriesOut S.Store conn.old conn.new result (IsAdmitted environment.now version.now place)
         (Deploy environment.now version.now instance.now) }
 {
-    let (permitted, faults) = done!(judge(alloc, conn, environment, version, place));
+    let (permitted, faults) = done!(gate_verdict(alloc, conn, environment, version, place));
     if permitted {
         record_deployment(
             conn,

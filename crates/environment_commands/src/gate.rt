@@ -22,7 +22,7 @@ fn permits(marks: Marks, faults: &[PairFault]) -> bool
 
 /// Asks the gate for a version and an environment that are there: whether the version is permitted,
 /// and all its faults.
-pub(crate) fn judge<S: Alter>(
+pub(crate) fn gate_verdict<S: Alter>(
     alloc: Global,
     conn: &mut Connection<S>,
     environment: &Name,

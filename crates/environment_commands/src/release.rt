@@ -1,20 +1,20 @@
 //! Release of a version.
 ghost use Rattle.std.specs.Prelude.{[], ◌∷◌};
 ghost use Rattle.sqlite.specs.Held.{state};
-ghost use Rattle.table_access.specs.Calls.{TellsMemory};
+ghost use Rattle.table_access.specs.Calls.{ReportsMemory};
 ghost use Rattle.broker_core.specs.declared.command.Command.TheVariants.{Release};
 ghost use Rattle.broker_tables.specs.ChangeRefusals.{AreShort};
 ghost use Rattle.command_facts.specs.Performs.{Carries, CarriesFrom};
 ghost use Rattle.environment_commands.specs.Effects.{CarriesOut, Releases};
 ghost use Rattle.environment_commands.specs.Places.{HasNumber, HasPlace, IsAdmitted};
 
-use crate::gate::judge;
+use crate::gate::gate_verdict;
 use crate::places::{Admitted, read_admitted};
 use broker_core::answer::{Answer, Detail, Faults};
 use broker_core::command::Version;
 use broker_core::policy::Caller;
 use broker_names::name::Name;
-use command_facts::change::told;
+use command_facts::change::returned;
 use deploy_tables::{is_released, record_released};
 use sqlite::{Alter, Connection};
 use std::alloc::Global;
@@ -30,12 +30,12 @@ fn record_release<S: Alter>(
     ensures carries { CarriesFrom S.Store conn.old conn.new result (HasNumber version.now number)
         (HasPlace environment.now version.now number) (¬ AreShort (environment.now ∷ []))
         (Releases environment.now version.now) }
-    ensures memory { TellsMemory (state S.Store conn.old) (state S.Store conn.new) result }
+    ensures memory { ReportsMemory (state S.Store conn.old) (state S.Store conn.new) result }
 {
     if done!(is_released(conn, environment.as_str(), number)) {
         return Ok(Answer::Already(Detail::Plain));
     }
-    told(record_released(conn, environment.as_str(), number))
+    returned(record_released(conn, environment.as_str(), number))
 }
 
 /// Asks the gate, and releases the version if it is permitted.
@@ -49,7 +49,7 @@ fn release_judged<S: Alter>(
     ensures { CarriesOut S.Store conn.old conn.new result (IsAdmitted environment.now version.now place)
         (Release environment.now version.now) }
 {
-    let (permitted, faults) = done!(judge(alloc, conn, environment, version, place));
+    let (permitted, faults) = done!(gate_verdict(alloc, conn, environment, version, place));
     if permitted {
         record_release(conn, environment, version, place.number)
     } else {

@@ -129,7 +129,7 @@ fn reads_and_writes(rt: HostRuntime) -> Result<(), Fail> {
 
 /// What the database refuses is reported as Store, and the transaction goes on; so is a row that doesn't read.
 #[test]
-fn tells_store(rt: HostRuntime) -> Result<(), Fail> {
+fn reports_store(rt: HostRuntime) -> Result<(), Fail> {
     let alloc = rt.alloc();
     let mut conn = Connection::open_in_memory(alloc)?;
     assert!(rt; put(&mut conn, 1, "a") == Err(StoreFault::Store));

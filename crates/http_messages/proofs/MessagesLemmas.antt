@@ -130,9 +130,9 @@ BeginsWithMessage-more stream more after m p = record {
 pub BeginsWithMessage-unique : (stream after other : List ℕ) (m n : Message) → BeginsWithMessage stream m after → BeginsWithMessage stream n other → (m.head ≡ n.head) × (m.body ≡ n.body) × (after ≡ other)
 BeginsWithMessage-unique stream after other m n p q =
     let heads : m.head ≡ n.head = IsHeadOf-unique stream m.head n.head p.head q.head in
-    let behind = append-cancel_equal_length m.head n.head (m.body ++ after) (n.body ++ other) (ap length heads) (sym p.whole ∙ q.whole) in
+    let following = append-cancel_equal_length m.head n.head (m.body ++ after) (n.body ++ other) (ap length heads) (sym p.whole ∙ q.whole) in
     let lengths = IsBodyLength-unique n.head (length m.body) (length n.body) (subst (λ head. IsBodyLength head (length m.body)) heads p.body) q.body in
-    let bodies = append-cancel_equal_length m.body n.body after other lengths behind.1 in
+    let bodies = append-cancel_equal_length m.body n.body after other lengths following.1 in
     (heads, bodies.0, bodies.1)
 
 -- so many bytes of head and body are a message

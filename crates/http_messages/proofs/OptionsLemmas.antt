@@ -18,8 +18,8 @@ module _ (rest : List ℕ) (i : ℕ) (at : position_or_len is_comma rest ≡ i) 
   pub has_close-first : i < length rest → is_close (take i rest) ≡ true → has_close rest ≡ true
   has_close-first within e = has_close-split within ∙ or_left (is_close (take i rest)) (has_close (drop (i + 1) rest)) e
 
-  pub has_close-behind : i < length rest → is_close (take i rest) ≡ false → has_close rest ≡ has_close (drop (i + 1) rest)
-  has_close-behind within e = has_close-split within ∙ ap (λ v. v || has_close (drop (i + 1) rest)) e
+  pub has_close-following : i < length rest → is_close (take i rest) ≡ false → has_close rest ≡ has_close (drop (i + 1) rest)
+  has_close-following within e = has_close-split within ∙ ap (λ v. v || has_close (drop (i + 1) rest)) e
 
   pub has_close-last : i ≡ length rest → has_close rest ≡ is_close rest
   has_close-last whole =

@@ -22,9 +22,9 @@ LeavesAtFault before after old new Memory =
     × Consumes before after (more ++ lost) × (0 < length lost) × (new ≡ old ++ more)
 
 -- the reader has failed, if this fault says so
-abbrev pub TellsFailure : ReadFault → Type 0 → Type 0
-TellsFailure (Reader failed) HasFailed = HasFailed
-TellsFailure Memory HasFailed = Unit {0}
+abbrev pub ReportsFailure : ReadFault → Type 0 → Type 0
+ReportsFailure (Reader failed) HasFailed = HasFailed
+ReportsFailure Memory HasFailed = Unit {0}
 
 -- the buffer begins with that message, whose head says this, or with none
 abbrev pub IsOutcome : List ℕ → ReadOutcome → Type 0

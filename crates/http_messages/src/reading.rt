@@ -3,7 +3,7 @@ ghost use Rattle.std.specs.Prelude.{◌≡◌, ◌≢◌, ℕ, ◌+◌, ◌<◌,
 ghost use Rattle.std.specs.Io.KnownBytes.{IsAtEnd};
 ghost use Rattle.http_messages.specs.Limits.{head_limit, body_limit};
 ghost use Rattle.http_messages.specs.Messages.{HasNoHead, IsHeadFound};
-ghost use Rattle.http_messages.specs.Reading.{Gains, LeavesAtFault, ReadsMessage, FailsToReadMessage, TellsFailure};
+ghost use Rattle.http_messages.specs.Reading.{Gains, LeavesAtFault, ReadsMessage, FailsToReadMessage, ReportsFailure};
 ghost use Rattle.http_messages.specs.Views.{announced};
 
 use crate::buffer::Buffer;
@@ -68,7 +68,7 @@ fn read_piece<R: FallibleRead, const SIZE: usize>(
     ensures err { IfErr result
         (LeavesAtFault (R.remaining reader.old) (R.remaining reader.new)
         buffer.old.items buffer.new.items) }
-    ensures failed { IfErr result (λ fault. TellsFailure fault (R.HasFailed reader.new)) }
+    ensures failed { IfErr result (λ fault. ReportsFailure fault (R.HasFailed reader.new)) }
     ensures kept { OnErr result (buffer.new.items ≡ buffer.old.items) }
     ensures full { IfErr result (λ fault. fault ≡ ReadFault.Memory → head_limit < length buffer.old.items + most) }
 {
@@ -102,7 +102,7 @@ fn read_body_piece<R: FallibleRead>(
     ensures err { IfErr result
         (LeavesAtFault (R.remaining reader.old) (R.remaining reader.new)
         buffer.old.items buffer.new.items) }
-    ensures failed { IfErr result (λ fault. TellsFailure fault (R.HasFailed reader.new)) }
+    ensures failed { IfErr result (λ fault. ReportsFailure fault (R.HasFailed reader.new)) }
     ensures kept { OnErr result (buffer.new.items ≡ buffer.old.items) }
     ensures full { IfErr result (λ fault. fault ≡ ReadFault.Memory → head_limit < length buffer.old.items + most) }
 {
@@ -126,7 +126,7 @@ fn read_head_bytes<R: FallibleRead>(
     ensures err { IfErr result
         (LeavesAtFault (R.remaining reader.old) (R.remaining reader.new)
         buffer.old.items buffer.new.items) }
-    ensures failed { IfErr result (λ fault. TellsFailure fault (R.HasFailed reader.new)) }
+    ensures failed { IfErr result (λ fault. ReportsFailure fault (R.HasFailed reader.new)) }
     ensures none { OnErr result (HasNoHead buffer.new.items) }
     ensures memory { IfErr result (λ fault. fault ≢ ReadFault.Memory) }
     ensures bound { length buffer.new.items ≤ max (length buffer.old.items) head_limit }
@@ -156,7 +156,7 @@ fn read_up_to<R: FallibleRead>(
     ensures err { IfErr result
         (LeavesAtFault (R.remaining reader.old) (R.remaining reader.new)
         buffer.old.items buffer.new.items) }
-    ensures failed { IfErr result (λ fault. TellsFailure fault (R.HasFailed reader.new)) }
+    ensures failed { IfErr result (λ fault. ReportsFailure fault (R.HasFailed reader.new)) }
     ensures lacks { OnErr result (length buffer.new.items < len) }
     ensures bound { length buffer.new.items ≤ max (length buffer.old.items) len }
 {
@@ -180,7 +180,7 @@ pub fn read_message<R: FallibleRead>(
         buffer.old.items buffer.new.items) }
     ensures err { IfErr result (FailsToReadMessage (R.remaining reader.old) (R.remaining reader.new)
         buffer.old.items buffer.new.items) }
-    ensures failed { IfErr result (λ fault. TellsFailure fault (R.HasFailed reader.new)) }
+    ensures failed { IfErr result (λ fault. ReportsFailure fault (R.HasFailed reader.new)) }
     ensures bound { length buffer.new.items ≤ max (length buffer.old.items) (head_limit + body_limit) }
 {
     let Some(head_len) = read_head_bytes(reader, buffer)? else {

@@ -172,7 +172,7 @@ IsParsed-unique operation.PostResult path query body =
     AndThen-unique _ _ (IsNameField-unique (codes "providerApplicationVersion") fields) (λ v.
     AndThen-unique _ _ (IsTruthField-unique (codes "success") fields) (λ success.
     AndThen-unique _ _ (IsOptionalName-unique (codes "run") fields) (λ run. IsMade-unique _)))))
-    (λ told. IsMade-unique _))
+    (λ returned. IsMade-unique _))
 IsParsed-unique operation.PostReplies path query body =
     AndThen-unique _ _ (IsPactPath-unique path) (λ of.
     AndThen-unique _ _ (WithFields-unique body _ (λ fields.

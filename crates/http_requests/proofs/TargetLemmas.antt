@@ -19,7 +19,7 @@ path-text target text = by (ltb (position_or_len is_question_mark target) (lengt
         subst IsUtf8 (sym (take_all (position_or_len is_question_mark target) target over)) text
 
 -- a function that finds the resource of each path in UTF-8 finds that of the target's path
-pub resource-read : (target read path : List ℕ) (told : Option Resource) → IsUtf8 target → path ≡ path_of read → read ≡ target → (IsUtf8 path → told ≡ resource_of path) → told ≡ resource_of (path_of target)
-resource-read target read path told text is-path is-target is-told =
+pub resource-read : (target read path : List ℕ) (returned : Option Resource) → IsUtf8 target → path ≡ path_of read → read ≡ target → (IsUtf8 path → returned ≡ resource_of path) → returned ≡ resource_of (path_of target)
+resource-read target read path returned text is-path is-target is-returned =
     let same : path ≡ path_of target = is-path ∙ ap path_of is-target in
-    is-told (subst IsUtf8 (sym same) (path-text target text)) ∙ ap resource_of same
+    is-returned (subst IsUtf8 (sym same) (path-text target text)) ∙ ap resource_of same

@@ -146,8 +146,8 @@ IsParsed operation.GetBranchPact path query body =
     AndThen (IsPactNames 7 path) (λ names. IsMade (command.GetBranchPact names.0 names.1 names.2))
 IsParsed operation.PostResult path query body =
     AndThen (IsPactPath path) (λ of.
-    AndThen (WithFields body IsResultFields) (λ told.
-    IsMade (command.PostResult of told.0 told.1)))
+    AndThen (WithFields body IsResultFields) (λ returned.
+    IsMade (command.PostResult of returned.0 returned.1)))
 IsParsed operation.PostReplies path query body =
     AndThen (IsPactPath path) (λ of.
     AndThen (WithFields body IsReportFields) (λ report.

@@ -12,13 +12,13 @@ skip_spaces [] = []
 skip_spaces (b ∷ rest) = if b == space then skip_spaces rest else b ∷ rest
 
 -- what follows one or more spaces
-abbrev pub behind_spaces : List ℕ → Option (List ℕ)
-behind_spaces [] = None
-behind_spaces (b ∷ rest) = if b == space then Some (skip_spaces rest) else None
+abbrev pub after_spaces : List ℕ → Option (List ℕ)
+after_spaces [] = None
+after_spaces (b ∷ rest) = if b == space then Some (skip_spaces rest) else None
 
 -- what follows the scheme, which is compared without ASCII case
 abbrev pub credentials : List ℕ → Option (List ℕ)
-credentials value = if same_name (take 6 value) (codes "Bearer") then behind_spaces (drop 6 value) else None
+credentials value = if same_name (take 6 value) (codes "Bearer") then after_spaces (drop 6 value) else None
 
 -- the credentials of exactly one field
 abbrev pub only_credentials : List (List ℕ) → Option (List ℕ)

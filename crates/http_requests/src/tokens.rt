@@ -3,7 +3,7 @@ ghost use Rattle.std.specs.Prelude.{◌≡◌, ℕ, List, drop, IfOk, IfErr, Opt
 ghost use Rattle.std.specs.Option.{option_map};
 ghost use Rattle.broker_names.specs.Name.{IsToken};
 ghost use Rattle.http_messages.specs.Fields.{IsField, same_name};
-ghost use Rattle.http_requests.specs.Tokens.{skip_spaces, behind_spaces, credentials, only_credentials, IsTokenOf, HasTokenIn};
+ghost use Rattle.http_requests.specs.Tokens.{skip_spaces, after_spaces, credentials, only_credentials, IsTokenOf, HasTokenIn};
 
 use broker_names::name::{Token, TokenFault};
 use http_messages::fields::Field;
@@ -24,8 +24,8 @@ fn skip_spaces(text: &[u8]) -> &[u8]
 }
 
 /// What is after one or more spaces.
-fn behind_spaces(text: &[u8]) -> Option<&[u8]>
-    ensures { option_map (λ t. t.now) result ≡ behind_spaces text.now }
+fn after_spaces(text: &[u8]) -> Option<&[u8]>
+    ensures { option_map (λ t. t.now) result ≡ after_spaces text.now }
 {
     match text.split_first() {
         Some((first, rest)) if *first == b' ' => Some(skip_spaces(rest)),
@@ -40,7 +40,7 @@ fn credentials(value: &[u8]) -> Option<&[u8]>
 {
     let (scheme, rest) = value.split_at(value.len().min(6));
     if scheme.eq_ignore_ascii_case(b"Bearer") {
-        behind_spaces(rest)
+        after_spaces(rest)
     } else {
         None
     }

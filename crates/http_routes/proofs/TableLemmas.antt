@@ -150,11 +150,11 @@ Right [] = Unit {0}
 Right ((t, r) ∷ rest) = (is_plain t ≡ true) × ((path : List ℕ) → takes t path ≡ true → resource_of path ≡ Some r.value) × Right rest
 
 Right-placed : (t : List ℕ) (r : RouteOf Resource) (rows : Rows) → is_plain t ≡ true → ((path : List ℕ) → takes t path ≡ true → resource_of path ≡ Some r.value) → Right rows → Right (placed (t, r) rows)
-Right-placed t r [] plain told h = (plain, told, tt)
-Right-placed t r ((u, k) ∷ rest) plain told h = by (comes_before t u) (Right-placed t r rest plain told h.2)
+Right-placed t r [] plain returned h = (plain, returned, tt)
+Right-placed t r ((u, k) ∷ rest) plain returned h = by (comes_before t u) (Right-placed t r rest plain returned h.2)
   where
     by : (v : Bool) → Right (placed (t, r) rest) → Right (cond v ((t, r) ∷ (u, k) ∷ rest) ((u, k) ∷ placed (t, r) rest))
-    by true ih = (plain, told, h)
+    by true ih = (plain, returned, h)
     by false ih = (h.0, h.1, ih)
 
 placed-new : (t : List ℕ) (r : RouteOf Resource) (rows : Rows) → HasRow (placed (t, r) rows) t r
@@ -189,14 +189,14 @@ Right-row ((u, k) ∷ rest) t r path h row e = elim row [
 
 with-right : (rs : List (List ℕ × Resource)) (rows : Rows) → AreGood rs
     → ((text : List ℕ) (resource : Resource) (path : List ℕ) → HasRoute rs text resource → is_on text path ≡ true → resource_of path ≡ Some resource) → Right rows → Right (with_routes rs rows)
-with-right [] rows good told h = h
-with-right (route ∷ more) rows good told h =
-    with-right more (with_route (parse_route route.0) route.1 rows) good.1 (λ text resource path has e. told text resource path (inr has) e) (step (parse_route route.0) good.0.0)
+with-right [] rows good returned h = h
+with-right (route ∷ more) rows good returned h =
+    with-right more (with_route (parse_route route.0) route.1 rows) good.1 (λ text resource path has e. returned text resource path (inr has) e) (step (parse_route route.0) good.0.0)
   where
     step : (x : Result Scan InsertError) → IsRead x route.0 → Right (with_route x route.1 rows)
     step (Ok scan) read =
         Right-placed scan.pattern (route_from scan route.1) rows (ap is_plain read ∙ good.0.2)
-        (λ path e. told route.0 route.1 path (inl (refl, refl)) (sym (takes-route route.0 path good.0.1) ∙ ap (λ w. takes w path) (sym read) ∙ e)) h
+        (λ path e. returned route.0 route.1 path (inl (refl, refl)) (sym (takes-route route.0 path good.0.1) ∙ ap (λ w. takes w path) (sym read) ∙ e)) h
     step (Err e) read = elim read [ ]
 
 with-kept : (rs : List (List ℕ × Resource)) (rows : Rows) (t : List ℕ) (r : RouteOf Resource) → HasRow rows t r → HasRow (with_routes rs rows) t r

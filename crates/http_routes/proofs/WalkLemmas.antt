@@ -16,9 +16,9 @@ is_plain [] = true
 is_plain (x ∷ t) = cond (x == 256) (ends_segment t) (ltb x 256) && is_plain t
 
 -- what follows the first segment
-abbrev pub behind_segment : List ℕ → List ℕ
-behind_segment [] = []
-behind_segment (b ∷ path) = cond (b == 47) (b ∷ path) (behind_segment path)
+abbrev pub after_segment : List ℕ → List ℕ
+after_segment [] = []
+after_segment (b ∷ path) = cond (b == 47) (b ∷ path) (after_segment path)
 
 abbrev pub is_nil : List ℕ → Bool
 is_nil [] = true
@@ -28,7 +28,7 @@ is_nil (b ∷ path) = false
 abbrev pub takes : List ℕ → List ℕ → Bool
 takes [] path = is_nil path
 takes (x ∷ t) [] = false
-takes (x ∷ t) (b ∷ path) = cond (x == 256) (not (b == 47) && takes t (behind_segment path)) ((x == b) && takes t path)
+takes (x ∷ t) (b ∷ path) = cond (x == 256) (not (b == 47) && takes t (after_segment path)) ((x == b) && takes t path)
 
 head-same : (x y : ℕ) (t u : List ℕ) → x ∷ t ≡ y ∷ u → x ≡ y
 head-same x y t u e = cc
@@ -71,31 +71,31 @@ cuts-other b p e = rw e (rw (ends_with-segment b p e) (by (has_slash p) refl))
 pub cuts-slash : (b : ℕ) (p : List ℕ) → (b == 47) ≡ true → cuts (segment (b ∷ p)) (47 ∷ []) ≡ false
 cuts-slash b p e = rw e refl
 
-pub drop-segment : (p : List ℕ) → has_slash p ≡ true → drop (length (segment p) - 1) p ≡ behind_segment p
+pub drop-segment : (p : List ℕ) → has_slash p ≡ true → drop (length (segment p) - 1) p ≡ after_segment p
 drop-segment [] e = refl
 drop-segment (c ∷ q) e = by (c == 47) refl e (drop-segment q)
   where
-    by : (v : Bool) → (c == 47) ≡ v → cond v true (has_slash q) ≡ true → (has_slash q ≡ true → drop (length (segment q) - 1) q ≡ behind_segment q)
-        → drop (length (cond v (c ∷ []) (c ∷ segment q)) - 1) (c ∷ q) ≡ cond v (c ∷ q) (behind_segment q)
+    by : (v : Bool) → (c == 47) ≡ v → cond v true (has_slash q) ≡ true → (has_slash q ≡ true → drop (length (segment q) - 1) q ≡ after_segment q)
+        → drop (length (cond v (c ∷ []) (c ∷ segment q)) - 1) (c ∷ q) ≡ cond v (c ∷ q) (after_segment q)
     by true d e ih = refl
     by false d e ih =
         let l = some-segment q e in
         let n : suc (length (segment q)) - 1 ≡ suc (length (segment q) - 1) = omega (arith, l) in
         ap (λ m. drop m (c ∷ q)) n ∙ ih e
 
-pub behind-none : (p : List ℕ) → has_slash p ≡ false → behind_segment p ≡ []
-behind-none [] e = refl
-behind-none (c ∷ q) e = by (c == 47) e (behind-none q)
+pub following-none : (p : List ℕ) → has_slash p ≡ false → after_segment p ≡ []
+following-none [] e = refl
+following-none (c ∷ q) e = by (c == 47) e (following-none q)
   where
-    by : (v : Bool) → cond v true (has_slash q) ≡ false → (has_slash q ≡ false → behind_segment q ≡ []) → cond v (c ∷ q) (behind_segment q) ≡ []
+    by : (v : Bool) → cond v true (has_slash q) ≡ false → (has_slash q ≡ false → after_segment q ≡ []) → cond v (c ∷ q) (after_segment q) ≡ []
     by true e ih = cc
     by false e ih = ih e
 
-pub behind-some : (p : List ℕ) → has_slash p ≡ true → is_nil (behind_segment p) ≡ false
-behind-some [] e = cc
-behind-some (c ∷ q) e = by (c == 47) e (behind-some q)
+pub following-some : (p : List ℕ) → has_slash p ≡ true → is_nil (after_segment p) ≡ false
+following-some [] e = cc
+following-some (c ∷ q) e = by (c == 47) e (following-some q)
   where
-    by : (v : Bool) → cond v true (has_slash q) ≡ true → (has_slash q ≡ true → is_nil (behind_segment q) ≡ false) → is_nil (cond v (c ∷ q) (behind_segment q)) ≡ false
+    by : (v : Bool) → cond v true (has_slash q) ≡ true → (has_slash q ≡ true → is_nil (after_segment q) ≡ false) → is_nil (cond v (c ∷ q) (after_segment q)) ≡ false
     by true e ih = refl
     by false e ih = ih e
 
@@ -104,15 +104,15 @@ drop-all [] = refl
 drop-all (c ∷ q) = drop-all q
 
 -- what ends a segment and takes a path leaves no segment before it
-takes-behind : (t p : List ℕ) → ends_segment t ≡ true → takes t p ≡ true → takes t (behind_segment p) ≡ true
-takes-behind [] [] s e = refl
-takes-behind [] (c ∷ p) s e = cc
-takes-behind (x ∷ t) [] s e = cc
-takes-behind (x ∷ t) (c ∷ p) s e =
+takes-following : (t p : List ℕ) → ends_segment t ≡ true → takes t p ≡ true → takes t (after_segment p) ≡ true
+takes-following [] [] s e = refl
+takes-following [] (c ∷ p) s e = cc
+takes-following (x ∷ t) [] s e = cc
+takes-following (x ∷ t) (c ∷ p) s e =
     let x47 : x ≡ 47 = grind (arith, nat_tests) in
     let here : ((47 == c) && takes t p) ≡ true = subst (λ y. takes (y ∷ t) (c ∷ p) ≡ true) x47 e in
     let c47 : (c == 47) ≡ true = (let h = (and_parts (47 == c) (takes t p) here).0 in grind (arith, nat_tests)) in
-    ap (λ v. takes (x ∷ t) (cond v (c ∷ p) (behind_segment p))) c47 ∙ e
+    ap (λ v. takes (x ∷ t) (cond v (c ∷ p) (after_segment p))) c47 ∙ e
 
 module _ {K : Type 0} where
   -- there is such a row
@@ -323,15 +323,15 @@ module _ {K : Type 0} where
         ∙ ap (λ v. cond {A = ℕ × RowsOf K} v (0, []) (length (b ∷ p), rs)) d)
 
     -- how far a parameter goes
-    middle-drop : (b == 47) ≡ false → has_slash p ≡ true → drop (length (segment (b ∷ p)) - 1 - 1) p ≡ behind_segment p
+    middle-drop : (b == 47) ≡ false → has_slash p ≡ true → drop (length (segment (b ∷ p)) - 1 - 1) p ≡ after_segment p
     middle-drop e d =
         let n : suc (length (segment p)) - 1 - 1 ≡ length (segment p) - 1 = omega arith in
         ap (λ v. drop (length (cond v (b ∷ []) (b ∷ segment p)) - 1 - 1) p) e ∙ ap (λ m. drop m p) n ∙ drop-segment p d
 
-    last-drop : has_slash p ≡ false → drop (length (b ∷ p) - 1) p ≡ behind_segment p
+    last-drop : has_slash p ≡ false → drop (length (b ∷ p) - 1) p ≡ after_segment p
     last-drop d =
         let n : suc (length p) - 1 ≡ length p = omega arith in
-        ap (λ m. drop m p) n ∙ drop-all p ∙ sym (behind-none p d)
+        ap (λ m. drop m p) n ∙ drop-all p ∙ sym (following-none p d)
 
   -- a row that is left after a parameter, and takes what is left of the path
   abbrev pub GoesOn : RowsOf K → ℕ → List ℕ → List ℕ → K → (ℕ × RowsOf K) → Type 0
@@ -358,44 +358,44 @@ module _ {K : Type 0} where
 
   pub param-sound : (rs : RowsOf K) (b : ℕ) (p t : List ℕ) (k : K) → EndSegments rs
       → HasRow (param_step rs (b ∷ p)).1 t k → takes t (drop ((param_step rs (b ∷ p)).0 - 1) p) ≡ true
-      → HasRow rs t k × ((not (b == 47) && takes t (behind_segment p)) ≡ true)
+      → HasRow rs t k × ((not (b == 47) && takes t (after_segment p)) ≡ true)
   param-sound rs b p t k ends h e = by (b == 47) refl
     where
-      inside : (v : Bool) → (b == 47) ≡ false → has_slash p ≡ true → goes_on rs ≡ v → HasRow rs t k × ((not (b == 47) && takes t (behind_segment p)) ≡ true)
+      inside : (v : Bool) → (b == 47) ≡ false → has_slash p ≡ true → goes_on rs ≡ v → HasRow rs t k × ((not (b == 47) && takes t (after_segment p)) ≡ true)
       inside true d s g =
           let ps = param-middle rs ends b p d s g in
           let h2 : HasRow (with_suffix (47 ∷ []) rs) t k = subst (λ rows. HasRow rows t k) (ap (λ r. r.1) ps) h in
           let e2 : takes t (drop (length (segment (b ∷ p)) - 1 - 1) p) ≡ true = sym (ap (λ r. takes t (drop (r.0 - 1) p)) ps) ∙ e in
-          (HasRow-with (47 ∷ []) rs t k h2, ap (λ v. not v && takes t (behind_segment p)) d ∙ sym (ap (λ w. takes t w) (middle-drop rs ends b p d s)) ∙ e2)
+          (HasRow-with (47 ∷ []) rs t k h2, ap (λ v. not v && takes t (after_segment p)) d ∙ sym (ap (λ w. takes t w) (middle-drop rs ends b p d s)) ∙ e2)
       inside false d s g = absurd (none-HasRow _ t k (param-stuck rs ends b p d s g) h)
 
-      other : (v : Bool) → (b == 47) ≡ false → has_slash p ≡ v → HasRow rs t k × ((not (b == 47) && takes t (behind_segment p)) ≡ true)
+      other : (v : Bool) → (b == 47) ≡ false → has_slash p ≡ v → HasRow rs t k × ((not (b == 47) && takes t (after_segment p)) ≡ true)
       other true d s = inside (goes_on rs) d s refl
       other false d s =
           let ps = param-last rs ends b p d s in
           let h2 : HasRow rs t k = subst (λ rows. HasRow rows t k) (ap (λ r. r.1) ps) h in
           let e2 : takes t (drop (length (b ∷ p) - 1) p) ≡ true = sym (ap (λ r. takes t (drop (r.0 - 1) p)) ps) ∙ e in
-          (h2, ap (λ v. not v && takes t (behind_segment p)) d ∙ sym (ap (λ w. takes t w) (last-drop rs ends b p s)) ∙ e2)
+          (h2, ap (λ v. not v && takes t (after_segment p)) d ∙ sym (ap (λ w. takes t w) (last-drop rs ends b p s)) ∙ e2)
 
-      by : (v : Bool) → (b == 47) ≡ v → HasRow rs t k × ((not (b == 47) && takes t (behind_segment p)) ≡ true)
+      by : (v : Bool) → (b == 47) ≡ v → HasRow rs t k × ((not (b == 47) && takes t (after_segment p)) ≡ true)
       by true d = absurd (none-HasRow _ t k (param-slash rs ends b p d) h)
       by false d = other (has_slash p) d refl
 
-  pub param-complete : (rs : RowsOf K) (b : ℕ) (p t : List ℕ) (k : K) → EndSegments rs → HasRow rs t k → (not (b == 47) && takes t (behind_segment p)) ≡ true
+  pub param-complete : (rs : RowsOf K) (b : ℕ) (p t : List ℕ) (k : K) → EndSegments rs → HasRow rs t k → (not (b == 47) && takes t (after_segment p)) ≡ true
       → HasRow (param_step rs (b ∷ p)).1 t k × (takes t (drop ((param_step rs (b ∷ p)).0 - 1) p) ≡ true)
   param-complete rs b p t k ends h e = by (b == 47) refl
     where
       -- what goes on with a slash goes on
-      slashed : (t : List ℕ) → HasRow rs t k → is_nil (behind_segment p) ≡ false → takes t (behind_segment p) ≡ true → (goes_on rs ≡ true) × (same_text (segment t) (47 ∷ []) ≡ true)
+      slashed : (t : List ℕ) → HasRow rs t k → is_nil (after_segment p) ≡ false → takes t (after_segment p) ≡ true → (goes_on rs ≡ true) × (same_text (segment t) (47 ∷ []) ≡ true)
       slashed [] h n u = (let bad : false ≡ true = sym n ∙ u in cc)
       slashed (x ∷ t) h n u =
           let s : (x == 47) ≡ true = ends-HasRow rs (x ∷ t) k ends h in
           let x47 : x ≡ 47 = grind (arith, nat_tests) in
           (goes_on-HasRow rs x t k h, ap (λ y. same_text (segment (y ∷ t)) (47 ∷ [])) x47)
 
-      other : (v : Bool) → (b == 47) ≡ false → has_slash p ≡ v → takes t (behind_segment p) ≡ true → HasRow (param_step rs (b ∷ p)).1 t k × (takes t (drop ((param_step rs (b ∷ p)).0 - 1) p) ≡ true)
+      other : (v : Bool) → (b == 47) ≡ false → has_slash p ≡ v → takes t (after_segment p) ≡ true → HasRow (param_step rs (b ∷ p)).1 t k × (takes t (drop ((param_step rs (b ∷ p)).0 - 1) p) ≡ true)
       other true d s u =
-          let on = slashed t h (behind-some p s) u in
+          let on = slashed t h (following-some p s) u in
           let ps = param-middle rs ends b p d s on.0 in
           let h2 : HasRow (with_suffix (47 ∷ []) rs) t k = with-HasRow (47 ∷ []) rs t k on.1 h in
           (subst (λ rows. HasRow rows t k) (sym (ap (λ r. r.1) ps)) h2, ap (λ r. takes t (drop (r.0 - 1) p)) ps ∙ ap (λ w. takes t w) (middle-drop rs ends b p d s) ∙ u)
@@ -404,8 +404,8 @@ module _ {K : Type 0} where
           (subst (λ rows. HasRow rows t k) (sym (ap (λ r. r.1) ps)) h, ap (λ r. takes t (drop (r.0 - 1) p)) ps ∙ ap (λ w. takes t w) (last-drop rs ends b p s) ∙ u)
 
       by : (v : Bool) → (b == 47) ≡ v → HasRow (param_step rs (b ∷ p)).1 t k × (takes t (drop ((param_step rs (b ∷ p)).0 - 1) p) ≡ true)
-      by true d = (let bad : false ≡ true = sym (ap (λ v. not v && takes t (behind_segment p)) d) ∙ e in cc)
-      by false d = other (has_slash p) d refl (sym (ap (λ v. not v && takes t (behind_segment p)) d) ∙ e)
+      by true d = (let bad : false ≡ true = sym (ap (λ v. not v && takes t (after_segment p)) d) ∙ e in cc)
+      by false d = other (has_slash p) d refl (sym (ap (λ v. not v && takes t (after_segment p)) d) ∙ e)
 
   -- the rows after a parameter are plain
   ArePlain-param : (rs : RowsOf K) (path : List ℕ) → ArePlain rs → ArePlain (param_step rs path).1
@@ -424,12 +424,12 @@ module _ {K : Type 0} where
   found-byte : (rs : RowsOf K) (b : ℕ) (p : List ℕ) (k : K) → ArePlain rs → Found (step b rs) p k → Found rs (b ∷ p) k
   found-byte rs b p k plain f = (b ∷ f.0, HasRow-step b rs f.0 k f.1, by (b == 256) refl)
     where
-      by : (v : Bool) → (b == 256) ≡ v → cond v (not (b == 47) && takes f.0 (behind_segment p)) ((b == b) && takes f.0 p) ≡ true
+      by : (v : Bool) → (b == 256) ≡ v → cond v (not (b == 47) && takes f.0 (after_segment p)) ((b == b) && takes f.0 p) ≡ true
       by true d =
           let b256 : b ≡ 256 = grind (arith, nat_tests) in
           let row : HasRow (step 256 rs) f.0 k = subst (λ y. HasRow (step y rs) f.0 k) b256 f.1 in
           let n : not (b == 47) ≡ true = (let m : (b == 47) ≡ false = grind (arith, nat_tests) in ap not m) in
-          ap (λ v. v && takes f.0 (behind_segment p)) n ∙ takes-behind f.0 p (ends-HasRow (step 256 rs) f.0 k (EndSegments-step rs plain) row) f.2
+          ap (λ v. v && takes f.0 (after_segment p)) n ∙ takes-following f.0 p (ends-HasRow (step 256 rs) f.0 k (EndSegments-step rs plain) row) f.2
       by false d =
           let is : (b == b) ≡ true = grind (arith, nat_tests) in
           ap (λ v. v && takes f.0 p) is ∙ f.2
@@ -467,7 +467,7 @@ module _ {K : Type 0} where
       (λ row u. seek-complete 0 (step b rs) path t k (ArePlain-step b rs plain) row u)
       (λ row u. seek-complete ((param_step (step 256 rs) (b ∷ path)).0 - 1) (param_step (step 256 rs) (b ∷ path)).1 path t k (ArePlain-param (step 256 rs) (b ∷ path) (ArePlain-step 256 rs plain)) row u)
     where
-      by : (v : Bool) → (x == 256) ≡ v → cond v (not (b == 47) && takes t (behind_segment path)) ((x == b) && takes t path) ≡ true
+      by : (v : Bool) → (x == 256) ≡ v → cond v (not (b == 47) && takes t (after_segment path)) ((x == b) && takes t path) ≡ true
           → (HasRow (step b rs) t k → takes t path ≡ true → is_some (seek 0 (step b rs) path) ≡ true)
           → (HasRow (param_step (step 256 rs) (b ∷ path)).1 t k → takes t (drop ((param_step (step 256 rs) (b ∷ path)).0 - 1) path) ≡ true
           → is_some (seek ((param_step (step 256 rs) (b ∷ path)).0 - 1) (param_step (step 256 rs) (b ∷ path)).1 path) ≡ true)

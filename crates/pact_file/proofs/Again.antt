@@ -11,11 +11,14 @@ use Rattle.pact_file.specs.{Objects.{json_of, object_of}, Laws.{NormalAgain, One
 use Rattle.pact_file.specs.Normal.{InteractionRead, InOrder, InteractionsRead, if_short, Normal, IsRefusal}
 use Rattle.pact_file.specs.{Pact.{Interaction, Pact, interaction_data, key_cmp, pact_data, normal_text}, Parts.{text_at, object_at, listed}}
 use Rattle.pact_file.specs.{Sorting.{insert_all_sorted, same_text}, Sound.{IsSound}, declared.fault.Place.{Place}}
-use Rattle.pact_file.{specs.declared.fault.Place.TheVariants.{Consumer, ConsumerName, Provider, ProviderName, Interactions}, proofs.Agreement.{IsDefinite-Normal}}
-use Rattle.pact_file.proofs.{Objects.{json_of-ok}, Itself.{InteractionRead-interaction_data, listed-items_of}, Steps.{Result-bind_ok, ok_or-ok, guard-ok, Ok-injective}}
-use Rattle.pact_file.proofs.{OrderedSets.{IsGood, key_cmp-total, InOrder-of_insert_all, insert_all_sorted-length_le, InOrder-unique}, ReadBack.{read-compact_text}}
-use Rattle.pact_file.proofs.{ReadLemmas.{reading-bind_ok, file_of-sound, items_at-sound, EachRead-each, EachRead-sound, InteractionsRead-sound}, SetLemmas.{IsRising-no_clash}}
-use Rattle.pact_file.proofs.{SoundData.{kept, IsSound-no_floats, IsSound-depth_le, compact_text-IsUtf8}, SoundParts.{IsSound-object_at, text_at-IsUtf8, IsSound-pact_data}}
+use Rattle.pact_file.specs.declared.fault.Place.TheVariants.{Consumer, ConsumerName, Provider, ProviderName, Interactions}
+use Rattle.pact_file.proofs.{Agreement.{IsDefinite-Normal}, Objects.{json_of-ok}, Itself.{InteractionRead-interaction_data, listed-items_of}}
+use Rattle.pact_file.proofs.Steps.{Result-bind_ok, ok_or-ok, guard-ok, Ok-injective}
+use Rattle.pact_file.proofs.OrderedSets.{IsGood, key_cmp-total, InOrder-of_insert_all, insert_all_sorted-length_le, InOrder-unique}
+use Rattle.pact_file.proofs.ReadBack.{read-compact_text}
+use Rattle.pact_file.proofs.ReadLemmas.{reading-bind_ok, file_of-sound, items_at-sound, EachRead-each, EachRead-sound, InteractionsRead-sound}
+use Rattle.pact_file.proofs.{SetLemmas.{IsRising-no_clash}, SoundData.{kept, IsSound-no_floats, IsSound-depth_le, compact_text-IsUtf8}}
+use Rattle.pact_file.proofs.SoundParts.{IsSound-object_at, text_at-IsUtf8, IsSound-pact_data}
 use Rattle.pact_rules.specs.{Outcome.{guard}, Reading.{just, EachRead}, Lists.{IsIn}}
 
 -- ---- each interaction reads to itself

@@ -6,8 +6,8 @@ use Rattle.serde_json.{specs.{Data.{Data, null, object}, Find.{get, as_str, as_a
 use Rattle.pact_file.specs.Pact.{State, Interaction, params_data, state_data, interaction_data}
 use Rattle.pact_file.specs.Parts.{optional_at, text_at, if_object, object_at, listed, all_of, state_in, one_state, states_from, states_in, status_in}
 use Rattle.pact_file.specs.{Interactions.{at, parts_at}, Headers.{HeadersRead}, Normal.{InteractionRead}, Rules.{rules_or_fault, RulesRead}}
-use Rattle.pact_file.{specs.declared.fault.Part.TheVariants.{Headers, Whole, Description, States, Request, Response, Status}, proofs.ReadLemmas.{reading-bind_ok}}
-use Rattle.pact_file.proofs.Steps.{Result-bind_ok, ok_or-ok, Ok-injective, option_map-some, option_and_then-some}
+use Rattle.pact_file.specs.declared.fault.Part.TheVariants.{Headers, Whole, Description, States, Request, Response, Status}
+use Rattle.pact_file.proofs.{ReadLemmas.{reading-bind_ok}, Steps.{Result-bind_ok, ok_or-ok, Ok-injective, option_map-some, option_and_then-some}}
 use Rattle.pact_rules.specs.{Rules.{Rules as Table}, declared.rule_fault.RuleFault.{RuleFault}, Outcome.{guard}, Reading.{just}, RuleReading.{unless_null}}
 
 -- ---- states: parameters that are there aren't null

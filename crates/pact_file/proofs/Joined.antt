@@ -1,18 +1,18 @@
 -- Joining texts, as a loop does.
 use Rattle.std.proofs.Common.{◌≡◌, ℕ, zero, suc, ◌+◌, ◌<◌, List, [], ◌∷◌, ◌++◌, codes, Option, Some, None, option_map, refl, sym, ap, ◌∙◌, append_assoc, append-nil, add-one, arith}
-use Rattle.pact_file.specs.Parts.{all_of, joined, behind}
+use Rattle.pact_file.specs.Parts.{all_of, joined, following}
 
 -- what the texts from the place on add
 abbrev pub still : ℕ → List (List ℕ) → List ℕ
 still zero ts = joined ts
-still (suc i) ts = behind ts
+still (suc i) ts = following ts
 
 module _ {A : Type 0} (f : A → Option (List ℕ)) where
   still-step : (i : ℕ) (text new t : List ℕ) (o : Option (List (List ℕ))) → (i ≡ 0 → new ≡ text ++ t) → (0 < i → new ≡ text ++ (codes ", " ++ t))
       → option_map (λ ts. new ++ still (suc i) ts) o ≡ option_map (λ ts. text ++ still i ts) (option_map (λ ts. t ∷ ts) o)
   still-step i text new t None first later = refl
-  still-step zero text new t (Some ts) first later = ap Some (ap (λ s. s ++ behind ts) (first refl) ∙ append_assoc text t (behind ts))
-  still-step (suc i) text new t (Some ts) first later = ap Some (ap (λ s. s ++ behind ts) (later (omega arith)) ∙ append_assoc text (codes ", " ++ t) (behind ts))
+  still-step zero text new t (Some ts) first later = ap Some (ap (λ s. s ++ following ts) (first refl) ∙ append_assoc text t (following ts))
+  still-step (suc i) text new t (Some ts) first later = ap Some (ap (λ s. s ++ following ts) (later (omega arith)) ∙ append_assoc text (codes ", " ++ t) (following ts))
 
   pub still-joins : (i : ℕ) (text new : List ℕ) (left : List A) (x : A) (more : List A) (t : List ℕ) (total : Option (List ℕ))
       → left ≡ x ∷ more → f x ≡ Some t → (i ≡ 0 → new ≡ text ++ t) → (0 < i → new ≡ text ++ (codes ", " ++ t))

@@ -29,8 +29,8 @@ pub text_of_parts-pushed : (d s : List ℕ) (q r : Data)
 text_of_parts-pushed d s q r =
     let request = codes ",\"request\":" in
     let response = codes ",\"response\":" in
-    let behind = ((((codes "{\"description\":" ++ quoted d) ++ codes ",\"providerStates\":") ++ s) ++ request) ++ compact_text q in
-    append_assoc (behind ++ response) (compact_text r) (codes "}") ∙ append_assoc behind response (compact_text r ++ codes "}")
+    let following = ((((codes "{\"description\":" ++ quoted d) ++ codes ",\"providerStates\":") ++ s) ++ request) ++ compact_text q in
+    append_assoc (following ++ response) (compact_text r) (codes "}") ∙ append_assoc following response (compact_text r ++ codes "}")
     ∙ append-assoc_seven (codes "{\"description\":") (quoted d) (codes ",\"providerStates\":") s request (compact_text q) (response ++ (compact_text r ++ codes "}"))
 
 pub text_of_parts-compact_text : (d : List ℕ) (ss : List State) (q r : Data) → text_of_parts d (compact_text (states_data ss)) q r ≡ compact_text (interaction_data (interaction_with d ss q r))
@@ -98,10 +98,10 @@ normal_text-parts : (c p : List ℕ) (xs : List Interaction)
     → codes "{\"consumer\":{\"name\":" ++ (quoted c ++ (codes "},\"interactions\":[" ++ (interactions_text xs ++ (codes ",\"provider\":{\"name\":" ++ (quoted p ++ codes "}}"))))) ≡ normal_text (pact_with c p xs)
 unfolding escape_byte serde_json_on_literals
 normal_text-parts c p xs =
-    let behind = λ (end : List ℕ). codes ",\"interactions\":[" ++ (interactions_text xs ++ (codes ",\"provider\":{\"name\":" ++ end)) in
+    let following = λ (end : List ℕ). codes ",\"interactions\":[" ++ (interactions_text xs ++ (codes ",\"provider\":{\"name\":" ++ end)) in
     let end = (quoted p ++ codes "}") ++ codes "}" in
-    ap (λ t. codes "{\"consumer\":{\"name\":" ++ (quoted c ++ (codes "}" ++ behind t))) (sym (append_assoc (quoted p) (codes "}") (codes "}")))
-    ∙ ap (λ t. codes "{\"consumer\":{\"name\":" ++ t) (sym (append_assoc (quoted c) (codes "}") (behind end)))
+    ap (λ t. codes "{\"consumer\":{\"name\":" ++ (quoted c ++ (codes "}" ++ following t))) (sym (append_assoc (quoted p) (codes "}") (codes "}")))
+    ∙ ap (λ t. codes "{\"consumer\":{\"name\":" ++ t) (sym (append_assoc (quoted c) (codes "}") (following end)))
 
 -- the same, one part OnOk-pushed after another
 pub normal_text-pushed : (c p : List ℕ) (xs : List Interaction)
@@ -137,10 +137,10 @@ unfolding escape_byte serde_json_on_literals
 length-normal_text c p xs =
     let items = interactions_text xs in
     let last = codes ",\"provider\":{\"name\":" ++ ((quoted p ++ codes "}") ++ codes "}") in
-    let behind = codes ",\"interactions\":[" ++ (items ++ last) in
-    let IsSound-no_floats : normal_text (pact_with c p xs) ≡ codes "{\"consumer\":{\"name\":" ++ ((quoted c ++ codes "}") ++ behind) = refl in
+    let following = codes ",\"interactions\":[" ++ (items ++ last) in
+    let IsSound-no_floats : normal_text (pact_with c p xs) ≡ codes "{\"consumer\":{\"name\":" ++ ((quoted c ++ codes "}") ++ following) = refl in
     ap length IsSound-no_floats
-    ∙ omega (arith, length-append (quoted c ++ codes "}") behind, length-append (quoted c) (codes "}"), length-append items last, length-append (quoted p ++ codes "}") (codes "}"), length-append (quoted p) (codes "}"))
+    ∙ omega (arith, length-append (quoted c ++ codes "}") following, length-append (quoted c) (codes "}"), length-append items last, length-append (quoted p ++ codes "}") (codes "}"), length-append (quoted p) (codes "}"))
 
 length-normal_text_quoted : (c p q r : List ℕ) (xs : List Interaction) → q ≡ quoted c → r ≡ quoted p → length (normal_text (pact_with c p xs)) ≡ pact_length q r xs
 length-normal_text_quoted c p q r xs h k = length-normal_text c p xs ∙ ap₂ (λ a b. pact_length a b xs) (sym h) (sym k)

@@ -7,7 +7,8 @@ use Rattle.json.specs.Lex.{tokens}
 use Rattle.serde_json.specs.Data.{Num, unsigned, negative, float, Data, number, array, object, Items, item, Members, no_members, member, put}
 use Rattle.serde_json.specs.Read.{is_integer, float_of, number_from, number_of, of_json, of_items, of_members, max_depth, read}
 use Rattle.pact_rules.specs.Kept.{IsBelow, IsNumber, IsKept, AreKept, MembersAreKept}
-use Rattle.pact_file.proofs.{SetLemmas.{cmp-turned}, Steps.{option_map-some, option_and_then-some}, Utf8Tokens.{HasTexts, ItemsHaveTexts, MembersHaveTexts, value-has_texts_of_utf8}}
+use Rattle.pact_file.proofs.{SetLemmas.{cmp-turned}, Steps.{option_map-some, option_and_then-some}}
+use Rattle.pact_file.proofs.Utf8Tokens.{HasTexts, ItemsHaveTexts, MembersHaveTexts, value-has_texts_of_utf8}
 use Rattle.json.specs.Json as json
 
 -- ---- numbers

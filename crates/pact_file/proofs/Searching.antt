@@ -35,14 +35,14 @@ module _ {A : Type 0} (cmp : A → A → Ordering) (total : IsTotalOrder cmp) wh
     pub goes_between : (x : A) (list : List A) (i : ℕ) → i ≤ length list → ((k : ℕ) (d : A) → k < i → cmp (get_or list k d) x ≡ Less)
         → ((k : ℕ) (d : A) → i ≤ k → k < length list → cmp (get_or list k d) x ≡ Greater) → insert_sorted cmp same x list ≡ Some (take i list ++ x ∷ drop i list)
     unfolding insert_sorted
-    goes_between x [] zero h before behind = refl
-    goes_between x [] (suc i) h before behind = absurd (omega (arith, h))
-    goes_between x (y ∷ ys) zero h before behind =
-        let first : cmp x y ≡ Less = cmp-turned cmp total y x Greater (behind 0 x (omega arith) (omega arith)) in
+    goes_between x [] zero h before following = refl
+    goes_between x [] (suc i) h before following = absurd (omega (arith, h))
+    goes_between x (y ∷ ys) zero h before following =
+        let first : cmp x y ≡ Less = cmp-turned cmp total y x Greater (following 0 x (omega arith) (omega arith)) in
         ap (λ o. with_first o x y ys (insert_sorted cmp same x ys)) first
-    goes_between x (y ∷ ys) (suc i) h before behind =
+    goes_between x (y ∷ ys) (suc i) h before following =
         let past : cmp x y ≡ Greater = cmp-turned cmp total y x Less (before 0 x (omega arith)) in
-        let rest = goes_between x ys i (omega (arith, h)) (λ k d b. before (suc k) d (omega (arith, b))) (λ k d a b. behind (suc k) d (omega (arith, a)) (omega (arith, b))) in
+        let rest = goes_between x ys i (omega (arith, h)) (λ k d b. before (suc k) d (omega (arith, b))) (λ k d a b. following (suc k) d (omega (arith, a)) (omega (arith, b))) in
         ap (λ o. with_first o x y ys (insert_sorted cmp same x ys)) past ∙ ap (option_map (λ zs. y ∷ zs)) rest
 
     kept_or_not : (y : A) (ys : List A) (b : Bool) → option_map (λ zs. y ∷ zs) (cond b (Some ys) None) ≡ cond b (Some (y ∷ ys)) None

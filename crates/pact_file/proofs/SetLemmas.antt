@@ -3,7 +3,8 @@ use Rattle.std.specs.{List.{AllByRecursion}, Ordering.{match_ordering, ordering_
 use Rattle.std.proofs.Common.{◌≡◌, ◌⊎◌, inl, inr, List, [], ◌∷◌, Bool, true, false, cond, Ordering, Less, Equal, Greater, Option, Some, None, option_map, option_and_then, refl, sym, ap, ap₂, ◌∙◌, subst, ⊎_elim, ◌+◌, suc, ◌≤◌, length, arith}
 use Rattle.std.proofs.lemmas.Option.{same_Some}
 use Rattle.pact_rules.specs.Lists.{OneOf, IsIn}
-use Rattle.pact_file.{specs.{Sorting.{insert_sorted, insert_all_sorted}, Sets.{IsRising, IsSetInOrder, HasClash}}, proofs.Steps.{option_map-some, option_and_then-some}}
+use Rattle.pact_file.specs.{Sorting.{insert_sorted, insert_all_sorted}, Sets.{IsRising, IsSetInOrder, HasClash}}
+use Rattle.pact_file.proofs.Steps.{option_map-some, option_and_then-some}
 
 -- ---- one of them
 

@@ -80,14 +80,14 @@ body_in response = get (codes "body") response
 
 -- ---- headers
 
-abbrev pub behind : List (List ℕ) → List ℕ
-behind [] = []
-behind (t ∷ ts) = (codes ", " ++ t) ++ behind ts
+abbrev pub following : List (List ℕ) → List ℕ
+following [] = []
+following (t ∷ ts) = (codes ", " ++ t) ++ following ts
 
 -- the texts, with a comma and a space between each two
 abbrev pub joined : List (List ℕ) → List ℕ
 joined [] = []
-joined (t ∷ ts) = t ++ behind ts
+joined (t ∷ ts) = t ++ following ts
 
 -- a text, or a list of texts
 abbrev pub header_value : Data → Option (List ℕ)

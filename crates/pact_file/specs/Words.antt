@@ -15,7 +15,7 @@ use Rattle.pact_file.specs.declared.fault.Part.TheVariants.{Whole, Description, 
 
 abbrev pub parts_text : TextParts → List ℕ
 parts_text (Plain text) = text.now
-parts_text (Numbered front number behind end) = front.now ++ (decimal number ++ (behind.now ++ end.now))
+parts_text (Numbered front number following end) = front.now ++ (decimal number ++ (following.now ++ end.now))
 
 -- a part of an interaction or of a recorded reply: nothing of it as a whole
 abbrev pub part_text : Part → List ℕ

@@ -27,8 +27,8 @@ impl fmt::Display for TextParts<'_> {
     fn fmt<W: fmt::Write>(&self, f: &mut fmt::Formatter<W>) -> fmt::Result {
         match self {
             TextParts::Plain(text) => f.write_str(text),
-            TextParts::Numbered(front, number, behind, end) => {
-                write!(f, "{}{}{}{}", *front, *number, *behind, *end)
+            TextParts::Numbered(front, number, following, end) => {
+                write!(f, "{}{}{}{}", *front, *number, *following, *end)
             }
         }
     }

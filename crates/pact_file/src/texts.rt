@@ -152,7 +152,7 @@ pub(crate) fn text_of_pact(pact: &Pact) -> Result<String, AllocError>
 
 /// What is left of so much room after an item's text, and after the comma before it if it isn't the first; None if it
 /// doesn't fit.
-fn room_behind(room: usize, index: usize, item: &str) -> Option<usize>
+fn room_after(room: usize, index: usize, item: &str) -> Option<usize>
     ensures { MatchOption result (room < item_length index item.now)
         (λ left. left + item_length index item.now ≡ room) }
 {
@@ -164,13 +164,13 @@ fn room_behind(room: usize, index: usize, item: &str) -> Option<usize>
 }
 
 /// The same after all interactions, with a place of its own for the bracket that ends them.
-fn room_behind_all(room: usize, interactions: &[Interaction]) -> Option<usize>
+fn room_after_all(room: usize, interactions: &[Interaction]) -> Option<usize>
     ensures { MatchOption result (room + 1 < length (interactions_text interactions.now))
         (λ rest. rest + length (interactions_text interactions.now) ≡ room + 1) }
 {
     let mut rest = room;
     for (index, interaction) in interactions.iter().enumerate() {
-        match room_behind(rest, index, interaction.text()) {
+        match room_after(rest, index, interaction.text()) {
             Some(less) => rest = less,
             None => return None,
         }
@@ -187,9 +187,9 @@ fn room_left(consumer: &str, provider: &str, interactions: &[Interaction]) -> Op
         (most_bytes < pact_length consumer.now provider.now interactions.now)
         (λ _. pact_length consumer.now provider.now interactions.now ≤ most_bytes) }
 {
-    let room = room_behind(ROOM, 0, consumer)?;
-    let room = room_behind(room, 0, provider)?;
-    room_behind_all(room, interactions)
+    let room = room_after(ROOM, 0, consumer)?;
+    let room = room_after(room, 0, provider)?;
+    room_after_all(room, interactions)
 }
 
 /// How many bytes a normal text has besides its two names without quotes and its interactions, with the last bracket.

@@ -2,13 +2,13 @@
 use Rattle.std.specs.{List.{list_all, position_or_len}, Char.{is_ascii_digit}, Str.{all_ascii_digits}}
 use Rattle.std.proofs.Common.{◌≡◌, ◌≢◌, ℕ, zero, suc, ◌-◌, ◌<◌, List, [], ◌∷◌, ◌++◌, length, Option, Some, None, option_map, Result, Ok, Err, MatchOption, Bor, eq-eqb, ne_eqb, refl, sym, ap, ◌∙◌, arith, append_assoc, Bool, true, false, not, ◌&&◌, cond, ltb, ltb-false, ◌≤◌, unwrap_or}
 use Rattle.std.proofs.{lemmas.List.Sums.{prefix_len-le-length}, lemmas.List.{append-nil}}
-use Rattle.pact_paths.specs.{Paths.{Token}, Outcome.{checked}, PathReading.{behind, token_in, tokens_in, first_of_more, with_front, with_all}}
+use Rattle.pact_paths.specs.{Paths.{Token}, Outcome.{checked}, PathReading.{following, token_in, tokens_in, first_of_more, with_front, with_all}}
 use Rattle.pact_paths.specs.{declared.path_reader.PathFault.{PathFault}, declared.path_reader.PathFault.TheVariants.{BadToken, TooManyTokens}}
 
-pub behind_is : (c : ℕ) (bs : List ℕ) (r : Option (Bor (List ℕ))) → MatchOption r ((rest : List ℕ) → bs ≢ c ∷ rest) (λ x. bs ≡ c ∷ x.now) → option_map (λ (x : Bor (List ℕ)). x.now) r ≡ behind c bs
-behind_is c bs (Some x) h = sym (ap (behind c) h ∙ rw (eq-eqb c c refl) refl)
-behind_is c [] None h = refl
-behind_is c (b ∷ bs) None h = sym (rw (ne_eqb b c (λ e. h bs (ap (λ a. a ∷ bs) e))) refl)
+pub after_is : (c : ℕ) (bs : List ℕ) (r : Option (Bor (List ℕ))) → MatchOption r ((rest : List ℕ) → bs ≢ c ∷ rest) (λ x. bs ≡ c ∷ x.now) → option_map (λ (x : Bor (List ℕ)). x.now) r ≡ following c bs
+after_is c bs (Some x) h = sym (ap (following c) h ∙ rw (eq-eqb c c refl) refl)
+after_is c [] None h = refl
+after_is c (b ∷ bs) None h = sym (rw (ne_eqb b c (λ e. h bs (ap (λ a. a ∷ bs) e))) refl)
 
 pub tokens_in-end : (total n : ℕ) (t : List ℕ) → length t ≡ 0 → tokens_in total n t ≡ Ok []
 unfolding tokens_in

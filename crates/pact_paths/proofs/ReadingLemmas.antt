@@ -2,11 +2,11 @@
 use Rattle.std.specs.List.{flat_map}
 use Rattle.std.proofs.Common.{◌≡◌, ◌≢◌, ◌⊎◌, inl, inr, ℕ, zero, suc, ◌+◌, ◌-◌, ◌<◌, ◌≤◌, Bool, true, false, List, [], ◌∷◌, ◌++◌, length, take, Option, Some, None, Result, Ok, Err, refl, sym, ap, ap₂, ◌∙◌, subst, arith, true≢false, length-append, append_assoc, append-nil, ne_eqb, take_at, IfOk}
 use Rattle.std.proofs.{Math.Path.{fun_ext}, lemmas.Option.{none-some, same_Some, some_pair_parts}, lemmas.List.{nil_from_length}}
-use Rattle.pact_paths.specs.PathReading.{Read, behind, token_in, tokens_in, first_of_more, with_front, with_all, from_root, path_in, computed_path, path_or_none}
+use Rattle.pact_paths.specs.PathReading.{Read, following, token_in, tokens_in, first_of_more, with_front, with_all, from_root, path_in, computed_path, path_or_none}
 use Rattle.pact_paths.specs.{Paths.{Token}, Spelling.{IsSpelled, AreSpelled, IsPathText, IsPath, token_text, path_text}, Outcome.{Gives, GivesChecked, checked}}
 use Rattle.pact_paths.specs.{Readings.{IsFront, IsLongestFront, StopsAt, IsReading, IsTheReading, ReadsPaths}, declared.path_reader.PathFault.{PathFault}}
 use Rattle.pact_paths.specs.declared.path_reader.PathFault.TheVariants.{NoRoot, BadToken, TooManyTokens, Memory}
-use Rattle.pact_paths.proofs.Spellings.{ends_names, Reads-of_spelled, ends_names-next_spelled, ends_names-all_spelled, behind-some, Takes-found_token, IsToken-of_all_spelled, AreSpelled-flat_map_token_text}
+use Rattle.pact_paths.proofs.Spellings.{ends_names, Reads-of_spelled, ends_names-next_spelled, ends_names-all_spelled, following-some, Takes-found_token, IsToken-of_all_spelled, AreSpelled-flat_map_token_text}
 use Rattle.pact_paths.proofs.{Checked.{checked-fault, checked-no_fault}, PathLemmas.{tokens_in-end, tokens_in-more, with_all-empty}}
 
 token_in-some_not_empty : (t : List ℕ) (x : Token × List ℕ) → token_in t ≡ Some x → 0 < length t
@@ -27,49 +27,49 @@ tokens_in-of_spelled total limit (u ∷ us) t h few =
 
 -- ---- the longest front that is spelled
 
-IsFront-limit_zero : (t other behind : List ℕ) (others : List Token) → IsFront 0 t other behind others → length other ≤ 0
-IsFront-limit_zero t other behind [] h = omega (arith, ap length h.spelled)
-IsFront-limit_zero t other behind (u ∷ us) h = absurd (omega (arith, h.few))
+IsFront-limit_zero : (t other following : List ℕ) (others : List Token) → IsFront 0 t other following others → length other ≤ 0
+IsFront-limit_zero t other following [] h = omega (arith, ap length h.spelled)
+IsFront-limit_zero t other following (u ∷ us) h = absurd (omega (arith, h.few))
 
-IsFront-no_token : (limit : ℕ) (t : List ℕ) → token_in t ≡ None → (other behind : List ℕ) (others : List Token) → IsFront limit t other behind others → length other ≤ 0
-IsFront-no_token limit t e other behind [] h = omega (arith, ap length h.spelled)
-IsFront-no_token limit t e other behind (u ∷ us) h =
+IsFront-no_token : (limit : ℕ) (t : List ℕ) → token_in t ≡ None → (other following : List ℕ) (others : List Token) → IsFront limit t other following others → length other ≤ 0
+IsFront-no_token limit t e other following [] h = omega (arith, ap length h.spelled)
+IsFront-no_token limit t e other following (u ∷ us) h =
     let p = h.spelled in
-    let w = p.1 ++ behind in
+    let w = p.1 ++ following in
     let r = Reads-of_spelled p.0 u w p.3 in
-    let split : t ≡ p.0 ++ w = h.split ∙ ap (λ b. b ++ behind) p.2 ∙ append_assoc p.0 p.1 behind in
+    let split : t ≡ p.0 ++ w = h.split ∙ ap (λ b. b ++ following) p.2 ∙ append_assoc p.0 p.1 following in
     absurd (none-some (r.token, r.rest) (sym e ∙ ap token_in split ∙ r.found))
 
 -- the first token of another front is the one that is read, or a name that is cut short and then the whole front
 IsFront-cons_le : (limit : ℕ) (t f rest front left : List ℕ) (x : Token) (ts : List Token) → token_in t ≡ Some (x, rest) → t ≡ f ++ rest → IsLongestFront limit rest front left ts
-    → (other behind : List ℕ) (u : Token) (us : List Token) → (h : IsFront (suc limit) t other behind (u ∷ us)) → (v : Bool) → ends_names (h.spelled.1 ++ behind) ≡ v → length other ≤ length (f ++ front)
-IsFront-cons_le limit t f rest front left x ts found split best other behind u us h true ends =
+    → (other following : List ℕ) (u : Token) (us : List Token) → (h : IsFront (suc limit) t other following (u ∷ us)) → (v : Bool) → ends_names (h.spelled.1 ++ following) ≡ v → length other ≤ length (f ++ front)
+IsFront-cons_le limit t f rest front left x ts found split best other following u us h true ends =
     let p = h.spelled in
-    let w = p.1 ++ behind in
+    let w = p.1 ++ following in
     let r = Reads-of_spelled p.0 u w p.3 in
-    let halves : t ≡ p.0 ++ w = h.split ∙ ap (λ b. b ++ behind) p.2 ∙ append_assoc p.0 p.1 behind in
+    let halves : t ≡ p.0 ++ w = h.split ∙ ap (λ b. b ++ following) p.2 ∙ append_assoc p.0 p.1 following in
     let same = some_pair_parts r.token x r.rest rest (sym r.found ∙ ap token_in (sym halves) ∙ found) in
     let next : rest ≡ w = sym same.1 ∙ (r.whole ends).1 in
-    let below : IsFront limit rest p.1 behind us = record {
+    let below : IsFront limit rest p.1 following us = record {
       split = next;
       spelled = p.4;
       few = omega (arith, h.few);
     } in
-    omega (arith, best.longest p.1 behind us below, ap length next, ap length split, ap length halves, ap length p.2, length-append f rest, length-append p.0 w, length-append p.0 p.1, length-append f front)
-IsFront-cons_le limit t f rest front left x ts found split best other behind u [] h false ends =
+    omega (arith, best.longest p.1 following us below, ap length next, ap length split, ap length halves, ap length p.2, length-append f rest, length-append p.0 w, length-append p.0 p.1, length-append f front)
+IsFront-cons_le limit t f rest front left x ts found split best other following u [] h false ends =
     let p = h.spelled in
-    let w = p.1 ++ behind in
+    let w = p.1 ++ following in
     let r = Reads-of_spelled p.0 u w p.3 in
-    let halves : t ≡ p.0 ++ w = h.split ∙ ap (λ b. b ++ behind) p.2 ∙ append_assoc p.0 p.1 behind in
+    let halves : t ≡ p.0 ++ w = h.split ∙ ap (λ b. b ++ following) p.2 ∙ append_assoc p.0 p.1 following in
     let same = some_pair_parts r.token x r.rest rest (sym r.found ∙ ap token_in (sym halves) ∙ found) in
     omega (arith, r.short, ap length same.1, ap length p.4, ap length split, ap length halves, ap length p.2, length-append f rest, length-append p.0 w, length-append p.0 p.1, length-append f front)
-IsFront-cons_le limit t f rest front left x ts found split best other behind u (v ∷ vs) h false ends =
-    absurd (true≢false (sym (ends_names-next_spelled h.spelled.1 v vs behind h.spelled.4) ∙ ends))
+IsFront-cons_le limit t f rest front left x ts found split best other following u (v ∷ vs) h false ends =
+    absurd (true≢false (sym (ends_names-next_spelled h.spelled.1 v vs following h.spelled.4) ∙ ends))
 
 IsFront-length_le : (limit : ℕ) (t f rest front left : List ℕ) (x : Token) (ts : List Token) → token_in t ≡ Some (x, rest) → t ≡ f ++ rest → IsLongestFront limit rest front left ts
-    → (other behind : List ℕ) (others : List Token) → IsFront (suc limit) t other behind others → length other ≤ length (f ++ front)
-IsFront-length_le limit t f rest front left x ts found split best other behind [] h = omega (arith, ap length h.spelled)
-IsFront-length_le limit t f rest front left x ts found split best other behind (u ∷ us) h = IsFront-cons_le limit t f rest front left x ts found split best other behind u us h (ends_names (h.spelled.1 ++ behind)) refl
+    → (other following : List ℕ) (others : List Token) → IsFront (suc limit) t other following others → length other ≤ length (f ++ front)
+IsFront-length_le limit t f rest front left x ts found split best other following [] h = omega (arith, ap length h.spelled)
+IsFront-length_le limit t f rest front left x ts found split best other following (u ∷ us) h = IsFront-cons_le limit t f rest front left x ts found split best other following u us h (ends_names (h.spelled.1 ++ following)) refl
 
 IsLongestFront-cons : (limit : ℕ) (t f rest front left : List ℕ) (x : Token) (ts : List Token) → token_in t ≡ Some (x, rest) → t ≡ f ++ rest → IsSpelled f x → IsLongestFront limit rest front left ts
     → IsLongestFront (suc limit) t (f ++ front) left (x ∷ ts)
@@ -92,7 +92,7 @@ record Stuck (limit : ℕ) (t : List ℕ) (ts : List Token) : Type 0 where
   is_left : rest ≢ []
 
 -- before the first token, where no front but the empty one is spelled
-abbrev at_first : (limit : ℕ) (t : List ℕ) → ((other behind : List ℕ) (others : List Token) → IsFront limit t other behind others → length other ≤ 0) → t ≢ []
+abbrev at_first : (limit : ℕ) (t : List ℕ) → ((other following : List ℕ) (others : List Token) → IsFront limit t other following others → length other ≤ 0) → t ≢ []
     → Stuck limit t []
 at_first limit t none some = record {
   front = [];
@@ -161,7 +161,7 @@ StopsAt-of_stuck text body ts offset root s is = record {
   body = body;
   front = s.front;
   rest = s.rest;
-  is_behind_root = root;
+  is_after_root = root;
   is_longest = s.is_longest;
   is_left = s.is_left;
   is_offset = is;
@@ -176,12 +176,12 @@ IsReading-of_IsRead text body root (Err (BadToken offset)) h =
 IsReading-of_IsRead text body root (Err TooManyTokens) h = (h.0, 1 + length h.1.front, h.2, StopsAt-of_stuck text body h.0 (1 + length h.1.front) root h.1 refl)
 IsReading-of_IsRead text body root (Err Memory) h = h
 
-IsReading-from_root : (text : List ℕ) (o : Option (List ℕ)) → behind 36 text ≡ o → IsReading text (from_root (length text) o)
-IsReading-from_root text None e = λ body is. none-some body (sym e ∙ ap (behind 36) is)
-IsReading-from_root text (Some body) e = IsReading-of_IsRead text body (behind-some 36 text body e) (tokens_in (length text) 60 body) (IsRead-tokens_in (length text) 60 body)
+IsReading-from_root : (text : List ℕ) (o : Option (List ℕ)) → following 36 text ≡ o → IsReading text (from_root (length text) o)
+IsReading-from_root text None e = λ body is. none-some body (sym e ∙ ap (following 36) is)
+IsReading-from_root text (Some body) e = IsReading-of_IsRead text body (following-some 36 text body e) (tokens_in (length text) 60 body) (IsRead-tokens_in (length text) 60 body)
 
 pub IsReading-path_in : (text : List ℕ) → IsReading text (path_in text)
-IsReading-path_in text = IsReading-from_root text (behind 36 text) refl
+IsReading-path_in text = IsReading-from_root text (following 36 text) refl
 
 -- ---- and there is no other
 
@@ -227,25 +227,25 @@ IsRead-too_many body front rest ts best left full (Err (BadToken offset)) h = ab
 IsRead-too_many body front rest ts best left full (Err TooManyTokens) h = refl
 IsRead-too_many body front rest ts best left full (Err e) h = absurd h
 
-behind-none : (c : ℕ) (t : List ℕ) → ((rest : List ℕ) → t ≢ c ∷ rest) → behind c t ≡ None
-behind-none c [] h = refl
-behind-none c (b ∷ bs) h = rw (ne_eqb b c (λ e. h bs (ap (λ a. a ∷ bs) e))) refl
+following-none : (c : ℕ) (t : List ℕ) → ((rest : List ℕ) → t ≢ c ∷ rest) → following c t ≡ None
+following-none c [] h = refl
+following-none c (b ∷ bs) h = rw (ne_eqb b c (λ e. h bs (ap (λ a. a ∷ bs) e))) refl
 
 path_in-at_root : (text body : List ℕ) → text ≡ 36 ∷ body → path_in text ≡ tokens_in (suc (length body)) 60 body
 path_in-at_root text body e = ap path_in e
 
 pub IsReading-is_path_in : (text : List ℕ) (r : Result (List Token) PathFault) → IsReading text r → r ≡ path_in text
 IsReading-is_path_in text (Ok ts) h = sym (path_in-at_root text h.0 h.1 ∙ tokens_in-of_spelled (suc (length h.0)) 60 ts h.0 h.2 h.3)
-IsReading-is_path_in text (Err NoRoot) h = sym (ap (from_root (length text)) (behind-none 36 text h))
+IsReading-is_path_in text (Err NoRoot) h = sym (ap (from_root (length text)) (following-none 36 text h))
 IsReading-is_path_in text (Err (BadToken offset)) h =
     let stop = h.2 in
     let n = suc (length stop.body) in
     ap (λ n. Err (BadToken n)) stop.is_offset ∙ IsRead-bad_token stop.body stop.front stop.rest h.0 stop.is_longest stop.is_left h.1 (tokens_in n 60 stop.body) (IsRead-tokens_in n 60 stop.body)
-    ∙ sym (path_in-at_root text stop.body stop.is_behind_root)
+    ∙ sym (path_in-at_root text stop.body stop.is_after_root)
 IsReading-is_path_in text (Err TooManyTokens) h =
     let stop = h.3 in
     let n = suc (length stop.body) in
-    IsRead-too_many stop.body stop.front stop.rest h.0 stop.is_longest stop.is_left h.2 (tokens_in n 60 stop.body) (IsRead-tokens_in n 60 stop.body) ∙ sym (path_in-at_root text stop.body stop.is_behind_root)
+    IsRead-too_many stop.body stop.front stop.rest h.0 stop.is_longest stop.is_left h.2 (tokens_in n 60 stop.body) (IsRead-tokens_in n 60 stop.body) ∙ sym (path_in-at_root text stop.body stop.is_after_root)
 IsReading-is_path_in text (Err Memory) h = absurd h
 
 pub IsReading-unique : (text : List ℕ) (r s : Result (List Token) PathFault) → IsReading text r → IsReading text s → s ≡ r
@@ -290,11 +290,11 @@ Computes-each_fault text r h e reads = h.1 e (sym (IsReading-is_path_in text (Er
 pub Computes-fault : (text : List ℕ) (e : PathFault) (r : Result (List Token) PathFault) → r ≡ Err e → path_in text ≡ Err e → Computes text r
 Computes-fault text e r is h = subst (Computes text) (sym is) (λ memory. h, λ f k. sym h ∙ k)
 
-pub path_in-refused : (text rest : List ℕ) (e : PathFault) → behind 36 text ≡ Some rest → Err e ≡ checked (tokens_in (length text) 60 rest) → path_in text ≡ Err e
+pub path_in-refused : (text rest : List ℕ) (e : PathFault) → following 36 text ≡ Some rest → Err e ≡ checked (tokens_in (length text) 60 rest) → path_in text ≡ Err e
 path_in-refused text rest e root h = ap (from_root (length text)) root ∙ checked-fault (tokens_in (length text) 60 rest) e h
 
 -- one without a fault
-module _ (text rest : List ℕ) (front : List Token) (root : behind 36 text ≡ Some rest) (none : front ≡ []) where
+module _ (text rest : List ℕ) (front : List Token) (root : following 36 text ≡ Some rest) (none : front ≡ []) where
   path_in-with_all : path_in text ≡ with_all front (tokens_in (length text) 60 rest)
   path_in-with_all = ap (from_root (length text)) root ∙ sym (with_all-empty (tokens_in (length text) 60 rest)) ∙ ap (λ ts. with_all ts (tokens_in (length text) 60 rest)) (sym none)
 

@@ -8,7 +8,7 @@ use Rattle.std.proofs.{lemmas.Option.{cond_some, option_and_then_some}, lemmas.L
 use Rattle.std.proofs.lemmas.Fmt.{digits_decimal, digits_value-decimal, length-decimal-le, decimal_is_IsNumeral}
 use Rattle.pact_paths.specs.Paths.{Token, named, indexed, any}
 use Rattle.pact_paths.specs.Spelling.{is_special, is_plain, is_index, IsQuotable, IsSpelled, AreSpelled, IsToken, token_text}
-use Rattle.pact_paths.specs.PathReading.{Read, star, plain, quoted, index, closed_star, dotted, bracketed, behind, cut, token_in}
+use Rattle.pact_paths.specs.PathReading.{Read, star, plain, quoted, index, closed_star, dotted, bracketed, following, cut, token_in}
 
 -- ---- bytes that pass a test, or don't
 
@@ -97,9 +97,9 @@ cut-some_split c t parts e =
     subst (λ (x : List ℕ × List ℕ). (t ≡ x.0 ++ c ∷ x.1) × AllByRecursion (λ b. b ≢ c) x.0) p.1
     (before_first-joins_after_first c t (ltb-true (position_or_len (λ b. eqb b c) t) (length t) p.0), take-front_passes (λ b. eqb b c) (λ b. b ≢ c) t (λ b h. eqb-false_not_equal b c h))
 
-pub behind-some : (c : ℕ) (t rest : List ℕ) → behind c t ≡ Some rest → t ≡ c ∷ rest
-behind-some c [] rest e = cc
-behind-some c (b ∷ bs) rest e =
+pub following-some : (c : ℕ) (t rest : List ℕ) → following c t ≡ Some rest → t ≡ c ∷ rest
+following-some c [] rest e = cc
+following-some c (b ∷ bs) rest e =
     let p = cond_some (eqb b c) bs rest e in
     ap (λ x. x ∷ bs) (eqb-true b c p.0) ∙ ap (λ y. c ∷ y) p.1
 
@@ -161,7 +161,7 @@ Reads-name f n w e h =
 
 bracketed-quoted : (n w : List ℕ) → IsQuotable n → bracketed (39 ∷ (n ++ 39 ∷ 93 ∷ w)) ≡ Some (named n, w)
 bracketed-quoted n w q =
-    ap (λ r. option_or (option_and_then (λ (parts : List ℕ × List ℕ). option_map (λ (rest : List ℕ). (named parts.0, rest)) (behind 93 parts.1)) r) (index (39 ∷ (n ++ 39 ∷ 93 ∷ w)))) (cut-append 39 n (93 ∷ w) q)
+    ap (λ r. option_or (option_and_then (λ (parts : List ℕ × List ℕ). option_map (λ (rest : List ℕ). (named parts.0, rest)) (following 93 parts.1)) r) (index (39 ∷ (n ++ 39 ∷ 93 ∷ w)))) (cut-append 39 n (93 ∷ w) q)
 
 bracketed-index_first : (ds w : List ℕ) → is_index ds ≡ true → bracketed (ds ++ w) ≡ index (ds ++ w)
 bracketed-index_first [] w h = absurd (true≢false (sym h))
@@ -251,23 +251,23 @@ Takes-plain t u at =
 
 Takes-dotted : (t u : List ℕ) → t ≡ 46 ∷ u → Each (Takes t) (dotted u)
 Takes-dotted t u at =
-    Each-option_or (Takes t) (star u) (plain u) (Each-option_map (Takes t) (λ (rest : List ℕ). (any, rest)) (behind 42 u) (λ rest e. (46 ∷ 42 ∷ [], at ∙ ap (λ b. 46 ∷ b) (behind-some 42 u rest e), inl refl)))
+    Each-option_or (Takes t) (star u) (plain u) (Each-option_map (Takes t) (λ (rest : List ℕ). (any, rest)) (following 42 u) (λ rest e. (46 ∷ 42 ∷ [], at ∙ ap (λ b. 46 ∷ b) (following-some 42 u rest e), inl refl)))
     (Takes-plain t u at)
 
 Takes-closed_star : (t u : List ℕ) → t ≡ 91 ∷ u → Each (Takes t) (closed_star u)
 Takes-closed_star t u at =
-    Each-option_map (Takes t) (λ (rest : List ℕ). (any, rest)) (option_and_then (behind 93) (behind 42 u)) (λ rest e.
-    option_and_then_some (behind 93) (behind 42 u) rest e (λ v found closed.
-    (91 ∷ 42 ∷ 93 ∷ [], at ∙ ap (λ b. 91 ∷ b) (behind-some 42 u v found) ∙ ap (λ b. 91 ∷ 42 ∷ b) (behind-some 93 v rest closed), inr refl)))
+    Each-option_map (Takes t) (λ (rest : List ℕ). (any, rest)) (option_and_then (following 93) (following 42 u)) (λ rest e.
+    option_and_then_some (following 93) (following 42 u) rest e (λ v found closed.
+    (91 ∷ 42 ∷ 93 ∷ [], at ∙ ap (λ b. 91 ∷ b) (following-some 42 u v found) ∙ ap (λ b. 91 ∷ 42 ∷ b) (following-some 93 v rest closed), inr refl)))
 
 Takes-quoted : (t u : List ℕ) → t ≡ 91 ∷ u → Each (Takes t) (quoted u)
 Takes-quoted t u at =
-    Each-option_and_then (Takes t) (λ (parts : List ℕ × List ℕ). option_map (λ (rest : List ℕ). (named parts.0, rest)) (behind 93 parts.1)) (option_and_then (cut 39) (behind 39 u)) (λ parts e.
-    Each-option_map (Takes t) (λ (rest : List ℕ). (named parts.0, rest)) (behind 93 parts.1) (λ rest closed.
-    option_and_then_some (cut 39) (behind 39 u) parts e (λ v opened found.
+    Each-option_and_then (Takes t) (λ (parts : List ℕ × List ℕ). option_map (λ (rest : List ℕ). (named parts.0, rest)) (following 93 parts.1)) (option_and_then (cut 39) (following 39 u)) (λ parts e.
+    Each-option_map (Takes t) (λ (rest : List ℕ). (named parts.0, rest)) (following 93 parts.1) (λ rest closed.
+    option_and_then_some (cut 39) (following 39 u) parts e (λ v opened found.
     let halves = cut-some_split 39 v parts found in (
       91 ∷ 39 ∷ (parts.0 ++ 39 ∷ 93 ∷ []),
-      at ∙ ap (λ b. 91 ∷ b) (behind-some 39 u v opened) ∙ ap (λ b. 91 ∷ 39 ∷ b) halves.0 ∙ ap (λ b. 91 ∷ 39 ∷ (parts.0 ++ 39 ∷ b)) (behind-some 93 parts.1 rest closed)
+      at ∙ ap (λ b. 91 ∷ b) (following-some 39 u v opened) ∙ ap (λ b. 91 ∷ 39 ∷ b) halves.0 ∙ ap (λ b. 91 ∷ 39 ∷ (parts.0 ++ 39 ∷ b)) (following-some 93 parts.1 rest closed)
           ∙ ap (λ b. 91 ∷ 39 ∷ b) (sym (append_assoc parts.0 (39 ∷ 93 ∷ []) rest)),
       inr (refl, halves.1),
     ))))
@@ -280,10 +280,10 @@ Takes-index t u at =
 
 Takes-token_in : (t : List ℕ) → Each (Takes t) (token_in t)
 Takes-token_in t =
-    Each-option_or (Takes t) (option_and_then dotted (behind 46 t)) (option_and_then bracketed (behind 91 t))
-    (Each-option_and_then (Takes t) dotted (behind 46 t) (λ u e. Takes-dotted t u (behind-some 46 t u e)))
-    (Each-option_and_then (Takes t) bracketed (behind 91 t) (λ u e.
-    let at = behind-some 91 t u e in
+    Each-option_or (Takes t) (option_and_then dotted (following 46 t)) (option_and_then bracketed (following 91 t))
+    (Each-option_and_then (Takes t) dotted (following 46 t) (λ u e. Takes-dotted t u (following-some 46 t u e)))
+    (Each-option_and_then (Takes t) bracketed (following 91 t) (λ u e.
+    let at = following-some 91 t u e in
     Each-option_or (Takes t) (closed_star u) (option_or (quoted u) (index u)) (Takes-closed_star t u at) (Each-option_or (Takes t) (quoted u) (index u) (Takes-quoted t u at) (Takes-index t u at))))
 
 pub Takes-found_token : (t : List ℕ) (x : Token) (rest : List ℕ) → token_in t ≡ Some (x, rest) → Takes t (x, rest)

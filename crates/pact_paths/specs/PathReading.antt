@@ -14,9 +14,9 @@ abbrev pub Read : Type 0
 Read = Option (Token × List ℕ)
 
 -- the text after this byte, if it begins with it
-abbrev pub behind : ℕ → List ℕ → Option (List ℕ)
-behind c [] = None
-behind c (b ∷ bs) = if b == c then Some bs else None
+abbrev pub following : ℕ → List ℕ → Option (List ℕ)
+following c [] = None
+following c (b ∷ bs) = if b == c then Some bs else None
 
 -- the bytes before and after the first such byte
 abbrev pub cut : ℕ → List ℕ → Option (List ℕ × List ℕ)
@@ -27,7 +27,7 @@ cut c bs =
 
 -- `*`
 abbrev pub star : List ℕ → Read
-star t = option_map (λ rest. (any, rest)) (behind 42 t)
+star t = option_map (λ rest. (any, rest)) (following 42 t)
 
 -- a name without quotes
 abbrev pub plain : List ℕ → Read
@@ -38,8 +38,8 @@ plain t =
 -- a name in quotes
 abbrev pub quoted : List ℕ → Read
 quoted t =
-    option_and_then (λ parts. option_map (λ rest. (named parts.0, rest)) (behind 93 parts.1))
-    (option_and_then (cut 39) (behind 39 t))
+    option_and_then (λ parts. option_map (λ rest. (named parts.0, rest)) (following 93 parts.1))
+    (option_and_then (cut 39) (following 39 t))
 
 abbrev pub index : List ℕ → Read
 index t =
@@ -47,7 +47,7 @@ index t =
     (cut 93 t)
 
 abbrev pub closed_star : List ℕ → Read
-closed_star t = option_map (λ rest. (any, rest)) (option_and_then (behind 93) (behind 42 t))
+closed_star t = option_map (λ rest. (any, rest)) (option_and_then (following 93) (following 42 t))
 
 -- a token's text after its dot, and after its bracket
 abbrev pub dotted : List ℕ → Read
@@ -57,7 +57,7 @@ abbrev pub bracketed : List ℕ → Read
 bracketed t = option_or (closed_star t) (option_or (quoted t) (index t))
 
 abbrev pub token_in : List ℕ → Read
-token_in t = option_or (option_and_then dotted (behind 46 t)) (option_and_then bracketed (behind 91 t))
+token_in t = option_or (option_and_then dotted (following 46 t)) (option_and_then bracketed (following 91 t))
 
 abbrev pub with_front : Token → Result (List Token) PathFault → Result (List Token) PathFault
 with_front t (Ok ts) = Ok (t ∷ ts)
@@ -86,7 +86,7 @@ from_root total None = Err NoRoot
 from_root total (Some rest) = tokens_in total 60 rest
 
 abbrev pub path_in : List ℕ → Result (List Token) PathFault
-path_in text = from_root (length text) (behind 36 text)
+path_in text = from_root (length text) (following 36 text)
 
 abbrev pub path_or_none : Result (List Token) PathFault → Option (List Token)
 path_or_none (Ok tokens) = Some tokens

@@ -15,7 +15,7 @@ pub record IsFront (limit : ℕ) (text front rest : List ℕ) (tokens : List Tok
 -- and no longer front of it is spelled
 pub record IsLongestFront (limit : ℕ) (text front rest : List ℕ) (tokens : List Token) : Type 0 where
   pub is_front : IsFront limit text front rest tokens
-  pub longest : (other behind : List ℕ) (others : List Token) → IsFront limit text other behind others
+  pub longest : (other following : List ℕ) (others : List Token) → IsFront limit text other following others
       → length other ≤ length front
 
 -- after the root the longest front of at most 60 tokens ends at an offset of the text, with some of it left
@@ -23,7 +23,7 @@ pub record StopsAt (text : List ℕ) (tokens : List Token) (offset : ℕ) : Type
   pub body : List ℕ
   pub front : List ℕ
   pub rest : List ℕ
-  pub is_behind_root : text ≡ codes "$" ++ body
+  pub is_after_root : text ≡ codes "$" ++ body
   pub is_longest : IsLongestFront 60 body front rest tokens
   pub is_left : rest ≢ []
   pub is_offset : offset ≡ 1 + length front

@@ -7,7 +7,7 @@ ghost use Rattle.pact_paths.specs.TokenView.{token_view, seen_view};
 ghost use Rattle.pact_paths.specs.Spelling.{is_special, is_index};
 ghost use Rattle.pact_paths.specs.PathReading.{token_in, dotted as dotted_in, bracketed as bracketed_in};
 ghost use Rattle.pact_paths.specs.PathReading.{plain as plain_in, quoted as quoted_in, index as index_in};
-ghost use Rattle.pact_paths.specs.PathReading.{behind as behind_of, cut as cut_of, closed_star as closed_star_in};
+ghost use Rattle.pact_paths.specs.PathReading.{following as after_of, cut as cut_of, closed_star as closed_star_in};
 ghost use Rattle.pact_paths.specs.PathReading.{tokens_in, with_all};
 ghost use Rattle.pact_paths.specs.Outcome.{Gives, checked};
 ghost use Rattle.pact_paths.specs.Readings.{IsReading, IsTheReading};
@@ -69,7 +69,7 @@ impl Path {
         // A fault is found before any memory is taken.
         ensures faults { (e : PathFaultModel) → IsReading text.now (Err e) → result ≡ Err e }
     {
-        let Some(rest) = behind(text, '$') else {
+        let Some(rest) = following(text, '$') else {
             return Err(PathFault::NoRoot);
         };
         check_tokens(text.len(), MAX_TOKENS, rest)?;
@@ -146,10 +146,10 @@ fn token_at(text: &str) -> Option<(Seen<'_>, &str)>
     ensures value { option_map (λ x. (seen_view x.0, x.1.now)) result ≡ token_in text.now }
     ensures no_longer { IfSome result (λ x. length x.1.now ≤ length text.now) }
 {
-    if let Some(rest) = behind(text, '.') {
+    if let Some(rest) = following(text, '.') {
         return dotted(rest);
     }
-    if let Some(rest) = behind(text, '[') {
+    if let Some(rest) = following(text, '[') {
         return bracketed(rest);
     }
     None
@@ -159,7 +159,7 @@ fn dotted(text: &str) -> Option<(Seen<'_>, &str)>
     ensures value { option_map (λ x. (seen_view x.0, x.1.now)) result ≡ dotted_in text.now }
     ensures no_longer { IfSome result (λ x. length x.1.now ≤ length text.now) }
 {
-    if let Some(rest) = behind(text, '*') {
+    if let Some(rest) = following(text, '*') {
         return Some((Seen::Any, rest));
     }
     let end = plain_len(text);
@@ -187,10 +187,10 @@ fn bracketed(text: &str) -> Option<(Seen<'_>, &str)>
 }
 
 /// What is after a mark at the front.
-#[tactic(auto, using(std::proofs::lemmas::Str::Pattern::strip_prefix_char, crate::proofs::PathLemmas::behind_is))]
-fn behind(text: &str, mark: char) -> Option<&str>
+#[tactic(auto, using(std::proofs::lemmas::Str::Pattern::strip_prefix_char, crate::proofs::PathLemmas::after_is))]
+fn following(text: &str, mark: char) -> Option<&str>
     requires { mark < 128 }
-    ensures value { option_map (λ r. r.now) result ≡ behind_of mark text.now }
+    ensures value { option_map (λ r. r.now) result ≡ after_of mark text.now }
     ensures no_longer { IfSome result (λ r. length r.now ≤ length text.now) }
 {
     text.strip_prefix(mark)
@@ -210,7 +210,7 @@ fn closed_star(text: &str) -> Option<&str>
     ensures value { option_map (λ r. (any, r.now)) result ≡ closed_star_in text.now }
     ensures no_longer { IfSome result (λ r. length r.now ≤ length text.now) }
 {
-    behind(behind(text, '*')?, ']')
+    following(following(text, '*')?, ']')
 }
 
 /// The name in quotes at the front, and what follows the bracket after it.
@@ -218,8 +218,8 @@ fn quoted(text: &str) -> Option<(&str, &str)>
     ensures value { option_map (λ x. (named x.0.now, x.1.now)) result ≡ quoted_in text.now }
     ensures no_longer { IfSome result (λ x. length x.1.now ≤ length text.now) }
 {
-    let (name, rest) = cut(behind(text, '\'')?, '\'')?;
-    let rest = behind(rest, ']')?;
+    let (name, rest) = cut(following(text, '\'')?, '\'')?;
+    let rest = following(rest, ']')?;
     Some((name, rest))
 }
 

@@ -16,12 +16,12 @@ module _ {V A B F : Type 0} (read : ℕ → A → Result B F → Type 0) (view :
   pub Completes-push : (front new : List B) (x : V) (left : List V) (b : B) → read (length front) (view x) (Ok b) → new ≡ front ++ b ∷ [] → Completes front (x ∷ left) → Completes new left
   unfolding EachRead
   Completes-push front new x left b h pushed k = subst (λ bs. Completes bs left) (sym pushed) more where
-    behind : (rest : Result (List B) F) → EachRead read (length (front ++ b ∷ [])) (map view left) rest → EachRead read (length front + 1) (map view left) rest
-    behind rest r = subst (λ i. EachRead read i (map view left) rest) (length_push front b) r
+    following : (rest : Result (List B) F) → EachRead read (length (front ++ b ∷ [])) (map view left) rest → EachRead read (length front + 1) (map view left) rest
+    following rest r = subst (λ i. EachRead read i (map view left) rest) (length_push front b) r
 
     more : Completes (front ++ b ∷ []) left
-    more (Ok bs) r = subst (EachRead read 0 (map view xs)) (ap Ok (sym (append_assoc front (b ∷ []) bs))) (k (Ok (b ∷ bs)) (Ok b, h, (Ok bs, behind (Ok bs) r, refl)))
-    more (Err e) r = k (Err e) (Ok b, h, (Err e, behind (Err e) r, refl))
+    more (Ok bs) r = subst (EachRead read 0 (map view xs)) (ap Ok (sym (append_assoc front (b ∷ []) bs))) (k (Ok (b ∷ bs)) (Ok b, h, (Ok bs, following (Ok bs) r, refl)))
+    more (Err e) r = k (Err e) (Ok b, h, (Err e, following (Err e) r, refl))
 
   -- a fault at the next element is the answer of the whole reading
   pub EachRead-first_fault : (front : List B) (x : V) (left : List V) (e : F) → read (length front) (view x) (Err e) → Completes front (x ∷ left) → EachRead read 0 (map view xs) (Err e)

@@ -96,9 +96,9 @@ module _ {A : Type 0} (p : A → Bool) where
   pub IsOrderedBy-filter : (text : A → List ℕ) (xs : List A) → IsOrderedBy text xs → IsOrderedBy text (filter p xs)
   IsOrderedBy-filter text [] order = tt
   IsOrderedBy-filter text (x ∷ xs) order =
-      let behind = All-filter p (λ y. IsBefore (text x) (text y)) xs (All-from_recursion (λ y. IsBefore (text x) (text y)) xs order.0) in
+      let following = All-filter p (λ y. IsBefore (text x) (text y)) xs (All-from_recursion (λ y. IsBefore (text x) (text y)) xs order.0) in
       cond_both (p x) (x ∷ filter p xs) (filter p xs) (IsOrderedBy text)
-      (λ passes. (recursion_from_All (λ y. IsBefore (text x) (text y)) (filter p xs) behind, IsOrderedBy-filter text xs order.1)) (λ fails. IsOrderedBy-filter text xs order.1)
+      (λ passes. (recursion_from_All (λ y. IsBefore (text x) (text y)) (filter p xs) following, IsOrderedBy-filter text xs order.1)) (λ fails. IsOrderedBy-filter text xs order.1)
 
   -- those that are kept pass
   pub AllByRecursion-filter : (P : A → Type 0) (xs : List A) → AllByRecursion P xs → AllByRecursion (λ y. (p y ≡ true) × P y) (filter p xs)

@@ -3,7 +3,7 @@ use Rattle.std.{specs.{Io.KnownBytes.{IsAtEnd}, Prelude.{⊤}}, proofs.{Math.Seq
 use Rattle.std.proofs.Common.{◌≡◌, ◌⊎◌, ◌∙◌, ap, inl, inr, ◌+◌, ◌≤◌, ℕ, Bool, true, false, List, [], ◌++◌, Option, None, Some, length, take, nat_le, Result, Ok, Err, IfOk, OnErr, OnOk, ⊎_elim, leb-true, refl, sym, arith}
 use Rattle.pact_rules.specs.Outcome.{◌>>=◌, guard}
 use Rattle.pact_file.specs.{File.{file_of, most_bytes}, Normal.{Normal}, Pact.{Pact}, declared.fault.PactFault.TheVariants.{TooLong}}
-use Rattle.program_io.specs.Written.{BeginsNormalText, IsFrontOf, IsReadUpTo, Normalises, NormalisesUntil, TellsNormalText}
+use Rattle.program_io.specs.Written.{BeginsNormalText, IsFrontOf, IsReadUpTo, Normalises, NormalisesUntil, ReportsNormalText}
 
 guard-ok : {A F : Type 0} (test : Bool) (fault : F) (next : ⊤ → Result A F) (a : A) → (guard test fault >>= next) ≡ Ok a → test ≡ true
 guard-ok true fault next a is = refl
@@ -21,18 +21,18 @@ IsReadUpTo-whole before after bytes pact read is =
 
 -- so the normal text that is written of what was read, or the beginning of it, is that of the whole
 module _ (before after old new : Option (List ℕ)) (bytes : List ℕ) (read : IsReadUpTo before after bytes) where
-  pub Normalises-of_read : {F : Type 0} (r : Result (Unit {0}) F) → OnOk r (TellsNormalText bytes old new) → OnOk r (Normalises before after old new)
+  pub Normalises-of_read : {F : Type 0} (r : Result (Unit {0}) F) → OnOk r (ReportsNormalText bytes old new) → OnOk r (Normalises before after old new)
   Normalises-of_read (Ok u) (text, (pact, is, normal), out) =
       (bytes, read.0, IsReadUpTo-whole before after bytes pact read is, (text, (pact, is, normal), out))
-  Normalises-of_read (Err fault) told = tt
+  Normalises-of_read (Err fault) returned = tt
 
   NormalisesUntil-of_begun : BeginsNormalText bytes old new → NormalisesUntil before after old new
   NormalisesUntil-of_begun (text, (pact, is, normal), out) =
       (bytes, read.0, IsReadUpTo-whole before after bytes pact read is, (text, (pact, is, normal), out))
 
   pub NormalisesUntil-of_cut : {F : Type 0} (P : Type 0) (r : Result (Unit {0}) F) → OnErr r (P ⊎ BeginsNormalText bytes old new) → OnErr r (P ⊎ NormalisesUntil before after old new)
-  NormalisesUntil-of_cut P (Ok u) told = tt
-  NormalisesUntil-of_cut P (Err fault) told = ⊎_elim (λ none. inl none) (λ begun. inr (NormalisesUntil-of_begun begun)) told
+  NormalisesUntil-of_cut P (Ok u) returned = tt
+  NormalisesUntil-of_cut P (Err fault) returned = ⊎_elim (λ none. inl none) (λ begun. inr (NormalisesUntil-of_begun begun)) returned
 
 -- what was read is the take-of_append of what was there
 take-of_append : (most : ℕ) (all rest bytes : List ℕ) → all ≡ bytes ++ rest → (rest ≡ []) ⊎ (length bytes ≡ most) → length bytes ≤ most → bytes ≡ take most all

@@ -20,11 +20,11 @@ line_out (Ok u) a b c text whole ok err = Appends-trans a b c text newline whole
 line_out (Err fault) a b c text whole ok err = IsBegun-after_text a b c text newline whole err
 
 -- what is before the text is out, and then its line, or a beginning of it
-pub line_behind : (line : Result (Unit {0}) WriteFault) (a b c : Option (List ℕ)) (front text : List ℕ) → Appends a b front
+pub line_after : (line : Result (Unit {0}) WriteFault) (a b c : Option (List ℕ)) (front text : List ℕ) → Appends a b front
     → IsLineOut text line b c → IsLineOut (front ++ text) line a c
-line_behind (Ok u) a b c front text whole out =
+line_after (Ok u) a b c front text whole out =
     subst (Appends a c) (sym (append_assoc front text newline)) (Appends-trans a b c front (text ++ newline) whole out)
-line_behind (Err fault) a b c front text whole out =
+line_after (Err fault) a b c front text whole out =
     subst (λ bytes. IsBegun bytes a c) (sym (append_assoc front text newline)) (IsBegun-after_text a b c front (text ++ newline) whole out)
 
 -- a beginning of what is before more
@@ -42,4 +42,4 @@ IsLineOut-begun fault a b front text p = IsBegun-append a b (front ++ text) newl
 -- what is before the text is out, and then a beginning of its line
 pub IsLineOut-after_begun : (fault : WriteFault) (a b c : Option (List ℕ)) (front text more : List ℕ) → Appends a b front → IsBegun text b c
     → IsLineOut (front ++ (text ++ more)) (Err fault) a c
-IsLineOut-after_begun fault a b c front text more whole p = line_behind (Err fault) a b c front (text ++ more) whole (IsLineOut-begun fault b c text more p)
+IsLineOut-after_begun fault a b c front text more whole p = line_after (Err fault) a b c front (text ++ more) whole (IsLineOut-begun fault b c text more p)

@@ -48,8 +48,8 @@ abbrev pub IsNormalText : List ℕ → List ℕ → Type 0
 IsNormalText file text = (pact : Pact) × Normal file (Ok pact) × (text ≡ normal_text pact)
 
 module _ (file : List ℕ) (old new : Option (List ℕ)) where
-  abbrev pub TellsNormalText : Type 0
-  TellsNormalText = (text : List ℕ) × IsNormalText file text × Appends old new (text ++ newline)
+  abbrev pub ReportsNormalText : Type 0
+  ReportsNormalText = (text : List ℕ) × IsNormalText file text × Appends old new (text ++ newline)
 
   abbrev pub BeginsNormalText : Type 0
   BeginsNormalText = (text : List ℕ) × IsNormalText file text × IsBegun (text ++ newline) old new
@@ -57,7 +57,7 @@ module _ (file : List ℕ) (old new : Option (List ℕ)) where
 module _ (before after old new : Option (List ℕ)) where
   -- of what was read to the end
   abbrev pub Normalises : Type 0
-  Normalises = (file : List ℕ) × Consumes before after file × IsAtEnd after × TellsNormalText file old new
+  Normalises = (file : List ℕ) × Consumes before after file × IsAtEnd after × ReportsNormalText file old new
 
   abbrev pub NormalisesUntil : Type 0
   NormalisesUntil = (file : List ℕ) × Consumes before after file × IsAtEnd after × BeginsNormalText file old new
@@ -84,8 +84,8 @@ AreFailingBy pact recorded places =
     × AreKnown pact.interactions replies × AreFailing pact.interactions replies places
 
 module _ (pact : Pact) (recorded : List ℕ) (old new : Option (List ℕ)) where
-  abbrev pub TellsVerdict : Bool → Type 0
-  TellsVerdict passes =
+  abbrev pub ReportsVerdict : Bool → Type 0
+  ReportsVerdict passes =
       (places : List ℕ) × AreFailingBy pact recorded places × (passes ≡ is_pass places)
       × Appends old new (verdict_text places ++ newline)
 
@@ -97,7 +97,7 @@ module _ (old new : Option (List ℕ)) where
   -- of the two files that were read
   abbrev pub Checks : FilesRead → Bool → Type 0
   Checks (files.Both file recorded) passes =
-      (pact : Pact) × Normal file.items (Ok pact) × TellsVerdict pact recorded.items old new passes
+      (pact : Pact) × Normal file.items (Ok pact) × ReportsVerdict pact recorded.items old new passes
   Checks _ passes = ⊥
 
   abbrev pub ChecksUntil : FilesRead → Type 0

@@ -5,7 +5,7 @@ ghost use Rattle.std.specs.Io.KnownBytes.{Appends};
 ghost use Rattle.std.specs.List.{flat_map};
 ghost use Rattle.program_io.specs.Reported.{FailsToCheck, IsFromOutside, IsReadFault, IsRepliesFault};
 ghost use Rattle.program_io.specs.Written.{AreBounded, AreFailingBy, BeginsVerdict, Checks, ChecksUntil, IsBegun, IsFrontOf};
-ghost use Rattle.program_io.specs.Written.{TellsVerdict, newline, place_text, verdict_text};
+ghost use Rattle.program_io.specs.Written.{ReportsVerdict, newline, place_text, verdict_text};
 
 use crate::bounded::{MOST_READ, fault_of_read, read_most};
 use crate::fault::RunFault;
@@ -125,13 +125,13 @@ fn write_verdict<W: Write>(alloc: Global, verdict: &Verdict, output: &mut W) -> 
 
 /// Writes the verdict of the pact on the replies that a file has, and a newline, and says whether it is a pass.
 #[tactic(auto, using(crate::proofs::VerdictLemmas::passes_is))]
-fn tell_verdict<W: Write>(
+fn print_verdict<W: Write>(
     alloc: Global,
     pact: &Pact,
     file: &[u8],
     output: &mut W,
 ) -> Result<bool, RunFault>
-    ensures ok { IfOk result (TellsVerdict pact.now file.now (W.contents output.old) (W.contents output.new)) }
+    ensures ok { IfOk result (ReportsVerdict pact.now file.now (W.contents output.old) (W.contents output.new)) }
     // Nothing was written, or a beginning of the verdict.
     ensures err { OnErr result ((output.new ≡ output.old)
         ⊎ BeginsVerdict pact.now file.now (W.contents output.old) (W.contents output.new)) }
@@ -159,9 +159,9 @@ fn check_read<W: Write>(
     match pact_of(rt.alloc(), file.as_slice()) {
         Ok(pact) => match read_recorded(rt, replies) {
             Ok(recorded) => {
-                let told = tell_verdict(rt.alloc(), &pact, recorded.as_slice(), output);
+                let returned = print_verdict(rt.alloc(), &pact, recorded.as_slice(), output);
                 drop(pact);
-                (told, FilesRead::Both(file, recorded))
+                (returned, FilesRead::Both(file, recorded))
             }
             Err(fault) => (Err(fault), FilesRead::Pact(file)),
         },

@@ -3,7 +3,7 @@ ghost use Rattle.std.specs.Prelude.{◌≡◌, ◌⊎◌, Ok, IfErr, IfOk, OnErr
 ghost use Rattle.pact_file.specs.Normal.{Normal};
 ghost use Rattle.program_io.specs.Reported.{FailsToNormalise, IsFromOutside, IsPactFault};
 ghost use Rattle.program_io.specs.Written.{BeginsNormalText, IsNormalText, Normalises, NormalisesUntil};
-ghost use Rattle.program_io.specs.Written.{TellsNormalText};
+ghost use Rattle.program_io.specs.Written.{ReportsNormalText};
 
 use crate::bounded::read_most;
 use crate::fault::RunFault;
@@ -37,7 +37,7 @@ fn normal_text_of(alloc: Global, file: &[u8]) -> Result<String, RunFault>
 
 /// Writes the normal text of a pact file, and a newline.
 fn write_normal_text<W: Write>(alloc: Global, file: &[u8], output: &mut W) -> Result<(), RunFault>
-    ensures ok { OnOk result (TellsNormalText file.now (W.contents output.old) (W.contents output.new)) }
+    ensures ok { OnOk result (ReportsNormalText file.now (W.contents output.old) (W.contents output.new)) }
     // Nothing was written, or a beginning of the normal text.
     ensures err { OnErr result ((output.new ≡ output.old)
         ⊎ BeginsNormalText file.now (W.contents output.old) (W.contents output.new)) }

@@ -9,7 +9,7 @@ use broker_core::answer::{Answer, Clash, Detail};
 use broker_core::command::{FormFault, Marks};
 use broker_core::policy::{Caller, Rule};
 use broker_names::name::{Name, Text};
-use command_facts::change::told;
+use command_facts::change::returned;
 use registry_tables::{add_environment, marks_of};
 use sqlite::{Alter, Connection};
 use std::alloc::Global;
@@ -61,7 +61,7 @@ fn put_marks<S: Alter>(
     let old = done!(marks_of(conn, environment.as_str()));
     match decide_put_environment(caller, old, marks) {
         Some(answer) => Ok(answer),
-        None => told(add_environment(conn, environment.as_str(), marks.gated, marks.strict)),
+        None => returned(add_environment(conn, environment.as_str(), marks.gated, marks.strict)),
     }
 }
 

@@ -1,7 +1,7 @@
 //! PUT and DELETE of a grant.
 ghost use Rattle.std.specs.Prelude.{IfSome, IfNone};
 ghost use Rattle.sqlite.specs.Held.{state};
-ghost use Rattle.table_access.specs.Calls.{TellsMemory};
+ghost use Rattle.table_access.specs.Calls.{ReportsMemory};
 ghost use Rattle.broker_core.specs.declared.command.Command.TheVariants.{PutGrant, DeleteGrant};
 ghost use Rattle.broker_tables.specs.Calm.{CalmQueriesInPlace};
 ghost use Rattle.command_facts.specs.Performs.{Carries, CarriesCalmly};
@@ -10,7 +10,7 @@ ghost use Rattle.registry_commands.specs.Facts.{IsGrantRead, AnswersPutGrant, Ad
 use broker_core::answer::{Answer, Detail, Missing};
 use broker_core::policy::{Caller, Rule};
 use broker_names::name::Name;
-use command_facts::change::told;
+use command_facts::change::returned;
 use registry_tables::{add_grant, gated, granted, has_team, remove_grant};
 use sqlite::{Alter, Connection};
 use table_access::StoreFault;
@@ -97,12 +97,12 @@ pub fn put_grant<S: Alter>(
     environment: &Name,
 ) -> Result<Answer, StoreFault>
     ensures carries { Carries S.Store conn.old conn.new result caller.now (PutGrant team.now environment.now) }
-    ensures memory { TellsMemory (state S.Store conn.old) (state S.Store conn.new) result }
+    ensures memory { ReportsMemory (state S.Store conn.old) (state S.Store conn.new) result }
 {
     let facts = done!(read_grant_facts(conn, team, environment));
     match decide_put_grant(caller, facts) {
         Some(answer) => Ok(answer),
-        None => told(add_grant(conn, team.as_str(), environment.as_str())),
+        None => returned(add_grant(conn, team.as_str(), environment.as_str())),
     }
 }
 
@@ -119,11 +119,11 @@ pub fn delete_grant<S: Alter>(
     environment: &Name,
 ) -> Result<Answer, StoreFault>
     ensures carries { CarriesCalmly S.Store conn.old conn.new result caller.now (DeleteGrant team.now environment.now) }
-    ensures memory { TellsMemory (state S.Store conn.old) (state S.Store conn.new) result }
+    ensures memory { ReportsMemory (state S.Store conn.old) (state S.Store conn.new) result }
 {
     let facts = done!(read_grant_facts(conn, team, environment));
     match decide_delete_grant(caller, facts) {
         Some(answer) => Ok(answer),
-        None => told(remove_grant(conn, team.as_str(), environment.as_str())),
+        None => returned(remove_grant(conn, team.as_str(), environment.as_str())),
     }
 }

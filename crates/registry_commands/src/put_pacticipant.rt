@@ -9,7 +9,7 @@ ghost use Rattle.broker_core.specs.declared.command.Command.TheVariants.{PutPact
 use broker_core::answer::{Answer, Clash, Detail, Missing};
 use broker_core::policy::{Caller, Rule};
 use broker_names::name::Name;
-use command_facts::change::told;
+use command_facts::change::returned;
 use registry_tables::{add_pacticipant, has_team, owner_of};
 use sqlite::{Alter, Connection};
 use table_access::StoreFault;
@@ -74,6 +74,6 @@ pub fn put_pacticipant<S: Alter>(
     let facts = done!(read_pacticipant_facts(conn, pacticipant, team));
     match decide_put_pacticipant(caller, &facts, team) {
         Some(answer) => Ok(answer),
-        None => told(add_pacticipant(conn, pacticipant.as_str(), team.as_str())),
+        None => returned(add_pacticipant(conn, pacticipant.as_str(), team.as_str())),
     }
 }

@@ -13,7 +13,7 @@ use broker_core::answer::{Answer, Clash, Detail};
 use broker_core::policy::{Caller, Rule};
 use broker_names::name::{Name, Token};
 use caller_facts::callers::{digest_of, holder_of};
-use command_facts::change::told;
+use command_facts::change::returned;
 use registry_tables::add_team;
 use sqlite::{Alter, Connection};
 use std::alloc::Global;
@@ -82,7 +82,7 @@ fn put_digest<S: Alter>(
     let facts = done!(read_team_facts(alloc, conn, team, digest));
     match decide_put_team(caller, &facts, digest) {
         Some(answer) => Ok(answer),
-        None => told(add_team(conn, team.as_str(), digest)),
+        None => returned(add_team(conn, team.as_str(), digest)),
     }
 }
 

@@ -18,8 +18,8 @@ use broker_core::policy::{Caller, Rule};
 use broker_names::name::Name;
 use broker_tables::next_number;
 use caller_facts::rules::{OwnerFacts, read_owner};
-use command_facts::change::told;
-use registry_tables::{add_branch, add_version_as, on_branch, version_count, version_of};
+use command_facts::change::returned;
+use registry_tables::{add_branch, insert_version, on_branch, version_count, version_of};
 use sqlite::{Alter, Connection};
 use table_access::StoreFault;
 
@@ -154,7 +154,7 @@ fn add_after<S: Alter>(
     let Some(number) = next_number(count) else {
         return Err(StoreFault::Store);
     };
-    done!(add_version_as(
+    done!(insert_version(
         conn,
         number,
         version.pacticipant.as_str(),
@@ -232,7 +232,7 @@ pub fn put_version<S: Alter>(
     let facts = done!(read_naming_facts(conn, caller, version, branch));
     match decide_put_version(facts) {
         Some(answer) => Ok(answer),
-        None => told(record_version(
+        None => returned(record_version(
             conn,
             version,
             branch,

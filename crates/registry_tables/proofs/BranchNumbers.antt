@@ -15,8 +15,9 @@ use Rattle.table_access.{specs.Statements.{from_both, up_to, keeps_both, pairs_k
 use Rattle.table_access.proofs.{Keys.{IsNumbered-whole_at_unique}, SoundLemmas.{any_of, at_has}}
 use Rattle.table_access.proofs.{Members.{any_has, IsAscending-map_on, contains_has, pairs-sound, pairs-complete, pairs-IsAscending}, Values.{binary-Lt_Int}}
 use Rattle.broker_core.{specs.{Listing.{Lists}, State.{State as Broker}, Text.{version}}, proofs.Lists.{Contains-empty, Contains-cons_cases, Contains-here}}
-use Rattle.broker_tables.{specs.{Schema.{in_versions, in_branches}, Holds.{Holds}}, proofs.Asked.{Asked, IsShown, EachReads, EachShown-of_both, EachShown-up_to_both}}
-use Rattle.broker_tables.proofs.{Keyed.{branches_by_key, IsAscending-keys_of_table}, Placed.{at_branches, column-texts, column-whole_numbers}, Listed.{sorts, Lists-of_join}}
+use Rattle.broker_tables.specs.{Schema.{in_versions, in_branches}, Holds.{Holds}}
+use Rattle.broker_tables.proofs.{Asked.{Asked, IsShown, EachReads, EachShown-of_both, EachShown-up_to_both}, Keyed.{branches_by_key, IsAscending-keys_of_table}}
+use Rattle.broker_tables.proofs.{Placed.{at_branches, column-texts, column-whole_numbers}, Listed.{sorts, Lists-of_join}}
 use Rattle.broker_tables.proofs.{Orders.{by_both-total_int_text, by_both-exact_int_text}, ReadableRows.{IsNumberAt-of_column, IsLow-version}}
 use Rattle.broker_tables.proofs.VersionRows.{IsNumbered-versions, version_number, column-version_pacticipant, number_of-version_row, number_of-has_row, binary-Eq_same_Int, binary-Eq_same_Text, and-three}
 use Rattle.registry_tables.{specs.Registry.{IsBranchNumber, IsNewestBelow}, proofs.BranchRows.{key, is_on}}
@@ -83,18 +84,18 @@ module _ (db : Database) (s : Broker) (held : Holds db s) (p b : List ℕ) where
       let it = number_of-version_row db held.broker s.versions held.versions r hr in
       let v = version (text in_versions.pacticipant r) (text in_versions.version r) in
       let same : it.0 ≡ n = (let ints : pos it.0 ≡ pos n = sym it.2 ∙ is in cc) in
-      let stands : is_on (db.trees in_branches.tree) b (Some it.0) ≡ true =
+      let is_present : is_on (db.trees in_branches.tree) b (Some it.0) ≡ true =
       any_of (λ r. eq_by_cmp (by_both int_cmp text_cmp) (pos it.0, b) (key r)) (db.trees in_branches.tree) x hx
       (ap (eq_by_cmp (by_both int_cmp text_cmp) (pos it.0, b)) (λ i. ((pair.0 ∙ it.2) i, pair.2 i)) ∙ (eq_by_cmp_equiv by_both-total_int_text).refl (pos it.0, b)) in
-      (v, it.1 ∙ ap Some same, pair.1, sym (held.branches v b) ∙ ap (is_on (db.trees in_branches.tree) b) it.1 ∙ stands)
+      (v, it.1 ∙ ap Some same, pair.1, sym (held.branches v b) ∙ ap (is_on (db.trees in_branches.tree) b) it.1 ∙ is_present)
 
   -- and each such number has a pair
   IsPair-complete : (n : ℕ) → IsBranchNumber s p b n → (q : Row × Row) × Has (db.trees in_versions.tree) q.0 × Has (db.trees in_branches.tree) q.1
       × IsPair p b q.0 q.1 × (whole_at in_versions.number q.0 ≡ pos n)
   IsPair-complete n (v, is, owner, on) =
       let r = number_of-has_row db held.broker s.versions v n held.versions is in
-      let stands : is_on (db.trees in_branches.tree) b (Some n) ≡ true = sym (ap (is_on (db.trees in_branches.tree) b) is) ∙ held.branches v b ∙ on in
-      let x = any_has (λ r. eq_by_cmp (by_both int_cmp text_cmp) (pos n, b) (key r)) (db.trees in_branches.tree) stands in
+      let is_present : is_on (db.trees in_branches.tree) b (Some n) ≡ true = sym (ap (is_on (db.trees in_branches.tree) b) is) ∙ held.branches v b ∙ on in
+      let x = any_has (λ r. eq_by_cmp (by_both int_cmp text_cmp) (pos n, b) (key r)) (db.trees in_branches.tree) is_present in
       let same : (pos n, b) ≡ key x.0 = by_both-exact_int_text (pos n, b) (key x.0) ((Equal-is (by_both int_cmp text_cmp (pos n, b) (key x.0))).0 x.2) in
       ((r.0, x.0), r.1, x.1, (sym (ap (λ k. k.0) same) ∙ sym r.4, r.2 ∙ owner, sym (ap (λ k. k.1) same)), r.4)
 

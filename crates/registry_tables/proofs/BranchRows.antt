@@ -6,10 +6,12 @@ use Rattle.sqlite.specs.Listing.{understood}
 use Rattle.sqlite_tied.specs.Compute.{everything}
 use Rattle.table_access.{specs.{Columns.{text, text_cmp, whole_at, by_both}, Statements.{from_table, by_two}}, proofs.Values.{cast-Int}}
 use Rattle.broker_core.specs.{declared.command.Version.{Version}, Text.{same_text, same_version}, State.{State as Broker}}
-use Rattle.broker_tables.specs.{Schema.{in_branches}, Rows.{stands_at}, Numbers.{number_of}, Holds.{Holds, HoldsAfter}}
-use Rattle.broker_tables.proofs.{Asked.{Asked, IsShown, NoneFor, EachShown-of_table}, Frames.{Holds-branches}, Keyed.{branches_by_key, finds_row, IsFree-of_stands_at}}
-use Rattle.broker_tables.proofs.{Ties.{both_eq, and-same}, NumberLemmas.{number_of-same_version, same_version-unknown}, NoVersion.{references-not_unknown_version}, Standing.{stands_at-set}}
-use Rattle.broker_tables.proofs.{Placed.{branches, at_branches, listed, column-whole_numbers}, Inserted.{EndsFrom, Adds, HoldsAfter-added, EndsOnly-added, added, IsThere-version}}
+use Rattle.broker_tables.specs.{Schema.{in_branches}, Rows.{has_row_at}, Numbers.{number_of}, Holds.{Holds, HoldsAfter}}
+use Rattle.broker_tables.proofs.{Asked.{Asked, IsShown, NoneFor, EachShown-of_table}, Frames.{Holds-branches}}
+use Rattle.broker_tables.proofs.{Keyed.{branches_by_key, finds_row, IsFree-of_has_row_at}, Ties.{both_eq, and-same}}
+use Rattle.broker_tables.proofs.{NumberLemmas.{number_of-same_version, same_version-unknown}, NoVersion.{references-not_unknown_version}}
+use Rattle.broker_tables.proofs.{Present.{has_row_at-set}, Placed.{branches, at_branches, listed, column-whole_numbers}}
+use Rattle.broker_tables.proofs.Inserted.{EndsFrom, Adds, HoldsAfter-added, EndsOnly-added, added, IsThere-version}
 use Rattle.sqlite_keyed.proofs.RuleLemmas.{first_of_both}
 use Rattle.registry_tables.specs.Registry.{AddsBranch}
 
@@ -18,7 +20,7 @@ key r = (whole_at in_branches.version_number r, text in_branches.branch r)
 
 -- whether a row puts the version with this number on the branch
 abbrev pub is_on : List Row → List ℕ → Option ℕ → Bool
-is_on rows b number = option_map_or (λ n. stands_at (by_both int_cmp text_cmp) key rows (pos n, b)) number false
+is_on rows b number = option_map_or (λ n. has_row_at (by_both int_cmp text_cmp) key rows (pos n, b)) number false
 
 -- ---- whether a version is on a branch
 
@@ -54,7 +56,7 @@ module _ (n : ℕ) (b : List ℕ) (old new : State) where
   pub HoldsAfter-AddsBranch : (s : Broker) → Holds old.now s → (t : Broker) → AddsBranch n b s t → (count : ℕ) → Executes add_sql (Int (pos n) ∷ Text b ∷ []) old new (Ok count) → HoldsAfter 2 old new t
   HoldsAfter-AddsBranch s held t (v, is, off, next) count h = HoldsAfter-added (Adds-branch n b) old new held.broker (omega arith) count h (λ frame it.
       subst (Holds new.now) (sym next) (Holds-branches old.now new.now s _ held frame (λ w c.
-      each w c (number_of s.versions w) refl (λ k. stands_at-set (by_both int_cmp text_cmp) key (old.now.trees in_branches.tree) (new.now.trees in_branches.tree) _ it (pos k, c))
+      each w c (number_of s.versions w) refl (λ k. has_row_at-set (by_both int_cmp text_cmp) key (old.now.trees in_branches.tree) (new.now.trees in_branches.tree) _ it (pos k, c))
       ∙ ap (cond (same_version w v && same_text c b) true) (held.branches w c))))
     where
       each : (w : Version) (c : List ℕ) (o : Option ℕ) → number_of s.versions w ≡ o
@@ -71,6 +73,6 @@ module _ (n : ℕ) (b : List ℕ) (old new : State) where
   pub EndsFrom-AddsBranch : EndsFrom (codes "branches" ∷ []) (b ∷ []) add_sql (Int (pos n) ∷ Text b ∷ []) old new (λ s. (t : Broker) × AddsBranch n b s t)
   EndsFrom-AddsBranch s here (t, (v, is, off, next)) numbers =
       let made = added (Adds-branch n b) old new here.held.broker in
-      let free : stands_at (by_both int_cmp text_cmp) key (old.now.trees in_branches.tree) (pos n, b) ≡ false = sym (ap (λ o. option_map_or (λ k. stands_at (by_both int_cmp text_cmp) key (old.now.trees in_branches.tree) (pos k, b)) o false) is) ∙ here.held.branches v b ∙ off in
-      EndsOnly-added (Adds-branch n b) old new here.held.broker numbers.0 (record { typed = refl; present = refl; checked = refl }) (IsFree-of_stands_at branches_by_key old.now here.held.broker made refl free, tt)
+      let free : has_row_at (by_both int_cmp text_cmp) key (old.now.trees in_branches.tree) (pos n, b) ≡ false = sym (ap (λ o. option_map_or (λ k. has_row_at (by_both int_cmp text_cmp) key (old.now.trees in_branches.tree) (pos k, b)) o false) is) ∙ here.held.branches v b ∙ off in
+      EndsOnly-added (Adds-branch n b) old new here.held.broker numbers.0 (record { typed = refl; present = refl; checked = refl }) (IsFree-of_has_row_at branches_by_key old.now here.held.broker made refl free, tt)
       (IsThere-version old.now s here.held made in_branches.version_number v n is refl, tt) (b ∷ []) (λ are. (tt, are)) (omega arith) (omega arith) here.unlimited

@@ -11,13 +11,16 @@ use Rattle.sqlite_schema.specs.declared.schema.Column.{Column}
 use Rattle.sqlite_tied.specs.Compute.{everything}
 use Rattle.sqlite_keyed.proofs.RuleLemmas.{first_of_both}
 use Rattle.table_access.specs.{Statements.{from_table, keeps}, Reading.{IsNumberRow}, Columns.{text, text_cmp, whole_at}}
-use Rattle.table_access.proofs.{Values.{binary-Eq_Text, binary-Eq_Text_sound, cast-Int}, Maps.{find-IsAdded, find-None_no_row}, ReadLemmas.{option_map-compose}, SoundLemmas.{IsDatabase-passes_checks}}
+use Rattle.table_access.proofs.{Values.{binary-Eq_Text, binary-Eq_Text_sound, cast-Int}, Maps.{find-IsAdded, find-None_no_row}, ReadLemmas.{option_map-compose}}
+use Rattle.table_access.proofs.SoundLemmas.{IsDatabase-passes_checks}
 use Rattle.broker_tables.specs.Schema.{in_environments, broker_schema, in_strict_environments}
-use Rattle.broker_tables.specs.{Rows.{mark_of, IsTruthAt, truth, truth_in, value_at, stands_at}, Asking.{HasColumns, HasBrokerTables}}
-use Rattle.broker_tables.{specs.Holds.{Holds, HoldsAfter, marks_in}, proofs.AnyTables.{laid_out, laid_out-of_HasColumns, set_out-of_IsColumnLike, AsksOf, Shown-first_kept, Shown-none_kept}}
-use Rattle.broker_tables.proofs.{Asked.{Asked, IsShown, EachReads, EachShown-of_table}, Frames.{ChangesOnly-Frame, Holds-environments}, Orders.{text_cmp-antisymmetric}}
-use Rattle.broker_tables.proofs.{TruthLemmas.{is_truth-bounds}, Growth.{stands_at-none}, References.{references-environment}, Standing.{value_at-is_some, stands_at-IsAdded, value_at-option_map}}
-use Rattle.broker_tables.proofs.Keyed.{environments_by_name, finds, finds_row, IsFree-of_stands_at, strict_by_name}
+use Rattle.broker_tables.specs.{Rows.{mark_of, IsTruthAt, truth, truth_in, value_at, has_row_at}, Asking.{HasColumns, HasBrokerTables}}
+use Rattle.broker_tables.specs.Holds.{Holds, HoldsAfter, marks_in}
+use Rattle.broker_tables.proofs.AnyTables.{laid_out, laid_out-of_HasColumns, set_out-of_IsColumnLike, AsksOf, Shown-first_kept, Shown-none_kept}
+use Rattle.broker_tables.proofs.{Asked.{Asked, IsShown, EachReads, EachShown-of_table}, Frames.{ChangesOnly-Frame, Holds-environments}}
+use Rattle.broker_tables.proofs.{Orders.{text_cmp-antisymmetric}, TruthLemmas.{is_truth-bounds}, Growth.{has_row_at-none}, References.{references-environment}}
+use Rattle.broker_tables.proofs.Present.{value_at-is_some, has_row_at-IsAdded, value_at-option_map}
+use Rattle.broker_tables.proofs.Keyed.{environments_by_name, finds, finds_row, IsFree-of_has_row_at, strict_by_name}
 use Rattle.broker_tables.proofs.Placed.{environments, at_environments, strict_environments, at_strict_environments, listed, column-texts, column-whole_numbers}
 use Rattle.broker_tables.proofs.Inserted.{EndsFrom, Adds, Executes-adds_row, HoldsAfter-added, EndsOnly-added, added, IsThere-environment}
 use Rattle.registry_tables.specs.{Marks.{IsMarkIn, HasNoMark, IsEnvironmentRow}, Registry.{marks, AddsEnvironment, MakesStrict, IsLenient}}
@@ -132,36 +135,36 @@ IsTruthAt-not_above_one (Some n) None read high = absurd cc
 IsTruthAt-not_above_one (Some n) (Some row) read high = (
   row,
   refl,
-  λ stands.
-      let one : Some (Int (pos n)) ≡ Some (Int (pos stands.1.0)) = read ∙ ap Some stands.1.1 in
-      let nats : n ≡ stands.1.0 = cc in
-      omega (arith, high, nats, stands.1.2),
+  λ is_present.
+      let one : Some (Int (pos n)) ≡ Some (Int (pos is_present.1.0)) = read ∙ ap Some is_present.1.1 in
+      let nats : n ≡ is_present.1.0 = cc in
+      omega (arith, high, nats, is_present.1.2),
 )
 
 -- a mark is a number
 pub IsTruthAt-IsNumberRow : (row : Row) → IsTruthAt 0 row → IsNumberRow row
-IsTruthAt-IsNumberRow row stands = (stands.0, (stands.1.0, stands.1.1, omega (arith, stands.1.2)))
+IsTruthAt-IsNumberRow row is_present = (is_present.0, (is_present.1.0, is_present.1.1, omega (arith, is_present.1.2)))
 
 -- ---- the mark strict
 
 -- the marks of a name, by what its row has and by whether the name is among the strict ones
-value_at-marks_in : (strict rows : List Row) (e : List ℕ) → value_at text_cmp (text in_environments.name) (marks_in strict) rows e ≡ option_map (λ g. marks g (stands_at text_cmp (text in_strict_environments.environment) strict e)) (value_at text_cmp (text in_environments.name) (truth in_environments.gated) rows e)
+value_at-marks_in : (strict rows : List Row) (e : List ℕ) → value_at text_cmp (text in_environments.name) (marks_in strict) rows e ≡ option_map (λ g. marks g (has_row_at text_cmp (text in_strict_environments.environment) strict e)) (value_at text_cmp (text in_environments.name) (truth in_environments.gated) rows e)
 value_at-marks_in strict [] e = refl
 value_at-marks_in strict (r ∷ rows) e = go (eq_by_cmp text_cmp e (text in_environments.name r)) refl (value_at-marks_in strict rows e)
   where
-    go : (b : Bool) → eq_by_cmp text_cmp e (text in_environments.name r) ≡ b → value_at text_cmp (text in_environments.name) (marks_in strict) rows e ≡ option_map (λ g. marks g (stands_at text_cmp (text in_strict_environments.environment) strict e)) (value_at text_cmp (text in_environments.name) (truth in_environments.gated) rows e)
+    go : (b : Bool) → eq_by_cmp text_cmp e (text in_environments.name r) ≡ b → value_at text_cmp (text in_environments.name) (marks_in strict) rows e ≡ option_map (λ g. marks g (has_row_at text_cmp (text in_strict_environments.environment) strict e)) (value_at text_cmp (text in_environments.name) (truth in_environments.gated) rows e)
         → cond b (Some (marks_in strict r)) (value_at text_cmp (text in_environments.name) (marks_in strict) rows e)
-        ≡ option_map (λ g. marks g (stands_at text_cmp (text in_strict_environments.environment) strict e)) (cond b (Some (truth in_environments.gated r)) (value_at text_cmp (text in_environments.name) (truth in_environments.gated) rows e))
-    go true same later = ap (λ k. Some (marks (truth in_environments.gated r) (stands_at text_cmp (text in_strict_environments.environment) strict k))) (sym (text_cmp-antisymmetric e (text in_environments.name r) ((Equal-is (text_cmp e (text in_environments.name r))).0 same)))
+        ≡ option_map (λ g. marks g (has_row_at text_cmp (text in_strict_environments.environment) strict e)) (cond b (Some (truth in_environments.gated r)) (value_at text_cmp (text in_environments.name) (truth in_environments.gated) rows e))
+    go true same later = ap (λ k. Some (marks (truth in_environments.gated r) (has_row_at text_cmp (text in_strict_environments.environment) strict k))) (sym (text_cmp-antisymmetric e (text in_environments.name r) ((Equal-is (text_cmp e (text in_environments.name r))).0 same)))
     go false apart later = later
 
 -- so whether a name that has marks is there is one of them
-marks-strict : (g : Option Bool) (stands : Bool) (m : Marks) → option_map (λ x. marks x stands) g ≡ Some m → stands ≡ m.strict
-marks-strict None stands m is = absurd cc
-marks-strict (Some x) stands m is = let same : marks x stands ≡ m = cc in ap (λ (k : Marks). k.strict) same
+marks-strict : (g : Option Bool) (is_present : Bool) (m : Marks) → option_map (λ x. marks x is_present) g ≡ Some m → is_present ≡ m.strict
+marks-strict None is_present m is = absurd cc
+marks-strict (Some x) is_present m is = let same : marks x is_present ≡ m = cc in ap (λ (k : Marks). k.strict) same
 
-stands_at-strict_mark : (db : Database) (s : Broker) (e : List ℕ) (m : Marks) → Holds db s → s.environments e ≡ Some m → stands_at text_cmp (text in_strict_environments.environment) (db.trees in_strict_environments.tree) e ≡ m.strict
-stands_at-strict_mark db s e m held is = marks-strict _ _ m
+has_row_at-strict_mark : (db : Database) (s : Broker) (e : List ℕ) (m : Marks) → Holds db s → s.environments e ≡ Some m → has_row_at text_cmp (text in_strict_environments.environment) (db.trees in_strict_environments.tree) e ≡ m.strict
+has_row_at-strict_mark db s e m held is = marks-strict _ _ m
     (sym (value_at-marks_in (db.trees in_strict_environments.tree) (db.trees in_environments.tree) e) ∙ held.environments e ∙ is)
 
 pub strict : (e : List ℕ)
@@ -173,7 +176,7 @@ strict e = record { names = _; means = record { is = refl; plain = (refl, refl);
 
 pub IsShown-strict : (e : List ℕ) (db : Database) (rows : List Row) (s : Broker) (m : Marks) → Holds db s → s.environments e ≡ Some m → IsShown (strict e) db rows → is_some (slice_get rows 0) ≡ m.strict
 IsShown-strict e db rows s m held is h =
-    finds_row strict_by_name db held.broker (Text e ∷ []) e refl rows h ∙ stands_at-strict_mark db s e m held is
+    finds_row strict_by_name db held.broker (Text e ∷ []) e refl rows h ∙ has_row_at-strict_mark db s e m held is
 
 -- ---- a new environment
 
@@ -198,10 +201,10 @@ mark_of-is_one true = refl
 mark_of-is_one false = refl
 
 -- an environment that isn't there isn't strict
-stands_at-not_strict : (db : Database) (s : Broker) (e : List ℕ) → Holds db s → s.environments e ≡ None
-    → stands_at text_cmp (text in_strict_environments.environment) (db.trees in_strict_environments.tree) e ≡ false
-stands_at-not_strict db s e held free =
-    stands_at-none text_cmp (text in_strict_environments.environment) (text in_strict_environments.environment) e (db.trees in_strict_environments.tree) (λ r has.
+has_row_at-not_strict : (db : Database) (s : Broker) (e : List ℕ) → Holds db s → s.environments e ≡ None
+    → has_row_at text_cmp (text in_strict_environments.environment) (db.trees in_strict_environments.tree) e ≡ false
+has_row_at-not_strict db s e held free =
+    has_row_at-none text_cmp (text in_strict_environments.environment) (text in_strict_environments.environment) e (db.trees in_strict_environments.tree) (λ r has.
     let named = references-environment db held.broker strict_environments (listed at_strict_environments db held.broker) in_strict_environments.environment (inl refl) r has (column-texts at_strict_environments db held.broker in_strict_environments.environment refl r has) in
     ap (eq_by_cmp text_cmp e) (sym named.2) ∙ find-None_no_row nat_list_cmp_total text_cmp-antisymmetric (text in_environments.name) (marks_in (db.trees in_strict_environments.tree)) e (db.trees in_environments.tree) named.0 (held.environments e ∙ free) named.1)
 
@@ -221,7 +224,7 @@ module _ (e : List ℕ) (gated : Bool) (old new : State) where
     pub environment_put : (t : Broker) → AddsEnvironment e (marks gated false) s t → (count : ℕ) → Executes put_sql (Text e ∷ Int (pos (mark_of gated)) ∷ []) old new (Ok count) → HoldsAfter 1 old new t
     environment_put t (free, next) count h =
         let only = (Executes-adds_row (Adds-environment e gated) old new held.broker count h).0 in
-        let row : marks_in (old.now.trees in_strict_environments.tree) made ≡ marks gated false = (λ i. marks (mark_of-is_one gated i) (stands_at-not_strict old.now s e held free i)) in
+        let row : marks_in (old.now.trees in_strict_environments.tree) made ≡ marks gated false = (λ i. marks (mark_of-is_one gated i) (has_row_at-not_strict old.now s e held free i)) in
         HoldsAfter-added (Adds-environment e gated) old new held.broker (omega arith) count h (λ frame it.
         subst (Holds new.now) (sym next) (Holds-environments old.now new.now s _ held (ChangesOnly-Frame (codes "environments" ∷ codes "strict_environments" ∷ []) in_environments.tree refl old new held.broker only) (λ q.
         ap (λ rows. value_at text_cmp (text in_environments.name) (marks_in rows) (new.now.trees in_environments.tree) q) (strict_stays count h)
@@ -233,7 +236,7 @@ module _ (e : List ℕ) (gated : Bool) (old new : State) where
   pub EndsFrom-AddsEnvironment : EndsFrom (codes "environments" ∷ []) (e ∷ []) put_sql (Text e ∷ Int (pos (mark_of gated)) ∷ []) old new (λ s. (t : Broker) × AddsEnvironment e (marks gated false) s t)
   EndsFrom-AddsEnvironment s here (t, next) numbers =
       let free = sym (value_at-is_some text_cmp (text in_environments.name) (marks_in (old.now.trees in_strict_environments.tree)) rows e) ∙ ap is_some (here.held.environments e ∙ next.0) in
-      EndsOnly-added (Adds-environment e gated) old new here.held.broker numbers.0 (PassAlone-environment _ e gated) (IsFree-of_stands_at environments_by_name old.now here.held.broker (made s here.held) refl free, tt)
+      EndsOnly-added (Adds-environment e gated) old new here.held.broker numbers.0 (PassAlone-environment _ e gated) (IsFree-of_has_row_at environments_by_name old.now here.held.broker (made s here.held) refl free, tt)
       tt (e ∷ []) (λ are. (are.0, (tt, tt))) (omega arith) (omega arith) here.unlimited
 
 -- ---- an environment becomes strict
@@ -269,7 +272,7 @@ module _ (e : List ℕ) (old new : State) where
       ap (λ rows. value_at text_cmp (text in_environments.name) (marks_in (new.now.trees in_strict_environments.tree)) rows q) same
       ∙ value_at-marks_in (new.now.trees in_strict_environments.tree) (old.now.trees in_environments.tree) q
       ∙ ap (λ b. option_map (λ g. marks g b) gated)
-      (stands_at-IsAdded text_cmp (text in_strict_environments.environment) strict_rows (new.now.trees in_strict_environments.tree) _ it q)
+      (has_row_at-IsAdded text_cmp (text in_strict_environments.environment) strict_rows (new.now.trees in_strict_environments.tree) _ it q)
       ∙ marks-one_more_strict (eq_by_cmp text_cmp q e) gated _ m (λ t. was ∙ held.environments q ∙ ap s.environments (text_cmp-antisymmetric q e ((Equal-is (text_cmp q e)).0 t)) ∙ is)
       ∙ (λ i. cond (sym (texts_ties q e) i) (Some (marks m.gated true)) ((was ∙ held.environments q) i)))))
 
@@ -278,7 +281,7 @@ module _ (e : List ℕ) (old new : State) where
   EndsFrom-IsLenient s here (m, is, off) numbers =
       let made = added (Adds-strict_environment e) old new here.held.broker in
       EndsOnly-added (Adds-strict_environment e) old new here.held.broker numbers.0 (record { typed = refl; present = refl; checked = refl })
-      (IsFree-of_stands_at strict_by_name old.now here.held.broker made refl (stands_at-strict_mark old.now s e m here.held is ∙ off), tt)
+      (IsFree-of_has_row_at strict_by_name old.now here.held.broker made refl (has_row_at-strict_mark old.now s e m here.held is ∙ off), tt)
       (IsThere-environment old.now s here.held made in_strict_environments.environment e (ap is_some is) refl, tt) (e ∷ []) (λ are. are) (omega arith) (omega arith) here.unlimited
 
 -- ---- both marks

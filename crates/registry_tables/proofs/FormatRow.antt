@@ -14,8 +14,9 @@ use Rattle.sqlite_rules.{specs.{Lists.{Has}, Calls.{ids_of}}, proofs.TableLemmas
 use Rattle.sqlite_keyed.proofs.ListLemmas.{IsPermutation-same}
 use Rattle.sqlite_tied.specs.Compute.{everything}
 use Rattle.table_access.{specs.{Sound.{IsNumbered}, Statements.{from_table, keeps, shows, IsCalm}}, proofs.Creation.{AllByRecursion-front}}
-use Rattle.table_access.proofs.{Steps.{Means, updates, Ok-not_stopped, Ok-injective, shows-one_row}, SoundLemmas.{at_has, column-Text, has_place}, Removal.{without_all-ids_of}}
-use Rattle.table_access.proofs.{Answered.{Runs, Queried-never_stops}, Edits.{Suits, goes, refers}, Refused.{EndsAs-stopped, OnTable-stops, IsMisplaced-never_anywhere, Executes-change_fails, Fails-weaken}}
+use Rattle.table_access.proofs.{Steps.{Means, updates, Ok-not_stopped, Ok-injective, shows-one_row}, SoundLemmas.{at_has, column-Text, has_place}}
+use Rattle.table_access.proofs.{Removal.{without_all-ids_of}, Answered.{Runs, Queried-never_stops}, Edits.{Suits, goes, refers}}
+use Rattle.table_access.proofs.Refused.{EndsAs-stopped, OnTable-stops, IsMisplaced-never_anywhere, Executes-change_fails, Fails-weaken}
 use Rattle.broker_core.specs.State.{State as Broker}
 use Rattle.registry_tables.{specs.Format.{KeepsFormerRows}, proofs.MetaRow.{alone, IsMeta-one_row, row_of, cast_row-row_of, TakesMeta, Suits-meta_row}}
 

@@ -10,7 +10,8 @@ use Rattle.sqlite_catalog.{specs.Listing.{IsTableRow, is_table_row}, proofs.List
 use Rattle.sqlite_resolve.specs.{declared.compiled.Compiled.{Compiled}, declared.error.CompileError.TheVariants.{Mismatch}}
 use Rattle.sqlite_typing.specs.Types.{accepts_program}
 use Rattle.table_access.specs.{Reading.{IsNumberRow, IsRefusedAs}, Statements.{keeps, shows}, declared.StoreFault.{StoreFault}, Calls.{fault_of}}
-use Rattle.table_access.proofs.{Steps.{Means, IsPermutation-selected_rows, Shown-IsUnchanged}, Answered.{is_whole, IsRefusedAs-HasFailed}, SoundLemmas.{has_place}}
+use Rattle.table_access.proofs.{Steps.{Means, IsPermutation-selected_rows, Shown-IsUnchanged}, Answered.{is_whole, IsRefusedAs-HasFailed}}
+use Rattle.table_access.proofs.SoundLemmas.{has_place}
 use Rattle.broker_tables.specs.Schema.{meta, numbers, texts, in_meta}
 use Rattle.registry_tables.specs.Format.{IsLike, AreLike, IsMetaTable, Finds, HasNoFormat, table_of, FailsToFind}
 use Rattle.registry_tables.proofs.FormatText.{format_sql, format_query, like, like_meta, read_if, format_command, understood-format_sql, Means-format_sql, compiled_of}
@@ -127,14 +128,14 @@ module _ (old new : State) (t : Table) (there : table_of meta.name old.now.schem
 
   pub IsRefusedAs-FailsToFind : (fault : StoreFault) → IsRefusedAs format_sql [] old new fault → FailsToFind old new fault
   unfolding FailsToQuery IsNotRun
-  IsRefusedAs-FailsToFind fault (e, told, h) = go accepts refl h
+  IsRefusedAs-FailsToFind fault (e, returned, h) = go accepts refl h
     where
       go : (ok : Bool) → accepts ≡ ok → FailsToQuery format_sql [] old new e → FailsToFind old new fault
       go true taken h =
           let so = understood-found_table old.now.schema t there is true taken in
-          inl (IsRefusedAs-HasFailed format_sql [] old new (format_query t.tree) (codes "format" ∷ []) (Means-found_table old.now.schema t there is (compiled_of t.tree) so) (record { whole = ap (is_whole format_sql 0) so; typed = taken; sumless = refl }) unlimited fault (e, told, h))
+          inl (IsRefusedAs-HasFailed format_sql [] old new (format_query t.tree) (codes "format" ∷ []) (Means-found_table old.now.schema t there is (compiled_of t.tree) so) (record { whole = ap (is_whole format_sql 0) so; typed = taken; sumless = refl }) unlimited fault (e, returned, h))
       go false refused (inl (inl (inl none, same))) =
-          inr (told ∙ ap fault_of none.2, inr (t, there, is, λ first. (let clash : true ≡ false = sym (accepts_program-tree_found same.0.was_open first) ∙ refused in cc)))
+          inr (returned ∙ ap fault_of none.2, inr (t, there, is, λ first. (let clash : true ≡ false = sym (accepts_program-tree_found same.0.was_open first) ∙ refused in cc)))
       go false refused (inl (inl (inr (c, so, why), same))) = absurd (let clash : Err Mismatch ≡ Ok c = sym (understood-found_table old.now.schema t there is false refused) ∙ so in cc)
-      go false refused (inl (inr it)) = inl (record { cause = it.0; fault_is = told ∙ ap fault_of it.1; has = it.2; over = it.3.autocommit; blamed = it.4 })
+      go false refused (inl (inr it)) = inl (record { cause = it.0; fault_is = returned ∙ ap fault_of it.1; has = it.2; over = it.3.autocommit; blamed = it.4 })
       go false refused (inr it) = absurd (let clash : Err Mismatch ≡ Ok it.0 = sym (understood-found_table old.now.schema t there is false refused) ∙ it.1.is in cc)

@@ -1,6 +1,7 @@
 -- The one row of meta: what putting it in leaves, that it fails only as the store fails, and the digest that is in it.
 use Rattle.broker_tables.specs.{Schema.{in_meta, schema_of, registry_part}, Making.{IsBlank, HasTables}, Holds.{IsMeta, Holds, IsBroker, format}}
-use Rattle.broker_tables.proofs.{Opening.{IsBlank-IsKept}, Placed.{meta, at_meta, column-texts}, Inserted.{rising, rising-trees_apart, PutsInto, Executes-insert_fails}}
+use Rattle.broker_tables.proofs.{Opening.{IsBlank-IsKept}, Placed.{meta, at_meta, column-texts}}
+use Rattle.broker_tables.proofs.Inserted.{rising, rising-trees_apart, PutsInto, Executes-insert_fails}
 use Rattle.broker_tables.proofs.Asked.{Asked, IsShown, FirstReads, Shown-IsShown, FirstShown-IsTextAt}
 use Rattle.std.specs.{List.{AllByRecursion, list_all}, Prelude.{option_map, IsUtf8}, List.Sorted.{IsPermutation}}
 use Rattle.std.proofs.Common.{◌≡◌, ◌≢◌, ℕ, pos, codes, List, [], ◌∷◌, ◌++◌, fold, map, false, refl, sym, ap, subst, ◌∙◌, slice_get, Some, Ok, arith, ◌⊎◌, inl, inr, ◌≤◌, ◌^◌, ℤ, length, nat_lt, not, ◌&&◌, true, None, Err, IsTrue, filter}
@@ -10,10 +11,11 @@ use Rattle.sqlite.specs.{Command.{Command}, Command.TheVariants.{Insert}, Schema
 use Rattle.sqlite.{specs.{Listing.{understood}, declared.error.Error.{Error}}, proofs.Callers.{one_permutation}}
 use Rattle.sqlite_tied.specs.Compute.{everything}
 use Rattle.table_access.specs.{Statements.{Makes, IsAdded, new_trees, IsCalm, from_table, keeps, shows}, Sound.{IsKept}, declared.StoreFault.{StoreFault}}
-use Rattle.table_access.specs.{declared.StoreFault.TheVariants.{Memory}, Calls.{IsEnded}, Reading.{FailsToTake, TellsText, IsTextAt}, Columns.{text, whole_at}}
-use Rattle.table_access.proofs.{Creation.{Makes-schema, Makes-new_tables_empty, Makes-IsKept}, Values.{cast-Null, cast-Int, cast_row-kept}, Steps.{Means, inserts, IsPermutation-kept_rows}}
-use Rattle.table_access.proofs.{Edits.{Suits, IsAlone, are_unique-put_row}, SoundLemmas.{at_has}, Storable.{IsShortRow-not_oversized}, Maps.{IsPermutation-at_most_one}}
-use Rattle.table_access.proofs.CallLemmas.{FailsToQuery-IsRefused, IsRefused-ends_for_Memory}
+use Rattle.table_access.specs.{declared.StoreFault.TheVariants.{Memory}, Calls.{IsEnded}, Reading.{FailsToTake, ReportsText, IsTextAt}}
+use Rattle.table_access.{specs.Columns.{text, whole_at}, proofs.Creation.{Makes-schema, Makes-new_tables_empty, Makes-IsKept}}
+use Rattle.table_access.proofs.{Values.{cast-Null, cast-Int, cast_row-kept}, Steps.{Means, inserts, IsPermutation-kept_rows}}
+use Rattle.table_access.proofs.{Edits.{Suits, IsAlone, are_unique-put_row}, SoundLemmas.{at_has}, Storable.{IsShortRow-not_oversized}}
+use Rattle.table_access.proofs.{Maps.{IsPermutation-at_most_one}, CallLemmas.{FailsToQuery-IsRefused, IsRefused-ends_for_Memory}}
 use Rattle.broker_core.specs.{Text.{same_text}, State.{State as Broker}}
 use Rattle.registry_tables.specs.Registry.{HasEmptyRegistry, PutsMeta}
 use Rattle.sqlite_sql.specs.Ops.{binary}
@@ -190,8 +192,8 @@ FirstReads-office db s held readable = FirstShown-IsTextAt office db (column-tex
     subst IsUtf8 (sym same) readable.office)
 
 -- if meta has no row, only the store is ever out of memory
-pub FailsToTake-no_office : (old new : State) (fault : StoreFault) → IsBroker old.now → old.now.trees in_meta.tree ≡ [] → FailsToTake TellsText office_sql [] old new fault → IsTrue old.in_transaction → fault ≡ Memory → IsEnded old new Memory
+pub FailsToTake-no_office : (old new : State) (fault : StoreFault) → IsBroker old.now → old.now.trees in_meta.tree ≡ [] → FailsToTake ReportsText office_sql [] old new fault → IsTrue old.in_transaction → fault ≡ Memory → IsEnded old new Memory
 FailsToTake-no_office old new fault broker none (inl refused) inside is = IsRefused-ends_for_Memory old new refused.0 fault refused.1 (FailsToQuery-IsRefused office_sql [] old new refused.0 refused.2) is
-FailsToTake-no_office old new fault broker none (inr (rows, shown, row, first, tells)) inside is =
+FailsToTake-no_office old new fault broker none (inr (rows, shown, row, first, reports)) inside is =
     let empty : rows ≡ [] = IsPermutation-at_most_one [] rows (omega arith) (subst (λ xs. IsPermutation (map (shows (col 1 in_meta.office_digest ∷ []) []) (filter (keeps [] []) xs)) rows) none (IsPermutation-kept_rows old.now [] in_meta.tree [] _ [] rows (Shown-IsShown office old new broker rows shown))) in
     absurd (let clash : None ≡ Some row = ap (λ xs. slice_get xs 0) (sym empty) ∙ first in cc)

@@ -5,12 +5,14 @@ use Rattle.sqlite.specs.{declared.types.Value.TheVariants.{Null, Text}, Order.{R
 use Rattle.sqlite.specs.{Effect.{Database}, State.{State, Executes}, Listing.{understood}}
 use Rattle.sqlite_sql.specs.{declared.ops.BinaryOp.TheVariants.{Compare}, declared.ops.CompareOp.TheVariants.{Eq}}
 use Rattle.sqlite_tied.specs.Compute.{everything}
-use Rattle.table_access.{specs.{Columns.{text, text_cmp}, Statements.{from_table}, Reading.{IsTextAt}}, proofs.Maps.{find-IsAdded, find-inverse, find-inverse_None}}
+use Rattle.table_access.specs.{Columns.{text, text_cmp}, Statements.{from_table}, Reading.{IsTextAt}}
+use Rattle.table_access.proofs.Maps.{find-IsAdded, find-inverse, find-inverse_None}
 use Rattle.broker_core.specs.{State.{State as Broker}, Laws.{TeamsDiffer}}
 use Rattle.broker_tables.specs.{Schema.{in_teams, in_pacticipants}, Rows.{value_at}, Holds.{Holds, HoldsAfter}}
-use Rattle.broker_tables.proofs.{Asked.{Asked, IsShown, FirstShown, FirstReads, FirstShown-IsTextAt}, Frames.{Holds-teams, Holds-pacticipants}, Orders.{text_cmp-antisymmetric}}
-use Rattle.broker_tables.proofs.Keyed.{finds, IsFree-of_stands_at, IsAscending-keys_of_table, teams_by_digest, teams_by_name, pacticipants_by_name}
-use Rattle.broker_tables.proofs.{Placed.{at_teams, column-texts, at_pacticipants}, Standing.{value_at-is_some}}
+use Rattle.broker_tables.proofs.{Asked.{Asked, IsShown, FirstShown, FirstReads, FirstShown-IsTextAt}, Frames.{Holds-teams, Holds-pacticipants}}
+use Rattle.broker_tables.proofs.Orders.{text_cmp-antisymmetric}
+use Rattle.broker_tables.proofs.Keyed.{finds, IsFree-of_has_row_at, IsAscending-keys_of_table, teams_by_digest, teams_by_name, pacticipants_by_name}
+use Rattle.broker_tables.proofs.{Placed.{at_teams, column-texts, at_pacticipants}, Present.{value_at-is_some}}
 use Rattle.broker_tables.proofs.Inserted.{EndsFrom, Adds, HoldsAfter-added, EndsOnly-added, added, IsThere-team}
 use Rattle.registry_tables.specs.Registry.{AddsTeam, AddsPacticipant}
 
@@ -107,7 +109,7 @@ module _ (team digest : List ℕ) (old new : State) where
       let free_name = sym (value_at-is_some text_cmp (text in_teams.name) (text in_teams.token_digest) (old.now.trees in_teams.tree) team) ∙ ap is_some (here.held.teams team ∙ next.0) in
       let free_digest = sym (value_at-is_some text_cmp (text in_teams.token_digest) (text in_teams.name) (old.now.trees in_teams.tree) digest) ∙ value_at-unknown_digest s here.held next.1 _ refl in
       EndsOnly-added (Adds-team team digest) old new here.held.broker numbers.0 (record { typed = refl; present = refl; checked = refl })
-      (IsFree-of_stands_at teams_by_name old.now here.held.broker made refl free_name, (IsFree-of_stands_at teams_by_digest old.now here.held.broker made refl free_digest, tt)) tt
+      (IsFree-of_has_row_at teams_by_name old.now here.held.broker made refl free_name, (IsFree-of_has_row_at teams_by_digest old.now here.held.broker made refl free_digest, tt)) tt
       (team ∷ digest ∷ []) (λ are. are) (omega arith) (omega arith) here.unlimited
 
 -- ---- the owner of a pacticipant
@@ -150,5 +152,5 @@ module _ (p team : List ℕ) (old new : State) where
   EndsFrom-AddsPacticipant s here (t, next) numbers =
       let made = added (Adds-pacticipant p team) old new here.held.broker in
       let free = sym (value_at-is_some text_cmp (text in_pacticipants.name) (text in_pacticipants.team) (old.now.trees in_pacticipants.tree) p) ∙ ap is_some (here.held.pacticipants p ∙ next.0) in
-      EndsOnly-added (Adds-pacticipant p team) old new here.held.broker numbers.0 (record { typed = refl; present = refl; checked = refl }) (IsFree-of_stands_at pacticipants_by_name old.now here.held.broker made refl free, tt)
+      EndsOnly-added (Adds-pacticipant p team) old new here.held.broker numbers.0 (record { typed = refl; present = refl; checked = refl }) (IsFree-of_has_row_at pacticipants_by_name old.now here.held.broker made refl free, tt)
       (IsThere-team old.now s here.held made in_pacticipants.team team next.1 refl, tt) (p ∷ team ∷ []) (λ are. are) (omega arith) (omega arith) here.unlimited

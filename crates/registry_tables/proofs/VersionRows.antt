@@ -11,10 +11,10 @@ use Rattle.table_access.proofs.{Values.{cast-Null, cast-Int}, Newest.{Shown-newe
 use Rattle.broker_core.specs.{declared.command.Version.{Version}, Text.{version}, State.{State as Broker}, Request.{is_known}}
 use Rattle.broker_tables.specs.{Schema.{in_versions, in_branches}, Numbers.{number_of}, Holds.{Holds, HoldsAfter}}
 use Rattle.broker_tables.proofs.{Asked.{Asked, IsShown, EachReads, EachShown-up_to, EachShown-IsNumberRow}, ReadableRows.{IsNumberAt-of_column, IsLow-version}}
-use Rattle.broker_tables.proofs.{Frames.{Means-over_broker_schema, ChangesOnly-Frame, Frame, Frame-IsBroker}, Growth.{Holds-append_version}, Newest.{unwrap_or-newest as newest_count}, NextRow.{IsAdded-numbered}}
-use Rattle.broker_tables.proofs.{RoomLemmas.{HoldsAfter-one_table}, VersionRows.{IsNumbered-versions, version_number}}
-use Rattle.broker_tables.proofs.{NumberLemmas.{value_at-version_row, number_of-is_some, number_of-None}, Keyed.{finds, IsFree-of_stands_at, versions_by_name}}
-use Rattle.broker_tables.proofs.{Placed.{versions, at_versions}, Standing.{value_at-is_some}}
+use Rattle.broker_tables.proofs.{Frames.{Means-over_broker_schema, ChangesOnly-Frame, Frame, Frame-IsBroker}, Growth.{Holds-append_version}}
+use Rattle.broker_tables.proofs.{Newest.{unwrap_or-newest as newest_count}, NextRow.{IsAdded-numbered}, RoomLemmas.{HoldsAfter-one_table}}
+use Rattle.broker_tables.proofs.{VersionRows.{IsNumbered-versions, version_number}, NumberLemmas.{value_at-version_row, number_of-is_some, number_of-None}}
+use Rattle.broker_tables.proofs.{Keyed.{finds, IsFree-of_has_row_at, versions_by_name}, Placed.{versions, at_versions}, Present.{value_at-is_some}}
 use Rattle.broker_tables.proofs.Inserted.{EndsFrom, Puts, Executes-insert_adds, EndsOnly-insert, IsThere-pacticipant, is_taken-next_number}
 use Rattle.registry_tables.{specs.Registry.{AllowsVersionAs, PutsVersion}, proofs.BranchRows.{is_on}}
 
@@ -91,7 +91,7 @@ module _ (number : ℕ) (p name : List ℕ) (old new : State) where
         fits = lt-ltb number (2 ^ 63) (omega (arith, is, few));
         keyed = refl;
         fresh = subst (λ n. is_taken (old.now.trees in_versions.tree) (Int (pos n) ∷ Null ∷ Text p ∷ Text name ∷ []) ≡ false) (sym is) (is_taken-next_number (λ x. version (text in_versions.pacticipant x) (text in_versions.version x)) (old.now.trees in_versions.tree) s.versions (Null ∷ Text p ∷ Text name ∷ []) held.versions (IsNumbered-versions old.now held.broker));
-        free = (IsFree-of_stands_at versions_by_name old.now held.broker made refl free, tt);
+        free = (IsFree-of_has_row_at versions_by_name old.now held.broker made refl free, tt);
         parents = (IsThere-pacticipant old.now s held made in_versions.pacticipant p known refl, tt);
       }) (p ∷ name ∷ []) (λ are. record { wide = omega arith; narrow = omega arith; short = (tt, (tt, are)) }) here.unlimited
 

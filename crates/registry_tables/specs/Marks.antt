@@ -38,8 +38,8 @@ FailsAsMark environment old new fault =
     HasFailed old new fault ⊎ ((fault ≡ Store) × HasNoMark environment old.now)
 
 -- the mark that is there, or why none is returned
-abbrev pub TellsMark : Text → State → State → Result (Option Bool) StoreFault → Type 0
-TellsMark environment old new r = HasCleanDisk new → CanBeAsked old
+abbrev pub ReportsMark : Text → State → State → Result (Option Bool) StoreFault → Type 0
+ReportsMark environment old new r = HasCleanDisk new → CanBeAsked old
     → MatchResult r (IsMarkIn environment old.now) (FailsAsMark environment old new)
 
 -- The answer fits the mark that is there. If the call fails, it is since there is no mark that is 0 or 1 or the store

@@ -6,7 +6,7 @@ ghost use Rattle.broker_core.specs.declared.command.Marks.{Marks as MarksModel};
 ghost use Rattle.broker_tables.specs.Holds.{Changes, ChangesTaking};
 ghost use Rattle.broker_tables.specs.Rows.{mark_of};
 ghost use Rattle.broker_tables.specs.Calm.{CalmQueriesInPlace};
-ghost use Rattle.registry_tables.specs.Marks.{TellsMark, FitsMark};
+ghost use Rattle.registry_tables.specs.Marks.{ReportsMark, FitsMark};
 ghost use Rattle.broker_tables.specs.ChangeRefusals.{IsCalmStoring, IsCalmChange};
 ghost use Rattle.registry_tables.specs.Registry.{AddsEnvironment, IsLenient, KeepsStrict, marks, MakesStrict};
 
@@ -27,7 +27,7 @@ pub fn gated<S: Alter>(
 ) -> Result<Option<bool>, StoreFault>
     ensures answers { CalmQueriesInPlace S.Store conn.old conn.new result
         (λ found s. found ≡ option_map (λ m. m.gated) (s.environments environment.now)) }
-    ensures mark { TellsMark environment.now (state S.Store conn.old) (state S.Store conn.new) result }
+    ensures mark { ReportsMark environment.now (state S.Store conn.old) (state S.Store conn.new) result }
 {
     let found = done!(find_number(
         conn,

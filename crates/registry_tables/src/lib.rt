@@ -39,4 +39,4 @@ pub use migration::{format_to_migrate, to_format_2};
 pub use office::{is_blank, office_digest};
 pub use pacticipants::{add_pacticipant, owner_of};
 pub use teams::{add_team, digest_of, has_team, team_of_digest};
-pub use versions::{add_version, add_version_as, version_count, version_of};
+pub use versions::{add_version, insert_version, version_count, version_of};

@@ -2,7 +2,7 @@
 ghost use Rattle.std.specs.Prelude.{◌≡◌, ◌↔◌, [], IsTrue, codes, string_bytes};
 ghost use Rattle.sqlite.specs.Held.{state};
 ghost use Rattle.broker_tables.specs.Schema.{no_schema};
-ghost use Rattle.table_access.specs.Calls.{TellsMemory};
+ghost use Rattle.table_access.specs.Calls.{ReportsMemory};
 ghost use Rattle.broker_tables.specs.Holds.{IsBroker};
 ghost use Rattle.broker_tables.specs.Calm.{CalmQueries};
 ghost use Rattle.broker_tables.specs.Rows.{rows_of};
@@ -19,7 +19,7 @@ pub fn office_digest<S: Alter>(conn: &mut Connection<S>) -> Result<String, Store
     ensures reads { CalmQueries S.Store conn.old conn.new result (λ digest s. string_bytes digest ≡ s.office) }
     ensures memory { IsBroker (state S.Store conn.old).now →
         rows_of (state S.Store conn.old).now (codes "meta") ≡ [] →
-        TellsMemory (state S.Store conn.old) (state S.Store conn.new) result }
+        ReportsMemory (state S.Store conn.old) (state S.Store conn.new) result }
 {
     match done!(find_text(conn, "SELECT office_digest FROM meta", &[])) {
         Some(digest) => Ok(digest),

@@ -74,7 +74,7 @@ fn put_version<S: Alter>(
 ///
 /// # Errors
 /// `StoreFault::Memory` if the database is out of memory; `StoreFault::Store` if it refused the row.
-pub fn add_version_as<S: Alter>(
+pub fn insert_version<S: Alter>(
     conn: &mut Connection<S>,
     number: u32,
     pacticipant: &str,
@@ -108,6 +108,6 @@ pub fn add_version<S: Alter>(
     let Some(number) = next_number(count) else {
         return Err(StoreFault::Store);
     };
-    done!(add_version_as(conn, number, pacticipant, version));
+    done!(insert_version(conn, number, pacticipant, version));
     Ok(number)
 }

@@ -4,7 +4,8 @@ use Rattle.serde_json.specs.{Data.{Data}, Find.{get, as_array, as_object}}
 use Rattle.pact_rules.specs.{Outcome.{guard}, Reading.{GivesOne}}
 use Rattle.pact_file.specs.{Pact.{states_data}, Parts.{text_at, object_at, states_in}, Sound.{IsSound}, Objects.{IsSomeText, json_of, object_of}}
 use Rattle.pact_file.specs.{declared.object.FileFault.{FileFault}, declared.fault.Part.TheVariants.{Whole, Description, States, Response, Status}}
-use Rattle.pact_file.proofs.{Objects.{with_fault-ok, object_of-sound, json_of-IsSomeText}, ReadLemmas.{AllSound, AllSound-listed}, SoundParts.{IsSound-get, AreSound-as_array, IsSound-states_data}}
+use Rattle.pact_file.proofs.{Objects.{with_fault-ok, object_of-sound, json_of-IsSomeText}, ReadLemmas.{AllSound, AllSound-listed}}
+use Rattle.pact_file.proofs.SoundParts.{IsSound-get, AreSound-as_array, IsSound-states_data}
 use Rattle.pact_file.proofs.Steps.{Result-bind_ok, ok_or-ok, Ok-injective, Err-injective, option_and_then-some}
 use Rattle.reply_check.specs.{Recorded.{Reply as Recorded, status_sent}, ReplyParts.{as_file_fault, file_of, items_of, at, parts_at}}
 use Rattle.reply_check.specs.{Replies.{FileRead, RepliesRead}, declared.fault.RepliesFault.{RepliesFault}}

@@ -6,7 +6,8 @@ use Rattle.std.proofs.{lemmas.Bool.{and_from, and_parts, or_parts, not-true, not
 use Rattle.std.proofs.{lemmas.Map.Text.{is_eq-slice_cmp}, lemmas.Slice.Eq.{bytes_eq-Decides}}
 use Rattle.serde_json.specs.Written.{compact_text}
 use Rattle.pact_file.{specs.{Pact.{State, states_data}, Sound.{IsSound}}, proofs.{Lists.{drop-at}, OrderedSets.{compact_text-same_states}}}
-use Rattle.reply_check.{specs.{Recorded.{Reply}, Replies.{AreRivals, HasRivals}}, proofs.Deciding.{Bool-by_test, OneOf-in_middle, OneOf-push_cases, AllByRecursion-push}}
+use Rattle.reply_check.specs.{Recorded.{Reply}, Replies.{AreRivals, HasRivals}}
+use Rattle.reply_check.proofs.Deciding.{Bool-by_test, OneOf-in_middle, OneOf-push_cases, AllByRecursion-push}
 
 -- the descriptions are equal, and so are the states if their texts are
 pub bytes_eq-decides_key : (d b t e : List ℕ) (ss ts : List State) (r : Bool) → r ≡ (bytes_eq d b && bytes_eq (compact_text (states_data ss)) t) → b ≡ e → t ≡ compact_text (states_data ts)
@@ -80,16 +81,16 @@ HasRivals-push_apart (s ∷ ss) r k g h isnt apart (inl o) =
     ⊎_elim (λ p. apart (inl p)) (λ p. true≢false (sym ((is_key-iff_AreRivals s r k g.0 h).1 p) ∙ (or_parts (is_key k s) (list_any (is_key k) ss) isnt).0)) (OneOf-push_cases (λ t. AreRivals s t) ss r o)
 HasRivals-push_apart (s ∷ ss) r k g h isnt apart (inr o) = HasRivals-push_apart ss r k g.1 h (or_parts (is_key k s) (list_any (is_key k) ss) isnt).1 (λ p. apart (inr p)) o
 
-module _ (xs : List Reply) (i : ℕ) (r : Reply) (k : Key) (old : BTreeSet Key) (added : Bool) (within : i < length xs) (stands : r ≡ get_or xs i r) (h : IsKeyOf r k) (added_is : added ≡ not (contains key_cmp old k))
+module _ (xs : List Reply) (i : ℕ) (r : Reply) (k : Key) (old : BTreeSet Key) (added : Bool) (within : i < length xs) (is_present : r ≡ get_or xs i r) (h : IsKeyOf r k) (added_is : added ≡ not (contains key_cmp old k))
     (s : AreSeen old (take i xs)) where
   pub HasRivals-of_seen : added ≡ false → HasRivals xs
   HasRivals-of_seen isnt =
-      subst HasRivals (ap (λ ys. take i xs ++ ys) (sym (drop-at xs i r within stands)) ∙ take-append-drop i xs)
+      subst HasRivals (ap (λ ys. take i xs ++ ys) (sym (drop-at xs i r within is_present)) ∙ take-append-drop i xs)
       (HasRivals-append (take i xs) (drop (i + 1) xs) r k s.sound h (sym (s.known k) ∙ not-false (contains key_cmp old k) (sym added_is ∙ isnt)))
 
   pub AreSeen-insert : (new : BTreeSet Key) → added ≡ true → Updates key_cmp old new k true → AreSeen new (take (i + 1) xs)
   AreSeen-insert new is updates =
-      subst (AreSeen new) (sym (take_more xs i r within ∙ ap (λ y. take i xs ++ y ∷ []) (sym stands))) (record {
+      subst (AreSeen new) (sym (take_more xs i r within ∙ ap (λ y. take i xs ++ y ∷ []) (sym is_present))) (record {
         sound = AllByRecursion-push IsSoundReply (take i xs) r s.sound h.sound;
         apart = HasRivals-push_apart (take i xs) r k s.sound h (sym (s.known k) ∙ not-true (contains key_cmp old k) (sym added_is ∙ is)) s.apart;
         known = λ q.

@@ -2,8 +2,8 @@
 use Rattle.std.specs.{Ordering.{nat_cmp, ordering_index}, Cmp.Lexicographic.{slice_cmp}, List.{HoldsAt}, List.Sorted.{IsNonDecreasingBy, IsPartitionPoint}}
 use Rattle.std.proofs.Common.{◌≡◌, inl, inr, ◌↔◌, ℕ, ◌<◌, List, [], ◌∷◌, Bool, Less, Equal, Greater, Ordering, get_or, length, IsTrue, sym, ap, ◌∙◌, subst, ⊎_elim, arith}
 use Rattle.std.proofs.{lemmas.Bool.{cases_lt}, lemmas.Cmp.{nat_list_cmp_total, tied_itself}, lemmas.List.Sorted.{searchable_from_sorted}}
-use Rattle.pact_file.{specs.{Pact.{Header, name_cmp}, Sets.{IsRising}}, proofs.{HeaderSets.{name_cmp-total}, Searching.{IsRising-IsSortedBy}, SetLemmas.{OneOf-member, AllByRecursion-member}}}
-use Rattle.pact_file.proofs.SortedSets.{Contains-of_IsIn, IsIn-of_get_or}
+use Rattle.pact_file.{specs.{Pact.{Header, name_cmp}, Sets.{IsRising}}, proofs.{HeaderSets.{name_cmp-total}, Searching.{IsRising-IsSortedBy}}}
+use Rattle.pact_file.proofs.{SetLemmas.{OneOf-member, AllByRecursion-member}, SortedSets.{Contains-of_IsIn, IsIn-of_get_or}}
 use Rattle.reply_check.{specs.{Meeting.{FitsHeader}, Sent.{IsFit, WasSent}}, proofs.Deciding.{OneOf-of_IsIn}}
 use Rattle.pact_rules.{specs.{Rules.{Rules}, Lists.{OneOf, IsIn}}, proofs.OrderLemmas.{slice_cmp-Equal}}
 

@@ -62,13 +62,13 @@ parts_between-counting_parts value = parts_between-kept_true (without_end value)
 
 -- ---- a value is known by its parts
 
-abbrev behind_commas : List (List ℕ) → List ℕ
-behind_commas [] = []
-behind_commas (p ∷ ps) = 44 ∷ (p ++ behind_commas ps)
+abbrev after_commas : List (List ℕ) → List ℕ
+after_commas [] = []
+after_commas (p ∷ ps) = 44 ∷ (p ++ after_commas ps)
 
 abbrev joined : List (List ℕ) → List ℕ
 joined [] = []
-joined (p ∷ ps) = p ++ behind_commas ps
+joined (p ∷ ps) = p ++ after_commas ps
 
 joined-in_front : (b : ℕ) (ps : List (List ℕ)) → joined (in_front b ps) ≡ b ∷ joined ps
 joined-in_front b [] = refl

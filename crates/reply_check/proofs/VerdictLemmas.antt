@@ -28,12 +28,12 @@ module _ (interactions : List Interaction) (replies : List Reply) where
     pub below_all : AllByRecursion (λ i. i < n) indices
     pub failing : (i : ℕ) → i < n → IsIn i indices ↔ InteractionFails interactions replies i
 
-  module _ (n : ℕ) (x : Interaction) (indices : List ℕ) (stands : slice_get interactions n ≡ Some x) (h : IsSoFar n indices) where
+  module _ (n : ℕ) (x : Interaction) (indices : List ℕ) (is_present : slice_get interactions n ≡ Some x) (h : IsSoFar n indices) where
     passing : (i : ℕ) → Passes replies x → (i < n) ⊎ (i ≡ n) → IsIn i indices ↔ InteractionFails interactions replies i
     passing i p (inl l) = h.failing i l
     passing i p (inr same) = (
       λ m. let l : i < n = AllByRecursion-member (λ j. j < n) indices i h.below_all m in absurd (omega arith),
-      λ (y, is, fails). absurd (fails (subst (Passes replies) (same_Some x y (sym stands ∙ ap (slice_get interactions) (sym same) ∙ is)) p)),
+      λ (y, is, fails). absurd (fails (subst (Passes replies) (same_Some x y (sym is_present ∙ ap (slice_get interactions) (sym same) ∙ is)) p)),
     )
 
     pub one_passes : Passes replies x → IsSoFar (n + 1) indices
@@ -42,7 +42,7 @@ module _ (interactions : List Interaction) (replies : List Reply) where
     failing_one : (i : ℕ) → ¬ Passes replies x → (i < n) ⊎ (i ≡ n) → IsIn i (indices ++ n ∷ []) ↔ InteractionFails interactions replies i
     failing_one i f (inl l) =
         (λ m. (h.failing i l).0 (⊎_elim (λ k. k) (λ same. absurd (omega (arith, l, same))) (OneOf-push_cases (λ j. i ≡ j) indices n m)), λ k. OneOf-push (λ j. i ≡ j) indices n ((h.failing i l).1 k))
-    failing_one i f (inr same) = (λ m. (x, ap (slice_get interactions) same ∙ stands, f), λ k. subst (λ j. IsIn j (indices ++ n ∷ [])) (sym same) (OneOf-in_middle (λ j. n ≡ j) indices [] n refl))
+    failing_one i f (inr same) = (λ m. (x, ap (slice_get interactions) same ∙ is_present, f), λ k. subst (λ j. IsIn j (indices ++ n ∷ [])) (sym same) (OneOf-in_middle (λ j. n ≡ j) indices [] n refl))
 
     pub one_fails : ¬ Passes replies x → IsSoFar (n + 1) (indices ++ n ∷ [])
     one_fails f = record { ascending = IsAscending-push n indices h.below_all h.ascending; below_all = AllByRecursion-push (λ i. i < n + 1) indices n (AllByRecursion-below_more n indices h.below_all) (omega arith); failing = λ i l. failing_one i f (lt-suc_cases n i l) }
@@ -62,12 +62,12 @@ module _ (interactions : List Interaction) (replies : List Reply) where
   -- there is one first
   pub only_first : (i j : ℕ) → IsFirstUnknown interactions replies i → IsFirstUnknown interactions replies j → i ≡ j
   only_first i j h k =
-      ⊎_elim (λ l. absurd (h.unknown (k.first i h.reply l h.stands)))
-      (λ le. ⊎_elim (λ l. absurd (k.unknown (h.first j k.reply l k.stands))) (λ ge. omega (arith, le, ge)) (cases_lt j i)) (cases_lt i j)
+      ⊎_elim (λ l. absurd (h.unknown (k.first i h.reply l h.is_present)))
+      (λ le. ⊎_elim (λ l. absurd (k.unknown (h.first j k.reply l k.is_present))) (λ ge. omega (arith, le, ge)) (cases_lt j i)) (cases_lt i j)
 
 -- and none if each is known
 pub none_first : (interactions : List Interaction) (replies : List Reply) (i : ℕ) → AreKnown interactions replies → ¬ IsFirstUnknown interactions replies i
-none_first interactions replies i all first = first.unknown (AllByRecursion-slice_get (IsKnown interactions) replies i first.reply all first.stands)
+none_first interactions replies i all first = first.unknown (AllByRecursion-slice_get (IsKnown interactions) replies i first.reply all first.is_present)
 
 -- ---- the member at an index
 

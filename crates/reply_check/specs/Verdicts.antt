@@ -21,7 +21,7 @@ AreKnown interactions replies = AllByRecursion (λ r. IsKnown interactions r) re
 -- the reply at this index belongs to no interaction, and each before it does to one
 pub record IsFirstUnknown (interactions : List Interaction) (replies : List Reply) (i : ℕ) : Type 0 where
   pub reply : Reply
-  pub stands : slice_get replies i ≡ Some reply
+  pub is_present : slice_get replies i ≡ Some reply
   pub unknown : ¬ IsKnown interactions reply
   pub first : (j : ℕ) (r : Reply) → j < i → slice_get replies j ≡ Some r → IsKnown interactions r
 

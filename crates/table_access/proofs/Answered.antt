@@ -13,10 +13,10 @@ use Rattle.sqlite_value.specs.declared.keys.Key.{Key}
 use Rattle.sqlite_resolve.specs.{declared.compiled.Compiled.{Compiled}, declared.error.CompileError.{CompileError}}
 use Rattle.sqlite_rules.{specs.Lists.{Has}, proofs.ListLemmas.{has_front}}
 use Rattle.table_access.specs.{declared.StoreFault.{StoreFault}, declared.StoreFault.TheVariants.{Memory}, Calls.{HasFailed, fault_of}}
-use Rattle.table_access.specs.Reading.{IsRefusedAs, FailsToRead, FailsToTake, TellsText, TellsNumber, IsTextAt, IsNumberRow}
+use Rattle.table_access.specs.Reading.{IsRefusedAs, FailsToRead, FailsToTake, ReportsText, ReportsNumber, IsTextAt, IsNumberRow}
 use Rattle.table_access.specs.Statements.{from_table, from_both, keeps, keeps_both, shows}
-use Rattle.table_access.proofs.{Members.{has_either, contains_has, has_contains, map_has, filter_has}, SoundLemmas.{has_place}, Joins.{IsPermutation-joined_rows}}
-use Rattle.table_access.proofs.Steps.{Means, IsPermutation-selected_rows}
+use Rattle.table_access.proofs.{Members.{has_either, contains_has, has_contains, map_has, filter_has}, SoundLemmas.{has_place}}
+use Rattle.table_access.proofs.{Joins.{IsPermutation-joined_rows}, Steps.{Means, IsPermutation-selected_rows}}
 
 -- the whole text is one statement, with so many parameters
 abbrev pub is_whole : List ℕ → ℕ → Result Compiled CompileError → Bool
@@ -96,14 +96,14 @@ module _ (sql : List ℕ) (params : Row) (old new : State) (q : Query) (names : 
   IsRefusedAs-HasFailed fault (e, is, h) = let it = FailsToQuery-Fails e h in record { cause = it.0; fault_is = is ∙ ap fault_of it.1; has = it.2; over = it.3.autocommit; blamed = it.4 }
 
   -- if the first row has a text and reading it FailsToQuery-Fails, then the store failed or there was no room for the text
-  pub FailsToTake-TellsText : ((rows : List Row) (row : Row) → Shown sql params old new rows → slice_get rows 0 ≡ Some row → IsTextAt 0 row) → (fault : StoreFault) → FailsToTake TellsText sql params old new fault → HasFailed old new fault ⊎ (fault ≡ Memory)
-  FailsToTake-TellsText stands fault (inl refused) = inl (IsRefusedAs-HasFailed fault refused)
-  FailsToTake-TellsText stands fault (inr (rows, shown, row, head, tells)) = elim tells [ inl none ↦ absurd (none.1 (stands rows row shown head)) | inr room ↦ inr room.0 ]
+  pub FailsToTake-ReportsText : ((rows : List Row) (row : Row) → Shown sql params old new rows → slice_get rows 0 ≡ Some row → IsTextAt 0 row) → (fault : StoreFault) → FailsToTake ReportsText sql params old new fault → HasFailed old new fault ⊎ (fault ≡ Memory)
+  FailsToTake-ReportsText is_present fault (inl refused) = inl (IsRefusedAs-HasFailed fault refused)
+  FailsToTake-ReportsText is_present fault (inr (rows, shown, row, head, reports)) = elim reports [ inl none ↦ absurd (none.1 (is_present rows row shown head)) | inr room ↦ inr room.0 ]
 
   -- if the first row has a number and reading it FailsToQuery-Fails, then the store failed
-  pub FailsToTake-TellsNumber : ((rows : List Row) (row : Row) → Shown sql params old new rows → slice_get rows 0 ≡ Some row → IsNumberRow row) → (fault : StoreFault) → FailsToTake TellsNumber sql params old new fault → HasFailed old new fault
-  FailsToTake-TellsNumber stands fault (inl refused) = IsRefusedAs-HasFailed fault refused
-  FailsToTake-TellsNumber stands fault (inr (rows, shown, row, head, tells)) = absurd (tells.1 (stands rows row shown head))
+  pub FailsToTake-ReportsNumber : ((rows : List Row) (row : Row) → Shown sql params old new rows → slice_get rows 0 ≡ Some row → IsNumberRow row) → (fault : StoreFault) → FailsToTake ReportsNumber sql params old new fault → HasFailed old new fault
+  FailsToTake-ReportsNumber is_present fault (inl refused) = IsRefusedAs-HasFailed fault refused
+  FailsToTake-ReportsNumber is_present fault (inr (rows, shown, row, head, reports)) = absurd (reports.1 (is_present rows row shown head))
 
   -- if a row FailsToQuery-Fails only for lack of memory and reading the list FailsToQuery-Fails, then the store failed or memory ran out
   pub FailsToRead-HasFailed : {A : Type 0} (Reads : Row → A → Type 0) (Fails : Row → StoreFault → Type 0) → ((rows : List Row) (row : Row) → Shown sql params old new rows → Has rows row → (fault : StoreFault) → Fails row fault → fault ≡ Memory) → (fault : StoreFault)

@@ -8,7 +8,7 @@ use Rattle.sqlite_schema.specs.declared.command.Returning.{Returning}
 use Rattle.sqlite_resolve.specs.declared.compiled.Compiled.{Compiled}
 use Rattle.sqlite_trees.specs.{declared.error.StoreError.{StoreError}, declared.error.StoreError.TheVariants.{OutOfMemory, Broken, Unstorable}}
 use Rattle.table_access.specs.{Unit.{IsLeft}, declared.StoreFault.{StoreFault}, declared.StoreFault.TheVariants.{Memory, Store}}
-use Rattle.table_access.specs.Calls.{KeepsLastCommit, CallsBetween, CallsTablesBetween, CallsStoreBetween, GoesOn, EndsBy, IsEnded, FailsAs, TellsMemoryUnless, fault_of}
+use Rattle.table_access.specs.Calls.{KeepsLastCommit, CallsBetween, CallsTablesBetween, CallsStoreBetween, GoesOn, EndsBy, IsEnded, FailsAs, ReportsMemoryUnless, fault_of}
 use Rattle.table_access.proofs.{StatementRefusals.{RefusesToRead-Store}, Texts.{IsRefused, HasCause-weaken, IsNoStatement-Store, Does-misplaced_or_Store}}
 
 -- if nothing changed, or the transaction was rolled back, nothing is committed
@@ -56,26 +56,26 @@ CommitsShowing-outside sql params old db h = h.3.0
 -- ---- where Memory is returned
 
 -- a call that succeeds doesn't return Memory
-pub TellsMemoryUnless-Ok : {A : Type 0} (takes : Bool) (old new : State) (a : A) → TellsMemoryUnless takes old new (Ok a)
-TellsMemoryUnless-Ok true old new a = tt
-TellsMemoryUnless-Ok false old new a = λ clean inside is. absurd (cc)
+pub ReportsMemoryUnless-Ok : {A : Type 0} (takes : Bool) (old new : State) (a : A) → ReportsMemoryUnless takes old new (Ok a)
+ReportsMemoryUnless-Ok true old new a = tt
+ReportsMemoryUnless-Ok false old new a = λ clean inside is. absurd (cc)
 
 -- the same failure, of a call with another kind of answer
-TellsMemoryUnless-Err : (A B : Type 0) (takes : Bool) (old new : State) (e : StoreFault) → TellsMemoryUnless {A = A} takes old new (Err e) → TellsMemoryUnless {A = B} takes old new (Err e)
-TellsMemoryUnless-Err A B true old new e short = tt
-TellsMemoryUnless-Err A B false old new e short = λ clean inside is. short clean inside (let same : e ≡ Memory = (let h = is in cc) in ap Err same)
+ReportsMemoryUnless-Err : (A B : Type 0) (takes : Bool) (old new : State) (e : StoreFault) → ReportsMemoryUnless {A = A} takes old new (Err e) → ReportsMemoryUnless {A = B} takes old new (Err e)
+ReportsMemoryUnless-Err A B true old new e short = tt
+ReportsMemoryUnless-Err A B false old new e short = λ clean inside is. short clean inside (let same : e ≡ Memory = (let h = is in cc) in ap Err same)
 
 -- nor does a call that fails with Store
-pub TellsMemoryUnless-Store : (A : Type 0) (takes : Bool) (old new : State) (e : StoreFault) → (takes ≡ false → e ≡ Store) → TellsMemoryUnless {A = A} takes old new (Err e)
-TellsMemoryUnless-Store A true old new e store = tt
-TellsMemoryUnless-Store A false old new e store = λ clean inside is. absurd (let clash : Store ≡ Memory = (let same : e ≡ Memory = (let h = is in cc) in sym (store refl) ∙ same) in cc)
+pub ReportsMemoryUnless-Store : (A : Type 0) (takes : Bool) (old new : State) (e : StoreFault) → (takes ≡ false → e ≡ Store) → ReportsMemoryUnless {A = A} takes old new (Err e)
+ReportsMemoryUnless-Store A true old new e store = tt
+ReportsMemoryUnless-Store A false old new e store = λ clean inside is. absurd (let clash : Store ≡ Memory = (let same : e ≡ Memory = (let h = is in cc) in sym (store refl) ∙ same) in cc)
 
 -- ---- calls: `takes` says whether the last one may take memory, and nothing depends on it of one that gave an answer
 
 -- a computation that may fail, after a call: if it takes no memory, it fails only if a row breaks the rules
 pub CallsBetween-then_result : {A B : Type 0} {any takes : Bool} (old new : State) (a : A) (r : Result B StoreFault) (P : A → Type 0) (Q : B → Type 0) → IfOk r (λ b. P a → Q b) → (takes ≡ false → IfErr r (λ e. e ≡ Store)) → CallsBetween any old new (Ok a) P → CallsBetween takes old new r Q
-CallsBetween-then_result {takes} old new a (Ok b) P Q more store it = record { ok = λ clean. more (it.ok clean); goes_on = it.goes_on; fails = it.fails; commits = it.commits; survives = it.survives; memory = TellsMemoryUnless-Ok takes old new b }
-CallsBetween-then_result {B} {takes} old new a (Err e) P Q more store it = record { ok = λ _. tt; goes_on = λ _ _. tt; fails = λ clean inside. inl (it.goes_on clean inside); commits = it.commits; survives = it.survives; memory = TellsMemoryUnless-Store B takes old new e store }
+CallsBetween-then_result {takes} old new a (Ok b) P Q more store it = record { ok = λ clean. more (it.ok clean); goes_on = it.goes_on; fails = it.fails; commits = it.commits; survives = it.survives; memory = ReportsMemoryUnless-Ok takes old new b }
+CallsBetween-then_result {B} {takes} old new a (Err e) P Q more store it = record { ok = λ _. tt; goes_on = λ _ _. tt; fails = λ clean inside. inl (it.goes_on clean inside); commits = it.commits; survives = it.survives; memory = ReportsMemoryUnless-Store B takes old new e store }
 
 -- another answer, computed from the first
 pub CallsBetween-then_Ok : {A B : Type 0} {any takes : Bool} (old new : State) (a : A) (b : B) (P : A → Type 0) (Q : B → Type 0) → (P a → Q b) → CallsBetween any old new (Ok a) P → CallsBetween takes old new (Ok b) Q
@@ -87,7 +87,7 @@ CallsBetween-then_stop old new a e P Q it = CallsBetween-then_result old new a (
 
 -- the same failure, of a call with another kind of answer and any claim of it
 pub CallsBetween-pass_Err : {A B : Type 0} {takes : Bool} (old new : State) (e : StoreFault) (P : A → Type 0) (Q : B → Type 0) → CallsBetween takes old new (Err e) P → CallsBetween takes old new (Err e) Q
-CallsBetween-pass_Err {A} {B} {takes} old new e P Q it = record { ok = it.ok; goes_on = it.goes_on; fails = it.fails; commits = it.commits; survives = it.survives; memory = TellsMemoryUnless-Err A B takes old new e it.memory }
+CallsBetween-pass_Err {A} {B} {takes} old new e P Q it = record { ok = it.ok; goes_on = it.goes_on; fails = it.fails; commits = it.commits; survives = it.survives; memory = ReportsMemoryUnless-Err A B takes old new e it.memory }
 
 -- a call whose answer has P is one whose answer has Q, if P of an answer gives Q
 pub CallsBetween-weaken : {A : Type 0} {takes : Bool} (old new : State) (r : Result A StoreFault) (P Q : A → Type 0) → ((a : A) → P a → Q a) → CallsBetween takes old new r P → CallsBetween takes old new r Q
@@ -106,7 +106,7 @@ CallsBetween-no_call {takes} c a P h = record {
   fails = λ _ _. tt;
   commits = λ _ _. record { was_open = λ h. h; committed = λ _. refl };
   survives = record { clean = omega arith; shield = λ h. h; counts = omega arith; limit = refl; closes = λ _ h. inl h; crash = λ _ db h. inl h };
-  memory = TellsMemoryUnless-Ok takes c c a;
+  memory = ReportsMemoryUnless-Ok takes c c a;
 }
 
 IsTrue-contrapositive : (a b : Bool) → (IsTrue a → IsTrue b) → b ≡ false → a ≡ false
@@ -136,7 +136,7 @@ CallsBetween-then_call {A} {B} {takes} old mid new a r P Q R more one two = reco
   fails = λ clean inside. let first = one.goes_on (mid_clean clean) inside in stops r first (two.fails clean first.0);
   commits = λ clean inside. KeepsLastCommit-trans old mid new (one.commits (mid_clean clean) inside) (two.commits clean (one.goes_on (mid_clean clean) inside).0);
   survives = survives_then old mid new _ _ _ (λ _ db h. h) (λ clean db h. IsTrue-contrapositive old.in_transaction mid.in_transaction (λ inside. (one.goes_on (mid_clean clean) inside).0) h) one.survives two.survives;
-  memory = tells takes two.memory;
+  memory = reports takes two.memory;
 }
   where
     mid_clean : HasCleanDisk new → HasCleanDisk mid
@@ -150,9 +150,9 @@ CallsBetween-then_call {A} {B} {takes} old mid new a r P Q R more one two = reco
     stops (Ok b) first second = tt
     stops (Err e) first second = elim second [ inl goes ↦ inl (goes.0, λ h. goes.1 (first.1 h)) | inr ended ↦ inr (EndsBy-later_call old mid new e first one.survives.counts ended) ]
 
-    tells : (t : Bool) → TellsMemoryUnless t mid new r → TellsMemoryUnless t old new r
-    tells true short = tt
-    tells false short = λ clean inside is. let first = one.goes_on (mid_clean clean) inside in EndsBy-later_call old mid new Memory first one.survives.counts (short clean first.0 is)
+    reports : (t : Bool) → ReportsMemoryUnless t mid new r → ReportsMemoryUnless t old new r
+    reports true short = tt
+    reports false short = λ clean inside is. let first = one.goes_on (mid_clean clean) inside in EndsBy-later_call old mid new Memory first one.survives.counts (short clean first.0 is)
 
     both : (x : Result B StoreFault) → P a → IfOk x Q → IfOk x R
     both (Ok b) p q = more p b q
@@ -167,13 +167,13 @@ CallsBetween-then_failed_call {A} {B} {C} old mid new a e P Q R one two = CallsB
 -- a statement that CallsStoreBetween-ran inside the transaction
 pub CallsStoreBetween-ran : {A : Type 0} (old new : State) (a : A) (P : A → Type 0) → (HasCleanDisk new → P a) → (HasCleanDisk new → IsTrue old.in_transaction → Shows old new new.now old.committed true) → Survives old new (λ _. old.in_transaction ≡ false)
     → CallsStoreBetween old new (Ok a) P
-CallsStoreBetween-ran old new a P told shows survives = record {
-  ok = told;
+CallsStoreBetween-ran old new a P returned shows survives = record {
+  ok = returned;
   goes_on = λ clean inside. let on = shows clean inside in (on.mode, λ _. on.is_open);
   fails = λ _ _. tt;
   commits = λ clean inside. let same = shows clean inside in record { was_open = λ _. same.was_open; committed = λ _. same.committed_is };
   survives = survives;
-  memory = TellsMemoryUnless-Ok false old new a;
+  memory = ReportsMemoryUnless-Ok false old new a;
 }
 
 -- one that was CallsStoreBetween-refused

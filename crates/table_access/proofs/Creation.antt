@@ -4,8 +4,8 @@ use Rattle.sqlite.specs.{Table.{Table}, Schema.{Schema}, Tree.{Trees}, Command.T
 use Rattle.sqlite.specs.{Change.{created, next_tree, KeepsRows}, Effect.{Database}, Does.{Tally, lacks_sequence}, State.{State, Executes, Writes}}
 use Rattle.sqlite.{specs.Listing.{understood}, proofs.Callers.{statement_of, runs_as}}
 use Rattle.sqlite_keyed.proofs.ListLemmas.{all-append, all_both}
-use Rattle.table_access.{specs.{Statements.{Creates, Makes, MakesEach, new_trees}, Sound.{IsNumbered, IsKept}}, proofs.Steps.{Means, Ok-not_stopped, Ok-injective}}
-use Rattle.table_access.proofs.SoundLemmas.{all_of}
+use Rattle.table_access.specs.{Statements.{Creates, Makes, MakesEach, new_trees}, Sound.{IsNumbered, IsKept}}
+use Rattle.table_access.proofs.{Steps.{Means, Ok-not_stopped, Ok-injective}, SoundLemmas.{all_of}}
 
 pub Executes-Creates : (sql : List ℕ) (old new : State) (table : Table) (count : ℕ) → Means old.now.schema sql CreateTable → statement_of sql (understood old.now.schema sql) ≡ sql → table_defined_by sql ≡ Ok table
     → lacks_sequence (created old.now.schema table) ≡ false → Executes sql [] old new (Ok count) → Creates old.now new.now table

@@ -9,8 +9,10 @@ use Rattle.sqlite_schema.specs.{declared.schema.Among.TheVariants.{All}, declare
 use Rattle.sqlite_schema.specs.Rules.{Refers, Keeps, references_fit, guards}
 use Rattle.sqlite_value.specs.declared.keys.Order.{Order}
 use Rattle.sqlite_rules.{specs.{Lists.{Has}, Calls.{ids_of}, Edit.{Edit, edit_of, is_off}}, proofs.ListLemmas.{test_from}}
-use Rattle.table_access.{specs.Statements.{plain_table, from_table, IsCalm}, proofs.{Edits.{IsAlone, Suits, goes, refers}, Answered.{Runs, Queried-never_stops}}}
-use Rattle.table_access.proofs.{Refused.{EndsAs-stopped, IsMisplaced-never_anywhere, OnTable-stops, Executes-change_fails, Fails-weaken}, Steps.{Means, Ok-not_stopped, Ok-injective}}
+use Rattle.table_access.{specs.Statements.{plain_table, from_table, IsCalm}, proofs.Edits.{IsAlone, Suits, goes, refers}}
+use Rattle.table_access.proofs.Answered.{Runs, Queried-never_stops}
+use Rattle.table_access.proofs.Refused.{EndsAs-stopped, IsMisplaced-never_anywhere, OnTable-stops, Executes-change_fails, Fails-weaken}
+use Rattle.table_access.proofs.Steps.{Means, Ok-not_stopped, Ok-injective}
 
 module _ (name : List ℕ) (tree : ℕ) (columns : List Column) (key : Option ℕ) (primary : List ℕ) (uniques : List (List ℕ)) (orders : List Order) (checks : List Term) (references : List Reference) where
   abbrev here : Table

@@ -6,7 +6,8 @@ use Rattle.sqlite.specs.{Does.{Tally, AtPlace, Defines, MakesIndex}, State.{Stat
 use Rattle.sqlite.proofs.Callers.{statement_of, runs_as}
 use Rattle.sqlite_resolve.specs.Compile.{index_defined_by}
 use Rattle.table_access.specs.{Statements.{Indexes, IndexesTable, MakesIndexes, with_index, indexed_by}, Sound.{IsNumbered, IsKept}}
-use Rattle.table_access.proofs.{Creation.{KeepsRows-IsNumbered, MakesEach-KeepsRows, MakesEach-append, MakesEach-schema}, Steps.{Means, Ok-not_stopped, Ok-injective}}
+use Rattle.table_access.proofs.Creation.{KeepsRows-IsNumbered, MakesEach-KeepsRows, MakesEach-append, MakesEach-schema}
+use Rattle.table_access.proofs.Steps.{Means, Ok-not_stopped, Ok-injective}
 
 pub Executes-Indexes : (sql : List ℕ) (old new : State) (at : ℕ) (table : Table) (index : Index) (count : ℕ) → Means old.now.schema sql (CreateIndex at) → statement_of sql (understood old.now.schema sql) ≡ sql
     → slice_get old.now.schema.tables at ≡ Some table → index_defined_by table sql ≡ Ok index → Executes sql [] old new (Ok count) → Indexes old.now new.now table index

@@ -9,7 +9,8 @@ use Rattle.sqlite_sql.{specs.Query.{sort_cmp, output_cmp}, proofs.QueryLemmas.{o
 use Rattle.sqlite_value.specs.declared.keys.Key.{Key}
 use Rattle.sqlite.specs.{declared.types.Value.TheVariants.{Null}, Order.{Row}, Term.{Term, eval_all}, Tree.{IsAscending}}
 use Rattle.sqlite.specs.{Query.{Query, IsAnswer, output, Output}, Program.{overlay}, Effect.{Database, Answers}}
-use Rattle.table_access.{specs.Statements.{from_table, from_both, keeps, keeps_both, pairs_kept, shows}, proofs.Steps.{overlay-nil, flat_map-filter, kept-outputs}}
+use Rattle.table_access.specs.Statements.{from_table, from_both, keeps, keeps_both, pairs_kept, shows}
+use Rattle.table_access.proofs.Steps.{overlay-nil, flat_map-filter, kept-outputs}
 
 -- ---- sorted lists
 

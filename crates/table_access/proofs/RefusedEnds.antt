@@ -4,7 +4,8 @@ use Rattle.sqlite.specs.{Command.TheVariants.{Begin, Commit, Rollback}, declared
 use Rattle.sqlite.specs.State.{State, Executes, HasCause, IsMisplaced, IsUnchanged, Fails}
 use Rattle.sqlite_trees.specs.{declared.error.StoreError.{StoreError}, declared.error.StoreError.TheVariants.{OutOfMemory, Broken, Unstorable}, View.{Tells}}
 use Rattle.table_access.specs.{Calls.{HasFailed, fault_of}, Unit.{FailsToBegin, FailsToCommit, FailsToRollBack, IsIdle}, declared.StoreFault.{StoreFault}}
-use Rattle.table_access.{specs.declared.StoreFault.TheVariants.{Store}, proofs.{Texts.{codes-begin, codes-commit, codes-rollback}, Refused.{Executes-change_fails, Fails-weaken}}}
+use Rattle.table_access.{specs.declared.StoreFault.TheVariants.{Store}, proofs.Texts.{codes-begin, codes-commit, codes-rollback}}
+use Rattle.table_access.proofs.Refused.{Executes-change_fails, Fails-weaken}
 
 module _ (old new : State) where
   -- the store failed, which ended the transaction

@@ -24,25 +24,25 @@ use Rattle.sqlite.specs.declared.error.ErrorCode.TheVariants as code
 
 -- each refusal of this part has the fault Store
 record Calm {A : Type 0} (P : Part A) : Type 0 where
-  told : (e : Error) → P (Err (Some e)) → fault_of e ≡ Store
+  returned : (e : Error) → P (Err (Some e)) → fault_of e ≡ Store
 
 Calm-Gives : {A : Type 0} (a : A) → Calm (Gives a)
-Calm-Gives a = record { told = λ e h. absurd (let is = h in cc) }
+Calm-Gives a = record { returned = λ e h. absurd (let is = h in cc) }
 
 Calm-Refuses : {A : Type 0} (reason : Error) → fault_of reason ≡ Store → Calm (Refuses {A = A} reason)
-Calm-Refuses reason is_told = record { told = λ e h. let same : e ≡ reason = (let is = h in cc) in ap fault_of same ∙ is_told }
+Calm-Refuses reason is_returned = record { returned = λ e h. let same : e ≡ reason = (let is = h in cc) in ap fault_of same ∙ is_returned }
 
 Calm-Then : {A B : Type 0} (First : Part A) (Next : A → Part B) → Calm First → ((a : A) → Calm (Next a)) → Calm (Then First Next)
 Calm-Then First Next one two = record {
-  told = λ e h. elim h [
-    | inl stops ↦ let same : stops.0 ≡ Some e = (let is = stops.2 in cc) in one.told e (subst (λ stop. First (Err stop)) same stops.1)
-    | inr goes ↦ (two goes.0).told e goes.2
+  returned = λ e h. elim h [
+    | inl stops ↦ let same : stops.0 ≡ Some e = (let is = stops.2 in cc) in one.returned e (subst (λ stop. First (Err stop)) same stops.1)
+    | inr goes ↦ (two goes.0).returned e goes.2
   ];
 }
 
 Calm-MatchBool : {A : Type 0} (b : Bool) (P Q : Part A) → Calm P → Calm Q → Calm (λ out. MatchBool b (P out) (Q out))
-Calm-MatchBool true P Q p q = record { told = p.told }
-Calm-MatchBool false P Q p q = record { told = q.told }
+Calm-MatchBool true P Q p q = record { returned = p.returned }
+Calm-MatchBool false P Q p q = record { returned = q.returned }
 
 Calm-AtPlace : {X A : Type 0} (P : X → Part A) (place : Option X) → ((x : X) → Calm (P x)) → Calm (AtPlace P place)
 Calm-AtPlace P None each = Calm-Refuses InvalidQuery refl
@@ -56,11 +56,11 @@ RefusesQuery-Store limit db p params e (inr (inl h)) = ap fault_of h.0
 RefusesQuery-Store limit db p params e (inr (inr h)) = ap fault_of h.0
 
 Calm-Queried : (limit : Option ℕ) (db : Database) (p : Program) (params : Row) → Calm (Queried limit db p params)
-Calm-Queried limit db p params = record { told = RefusesQuery-Store limit db p params }
+Calm-Queried limit db p params = record { returned = RefusesQuery-Store limit db p params }
 
 Calm-Sourced : (limit : Option ℕ) (db : Database) (params : Row) (from : Source) → Calm (Sourced limit db params from)
-Calm-Sourced limit db params (source.Values terms width) = record { told = λ e h. elim h [ inl kind ↦ ap fault_of kind.0 | inr stopped ↦ ap fault_of stopped.0 ] }
-Calm-Sourced limit db params (source.Query q) = record { told = RefusesQuery-Store limit db q params }
+Calm-Sourced limit db params (source.Values terms width) = record { returned = λ e h. elim h [ inl kind ↦ ap fault_of kind.0 | inr stopped ↦ ap fault_of stopped.0 ] }
+Calm-Sourced limit db params (source.Query q) = record { returned = RefusesQuery-Store limit db q params }
 
 -- a statement that shows rows
 pub RefusesToRead-Store : (limit : Option ℕ) (command : Command) (db : Database) (params : Row) (e : Error) → RefusesToRead limit command db params e → fault_of e ≡ Store
@@ -79,7 +79,7 @@ edit_error-stop_Store None e is = absurd (let h = is in cc)
 edit_error-stop_Store (Some reason) e is = let same : e ≡ edit_error reason = (let h = is in cc) in ap fault_of same ∙ edit_error-Store reason
 
 Calm-Edited : (schema : Schema) (keys : Keys) (db : Trees) (edit : Edit) → Calm (Edited schema keys db edit)
-Calm-Edited schema keys db edit = record { told = λ e h. edit_error-stop_Store h.0 e h.2 }
+Calm-Edited schema keys db edit = record { returned = λ e h. edit_error-stop_Store h.0 e h.2 }
 
 module _ (task : Task) where
   open task use {limit, keys, schema, table, params}
@@ -126,8 +126,8 @@ module _ (task : Task) where
   Calm-Meets Otherwise new db clause (there ∷ more) other = Calm-Resolves new db there clause.update
 
   Calm-Upserts : (way : Conflict) (new : Row) (db : Trees) (clauses : List Upsert) → Calm (Upserts task way new db clauses)
-  Calm-Upserts way new db [] = record { told = λ e h. (Calm-Clears way new db h.0).told e h.2 }
-  Calm-Upserts way new db (clause ∷ more) = record { told = λ e h. (Calm-Meets (Upserts task way new db more) new db clause h.0 (Calm-Upserts way new db more)).told e h.2 }
+  Calm-Upserts way new db [] = record { returned = λ e h. (Calm-Clears way new db h.0).returned e h.2 }
+  Calm-Upserts way new db (clause ∷ more) = record { returned = λ e h. (Calm-Meets (Upserts task way new db more) new db clause h.0 (Calm-Upserts way new db more)).returned e h.2 }
 
   Calm-Judged : (way : Conflict) (clauses : List Upsert) (new : Row) (db : Trees) (verdict : Option Refusal) → Calm (Judged task way clauses new db verdict)
   Calm-Judged way clauses new db None = Calm-Upserts way new db clauses
@@ -135,9 +135,9 @@ module _ (task : Task) where
 
   Calm-Tries : (way : Conflict) (clauses : List Upsert) (new : Row) (db : Trees) → Calm (Tries task way clauses new db)
   Calm-Tries way clauses new db = record {
-    told = λ e h. elim h [
+    returned = λ e h. elim h [
       | inl full ↦ let same : e ≡ SqliteFailure code.NoRowid = (let is = full.1 in cc) in ap fault_of same
-      | inr judged ↦ (Calm-Judged way clauses new db judged.0).told e judged.2
+      | inr judged ↦ (Calm-Judged way clauses new db judged.0).returned e judged.2
     ];
   }
 
@@ -152,10 +152,10 @@ module _ (task : Task) where
   -- ---- the end of a statement on rows
 
   Calm-Tested : (mode : Mode) (Holds : Among → Type 0) → Calm (Tested mode Holds)
-  Calm-Tested mode Holds = record { told = λ e h. let same : e ≡ SqliteFailure (code.ConstraintViolation ForeignKey) = (let is = h.1 in cc) in ap fault_of same }
+  Calm-Tested mode Holds = record { returned = λ e h. let same : e ≡ SqliteFailure (code.ConstraintViolation ForeignKey) = (let is = h.1 in cc) in ap fault_of same }
 
   Calm-Counted : (rows : List Row) → Calm (Counted limit rows)
-  Calm-Counted rows = record { told = λ e h. let same : e ≡ SqliteFailure code.OperationInterrupted = (let is = h.1 in cc) in ap fault_of same }
+  Calm-Counted rows = record { returned = λ e h. let same : e ≡ SqliteFailure code.OperationInterrupted = (let is = h.1 in cc) in ap fault_of same }
 
   Calm-Shows : (what : Returning) (now : Trees) (rows : List Row) → Calm (Shows task what now rows)
   Calm-Shows what now [] = Calm-Gives []
@@ -177,7 +177,7 @@ module _ (task : Task) where
 
   Calm-Drops : (mode : Mode) (db : Trees) → Calm (Drops task mode db)
   Calm-Drops mode db = Calm-Then _ _ (Calm-Empties db) (λ emptied. Calm-Then _ _ (Calm-UncountsIn emptied _) (λ now. Calm-Then _ _ (Calm-Tested mode (HoldWithout task now)) (λ in_doubt.
-      Calm-Then (Leaves (without_table schema table.tree) now (λ _. ⊥)) _ (record { told = λ e none. absurd none }) (λ after. Calm-Gives _))))
+      Calm-Then (Leaves (without_table schema table.tree) now (λ _. ⊥)) _ (record { returned = λ e none. absurd none }) (λ after. Calm-Gives _))))
 
 -- ---- the schema
 
@@ -193,7 +193,7 @@ RefusesToAlter-Store_or_no_text text Refuses e (inl h) = ap fault_of h.1
 RefusesToAlter-Store_or_no_text text Refuses e (inr h) = RefusesToAlter-Store Refuses e h
 
 Calm-MakesTable : (text : List ℕ) (db : Database) → Calm (MakesTable text db)
-Calm-MakesTable text db = record { told = RefusesToAlter-Store_or_no_text text _ }
+Calm-MakesTable text db = record { returned = RefusesToAlter-Store_or_no_text text _ }
 
 Calm-MakesSequence : (db : Database) → Calm (MakesSequence db)
 Calm-MakesSequence db = Calm-MatchBool _ _ _ (Calm-MakesTable _ db) (Calm-Gives db)
@@ -219,16 +219,16 @@ module _ (limit : Option ℕ) (mode : Mode) (params : Row) (db : Database) where
 
   Calm-Redefines : (text : List ℕ) (command : Command) → Calm (Redefines limit mode params db text command)
   Calm-Redefines text CreateTable = Calm-Defines mode _ (Calm-Then _ _ (Calm-MakesTable text db) Calm-MakesSequence)
-  Calm-Redefines text (CreateIndex at) = Calm-OnTable at _ (λ task. Calm-Defines mode (MakesIndex text db task.table) (record { told = λ e h. RefusesToAlter-Store_or_no_text text _ e h }))
-  Calm-Redefines text CreateView = Calm-Defines mode (MakesView text db) (record { told = λ e h. RefusesToAlter-Store_or_no_text text _ e h })
+  Calm-Redefines text (CreateIndex at) = Calm-OnTable at _ (λ task. Calm-Defines mode (MakesIndex text db task.table) (record { returned = λ e h. RefusesToAlter-Store_or_no_text text _ e h }))
+  Calm-Redefines text CreateView = Calm-Defines mode (MakesView text db) (record { returned = λ e h. RefusesToAlter-Store_or_no_text text _ e h })
   Calm-Redefines text (DropTable at) = Calm-OnTable at _ (λ task. Calm-Drops task mode db.trees)
-  Calm-Redefines text (DropIndex at) = Calm-AtPlace _ (slice_get db.schema.indexes at) (λ index. Calm-Defines mode (Leaves (without_index db.schema index.tree) db.trees (RefusesToAlter (RefusesToDropIndex index))) (record { told = RefusesToAlter-Store (RefusesToDropIndex index) }))
-  Calm-Redefines text (DropView at) = Calm-AtPlace _ (slice_get db.schema.views at) (λ view. Calm-Defines mode (Leaves (without_view db.schema view.tree) db.trees (IsKeptAside view)) (record { told = λ e h. ap fault_of h.1 }))
+  Calm-Redefines text (DropIndex at) = Calm-AtPlace _ (slice_get db.schema.indexes at) (λ index. Calm-Defines mode (Leaves (without_index db.schema index.tree) db.trees (RefusesToAlter (RefusesToDropIndex index))) (record { returned = RefusesToAlter-Store (RefusesToDropIndex index) }))
+  Calm-Redefines text (DropView at) = Calm-AtPlace _ (slice_get db.schema.views at) (λ view. Calm-Defines mode (Leaves (without_view db.schema view.tree) db.trees (IsKeptAside view)) (record { returned = λ e h. ap fault_of h.1 }))
   Calm-Redefines text _ = Calm-Refuses InvalidQuery refl
 
   pub Does-Store : (text : List ℕ) (returning : Option Returning) (command : Command) (e : Error) → Does limit mode params db text returning command (Err (Some e)) → fault_of e ≡ Store
-  Does-Store text returning (Insert at from) e h = (Calm-OnRows at returning (Insert at from)).told e h
-  Does-Store text returning (InsertOr at way from clauses) e h = (Calm-OnRows at returning (InsertOr at way from clauses)).told e h
-  Does-Store text returning (Update at q) e h = (Calm-OnRows at returning (Update at q)).told e h
-  Does-Store text returning (Delete at q) e h = (Calm-OnRows at returning (Delete at q)).told e h
-  Does-Store text returning command e h = (Calm-MatchBool (is_some returning) _ _ (Calm-Refuses InvalidQuery refl) (Calm-Redefines text command)).told e h
+  Does-Store text returning (Insert at from) e h = (Calm-OnRows at returning (Insert at from)).returned e h
+  Does-Store text returning (InsertOr at way from clauses) e h = (Calm-OnRows at returning (InsertOr at way from clauses)).returned e h
+  Does-Store text returning (Update at q) e h = (Calm-OnRows at returning (Update at q)).returned e h
+  Does-Store text returning (Delete at q) e h = (Calm-OnRows at returning (Delete at q)).returned e h
+  Does-Store text returning command e h = (Calm-MatchBool (is_some returning) _ _ (Calm-Refuses InvalidQuery refl) (Calm-Redefines text command)).returned e h

@@ -103,8 +103,8 @@ pub OnRows-concludes : (task : Task) (mode : Mode) (command : Command) (db : Tre
     → (w : Written) × WritesRows task db command (Ok w) × (after ≡ record { schema = task.schema; trees = w.trees }) × (tally.rows ≡ Some (length w.rows))
 OnRows-concludes task mode command db tally after h =
     let done = through (WritesRows task db command) (Concludes task mode None) (tally, after) h in
-    let told = Ok-injective (Ok-not_stopped (Ok-not_stopped done.2).2).2 in
-    (done.0, done.1, ap (λ (p : Tally × Database). p.1) told, ap (λ (p : Tally × Database). p.0.rows) told)
+    let returned = Ok-injective (Ok-not_stopped (Ok-not_stopped done.2).2).2 in
+    (done.0, done.1, ap (λ (p : Tally × Database). p.1) returned, ap (λ (p : Tally × Database). p.0.rows) returned)
 
 -- the rows of each table are numbered, if those of the changed one are
 IsNumbered-after_change : (schema : Schema) (tree : ℕ) (db next : Trees) → (IsNumbered (db tree) → IsNumbered (next tree)) → AllByRecursion (λ t. t.tree ≢ tree → next t.tree ≡ db t.tree) schema.tables

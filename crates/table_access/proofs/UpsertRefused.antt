@@ -24,8 +24,9 @@ use Rattle.sqlite_rules.proofs.{ListLemmas.{some_has, some_from, test_has, has_f
 use Rattle.sqlite_rules.proofs.{TableLemmas.{int_is}, PlaceLemmas.{next_is_free}}
 use Rattle.table_access.{specs.{Sound.{IsNumbered}, Statements.{plain_table, shows, IsCalm}}, proofs.Answered.{is_whole, Queried-never_stops}}
 use Rattle.table_access.proofs.{Edits.{Suits, IsAlone, goes, refers, are_unique-put_row, differ-Int}, Members.{has_map, map_has}}
-use Rattle.table_access.proofs.{Refused.{EndsAs-stopped, Sourced-never_stops, OnTable-stops, Executes-change_fails, Fails-weaken, IsMisplaced-never_anywhere}, SoundLemmas.{at_has}}
-use Rattle.table_access.proofs.{Steps.{Means, Ok-not_stopped, Ok-injective, shows-one_row}, Upsert.{by_rowid, setting, Either, upserts, AreConflicts-kept_row}, Values.{cast-Null, cast_row-kept}}
+use Rattle.table_access.proofs.Refused.{EndsAs-stopped, Sourced-never_stops, OnTable-stops, Executes-change_fails, Fails-weaken, IsMisplaced-never_anywhere}
+use Rattle.table_access.proofs.{SoundLemmas.{at_has}, Steps.{Means, Ok-not_stopped, Ok-injective, shows-one_row}}
+use Rattle.table_access.proofs.{Upsert.{by_rowid, setting, Either, upserts, AreConflicts-kept_row}, Values.{cast-Null, cast_row-kept}}
 
 -- what fits if rows are put in and taken out fits too if none is taken out
 and_or-no_removal : (a b removes : Bool) → (a && (not true || b)) ≡ true → (a && (not removes || b)) ≡ true

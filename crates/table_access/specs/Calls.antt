@@ -54,13 +54,13 @@ abbrev pub FailsAs : State → State → StoreFault → Type 0
 FailsAs old new fault = GoesOn old new ⊎ IsEnded old new fault
 
 -- a call returns Memory only if the store had none, which ended the transaction
-abbrev pub TellsMemory : {A : Type 0} → State → State → Result A StoreFault → Type 0
-TellsMemory old new r = HasCleanDisk new → IsTrue old.in_transaction → r ≡ Err Memory → IsEnded old new Memory
+abbrev pub ReportsMemory : {A : Type 0} → State → State → Result A StoreFault → Type 0
+ReportsMemory old new r = HasCleanDisk new → IsTrue old.in_transaction → r ≡ Err Memory → IsEnded old new Memory
 
 -- so it is of a call that takes no memory of its own; of one that may, nothing is said
-abbrev pub TellsMemoryUnless : {A : Type 0} → Bool → State → State → Result A StoreFault → Type 0
-TellsMemoryUnless true old new r = ⊤
-TellsMemoryUnless false old new r = TellsMemory old new r
+abbrev pub ReportsMemoryUnless : {A : Type 0} → Bool → State → State → Result A StoreFault → Type 0
+ReportsMemoryUnless true old new r = ⊤
+ReportsMemoryUnless false old new r = ReportsMemory old new r
 
 -- P of the answer, in a transaction that goes on, or a failure. Nothing is committed, and a crash leaves what
 -- it left before. `takes` is true if the call may take memory of its own.
@@ -72,7 +72,7 @@ pub record CallsBetween {A : Type 0} (takes : Bool) (old new : State) (r : Resul
   pub commits : HasCleanDisk new → IsTrue old.in_transaction → KeepsLastCommit old new
   pub survives : Survives old new (λ _. old.in_transaction ≡ false)
   -- if it takes none, only the store may be out of memory
-  pub memory : TellsMemoryUnless takes old new r
+  pub memory : ReportsMemoryUnless takes old new r
 
 -- any call, also one that takes memory of its own
 abbrev pub CallsTablesBetween : {A : Type 0} → State → State → Result A StoreFault → (A → Type 0) → Type 0

@@ -34,10 +34,10 @@ FailsToRead Reads Fails sql params old new fault =
 
 -- Why the first row isn't read: the query was refused, or the first argument holds of that row and the fault.
 abbrev pub FailsToTake : (Row → StoreFault → Type 0) → List ℕ → Row → State → State → StoreFault → Type 0
-FailsToTake Tells sql params old new fault =
+FailsToTake Matches sql params old new fault =
     IsRefusedAs sql params old new fault
     ⊎ ((rows : List Row) × Shown sql params old new rows × (row : Row) × (slice_get rows 0 ≡ Some row)
-    × Tells row fault)
+    × Matches row fault)
 
 -- there is such a column, and it is a text in UTF-8
 abbrev pub IsTextAt : ℕ → Row → Type 0
@@ -52,19 +52,19 @@ abbrev pub IsNumberAt : ℕ → Row → Type 0
 IsNumberAt at row = (at < length row) × ((n : ℕ) × (column row at ≡ Int (pos n)) × (n < 2 ^ 32))
 
 -- Store if this isn't in the row, and Memory if it is and there is no room for it
-abbrev pub TellsWhether : Type 0 → StoreFault → Type 0
-TellsWhether Stands fault = ((fault ≡ Store) × (¬ Stands)) ⊎ ((fault ≡ Memory) × Stands)
+abbrev pub ReportsWhether : Type 0 → StoreFault → Type 0
+ReportsWhether IsPresent fault = ((fault ≡ Store) × (¬ IsPresent)) ⊎ ((fault ≡ Memory) × IsPresent)
 
-abbrev pub TellsText : Row → StoreFault → Type 0
-TellsText row = TellsWhether (IsTextAt 0 row)
+abbrev pub ReportsText : Row → StoreFault → Type 0
+ReportsText row = ReportsWhether (IsTextAt 0 row)
 
 -- in the first column
 abbrev pub IsNumberRow : Row → Type 0
 IsNumberRow row = IsNumberAt 0 row
 
 -- Store, if there is no number in this column; in the first
-abbrev pub TellsNumberAt : ℕ → Row → StoreFault → Type 0
-TellsNumberAt at row fault = (fault ≡ Store) × (¬ IsNumberAt at row)
+abbrev pub ReportsNumberAt : ℕ → Row → StoreFault → Type 0
+ReportsNumberAt at row fault = (fault ≡ Store) × (¬ IsNumberAt at row)
 
-abbrev pub TellsNumber : Row → StoreFault → Type 0
-TellsNumber row = TellsNumberAt 0 row
+abbrev pub ReportsNumber : Row → StoreFault → Type 0
+ReportsNumber row = ReportsNumberAt 0 row

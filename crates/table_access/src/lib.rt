@@ -11,7 +11,7 @@ ghost use Rattle.sqlite.specs.State.{HasCleanDisk, Commits, IsUnchanged, IsRolle
 ghost use Rattle.sqlite.specs.Held.{state};
 ghost use Rattle.sqlite.specs.Values.{bound};
 ghost use Rattle.sqlite_resolve.specs.Compile.{first};
-ghost use Rattle.table_access.specs.Unit.{Begins, IsLeft, IsOver, FailsToBegin, RollsBack, FailsToRollBack, TellsRollback, RefusesCommit};
+ghost use Rattle.table_access.specs.Unit.{Begins, IsLeft, IsOver, FailsToBegin, RollsBack, FailsToRollBack, ReportsRollback, RefusesCommit};
 ghost use Rattle.table_access.specs.Calls.{KeepsLastCommit, CallsStore, FailsToRun};
 ghost use Rattle.table_access.specs.Calls as spec;
 ghost use Rattle.table_access.specs.Reading.{IsRefusedAs};
@@ -119,8 +119,8 @@ pub fn rollback<S: Alter>(conn: &mut Connection<S>) -> Result<(), StoreFault>
     ensures over { HasCleanDisk (state S.Store conn.new) → IsOver (state S.Store conn.new) }
     ensures commit { HasCleanDisk (state S.Store conn.new) →
         KeepsLastCommit (state S.Store conn.old) (state S.Store conn.new) }
-    ensures tells { HasCleanDisk (state S.Store conn.new) →
-        TellsRollback (state S.Store conn.old) (state S.Store conn.new) result }
+    ensures reports { HasCleanDisk (state S.Store conn.new) →
+        ReportsRollback (state S.Store conn.old) (state S.Store conn.new) result }
     ensures survives { Survives (state S.Store conn.old) (state S.Store conn.new) (λ _. ⊥) }
 {
     if conn.is_autocommit() {

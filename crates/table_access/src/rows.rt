@@ -9,7 +9,7 @@ ghost use Rattle.sqlite_rules.specs.Lists.{Has};
 ghost use Rattle.sqlite.specs.declared.types.Value.TheVariants.{Int, Text as SqlText};
 ghost use Rattle.table_access.specs.Calls.{CallsTables, CallsStore};
 ghost use Rattle.table_access.specs.Columns.{text};
-ghost use Rattle.table_access.specs.Reading.{AreRead, IsRefusedAs, FailsToRead, FailsToReadRow, FailsToTake, IsTextAt, BeginsWithText, TellsText, TellsNumber, TellsNumberAt};
+ghost use Rattle.table_access.specs.Reading.{AreRead, IsRefusedAs, FailsToRead, FailsToReadRow, FailsToTake, IsTextAt, BeginsWithText, ReportsText, ReportsNumber, ReportsNumberAt};
 
 use crate::{StoreFault, fault_of, select};
 use sqlite::types::ValueRef;
@@ -103,7 +103,7 @@ pub fn text_at(row: &Row, at: usize) -> Option<&str>
 fn first_text(alloc: Global, rows: &[Row]) -> Result<Option<String>, StoreFault>
     ensures ok { IfOk result (λ found. (option_map string_bytes found ≡ option_map (text 0) (slice_get rows.now 0))
         × BeginsWithText rows.now) }
-    ensures cause { IfErr result (λ f. (row : SqlRow) × (slice_get rows.now 0 ≡ Some row) × TellsText row f) }
+    ensures cause { IfErr result (λ f. (row : SqlRow) × (slice_get rows.now 0 ≡ Some row) × ReportsText row f) }
 {
     match rows.first() {
         None => Ok(None),
@@ -120,7 +120,7 @@ fn first_text(alloc: Global, rows: &[Row]) -> Result<Option<String>, StoreFault>
 /// The whole number in the first column. `StoreFault::Store` if there is no number from 0 to 2^32 - 1.
 pub fn number_in(row: &Row) -> Result<u32, StoreFault>
     ensures ok { IfOk result (λ n. column row.now 0 ≡ Int (pos n)) }
-    ensures cause { IfErr result (TellsNumber row.now) }
+    ensures cause { IfErr result (ReportsNumber row.now) }
 {
     number_at(row, 0)
 }
@@ -128,7 +128,7 @@ pub fn number_in(row: &Row) -> Result<u32, StoreFault>
 /// The whole number in a column. `StoreFault::Store` if there is no such column, or no number from 0 to 2^32 - 1 in it.
 pub fn number_at(row: &Row, place: usize) -> Result<u32, StoreFault>
     ensures ok { IfOk result (λ n. column row.now place ≡ Int (pos n)) }
-    ensures cause { IfErr result (TellsNumberAt place row.now) }
+    ensures cause { IfErr result (ReportsNumberAt place row.now) }
 {
     match row.get_ref(place) {
         Ok(ValueRef::Int(number)) => match u32::try_from(number) {
@@ -147,7 +147,7 @@ impl ReadRow for NumberRow {
 
     ghost reads_as = { λ row number. column row 0 ≡ Int (pos number) };
 
-    ghost fails_as = { TellsNumber };
+    ghost fails_as = { ReportsNumber };
 
     fn read(_alloc: Global, row: &Row) -> Result<u32, StoreFault> {
         number_in(row)
@@ -159,7 +159,7 @@ impl ReadRow for NumberRow {
 fn first_number(rows: &[Row]) -> Result<Option<u32>, StoreFault>
     ensures ok { IfOk result
         (λ found. option_map (λ n. Int (pos n)) found ≡ option_map (λ row. column row 0) (slice_get rows.now 0)) }
-    ensures cause { IfErr result (λ f. (row : SqlRow) × (slice_get rows.now 0 ≡ Some row) × TellsNumber row f) }
+    ensures cause { IfErr result (λ f. (row : SqlRow) × (slice_get rows.now 0 ≡ Some row) × ReportsNumber row f) }
 {
     match rows.first() {
         None => Ok(None),
@@ -180,7 +180,7 @@ pub fn find_text<S: Alter>(
         × (option_map string_bytes found ≡ option_map (text 0) (slice_get rows 0))
         × BeginsWithText rows) }
     ensures cause { HasCleanDisk (state S.Store conn.new) →
-        IfErr result (FailsToTake TellsText sql.now (bound params.now)
+        IfErr result (FailsToTake ReportsText sql.now (bound params.now)
         (state S.Store conn.old) (state S.Store conn.new)) }
 {
     let rows = done!(select(conn, sql, params));
@@ -199,7 +199,7 @@ pub fn find_number<S: Alter>(
         × Shown sql.now (bound params.now) old new rows
         × (option_map (λ n. Int (pos n)) found ≡ option_map (λ row. column row 0) (slice_get rows 0))) }
     ensures cause { HasCleanDisk (state S.Store conn.new) →
-        IfErr result (FailsToTake TellsNumber sql.now (bound params.now)
+        IfErr result (FailsToTake ReportsNumber sql.now (bound params.now)
         (state S.Store conn.old) (state S.Store conn.new)) }
 {
     let rows = done!(select(conn, sql, params));

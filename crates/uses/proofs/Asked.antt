@@ -32,7 +32,7 @@ length-zero_nil (x ∷ xs) is = absurd (omega (arith, eqb-true (length (x ∷ xs
 
 -- the list of what is such is empty if and only if nothing is
 pub Lists-empty_iff_none : {X : Type 0} {cmp : X → X → Ordering} {Is : X → Type 0} (xs : List X) (empty : Bool) → empty ≡ (length xs == 0) → Lists cmp Is xs → IsTrue empty ↔ ((x : X) → ¬ (Is x))
-Lists-empty_iff_none {X} {cmp} {Is} xs empty tells listed = (λ yes x is. none xs (length-zero_nil xs (sym tells ∙ yes)) x ((listed.exactly x).1 is), λ never. tells ∙ go xs (λ x there. never x ((listed.exactly x).0 there)))
+Lists-empty_iff_none {X} {cmp} {Is} xs empty reports listed = (λ yes x is. none xs (length-zero_nil xs (sym reports ∙ yes)) x ((listed.exactly x).1 is), λ never. reports ∙ go xs (λ x there. never x ((listed.exactly x).0 there)))
   where
     none : (ys : List X) → ys ≡ [] → (x : X) → ¬ (Contains ys x)
     none [] is x there = omega (arith, there.1)
@@ -67,8 +67,8 @@ fault_of-none_iff_good strict need = go need.provider_version need.latest
 -- no fault is decided of needs that are good, and of no others
 pub IsFaultAmong-none_iff_good : (s : Broker) (v : Version) (e : Text) (strict empty : Bool) (needs : List Need) (faults : List PairFault) → empty ≡ (length faults == 0) → Lists need_cmp (IsNeed s v e) needs → Lists fault_cmp (IsFaultAmong strict needs) faults
     → IsTrue empty ↔ ((need : Need) → IsNeed s v e need → IsGood strict need)
-IsFaultAmong-none_iff_good s v e strict empty needs faults tells listed decided =
-    let nothing = Lists-empty_iff_none faults empty tells decided in (
+IsFaultAmong-none_iff_good s v e strict empty needs faults reports listed decided =
+    let nothing = Lists-empty_iff_none faults empty reports decided in (
       λ yes need is. (fault_of-none_iff_good strict need).0 (λ fault of. nothing.0 yes fault (need, (listed.exactly need).1 is, of)),
       λ good. nothing.1 (λ fault is. (fault_of-none_iff_good strict is.0).1 (good is.0 ((listed.exactly is.0).0 is.1)) fault is.2),
     )

@@ -16,15 +16,15 @@ use Rattle.broker_core.specs.declared.answer.Shown.TheVariants as shows
 
 module _ (s : Broker) (out : Transition) where
   -- the state is the same, and the answer isn't Done
-  abbrev pub IsTold : Type 0
-  IsTold = (answer : Answer) × (out ≡ unchanged_with s answer) × (¬ (IsDone answer))
+  abbrev pub IsVerifiedAs : Type 0
+  IsVerifiedAs = (answer : Answer) × (out ≡ unchanged_with s answer) × (¬ (IsDone answer))
 
-  refused-or_told : (command : Command) (what : Option Missing) (allowed : Bool) (T : Type 0) → MatchOption (refused command what allowed) T (λ answer. out ≡ unchanged_with s answer) → T ⊎ IsTold
-  refused-or_told command (Some what) allowed T is = inr (Unknown what, is, λ no. no)
-  refused-or_told command None true T it = inl it
-  refused-or_told command None false T is = inr (Denied (asks command).rule, is, λ no. no)
+  refused-or_returned : (command : Command) (what : Option Missing) (allowed : Bool) (T : Type 0) → MatchOption (refused command what allowed) T (λ answer. out ≡ unchanged_with s answer) → T ⊎ IsVerifiedAs
+  refused-or_returned command (Some what) allowed T is = inr (Unknown what, is, λ no. no)
+  refused-or_returned command None true T it = inl it
+  refused-or_returned command None false T is = inr (Denied (asks command).rule, is, λ no. no)
 
-  TakesEffect-question : (command : Command) → is_question command ≡ true → TakesEffect broker_primitives s command out → IsTold
+  TakesEffect-question : (command : Command) → is_question command ≡ true → TakesEffect broker_primitives s command out → IsVerifiedAs
   TakesEffect-question (GetPact path) question (text, has, is) = (Shown (shows.Pact text), is, λ no. no)
   TakesEffect-question (GetBranchPact provider consumer branch) question (v, there, (text, has, is)) = (Shown (shows.Pact text), is, λ no. no)
   TakesEffect-question (GetEnvironment e) question (marks, there, (items, deployed, (versions, released, is))) = (Shown (shows.Environment e marks items versions), is, λ no. no)
@@ -45,17 +45,17 @@ module _ (s : Broker) (out : Transition) where
   TakesEffect-question (EndSupport e v) question it = absurd (cc)
   TakesEffect-question (Malformed fault) question it = absurd (cc)
 
-  StepOfCaller-question : (caller : Caller) (command : Command) → is_question command ≡ true → StepOfCaller broker_primitives s caller command out → IsTold
-  StepOfCaller-question caller command question (None, finds, it) = elim (refused-or_told command (first_missing s command) (is_allowed s caller command) (TakesEffect broker_primitives s command out) it) [
+  StepOfCaller-question : (caller : Caller) (command : Command) → is_question command ≡ true → StepOfCaller broker_primitives s caller command out → IsVerifiedAs
+  StepOfCaller-question caller command question (None, finds, it) = elim (refused-or_returned command (first_missing s command) (is_allowed s caller command) (TakesEffect broker_primitives s command out) it) [
     | inl takes ↦ TakesEffect-question command question takes
-    | inr told ↦ told
+    | inr returned ↦ returned
   ]
   StepOfCaller-question caller command question (Some fault, finds, is) = (BadForm fault, is, λ no. no)
 
   -- so it is of each step of a question
-  told : (token : Option Text) (command : Command) → is_question command ≡ true → Step broker_primitives s token command out → IsTold
-  told token command question (None, calls, is) = (Denied A1, is, λ no. no)
-  told token command question (Some caller, calls, it) = StepOfCaller-question caller command question it
+  returned : (token : Option Text) (command : Command) → is_question command ≡ true → Step broker_primitives s token command out → IsVerifiedAs
+  returned token command question (None, calls, is) = (Denied A1, is, λ no. no)
+  returned token command question (Some caller, calls, it) = StepOfCaller-question caller command question it
 
 -- no pattern is asked
 ComparesPattern-no_question : (s : Broker) (caller : Caller) (command : Command) → is_question command ≡ true → ComparesPattern s caller command → ⊥
@@ -85,7 +85,7 @@ module _ {X : Type 0} (shown : Held X → State) (old : BrokerView X) (token : T
     no_store : answer ≡ Store → ⊥
     no_store is = elim (it.calm clean going is s readable) [
       | inl failed ↦ works failed
-      | inr kept ↦ let done = kept.0 in let same = told s done.0 (Some token) command question done.2 in same.2 (subst (λ (out : Transition). IsDone out.answer) same.1 done.1)
+      | inr kept ↦ let done = kept.0 in let same = returned s done.0 (Some token) command question done.2 in same.2 (subst (λ (out : Transition). IsDone out.answer) same.1 done.1)
     ]
 
     runs : (b : Bool) → new.is_stopped ≡ b → new.is_stopped ≡ false
@@ -94,7 +94,7 @@ module _ {X : Type 0} (shown : Held X → State) (old : BrokerView X) (token : T
 
     by_step : Steps s (Some token) command (shown new.connection) answer → IsOnlyAsked shown s token command answer new
     by_step steps =
-        let same = told s (record { answer = answer; state = steps.next }) (Some token) command question steps.step in
+        let same = returned s (record { answer = answer; state = steps.next }) (Some token) command question steps.step in
         let state : steps.next ≡ s = ap (λ (out : Transition). out.state) same.1 in
         record {
           answered = inl (subst (λ (t : Broker). Step broker_primitives s (Some token) command (record { answer = answer; state = t })) state steps.step);

@@ -1,7 +1,7 @@
 //! A broker's tables, asked and changed by a program of its own, in a transaction that it has opened.
 ghost use Rattle.std.specs.Prelude.{◌≡◌, ◌↔◌, ◌∷◌, [], IsTrue, None, codes, true, false};
 ghost use Rattle.broker_core.specs.declared.command.Version.{Version};
-ghost use Rattle.broker_core.specs.Gate.{Stands};
+ghost use Rattle.broker_core.specs.Gate.{IsPresent};
 ghost use Rattle.broker_tables.specs.Calm.{CalmQueries};
 ghost use Rattle.broker_tables.specs.Holds.{ChangesAndAnswers};
 ghost use Rattle.broker_tables.specs.ChangeRefusals.{IsCalmStoring};
@@ -22,7 +22,7 @@ pub fn is_vacant<S: Alter>(
     environment: &str,
 ) -> Result<bool, StoreFault>
     ensures { CalmQueries S.Store conn.old conn.new result
-        (λ vacant s. IsTrue vacant ↔ ((v : Version) → ¬ (Stands s environment.now v))) }
+        (λ vacant s. IsTrue vacant ↔ ((v : Version) → ¬ (IsPresent s environment.now v))) }
 {
     match standing(alloc, conn, environment) {
         Ok(there) => Ok(there.is_empty()),

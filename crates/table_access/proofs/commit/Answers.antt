@@ -1,11 +1,11 @@
 use Rattle.std.proofs.Common.{◌≤◌, inl, inr, Ok, Err, Result, arith}
 use Rattle.sqlite.specs.{Held.{state}, State.{State, HasCleanDisk}}
-use Rattle.table_access.{specs.{Calls.{HasFailed}, Unit.{TellsRollback}, declared.StoreFault.{StoreFault}}, proofs.CallLemmas.{KeepsLastCommit-trans, IsLeft-KeepsLastCommit}}
-use Rattle.table_access.proofs.RefusedEnds.{HasFailed-then_IsIdle}
+use Rattle.table_access.specs.{Calls.{HasFailed}, Unit.{ReportsRollback}, declared.StoreFault.{StoreFault}}
+use Rattle.table_access.proofs.{CallLemmas.{KeepsLastCommit-trans, IsLeft-KeepsLastCommit}, RefusedEnds.{HasFailed-then_IsIdle}}
 use Rattle.table_access.proofs.commit.Goals as goal
 
 -- a rollback after a failure that ended the transaction finds none
-still_failed : (a b c : State) (f : StoreFault) (r : Result (Unit {0}) StoreFault) → HasFailed a b f → b.faults ≤ c.faults → TellsRollback b c r → HasFailed a c f
+still_failed : (a b c : State) (f : StoreFault) (r : Result (Unit {0}) StoreFault) → HasFailed a b f → b.faults ≤ c.faults → ReportsRollback b c r → HasFailed a c f
 still_failed a b c f (Ok u) failed up (inl idle) = HasFailed-then_IsIdle a b c f failed up idle
 still_failed a b c f (Ok u) failed up (inr back) = absurd (let clash = failed.over in let inside = back.0 in cc)
 still_failed a b c f (Err e) failed up refused = absurd (let clash = failed.over in let inside = refused.1.0 in cc)
@@ -22,7 +22,7 @@ returns-in-Err-clause-refused g c clean =
         survives = c.run_commit.ensures.survives;
         over = c.rollback.ensures.survives;
         failed = λ inside. elim why.1 [
-          | inl failed ↦ still_failed _ _ _ _ c.rollback.result failed c.rollback.ensures.survives.counts (c.rollback.ensures.tells clean)
+          | inl failed ↦ still_failed _ _ _ _ c.rollback.result failed c.rollback.ensures.survives.counts (c.rollback.ensures.reports clean)
           | inr outside ↦ absurd (let clash = outside in cc)
         ];
       },

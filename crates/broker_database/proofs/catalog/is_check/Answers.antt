@@ -1,6 +1,7 @@
 use Rattle.std.proofs.{Common.{◌≡◌, ◌↔◌, IsTrue, length, arith, sym, subst}, lemmas.Bool.{leb-true}}
 use Rattle.sqlite_schema.specs.Code.{term_in}
-use Rattle.broker_database.{specs.{Catalog.{check_of}, declared.catalog.Check.{Check}}, proofs.CheckLemmas.{term_in-is_number, term_in-is_truth, term_in-not_truth_short}}
+use Rattle.broker_database.specs.{Catalog.{check_of}, declared.catalog.Check.{Check}}
+use Rattle.broker_database.proofs.CheckLemmas.{term_in-is_number, term_in-is_truth, term_in-not_truth_short}
 use Rattle.broker_database.proofs.catalog.is_check.Goals as goal
 
 pub returns-then-nodes-ge2 : goal.returns-then-nodes-ge2

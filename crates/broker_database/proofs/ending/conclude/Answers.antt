@@ -1,13 +1,13 @@
 use Rattle.std.proofs.Common.{◌≡◌, ◌∙◌, Ok, Err, Result, Bool, IsTrue, IfErr, refl}
 use Rattle.sqlite.specs.{Held.{Held}, State.{State}}
 use Rattle.table_access.specs.{declared.StoreFault.{StoreFault}, declared.StoreFault.TheVariants.{Memory, Store}}
-use Rattle.broker_database.{specs.Transaction.{EndsFor, Finishes, called, conclusion, told}, proofs.Transaction.{Survives-weaker}}
+use Rattle.broker_database.{specs.Transaction.{EndsFor, Finishes, called, conclusion, returned}, proofs.Transaction.{Survives-weaker}}
 use Rattle.broker_database.proofs.ending.conclude.Goals as goal
 
 -- the result of a work is reported unchanged
-told_called : {A : Type 0} (r : Result A StoreFault) → told (called r) ≡ r
-told_called (Ok a) = refl
-told_called (Err fault) = refl
+returned_called : {A : Type 0} (r : Result A StoreFault) → returned (called r) ≡ r
+returned_called (Ok a) = refl
+returned_called (Err fault) = refl
 
 -- a refused COMMIT is reported as Store, for any result of the work
 store_at_worst : {A : Type 0} (r : Result A StoreFault) → Err Store ≡ conclusion r (Err Store)
@@ -25,7 +25,7 @@ returns-in-Err-clause-concludes g c =
     let ends : Finishes _ _ c.args.keeps (Err Store) = record {
       committed = λ _ _. tt;
       over = λ clean undone. let it = c.in-Err.ensures.refused clean in (it.0, it.1);
-      told = λ _ unkept. absurd (cc);
+      returned = λ _ unkept. absurd (cc);
       unsure = λ _. refl;
       live = λ _. c.commit.ensures.live;
       settled = λ trees now may. g.met.S.Store.settled _ trees now may;

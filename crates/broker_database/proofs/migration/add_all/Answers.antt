@@ -1,6 +1,6 @@
 use Rattle.broker_database.{specs.Migration.{CanBeMigrated}, proofs.FormerRoom.{TakesNoFormerRoom-of_rows}}
-use Rattle.broker_tables.{specs.{Holds.{format}, Making.{HasShortKeys}, Schema.{all_tables, schema_of}}, proofs.Former.{HoldsUnmarked-Holds, HoldsUnmarked-HasShortKeys}}
-use Rattle.broker_tables.proofs.MakingFails.{IsCalmOverBetween-then}
+use Rattle.broker_tables.specs.{Holds.{format}, Making.{HasShortKeys}, Schema.{all_tables, schema_of}}
+use Rattle.broker_tables.proofs.{Former.{HoldsUnmarked-Holds, HoldsUnmarked-HasShortKeys}, MakingFails.{IsCalmOverBetween-then}}
 use Rattle.sqlite.specs.Held.{state}
 use Rattle.std.proofs.Common.{◌≡◌}
 use Rattle.table_access.proofs.CallLemmas.{CallsBetween-then_call}

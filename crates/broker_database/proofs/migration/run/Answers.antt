@@ -1,6 +1,6 @@
 use Rattle.sqlite.specs.Held.{state}
-use Rattle.broker_database.specs.{Migration.{CanBeMigrated, CanBeStoredAgain, StoresFormer}, Opening.{OnlyIfRefused}, Transaction.{told}}
-use Rattle.broker_database.proofs.MakeLemmas.{BringsUpOrNot-of_transaction, going_up, OnlyIfRefused-of_transaction, BringsUpOrNot-unbegun, OnlyIfStoreFailed-of_refused}
+use Rattle.broker_database.specs.{Migration.{CanBeMigrated, CanBeStoredAgain, StoresFormer}, Opening.{OnlyIfRefused}, Transaction.{returned}}
+use Rattle.broker_database.proofs.MakeLemmas.{MigratesOrNot-of_transaction, going_up, OnlyIfRefused-of_transaction, MigratesOrNot-unbegun, OnlyIfStoreFailed-of_refused}
 use Rattle.broker_core.specs.State.{State as Broker}
 use Rattle.broker_database.proofs.migration.run.Goals as goal
 
@@ -8,14 +8,14 @@ pub returns-clause-refused : goal.returns-clause-refused
 returns-clause-refused g c s fit =
     let shown = state g.S.Store in
     OnlyIfRefused-of_transaction shown CanBeMigrated (λ db. StoresFormer db s) s c.args.conn.now c.begin.new.conn c.bring_up-found.new.conn c.conclude.new.conn _ _ c.conclude.result
-    (going_up (shown c.args.conn.now) (shown c.begin.new.conn) (shown c.bring_up-found.new.conn) (shown c.conclude.new.conn) c.bring_up-found.result (told c.conclude.result) c.is_former-keeps.result
+    (going_up (shown c.args.conn.now) (shown c.begin.new.conn) (shown c.bring_up-found.new.conn) (shown c.conclude.new.conn) c.bring_up-found.result (returned c.conclude.result) c.is_former-keeps.result
     c.in-Ok.ensures.begun c.begin.ensures.survives c.bring_up-found.ensures.brings c.is_former-keeps.ensures c.conclude.ensures.concludes)
     c.bring_up-found.ensures.calm c.conclude.ensures.refused (λ db is. (s, is.tables, fit)) (λ found up is was. ((up.1 is).0 s was.tables).0)
 
 pub returns-clause-migrates : goal.returns-clause-migrates
 returns-clause-migrates g c =
     let shown = state g.S.Store in
-    BringsUpOrNot-of_transaction shown c.args.conn.now c.begin.new.conn c.bring_up-found.new.conn c.conclude.new.conn c.bring_up-found.result (told c.conclude.result) c.is_former-keeps.result
+    MigratesOrNot-of_transaction shown c.args.conn.now c.begin.new.conn c.bring_up-found.new.conn c.conclude.new.conn c.bring_up-found.result (returned c.conclude.result) c.is_former-keeps.result
     c.in-Ok.ensures.begun c.begin.ensures.survives c.bring_up-found.ensures.brings c.is_former-keeps.ensures c.conclude.ensures.concludes c.bring_up-found.ensures.cause
     (λ s fit. OnlyIfStoreFailed-of_refused shown (λ db. StoresFormer db s) s c.args.conn.now c.conclude.new.conn c.conclude.result (refusals s fit))
   where
@@ -23,4 +23,4 @@ returns-clause-migrates g c =
     refusals = returns-clause-refused g c
 
 pub returns-in-Err-clause-migrates : goal.returns-in-Err-clause-migrates
-returns-in-Err-clause-migrates g c = BringsUpOrNot-unbegun (state g.S.Store) c.args.conn.now c.begin.new.conn c.in-Err.fault c.in-Err.ensures.refused c.in-Err.ensures.cause c.begin.ensures.survives
+returns-in-Err-clause-migrates g c = MigratesOrNot-unbegun (state g.S.Store) c.args.conn.now c.begin.new.conn c.in-Err.fault c.in-Err.ensures.refused c.in-Err.ensures.cause c.begin.ensures.survives

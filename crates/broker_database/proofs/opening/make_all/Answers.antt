@@ -1,5 +1,6 @@
 use Rattle.broker_tables.specs.{Holds.{format}, Making.{HasShortKeys, HasTables, IsBlank}, ChangeRefusals.{AreShort}, Schema.{all_tables, schema_of}}
-use Rattle.broker_tables.proofs.{MakingFails.{IsCalmOverBetween-then, HasTables-HasShortKeys}, Opening.{HasTables-HasAll, HasAll-Holds_opening, HasAll-HasAllNumbers}}
+use Rattle.broker_tables.proofs.MakingFails.{IsCalmOverBetween-then, HasTables-HasShortKeys}
+use Rattle.broker_tables.proofs.Opening.{HasTables-HasAll, HasAll-Holds_opening, HasAll-HasAllNumbers}
 use Rattle.sqlite.specs.Held.{state}
 use Rattle.std.proofs.Common.{Ok, [], ◌∷◌, ◌≡◌}
 use Rattle.table_access.proofs.CallLemmas.{CallsBetween-then_failed_call, CallsBetween-then_call, CallsBetween-then_call}

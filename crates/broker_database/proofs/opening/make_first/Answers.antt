@@ -1,7 +1,8 @@
 use Rattle.std.proofs.Common.{◌++◌, ◌∷◌, [], Ok, inl, refl}
 use Rattle.sqlite.specs.Held.{state}
 use Rattle.table_access.proofs.CallLemmas.{CallsBetween-then_call}
-use Rattle.broker_tables.{specs.{Schema.{registry_part, contents, contract_part}, Holds.{format}, Making.{IsBlank, HasTables}}, proofs.Opening.{HasTables-append}}
+use Rattle.broker_tables.specs.{Schema.{registry_part, contents, contract_part}, Holds.{format}, Making.{IsBlank, HasTables}}
+use Rattle.broker_tables.proofs.Opening.{HasTables-append}
 use Rattle.broker_database.proofs.opening.make_first.Goals as goal
 
 pub returns-clause-makes : goal.returns-clause-makes

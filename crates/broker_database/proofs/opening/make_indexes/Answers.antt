@@ -2,7 +2,8 @@ use Rattle.broker_tables.specs.{Making.{HasShortKeys}, Schema.{all_tables, conte
 use Rattle.broker_tables.proofs.MakingFails.{IsCalmOverBetween-then, HasShortKeys-kept}
 use Rattle.sqlite.specs.{Change.{indexed}, Held.{state}}
 use Rattle.std.proofs.Common.{Err, Ok, [], ap, refl, ◌∙◌, ◌∷◌, ◌≡◌}
-use Rattle.table_access.{specs.Statements.{MakesIndexes, indexed_by}, proofs.{CallLemmas.{CallsBetween-then_call}, Indexing.{MakesIndexes-schema, MakesIndexes-append}}}
+use Rattle.table_access.{specs.Statements.{MakesIndexes, indexed_by}, proofs.CallLemmas.{CallsBetween-then_call}}
+use Rattle.table_access.proofs.Indexing.{MakesIndexes-schema, MakesIndexes-append}
 use Rattle.broker_database.proofs.opening.make_indexes.Goals as goal
 
 pub returns-clause-makes : goal.returns-clause-makes

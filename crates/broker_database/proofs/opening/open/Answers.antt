@@ -2,18 +2,19 @@ use Rattle.std.{specs.Prelude.{IfErr}, proofs.Common.{inl, Result, Ok, Err, sym,
 use Rattle.sqlite.specs.{Held.{state}, State.{State}}
 use Rattle.broker_tables.specs.{Making.{IsBlank, IsMarked}, Holds.{format}}
 use Rattle.broker_database.specs.{Ends.{IsAsBefore}, Opening.{IsMarkedToday, IsUnchangedUnlessStore, OpensOrRefuses, judgement}}
-use Rattle.broker_database.{specs.declared.opening.OpenFault.{OpenFault}, proofs.Judgements.{OpensOrRefuses-judgement, FindsToday-blank, FindsToday-other, FindsToday-today}}
+use Rattle.broker_database.specs.declared.opening.OpenFault.{OpenFault}
+use Rattle.broker_database.proofs.Judgements.{OpensOrRefuses-judgement, FindsToday-blank, FindsToday-other, FindsToday-today}
 use Rattle.broker_database.proofs.{MigrationLemmas.{OnOk-const, HoldsDurably-now}, OpenFailures.{judgement-not_store}}
-use Rattle.broker_database.specs.declared.opening.OpenFault.TheVariants as told
+use Rattle.broker_database.specs.declared.opening.OpenFault.TheVariants as returned
 use Rattle.broker_database.proofs.opening.open.Goals as goal
 
 unless_store : (old new : State) (r : Result (Unit {0}) OpenFault) → IsAsBefore old new → IfErr r (IsUnchangedUnlessStore old new)
 unless_store old new (Ok u) it = tt
-unless_store old new (Err told.NotEmpty) it = it
-unless_store old new (Err told.NotABroker) it = it
-unless_store old new (Err (told.Format n)) it = it
-unless_store old new (Err told.Memory) it = it
-unless_store old new (Err told.Store) it = it.commit
+unless_store old new (Err returned.NotEmpty) it = it
+unless_store old new (Err returned.NotABroker) it = it
+unless_store old new (Err (returned.Format n)) it = it
+unless_store old new (Err returned.Memory) it = it
+unless_store old new (Err returned.Store) it = it.commit
 
 pub returns-in-Ok : goal.returns-in-Ok
 returns-in-Ok g c =

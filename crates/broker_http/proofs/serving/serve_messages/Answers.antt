@@ -4,7 +4,7 @@ use Rattle.std.proofs.{KnownBytes.{Consumes-kept, Consumes-nil, Consumes-trans, 
 use Rattle.std.proofs.lemmas.Bool.{eqb-false}
 use Rattle.http_messages.specs.Reading.{IsOutcome}
 use Rattle.broker_http.specs.{Calls.{ByBroker}, Stream.{texts}}
-use Rattle.broker_http.proofs.ResponsesLemmas.{Responses-came, Responses-answered, Responses-broken, Responses-unread, AllOpen-then, texts-then, StreamEnds-at_end, StreamEnds-rest, TellsDevice-weaker}
+use Rattle.broker_http.proofs.ResponsesLemmas.{Responses-came, Responses-answered, Responses-broken, Responses-unread, AllOpen-then, texts-then, StreamEnds-at_end, StreamEnds-rest, ReportsDevice-weaker}
 use Rattle.broker_http.proofs.serving.serve_messages.Goals.{then-is_empty, else-is_empty}
 use Rattle.broker_http.proofs.serving.serve_messages.Goals as goal
 
@@ -142,4 +142,4 @@ loop-answered-preserved g c =
 pub returns-in_err-answer-clause-failed : goal.returns-in_err-answer-clause-failed
 returns-in_err-answer-clause-failed g c =
     let p = err_from_is_err_and c.from_residual-in_err-answer.result c.from_residual-in_err-answer.ensures.1 in
-    rw (p.1, p.2) (TellsDevice-weaker c.in_err-answer.field-0.0 _ _ c.in_err-answer.ensures.failed)
+    rw (p.1, p.2) (ReportsDevice-weaker c.in_err-answer.field-0.0 _ _ c.in_err-answer.ensures.failed)

@@ -43,7 +43,7 @@ returns-in-Err-open_files_with-clause-cause g c =
       settled = λ i out. ap₂ image (only g.S.Start.log g.S.Start.db g.S.Start.is_mixing i.log _ true _ _ log.0 log.1 out.0)
           (only g.S.Start.log g.S.Start.db g.S.Start.is_mixing i.db _ false _ _ db.0 db.1 out.1);
       error = c.in-Err-open_files_with.error;
-      told = c.told_of.ensures.same;
+      returned = c.returned_of.ensures.same;
       cause = λ clean. failed.cause clean;
       left = λ clean. failed.unharmed clean;
     }

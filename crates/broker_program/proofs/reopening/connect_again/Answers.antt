@@ -26,7 +26,7 @@ returns-in-Err-clause-shut g c = (
   c.close-files.ensures,
   inr (
     c.empty_log-store.ensures.same c.if-broke.false,
-    record { error = _; told = c.told_of.ensures.same; cause = c.in-Err.ensures.cause; left = c.in-Err.ensures.unharmed },
+    record { error = _; returned = c.returned_of.ensures.same; cause = c.in-Err.ensures.cause; left = c.in-Err.ensures.unharmed },
   ),
 )
 

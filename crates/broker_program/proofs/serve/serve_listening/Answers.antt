@@ -1,5 +1,6 @@
 use Rattle.std.proofs.{Common.{◌∙◌, inl, inr}, lemmas.Result.{IfErr-weaker}}
-use Rattle.broker_program.proofs.{RefusalLemmas.{LeavesCut-weaker}, ResultLemmas.{IfOk-const, IfOk-both}, ServingLemmas.{CutsFile-counts, ServesFile-counts, IsLeftUnserved-given_back}}
+use Rattle.broker_program.proofs.{RefusalLemmas.{LeavesCut-weaker}, ResultLemmas.{IfOk-const, IfOk-both}}
+use Rattle.broker_program.proofs.ServingLemmas.{CutsFile-counts, ServesFile-counts, IsLeftUnserved-given_back}
 use Rattle.broker_program.proofs.VisitLemmas.{queue_of-new_counts, IsNewQueue-queue_of}
 use Rattle.broker_program.proofs.serve.serve_listening.Goals as goal
 

@@ -1,6 +1,7 @@
 use Rattle.std.proofs.Common.{◌≡◌, ◌<◌, false, length, sym, subst, inl, inr, arith, rules, IfSome}
 use Rattle.sqlite.specs.WalFiles.{image_at}
-use Rattle.broker_program.{specs.Reopening.{ServesOn}, proofs.ServingLemmas.{ServesOver-closed, ServesNext-counts, ServesNext-fewer_coming, ServesMore-next, ServesMore-none, StaysUnclosed-of_not_closed}}
+use Rattle.broker_program.specs.Reopening.{ServesOn}
+use Rattle.broker_program.proofs.ServingLemmas.{ServesOver-closed, ServesNext-counts, ServesNext-fewer_coming, ServesMore-next, ServesMore-none, StaysUnclosed-of_not_closed}
 use Rattle.broker_program.proofs.{ResultLemmas.{Err-not_ok, None-not_some}, VisitLemmas.{AreVisited-went_length}}
 use Rattle.broker_program.proofs.serve.serve_opened.Goals as goal
 

@@ -2,8 +2,8 @@ use Rattle.std.proofs.Common.{inl, Some, None, refl}
 use Rattle.sqlite.specs.Held.{state}
 use Rattle.broker_core.specs.{Contents.{HasSoundContents}, declared.answer.Answer.TheVariants.{Denied}, declared.policy.Rule.TheVariants.{A1}}
 use Rattle.caller_facts.specs.Callers.{token_of}
-use Rattle.command_facts.{specs.{Performs.{CallersStep, TokensStep, IsToChange}, Primitives.{broker_primitives}}, proofs.CallerSteps.{IsCallerOfToken-of_sender}}
-use Rattle.command_facts.proofs.PerformLemmas.{PerformsBetween-query_answer, PerformsBetween-query_then}
+use Rattle.command_facts.specs.{Performs.{CallersStep, TokensStep, IsToChange}, Primitives.{broker_primitives}}
+use Rattle.command_facts.proofs.{CallerSteps.{IsCallerOfToken-of_sender}, PerformLemmas.{PerformsBetween-query_answer, PerformsBetween-query_then}}
 use Rattle.broker_service.proofs.WorkFailures.{TokensStep-of_caller, FailsFromBetween-query_then}
 use Rattle.broker_service.proofs.work.step_of.Goals as goal
 

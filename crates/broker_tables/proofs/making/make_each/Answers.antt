@@ -1,8 +1,8 @@
 use Rattle.std.proofs.{Common.{Ok, sym, subst, map, arith, ◌+◌, ◌∙◌, ℕ, List, Bor}, lemmas.List.{take-map}}
 use Rattle.sqlite.specs.{Held.{state}, State.{HasCleanDisk}}
 use Rattle.table_access.proofs.CallLemmas.{CallsBetween-no_call, CallsBetween-then_call, EndsBy-later_call}
-use Rattle.broker_tables.{specs.Making.{MakesTexts}, proofs.{Written.{MakesTexts-none, MakesTexts-one_more, map-take_texts}, Definitions.{AreDefinedTables-table_texts, AreDefinedIndexes-index_texts}}}
-use Rattle.broker_tables.proofs.MakingFails.{FailsToRun-next_text}
+use Rattle.broker_tables.{specs.Making.{MakesTexts}, proofs.Written.{MakesTexts-none, MakesTexts-one_more, map-take_texts}}
+use Rattle.broker_tables.proofs.{Definitions.{AreDefinedTables-table_texts, AreDefinedIndexes-index_texts}, MakingFails.{FailsToRun-next_text}}
 use Rattle.broker_tables.proofs.making.make_each.Goals as goal
 
 pub loop-text-init : goal.loop-text-init

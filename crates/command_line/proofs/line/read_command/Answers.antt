@@ -1,6 +1,7 @@
 use Rattle.std.proofs.Common.{◌∙◌, ap, subst}
 use Rattle.clap.specs.Words.{App, HasKind, fault_of, is_simple_and_free}
-use Rattle.command_line.{specs.Lines.{command_named, texts_of}, proofs.LineLemmas.{HasOptions-of_matches, is_simple_and_free-command_named, is_simple-command_named, HasKind-only_memory}}
+use Rattle.command_line.specs.Lines.{command_named, texts_of}
+use Rattle.command_line.proofs.LineLemmas.{HasOptions-of_matches, is_simple_and_free-command_named, is_simple-command_named, HasKind-only_memory}
 use Rattle.command_line.proofs.line.read_command.Goals as goal
 
 pub returns-in-Some-clause-ok : goal.returns-in-Some-clause-ok

@@ -17,4 +17,4 @@ returns-clause-call g c =
 pub returns-clause-calm : goal.returns-clause-calm
 returns-clause-calm g c =
     IsCalmUnlessBetween-then _ _ _ c.in-Ok.value c.add_after.result _ _ _ _ _ c.in-Ok.ensures.call c.add_after.ensures.call
-    (λ read s held allowed. let told = read (hex_of sha256) s.contents (Holds-ContentsBy _ s held) in ((told.0, allowed.1), told.1)) c.add_after.ensures.calm
+    (λ read s held allowed. let returned = read (hex_of sha256) s.contents (Holds-ContentsBy _ s held) in ((returned.0, allowed.1), returned.1)) c.add_after.ensures.calm

@@ -2,7 +2,8 @@ use Rattle.std.proofs.{Common.{ℕ, pos, ◌≤◌, ◌^◌, ◌∙◌, ap, opti
 use Rattle.sqlite.specs.Held.{state}
 use Rattle.table_access.{specs.Columns.{text}, proofs.{Answered.{slice_get-has_first}, CallLemmas.{CallsBetween-weaken}}}
 use Rattle.broker_core.proofs.Lists.{None-not_Some}
-use Rattle.broker_tables.proofs.{Asked.{Shown-IsShown, Shown-now_same, FailsToTake-explained_text, FailsToTake-no_row_shown}, QueryLemmas.{FailsOnlyBy-of_cause}}
+use Rattle.broker_tables.proofs.Asked.{Shown-IsShown, Shown-now_same, FailsToTake-explained_text, FailsToTake-no_row_shown}
+use Rattle.broker_tables.proofs.QueryLemmas.{FailsOnlyBy-of_cause}
 use Rattle.content_store.proofs.{ContentRows.{stored, IsShown-text_in}, Held.{Holds-ContentsBy}, ReadableRows.{EachReads-content_body}}
 use Rattle.content_store.proofs.contents.get.Goals as goal
 

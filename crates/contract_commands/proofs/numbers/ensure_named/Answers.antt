@@ -17,7 +17,7 @@ returns-in-Old-clause-answers g c =
 pub returns-in-Ok-clause-answers : goal.returns-in-Ok-clause-answers
 returns-in-Ok-clause-answers g c =
     let old = state g.S.Store c.args.conn.now in
-    let new = state g.S.Store c.add_version_as.new.conn in
+    let new = state g.S.Store c.insert_version.new.conn in
     let number = c.in-New.number in
     let v = version_named c.args.pacticipant.now c.args.name.now in
     let same : version_named c.as_str.result.now c.as_str-in-New.result.now ≡ v = λ i. version_named (c.as_str.ensures i) (c.as_str-in-New.ensures i) in

@@ -1,9 +1,11 @@
 use Rattle.std.proofs.Common.{◌∷◌, [], refl, subst}
 use Rattle.broker_core.specs.{declared.command.Command.TheVariants.{PostReplies}, declared.policy.Rule.TheVariants.{A4}, Contents.{HasSoundContents}}
 use Rattle.contract_commands.specs.{Pacts.{Reaches}, Checks.{Checks, CanCheck}}
-use Rattle.contract_commands.proofs.{CheckLemmas.{replies_refused, replies_checked, step_checked, HasSoundContents-pact}, ResultLemmas.{HasPacticipant-of_allowed}}
+use Rattle.contract_commands.proofs.CheckLemmas.{replies_refused, replies_checked, step_checked, HasSoundContents-pact}
+use Rattle.contract_commands.proofs.ResultLemmas.{HasPacticipant-of_allowed}
 use Rattle.command_facts.specs.{Performs.{CallersStep, IsStepOf, IsToChange}, Primitives.{broker_primitives}}
-use Rattle.command_facts.proofs.{PerformLemmas.{PerformsBetween-query_then_allowed, PerformsBetween-query_answer}, ShortTexts.{IsName-short, IsName-optional_short}}
+use Rattle.command_facts.proofs.PerformLemmas.{PerformsBetween-query_then_allowed, PerformsBetween-query_answer}
+use Rattle.command_facts.proofs.ShortTexts.{IsName-short, IsName-optional_short}
 use Rattle.broker_tables.proofs.FailLemmas.{FailsFromBetween-after_query, FailsFromBetween-weaken}
 use Rattle.contract_commands.proofs.replies.check_replies.Goals as goal
 

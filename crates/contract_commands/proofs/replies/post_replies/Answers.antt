@@ -7,5 +7,5 @@ use Rattle.contract_commands.proofs.replies.post_replies.Goals as goal
 pub returns-in-Err-clause-answers : goal.returns-in-Err-clause-answers
 returns-in-Err-clause-answers g c =
     let body = c.args.body.now in
-    PerformsBetween-unread _ c.in-Err.fault c.tell_unread.result (CallersStep c.args.caller.now (PostReplies c.args.path.now c.args.report.now body)) c.tell_unread.ensures
+    PerformsBetween-unread _ c.in-Err.fault c.report_unread.result (CallersStep c.args.caller.now (PostReplies c.args.path.now c.args.report.now body)) c.report_unread.ensures
     (λ found is s. CallersStep-replies_fault s c.args.caller.now c.args.path.now c.args.report.now body found (subst (λ bytes. ReadsReplies bytes (Some found)) c.as_slice.ensures (c.in-Err.ensures.fault found is)))

@@ -2,8 +2,9 @@ use Rattle.std.proofs.Common.{true, ◌≡◌, ◌==◌, ℕ, List, Some, length
 use Rattle.sqlite.specs.Held.{state}
 use Rattle.broker_core.specs.{State.{checked_result}, Change.{Transition, report}, declared.answer.Answer.{Answer}, Machine.{is_empty, report_replies}}
 use Rattle.broker_core.specs.declared.answer.Detail.TheVariants.{Replies}
-use Rattle.command_facts.{specs.{declared.checking.Comparison.TheVariants.{Failing}, Performs.{IsToChange}}, proofs.PerformLemmas.{PerformsWhereBetween-change_answer}}
-use Rattle.contract_commands.specs.{Checks.{Leads}, Results.{CanReceive, IsToReport, told_as, reported_version}, declared.results.Reported.{Reported}}
+use Rattle.command_facts.specs.{declared.checking.Comparison.TheVariants.{Failing}, Performs.{IsToChange}}
+use Rattle.command_facts.proofs.PerformLemmas.{PerformsWhereBetween-change_answer}
+use Rattle.contract_commands.specs.{Checks.{Leads}, Results.{CanReceive, IsToReport, returned_as, reported_version}, declared.results.Reported.{Reported}}
 use Rattle.contract_commands.proofs.CheckLemmas.{length-zero_is_empty}
 use Rattle.broker_tables.proofs.FailLemmas.{FailsFromBetween-pass_Err}
 use Rattle.contract_commands.proofs.replies.report_failing.Goals as goal
@@ -17,12 +18,12 @@ returns-clause-answers g c =
     let run = c.args.report.now.run in
     let pass = c.is_empty-pass.result in
     let passes : pass ≡ is_empty failing = c.is_empty-pass.ensures ∙ ap (λ (xs : List ℕ). length xs == 0) c.as_slice.ensures ∙ length-zero_is_empty failing in
-    PerformsWhereBetween-change_answer 4 (omega arith) _ _ it c.tell_replies.result _ _ _ (λ s out. out ≡ report_replies s content v run (Some failing))
+    PerformsWhereBetween-change_answer 4 (omega arith) _ _ it c.replies_answer.result _ _ _ (λ s out. out ≡ report_replies s content v run (Some failing))
     (λ s may. (
       may,
       λ t reports.
-          let told : ◌≡◌ {A = Transition} (record { answer = c.tell_replies.result; state = t }) (record { answer = told_as (λ n. Replies failing n pass) it; state = t }) = (λ i. record { answer = c.tell_replies.ensures i; state = t }) in
-          told ∙ reports (λ n. Replies failing n pass) ∙ (λ i. report s (checked_result content v (passes i) run) (λ n. Replies failing n (passes i))),
+          let returned : ◌≡◌ {A = Transition} (record { answer = c.replies_answer.result; state = t }) (record { answer = returned_as (λ n. Replies failing n pass) it; state = t }) = (λ i. record { answer = c.replies_answer.ensures i; state = t }) in
+          returned ∙ reports (λ n. Replies failing n pass) ∙ (λ i. report s (checked_result content v (passes i) run) (λ n. Replies failing n (passes i))),
     ))
     c.in-Ok.ensures.answers
 

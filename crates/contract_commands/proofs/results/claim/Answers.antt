@@ -1,7 +1,7 @@
 use Rattle.std.proofs.Common.{◌≡◌, ◌∙◌, false, arith}
 use Rattle.sqlite.specs.Held.{state}
 use Rattle.broker_core.specs.{State.{claimed_result}, Change.{Transition, report}, declared.answer.Answer.{Answer}, declared.answer.Detail.TheVariants.{Result}}
-use Rattle.contract_commands.specs.{Results.{CanReceive, IsToReport, Claims, told_as, reported_version}, declared.results.Reported.{Reported}}
+use Rattle.contract_commands.specs.{Results.{CanReceive, IsToReport, Claims, returned_as, reported_version}, declared.results.Reported.{Reported}}
 use Rattle.command_facts.{specs.Performs.{IsToChange}, proofs.PerformLemmas.{PerformsWhereBetween-change_answer}}
 use Rattle.broker_tables.proofs.FailLemmas.{FailsFromBetween-pass_Err}
 use Rattle.contract_commands.proofs.results.claim.Goals as goal
@@ -9,13 +9,13 @@ use Rattle.contract_commands.proofs.results.claim.Goals as goal
 pub returns-clause-answers : goal.returns-clause-answers
 returns-clause-answers g c =
     let it = c.in-Ok.value in
-    PerformsWhereBetween-change_answer 4 (omega arith) _ _ it c.tell_result.result _ _ _
+    PerformsWhereBetween-change_answer 4 (omega arith) _ _ it c.answer_result.result _ _ _
     (λ s out. out ≡ report s (claimed_result c.args.content (reported_version c.args.provider.now c.args.report.now) c.args.success c.args.report.now.run) Result)
     (λ s may. (
       may,
       λ t reports.
-          let told : ◌≡◌ {A = Transition} (record { answer = c.tell_result.result; state = t }) (record { answer = told_as Result it; state = t }) = (λ i. record { answer = c.tell_result.ensures i; state = t }) in
-          told ∙ reports Result,
+          let returned : ◌≡◌ {A = Transition} (record { answer = c.answer_result.result; state = t }) (record { answer = returned_as Result it; state = t }) = (λ i. record { answer = c.answer_result.ensures i; state = t }) in
+          returned ∙ reports Result,
     ))
     c.in-Ok.ensures.answers
 

@@ -2,7 +2,9 @@ use Rattle.std.proofs.Common.{refl}
 use Rattle.sqlite.specs.Held.{state}
 use Rattle.broker_core.specs.{Request.{consumer_version}, declared.command.Command.TheVariants.{PostResult}}
 use Rattle.contract_commands.proofs.{ContentThere.{contracts-has_content}, ResultLemmas.{HasPacticipant-of_allowed}}
-use Rattle.command_facts.proofs.{CallerSteps.{StepOfCaller-effect, StepOfCaller-refused}, CarryLemmas.{CarriesBetween-query_then_from, CarriesBetween-weaker, CarriesBetween-query_answer}, ShortTexts.{IsName-short, IsName-optional_short}}
+use Rattle.command_facts.proofs.CallerSteps.{StepOfCaller-effect, StepOfCaller-refused}
+use Rattle.command_facts.proofs.CarryLemmas.{CarriesBetween-query_then_from, CarriesBetween-weaker, CarriesBetween-query_answer}
+use Rattle.command_facts.proofs.ShortTexts.{IsName-short, IsName-optional_short}
 use Rattle.contract_commands.proofs.results.post_result.Goals as goal
 
 pub returns-in-Ok-2 : goal.returns-in-Ok-2

@@ -2,7 +2,8 @@ use Rattle.std.proofs.Common.{Ok, ◌∷◌, [], codes, refl, arith, ◌≤◌, 
 use Rattle.sqlite.specs.Held.{state}
 use Rattle.table_access.proofs.CallLemmas.{CallsBetween-weaken, CallsBetween-then_call}
 use Rattle.broker_tables.proofs.{FailLemmas.{IsCalmTakingBetween-of_unless, IsCalmTakingBetween-then, IsCalmUnlessBetween-weaken}, RoomLemmas.{TakesRoom-trans}}
-use Rattle.contract_commands.{specs.{Numbering.{NamesAs}, Results.{reported_version}}, proofs.ResultLemmas.{RecordsResult-of_named, recorded-of_named, AllowsResult-of_report}}
+use Rattle.contract_commands.specs.{Numbering.{NamesAs}, Results.{reported_version}}
+use Rattle.contract_commands.proofs.ResultLemmas.{RecordsResult-of_named, recorded-of_named, AllowsResult-of_report}
 use Rattle.contract_commands.proofs.results.record_report.Goals as goal
 
 pub returns-clause-answers : goal.returns-clause-answers

@@ -17,5 +17,5 @@ returns-clause-mark g c clean asked =
     let new = state g.S.Store c.has_row.new.conn in
     let said = rw c.params-to_sql.ensures at c.has_row.ensures in
     MatchResult-from_both c.has_row.result _ _
-    (IfOk-weaker c.has_row.result _ _ (λ has told. IsMarkedChecked-shown c.args.number old new asked.1 told.0 told.1 has told.2) (said.leaves.ok clean))
+    (IfOk-weaker c.has_row.result _ _ (λ has returned. IsMarkedChecked-shown c.args.number old new asked.1 returned.0 returned.1 has returned.2) (said.leaves.ok clean))
     (IfErr-weaker c.has_row.result _ _ (λ fault why. IsRefusedAs-ends old new (AsksOf-checked_sql old.now.schema asked.1 c.args.number) asked.0 fault why) (said.cause clean))

@@ -2,7 +2,8 @@ use Rattle.std.{specs.Prelude.{IsTrue, ◌↔◌}, proofs.Common.{Some, refl, in
 use Rattle.sqlite.specs.{Held.{state}, State.{HasCleanDisk}, Effect.{Database}}
 use Rattle.broker_core.specs.{State.{latest_result}, declared.need.Latest.{Latest}}
 use Rattle.broker_tables.proofs.{QueryLemmas.{CalmQueriesBetween-from_both}, AnyTables.{HasFailed-after_query, CanBeAsked-unchanged}}
-use Rattle.contract_tables.{specs.{Verified.{passed_of, passed_as}, LatestRows.{IsMarkedChecked}}, proofs.LastRow.{latest_result-result_with, option_map-with_mark}}
+use Rattle.contract_tables.specs.{Verified.{passed_of, passed_as}, LatestRows.{IsMarkedChecked}}
+use Rattle.contract_tables.proofs.LastRow.{latest_result-result_with, option_map-with_mark}
 use Rattle.contract_tables.proofs.lookups.latest_of.Goals as goal
 
 pub returns-in-Ok-is_checked-clause-answers : goal.returns-in-Ok-is_checked-clause-answers
@@ -20,9 +21,9 @@ returns-in-Ok-is_checked-clause-mark g c clean asked =
     let mid_clean : HasCleanDisk mid = omega (arith, c.in-Ok-is_checked.ensures.answers.call.survives.clean, clean) in
     let before = rw c.in-Some.is at c.in-Ok.ensures in
     let same = before.stays mid_clean asked in
-    let told = c.in-Ok-is_checked.ensures.mark clean (CanBeAsked-unchanged old mid same before.answers.call.survives.limit asked) in
+    let returned = c.in-Ok-is_checked.ensures.mark clean (CanBeAsked-unchanged old mid same before.answers.call.survives.limit asked) in
     let found = c.in-Some.found in
-    (found.result, before.mark mid_clean asked, subst (λ (db : Database). IsTrue c.in-Ok-is_checked.value ↔ IsMarkedChecked found.result db) same.0.now_is told)
+    (found.result, before.mark mid_clean asked, subst (λ (db : Database). IsTrue c.in-Ok-is_checked.value ↔ IsMarkedChecked found.result db) same.0.now_is returned)
 
 pub returns-in-None-clause-mark : goal.returns-in-None-clause-mark
 returns-in-None-clause-mark g c clean asked = rw c.in-None.is at (c.in-Ok.ensures.mark clean asked)

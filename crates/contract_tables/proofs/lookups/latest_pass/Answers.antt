@@ -1,7 +1,8 @@
 use Rattle.std.proofs.{Common.{inl, inr}, lemmas.Result.{IfOk-weaker, IfErr-weaker, MatchResult-from_both}}
 use Rattle.sqlite.specs.Held.{state}
 use Rattle.table_access.proofs.Answered.{slice_get-has_first}
-use Rattle.broker_tables.proofs.{QueryLemmas.{CalmQueriesBetween-read_result, CalmQueriesBetween-read_Err}, Asked.{reads, Shown-now_same, IsRefusedAs-explained}, NoVersion.{option_map-no_rows}}
+use Rattle.broker_tables.proofs.QueryLemmas.{CalmQueriesBetween-read_result, CalmQueriesBetween-read_Err}
+use Rattle.broker_tables.proofs.{Asked.{reads, Shown-now_same, IsRefusedAs-explained}, NoVersion.{option_map-no_rows}}
 use Rattle.broker_tables.proofs.AnyTables.{IsRefusedAs-ends, Shown-leaves_all}
 use Rattle.contract_tables.{specs.Verified.{pass_of, pass_cells}, proofs.{VersionResults.{join, IsShown-join}, ReadableRows.{EachReads-pairs, NoneFor-join}}}
 use Rattle.contract_tables.proofs.{AnyTexts.{AsksOf-pair_sql}, AnyLatest.{IsPassIn-found, NamesResult-unsound_row, IfOk-pair}}

@@ -1,6 +1,7 @@
 use Rattle.std.proofs.lemmas.Result.{IfOk-weaker, IfErr-weaker}
 use Rattle.table_access.proofs.Answered.{slice_get-has_first}
-use Rattle.broker_tables.proofs.{Asked.{reads, Shown-now_same, IsRefusedAs-explained}, QueryLemmas.{CalmQueriesBetween-read_result, CalmQueriesBetween-read_Err}}
+use Rattle.broker_tables.proofs.Asked.{reads, Shown-now_same, IsRefusedAs-explained}
+use Rattle.broker_tables.proofs.QueryLemmas.{CalmQueriesBetween-read_result, CalmQueriesBetween-read_Err}
 use Rattle.contract_tables.proofs.{ResultLookups.{run, IsShown-result_of_run}, ReadableRows.{EachReads-run}}
 use Rattle.contract_tables.proofs.lookups.stored_of_run.Goals as goal
 

@@ -2,7 +2,8 @@ use Rattle.std.proofs.{Common.{sym, subst, arith, ◌∙◌}, lemmas.Result.{IfE
 use Rattle.sqlite.specs.{Held.{state}, State.{HasCleanDisk}}
 use Rattle.table_access.proofs.CallLemmas.{CallsBetween-then_call, EndsBy-later_call, EndsBy-weaken}
 use Rattle.broker_tables.specs.Holds.{HoldsAfter, IsBroker}
-use Rattle.contract_tables.{specs.Verified.{Marks, Points}, proofs.ResultState.{HoldsAfter-recorded, PutsRow-IsBroker, Marks-IsBroker, AllowsMark-after_put, AllowsPoint-after_mark}}
+use Rattle.contract_tables.specs.Verified.{Marks, Points}
+use Rattle.contract_tables.proofs.ResultState.{HoldsAfter-recorded, PutsRow-IsBroker, Marks-IsBroker, AllowsMark-after_put, AllowsPoint-after_mark}
 use Rattle.contract_tables.proofs.results.record_result.Goals as goal
 
 pub returns-clause-changes : goal.returns-clause-changes

@@ -1,7 +1,8 @@
 use Rattle.std.proofs.lemmas.Result.{IfOk-weaker, IfErr-weaker, MatchResult-from_both}
 use Rattle.sqlite.specs.Held.{state}
 use Rattle.broker_tables.proofs.Asked.{CalmQueriesBetween-list, IfNoVersionBetween-list}
-use Rattle.contract_tables.proofs.{VersionResults.{marks, Lists-marks}, ReadableRows.{EachReads-marks, NoneFor-version_results}, AnyLatest.{IsCheckedFor-found, FailsAsListed-marks}}
+use Rattle.contract_tables.proofs.{VersionResults.{marks, Lists-marks}, ReadableRows.{EachReads-marks, NoneFor-version_results}}
+use Rattle.contract_tables.proofs.AnyLatest.{IsCheckedFor-found, FailsAsListed-marks}
 use Rattle.contract_tables.proofs.version_results.checked_of.Goals as goal
 
 pub returns-clause-answers : goal.returns-clause-answers
@@ -19,5 +20,5 @@ returns-clause-mark g c clean asked =
     let new = state g.S.Store c.list_of.new.conn in
     let said = rw c.params-to_sql.ensures at c.list_of.ensures in
     MatchResult-from_both c.list_of.result _ _
-    (IfOk-weaker c.list_of.result _ _ (λ list told. IsCheckedFor-found c.args.version_number old new asked.1 told.0 told.1 list.items told.2) (said.leaves.ok clean))
+    (IfOk-weaker c.list_of.result _ _ (λ list returned. IsCheckedFor-found c.args.version_number old new asked.1 returned.0 returned.1 list.items returned.2) (said.leaves.ok clean))
     (IfErr-weaker c.list_of.result _ _ (FailsAsListed-marks c.args.version_number old new asked) (said.cause clean))

@@ -1,8 +1,8 @@
 use Rattle.std.{specs.{List.Sorted.{IsBinarySearchResult}, Ordering.{nat_cmp}}, proofs.Common.{rules, Ok, Err, false, refl}}
 use Rattle.std.proofs.lemmas.List.Sorted.{answers_always}
 use Rattle.table_access.proofs.{Members.{has_contains}, ReadLemmas.{get_or-has}}
-use Rattle.contract_tables.{specs.declared.version_results.LatestResult.{LatestResult}, proofs.Rising.{sorted, IsBinarySearchResult-Ok, IsBinarySearchResult-Err}}
-use Rattle.contract_tables.proofs.VersionResults.{latest-said_at, latest-None}
+use Rattle.contract_tables.specs.declared.version_results.LatestResult.{LatestResult}
+use Rattle.contract_tables.proofs.{Rising.{sorted, IsBinarySearchResult-Ok, IsBinarySearchResult-Err}, VersionResults.{latest-said_at, latest-None}}
 use Rattle.contract_tables.proofs.version_results.latest_among.Goals as goal
 
 -- the closure gives a result's content

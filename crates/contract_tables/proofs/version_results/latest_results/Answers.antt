@@ -1,7 +1,8 @@
 use Rattle.std.{specs.{Prelude.{Contains, option_map, IsSorted}, Ordering.{nat_cmp}}, proofs.Common.{subst, ℕ, ◌≡◌, arith, Some, Ok, map, true}}
 use Rattle.sqlite.specs.{Held.{state}, State.{HasCleanDisk}, Effect.{Database}}
 use Rattle.broker_core.specs.{declared.command.Version.{Version}, Listing.{Lists}, State.{latest_result}}
-use Rattle.broker_tables.{specs.Numbers.{number_of}, proofs.{QueryLemmas.{CalmQueriesBetween-then_failed, CalmQueriesBetween-then}, AnyTables.{CanBeAsked-unchanged}}}
+use Rattle.broker_tables.{specs.Numbers.{number_of}, proofs.QueryLemmas.{CalmQueriesBetween-then_failed, CalmQueriesBetween-then}}
+use Rattle.broker_tables.proofs.AnyTables.{CanBeAsked-unchanged}
 use Rattle.contract_tables.{specs.{VersionResults.{pass_cmp, IsPassOf, marked}, LatestRows.{IsCheckedFor}}, proofs.QueryLemmas.{CalmQueriesBetween-computed}}
 use Rattle.contract_tables.proofs.{AnyLatest.{AreRead-map_marked, AreLatestIn-found, FailsAsListed-after_query}, VersionResults.{Lists-latest_results}}
 use Rattle.contract_tables.proofs.version_results.latest_results.Goals as goal

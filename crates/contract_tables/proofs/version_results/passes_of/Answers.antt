@@ -20,12 +20,12 @@ returns-clause-mark g c clean asked =
     let new = state g.S.Store c.list_of.new.conn in
     let said = rw c.params-to_sql.ensures at c.list_of.ensures in
     MatchResult-from_both c.list_of.result _ _
-    (IfOk-weaker c.list_of.result _ _ (λ list told. ArePassesIn-found c.args.version_number old new asked.1 told.0 told.1 list.items told.2) (said.leaves.ok clean))
+    (IfOk-weaker c.list_of.result _ _ (λ list returned. ArePassesIn-found c.args.version_number old new asked.1 returned.0 returned.1 list.items returned.2) (said.leaves.ok clean))
     (IfErr-weaker c.list_of.result _ _ (FailsAsListed-passes c.args.version_number old new asked) (said.cause clean))
 
 pub returns-clause-stays : goal.returns-clause-stays
 returns-clause-stays g c clean asked =
     let old = state g.S.Store c.args.conn.now in
     let new = state g.S.Store c.list_of.new.conn in
-    IfOk-weaker c.list_of.result _ _ (λ list told. Shown-leaves_all old new (AsksOf-passes_sql old.now.schema asked.1 c.args.version_number) told.0 told.1)
+    IfOk-weaker c.list_of.result _ _ (λ list returned. Shown-leaves_all old new (AsksOf-passes_sql old.now.schema asked.1 c.args.version_number) returned.0 returned.1)
     ((rw c.params-to_sql.ensures at c.list_of.ensures.leaves).ok clean)

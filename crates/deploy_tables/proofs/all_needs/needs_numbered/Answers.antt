@@ -5,5 +5,5 @@ use Rattle.deploy_tables.proofs.all_needs.needs_numbered.Goals as goal
 pub returns-clause-answers : goal.returns-clause-answers
 returns-clause-answers g c =
     CalmQueriesBetween-other_answer _ _ _ c.each_need_once.result _ _
-    (λ s told number. c.each_need_once.ensures s c.args.version.now c.args.environment.now
-    (λ x. iff-trans (told number x) (λ need. need.0, λ need. (need, refl)))) c.in-Ok.ensures.answers
+    (λ s returned number. c.each_need_once.ensures s c.args.version.now c.args.environment.now
+    (λ x. iff-trans (returned number x) (λ need. need.0, λ need. (need, refl)))) c.in-Ok.ensures.answers

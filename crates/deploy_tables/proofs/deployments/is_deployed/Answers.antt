@@ -1,7 +1,9 @@
 use Rattle.std.proofs.Common.{◌∙◌}
 use Rattle.table_access.proofs.ReadLemmas.{number_found as found_number}
-use Rattle.broker_tables.proofs.{Asked.{Shown-IsShown, Shown-now_same, FailsToTake-explained_number}, QueryLemmas.{CalmQueriesBetween-read_Ok, CalmQueriesBetween-read_Err}}
-use Rattle.deploy_tables.proofs.{DeployedRows.{number_at, number_found}, DeployedState.{is_number-found, is_number-is_text, is_number-unknown_version}, ReadableRows.{EachReads-deployed_numbers}}
+use Rattle.broker_tables.proofs.Asked.{Shown-IsShown, Shown-now_same, FailsToTake-explained_number}
+use Rattle.broker_tables.proofs.QueryLemmas.{CalmQueriesBetween-read_Ok, CalmQueriesBetween-read_Err}
+use Rattle.deploy_tables.proofs.{DeployedRows.{number_at, number_found}, DeployedState.{is_number-found, is_number-is_text, is_number-unknown_version}}
+use Rattle.deploy_tables.proofs.ReadableRows.{EachReads-deployed_numbers}
 use Rattle.deploy_tables.proofs.deployments.is_deployed.Goals as goal
 
 pub returns : goal.returns
@@ -12,11 +14,11 @@ returns g c =
     let n = c.args.number in
     let found = c.in-Ok.value in
     CalmQueriesBetween-read_Ok _ _ found c.is_number.result _ _ (λ h s held.
-    let told = c.is_number.ensures ∙ is_number-found found _ n (found_number found h.0 h.2
+    let returned = c.is_number.ensures ∙ is_number-found found _ n (found_number found h.0 h.2
     ∙ number_found e p i _ h.0 held.broker (Shown-IsShown (number_at e p i) _ _ held.broker h.0 h.1)) in (
       (
-        λ v numbered owner. told ∙ is_number-is_text s.versions p _ (s.deployed (e, p, i)) (held.deployed e p i) v n numbered owner,
-        λ none. told ∙ is_number-unknown_version s.versions p _ (s.deployed (e, p, i)) (held.deployed e p i) n (λ v is owner. none (v, is, owner)),
+        λ v numbered owner. returned ∙ is_number-is_text s.versions p _ (s.deployed (e, p, i)) (held.deployed e p i) v n numbered owner,
+        λ none. returned ∙ is_number-unknown_version s.versions p _ (s.deployed (e, p, i)) (held.deployed e p i) n (λ v is owner. none (v, is, owner)),
       ),
       Shown-now_same (number_at e p i) _ _ held.broker h.0 h.1,
     )) (rw (c.params-to_sql.ensures, c.params-to_sql-2.ensures, c.params-to_sql-3.ensures) at c.in-Ok.ensures.leaves)

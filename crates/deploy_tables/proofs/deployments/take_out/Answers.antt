@@ -2,12 +2,12 @@ use Rattle.std.proofs.Common.{Bool, Err}
 use Rattle.sqlite.specs.Held.{state}
 use Rattle.table_access.proofs.CallLemmas.{CallsBetween-then_Ok}
 use Rattle.broker_tables.proofs.{QueryLemmas.{FailsOnlyBy-of_cause}, Removed.{FailsToRun-delete}}
-use Rattle.deploy_tables.proofs.{DeployedState.{HoldsAfter-TakesOutAndTells, HoldsAfter-FindsNothing}, DeployedRows.{ending}}
+use Rattle.deploy_tables.proofs.{DeployedState.{HoldsAfter-TakesOutAndReports, HoldsAfter-FindsNothing}, DeployedRows.{ending}}
 use Rattle.deploy_tables.proofs.deployments.take_out.Goals as goal
 
 pub returns-clause-taken : goal.returns-clause-taken
 returns-clause-taken g c =
-    CallsBetween-then_Ok _ _ c.in-Ok.value _ _ _ (λ h s held version. HoldsAfter-TakesOutAndTells c.args.environment.now c.args.pacticipant.now c.args.instance.now c.args.number _ _ c.in-Ok.value s held h version)
+    CallsBetween-then_Ok _ _ c.in-Ok.value _ _ _ (λ h s held version. HoldsAfter-TakesOutAndReports c.args.environment.now c.args.pacticipant.now c.args.instance.now c.args.number _ _ c.in-Ok.value s held h version)
     (rw (c.params-to_sql.ensures, c.params-to_sql-2.ensures, c.params-to_sql-3.ensures, c.params-to_sql-4.ensures) at c.in-Ok.ensures.leaves)
 
 pub returns-clause-unknown : goal.returns-clause-unknown

@@ -14,7 +14,7 @@ pub returns-clause-named : goal.returns-clause-named
 returns-clause-named g c clean asked =
     let old = state g.S.Store c.args.conn.now in
     let new = state g.S.Store c.list_of.new.conn in
-    IfOk-weaker c.list_of.result _ _ (λ list told. EachReleasedIsThere-read c.args.environment.now old new asked.1 told.0 list.items told.1 told.2) ((rw c.params-to_sql.ensures at c.list_of.ensures.leaves).ok clean)
+    IfOk-weaker c.list_of.result _ _ (λ list returned. EachReleasedIsThere-read c.args.environment.now old new asked.1 returned.0 list.items returned.1 returned.2) ((rw c.params-to_sql.ensures at c.list_of.ensures.leaves).ok clean)
 
 pub returns-clause-missing : goal.returns-clause-missing
 returns-clause-missing g c =

@@ -1,5 +1,5 @@
 use Rattle.std.{specs.Prelude.{Contains, ◌↔◌}, proofs.Common.{◌∙◌, ap, sym, subst}}
-use Rattle.contract_tables.specs.ToldVersions.{verified_cmp}
+use Rattle.contract_tables.specs.ResultsByVersion.{verified_cmp}
 use Rattle.deploy_tables.{specs.Matrix.{IsOfContract, rows_with}, proofs.{MatrixLemmas.{Contains-rows_with}, MatrixLoop.{CalmQueriesBetween-other_answer}}}
 use Rattle.broker_core.specs.{Listing.{Lists}, Machine.{IsLatest}, Text.{version}}
 use Rattle.deploy_tables.proofs.matrix_rows.of_contract.Goals as goal

@@ -14,10 +14,10 @@ pub returns-clause-named : goal.returns-clause-named
 returns-clause-named g c clean asked =
     let old = state g.S.Store c.args.conn.now in
     let new = state g.S.Store c.list_of.new.conn in
-    IfOk-weaker c.list_of.result _ _ (λ list told. version_there c.args.number old new asked.1 told.0 told.1 list.items told.2) ((rw c.params-to_sql.ensures at c.list_of.ensures.leaves).ok clean)
+    IfOk-weaker c.list_of.result _ _ (λ list returned. version_there c.args.number old new asked.1 returned.0 returned.1 list.items returned.2) ((rw c.params-to_sql.ensures at c.list_of.ensures.leaves).ok clean)
 
 pub returns-clause-stays : goal.returns-clause-stays
 returns-clause-stays g c clean asked =
     let old = state g.S.Store c.args.conn.now in
     let new = state g.S.Store c.list_of.new.conn in
-    IfOk-weaker c.list_of.result _ _ (λ list told. Shown-leaves_all old new (names_asks old.now.schema asked.1 c.args.number) told.0 told.1) ((rw c.params-to_sql.ensures at c.list_of.ensures.leaves).ok clean)
+    IfOk-weaker c.list_of.result _ _ (λ list returned. Shown-leaves_all old new (names_asks old.now.schema asked.1 c.args.number) returned.0 returned.1) ((rw c.params-to_sql.ensures at c.list_of.ensures.leaves).ok clean)

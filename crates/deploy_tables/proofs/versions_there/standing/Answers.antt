@@ -1,11 +1,13 @@
 use Rattle.std.proofs.Common.{map, ap, ◌∙◌, ◌++◌}
-use Rattle.deploy_tables.{specs.Listings.{deployed_version}, proofs.{MatrixLoop.{CalmQueriesBetween-then_failed, CalmQueriesBetween-both, CalmQueriesBetween-other_answer}, VersionsThere.{Lists-Stands}}}
+use Rattle.deploy_tables.specs.Listings.{deployed_version}
+use Rattle.deploy_tables.proofs.MatrixLoop.{CalmQueriesBetween-then_failed, CalmQueriesBetween-both, CalmQueriesBetween-other_answer}
+use Rattle.deploy_tables.proofs.VersionsThere.{Lists-IsPresent}
 use Rattle.deploy_tables.proofs.versions_there.standing.Goals as goal
 
 pub returns : goal.returns
 returns g c =
     CalmQueriesBetween-other_answer _ _ _ c.each_version_once.result _ _
-    (λ s both. Lists-Stands s c.args.environment.now _ _ _ _ both.0 both.1
+    (λ s both. Lists-IsPresent s c.args.environment.now _ _ _ _ both.0 both.1
     (c.in-Ok-add.ensures.added ∙ ap (λ xs. xs ++ c.in-Ok-released.value.items)
     (c.in-Ok-deployed_versions.ensures ∙ ap (map deployed_version) c.deref.ensures.value)) c.each_version_once.ensures)
     (CalmQueriesBetween-both _ _ _ _ _ _ _ c.in-Ok.ensures.answers c.in-Ok-released.ensures.answers)

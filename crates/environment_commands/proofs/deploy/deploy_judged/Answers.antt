@@ -3,7 +3,8 @@ use Rattle.broker_core.specs.{Change.{Transition, deploy as deployment, unchange
 use Rattle.broker_core.specs.{declared.answer.Answer.TheVariants.{NotPermitted}, declared.command.Command.TheVariants.{Deploy}}
 use Rattle.broker_core.specs.{declared.command.Version.{Version}, declared.need.PairFault.{PairFault}}
 use Rattle.environment_commands.{specs.Effects.{Enacts}, proofs.PlaceLemmas.{HasPlace-of_admitted}}
-use Rattle.command_facts.proofs.{CarryLemmas.{CarriesBetween-query_then_from, CarriesBetween-weaker, CarriesBetween-query_answer}, ShortTexts.{IsName-short, instance_of-short}}
+use Rattle.command_facts.proofs.CarryLemmas.{CarriesBetween-query_then_from, CarriesBetween-weaker, CarriesBetween-query_answer}
+use Rattle.command_facts.proofs.ShortTexts.{IsName-short, instance_of-short}
 use Rattle.environment_commands.proofs.deploy.deploy_judged.Goals as goal
 
 -- what the gate permits is done

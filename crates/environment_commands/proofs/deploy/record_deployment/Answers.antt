@@ -19,7 +19,7 @@ deploys s e instance v number stood b f q env owner is found was =
     sym (ap (λ (b : Bool). if b then already s else done (next s e v instance)) (sym asked ∙ was))
 
 pub returns-then-value-clause-carries : goal.returns-then-value-clause-carries
-returns-then-value-clause-carries g c = CarriesBetween-query_answer (λ s number told. deploys s _ _ _ c.args.number c.in-Ok.value true _ _ c.as_str.ensures c.as_str-2.ensures number told c.if-value.true) c.in-Ok.ensures
+returns-then-value-clause-carries g c = CarriesBetween-query_answer (λ s number returned. deploys s _ _ _ c.args.number c.in-Ok.value true _ _ c.as_str.ensures c.as_str-2.ensures number returned c.if-value.true) c.in-Ok.ensures
 
 pub returns-clause-carries : goal.returns-clause-carries
 returns-clause-carries g c =
@@ -27,14 +27,14 @@ returns-clause-carries g c =
     let v = c.args.version.now in
     let i = c.args.instance.now in
     CarriesBetween-query_change_from (codes "deployed" ∷ []) (refl, tt)
-    (λ s number told. (
+    (λ s number returned. (
       next s e v i,
       (v, number, sym c.as_str-4.ensures, λ j. next s (sym c.as_str-3.ensures j) (record v { pacticipant = sym c.as_str-4.ensures j }) i),
-      deploys s e i v c.args.number c.in-Ok.value false _ _ c.as_str.ensures c.as_str-2.ensures number told c.if-value.false,
+      deploys s e i v c.args.number c.in-Ok.value false _ _ c.as_str.ensures c.as_str-2.ensures number returned c.if-value.false,
     ))
-    (λ s there told. (
+    (λ s there returned. (
       (subst (λ (t : Text). IsEnvironment t s) (sym c.as_str-3.ensures) there.0, (v, there.1, sym c.as_str-4.ensures)),
-      (Plain, next s e v i, deploys s e i v c.args.number c.in-Ok.value false _ _ c.as_str.ensures c.as_str-2.ensures there.1 told c.if-value.false),
+      (Plain, next s e v i, deploys s e i v c.args.number c.in-Ok.value false _ _ c.as_str.ensures c.as_str-2.ensures there.1 returned c.if-value.false),
     ))
     (λ long are. long (subst (λ (t : List ℕ). length t ≤ 10 ^ 7) (sym c.as_str-3.ensures) are.0, (subst (λ (t : List ℕ). length t ≤ 10 ^ 7) (sym c.as_str-4.ensures) are.1.0, (are.1.1.0, tt))))
-    c.told.ensures c.in-Ok.ensures c.record_deployed.ensures.changes c.record_deployed.ensures.calm
+    c.returned.ensures c.in-Ok.ensures c.record_deployed.ensures.changes c.record_deployed.ensures.calm

@@ -1,6 +1,7 @@
 use Rattle.std.proofs.Common.{inr, refl}
 use Rattle.broker_core.specs.declared.command.Command.TheVariants.{EndSupport}
-use Rattle.command_facts.proofs.{CallerSteps.{StepOfCaller-effect, StepOfCaller-refused}, CarryLemmas.{CarriesBetween-query_then_calm, CarriesBetween-query_answer}}
+use Rattle.command_facts.proofs.CallerSteps.{StepOfCaller-effect, StepOfCaller-refused}
+use Rattle.command_facts.proofs.CarryLemmas.{CarriesBetween-query_then_calm, CarriesBetween-query_answer}
 use Rattle.environment_commands.proofs.end_support.end_support.Goals as goal
 
 pub returns-in-Ok-2 : goal.returns-in-Ok-2

@@ -22,13 +22,13 @@ put_again table key none = λ i k. go k i
 -- the answer says whether it was released there
 ended : (s t : State) (e f : Text) (v : Version) (number : ℕ) (stood b : Bool) → f ≡ e → number_of s.versions v ≡ Some number → EndsSupport f number s t → ((w : Version) → number_of s.versions w ≡ Some number → stood ≡ s.released (f, w)) → stood ≡ b
     → record { answer = (if b then Done Plain else Unknown missing.Released); state = t } ≡ unsupported s e v
-ended s t e f v number stood b env is ends told was =
+ended s t e f v number stood b env is ends returned was =
     let after = record s { released = put_at (same_pair same_text same_version) s.released (e, v) false } in
     let same : t ≡ after = ends.2 ∙ (λ i. record s { released = put_at (same_pair same_text same_version) s.released (env i, number_of-injective s.versions ends.0 v number ends.1 is i) false }) in
     elim b as (λ b. s.released (e, v) ≡ b → record { answer = (if b then Done Plain else Unknown missing.Released); state = t } ≡ unsupported s e v) [
       | true ↦ λ there. ap done same ∙ sym (ap (λ (b : Bool). if b then done after else unchanged_with s (Unknown missing.Released)) there)
       | false ↦ λ there. ap (λ (u : State). unchanged_with u (Unknown missing.Released)) (same ∙ (λ i. record s { released = put_again s.released (e, v) there i })) ∙ sym (ap (λ (b : Bool). if b then done after else unchanged_with s (Unknown missing.Released)) there)
-    ] (sym (told v is ∙ (λ i. s.released (env i, v))) ∙ was)
+    ] (sym (returned v is ∙ (λ i. s.released (env i, v))) ∙ was)
 
 pub returns-then-value-clause-answers : goal.returns-then-value-clause-answers
 returns-then-value-clause-answers g c =

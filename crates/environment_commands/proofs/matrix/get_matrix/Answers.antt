@@ -1,6 +1,7 @@
 use Rattle.std.proofs.Common.{refl, ◌∙◌}
 use Rattle.broker_core.specs.{Change.{unchanged_with}, declared.command.Command.TheVariants.{GetMatrix}}
-use Rattle.command_facts.proofs.{CallerSteps.{StepOfCaller-refused, StepOfCaller-effect}, CarryLemmas.{CarriesBetween-query_listing, CarriesBetween-query_answer}}
+use Rattle.command_facts.proofs.CallerSteps.{StepOfCaller-refused, StepOfCaller-effect}
+use Rattle.command_facts.proofs.CarryLemmas.{CarriesBetween-query_listing, CarriesBetween-query_answer}
 use Rattle.environment_commands.proofs.matrix.get_matrix.Goals as goal
 
 pub returns-in-Ok-admitted_to_matrix : goal.returns-in-Ok-admitted_to_matrix

@@ -4,13 +4,13 @@ use Rattle.broker_core.specs.{Change.{undeploy as undeployment, done, unchanged_
 use Rattle.broker_core.specs.{declared.answer.Answer.TheVariants.{Done, Unknown}, declared.answer.Detail.TheVariants.{Plain}}
 use Rattle.broker_core.specs.declared.command.Version.{Version}
 use Rattle.broker_tables.{specs.Numbers.{number_of}, proofs.NumberLemmas.{number_of-injective}}
-use Rattle.deploy_tables.specs.Deployments.{TakesOutAndTells, without_instance}
+use Rattle.deploy_tables.specs.Deployments.{TakesOutAndReports, without_instance}
 use Rattle.command_facts.proofs.PerformLemmas.{PerformsWhereBetween-change_answer}
 use Rattle.broker_core.specs.declared.answer.Missing.TheVariants as missing
 use Rattle.environment_commands.proofs.undeploy.remove_deployment.Goals as goal
 
 -- the answer says whether it was deployed there
-taken : (s t : State) (e f q i : Text) (v : Version) (number : ℕ) (stood b : Bool) → f ≡ e → q ≡ v.pacticipant → number_of s.versions v ≡ Some number → TakesOutAndTells f q i number stood s t → stood ≡ b
+taken : (s t : State) (e f q i : Text) (v : Version) (number : ℕ) (stood b : Bool) → f ≡ e → q ≡ v.pacticipant → number_of s.versions v ≡ Some number → TakesOutAndReports f q i number stood s t → stood ≡ b
     → record { answer = (if b then Done Plain else Unknown missing.Deployed); state = t } ≡ undeployment s e v i
 taken s t e f q i v number stood b env owner is took was =
     let after = without_instance s e v.pacticipant i in

@@ -1,6 +1,7 @@
 use Rattle.std.proofs.Common.{inl, inr, refl, ap, ◌∙◌}
 use Rattle.broker_core.specs.{Change.{undeploy as undeployment}, Text.{Text}, declared.command.Command.TheVariants.{Undeploy}}
-use Rattle.command_facts.proofs.{CallerSteps.{StepOfCaller-effect, StepOfCaller-refused}, CarryLemmas.{CarriesBetween-query_then_calm, CarriesBetween-query_answer}}
+use Rattle.command_facts.proofs.CallerSteps.{StepOfCaller-effect, StepOfCaller-refused}
+use Rattle.command_facts.proofs.CarryLemmas.{CarriesBetween-query_then_calm, CarriesBetween-query_answer}
 use Rattle.environment_commands.proofs.undeploy.undeploy.Goals as goal
 
 pub returns-in-Ok-2 : goal.returns-in-Ok-2

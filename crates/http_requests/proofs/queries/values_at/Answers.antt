@@ -8,15 +8,15 @@ one_more : (done left all old : List (List ℕ × List ℕ)) (pair : List ℕ ×
 one_more done left all old pair so_far step = append_assoc done (pair ∷ []) left ∙ ap (λ l. done ++ l) (sym step) ∙ so_far
 
 -- what the code compares
-tells : (name key text cow : List ℕ) (b : Bool) → b ≡ bytes_eq text key → text ≡ cow → cow ≡ decoded_text name → bytes_eq (decoded_text name) key ≡ b
-tells name key text cow b eq is dec = ap (λ l. bytes_eq l key) (sym dec ∙ sym is) ∙ sym eq
+reports : (name key text cow : List ℕ) (b : Bool) → b ≡ bytes_eq text key → text ≡ cow → cow ≡ decoded_text name → bytes_eq (decoded_text name) key ≡ b
+reports name key text cow b eq is dec = ap (λ l. bytes_eq l key) (sym dec ∙ sym is) ∙ sym eq
 
 pub loop-name-preserved-then-eq : goal.loop-name-preserved-then-eq
 loop-name-preserved-then-eq c =
     let so_far = c.loop-name.invariant in
     let key = c.args.key.now in
     let pair : List ℕ × List ℕ = (c.in-Some.name.now, c.in-Some.value.now) in
-    let same = tells c.in-Some.name.now key c.as_str.result.now _ true c.if-eq.ensures c.as_str.ensures.value c.in_ok-decode.ensures.value.2 in
+    let same = reports c.in-Some.name.now key c.as_str.result.now _ true c.if-eq.ensures c.as_str.ensures.value c.in_ok-decode.ensures.value.2 in
     let more = values-with key pair so_far.0 same in (
       so_far.0 ++ pair ∷ [],
       one_more so_far.0 _ _ _ pair so_far.1 c.in-Some.ensures.steps,
@@ -37,7 +37,7 @@ loop-name-preserved c =
     let so_far = c.loop-name.invariant in
     let key = c.args.key.now in
     let pair : List ℕ × List ℕ = (c.in-Some.name.now, c.in-Some.value.now) in
-    let same = tells c.in-Some.name.now key c.as_str.result.now _ false c.if-eq.ensures c.as_str.ensures.value c.in_ok-decode.ensures.value.2 in
+    let same = reports c.in-Some.name.now key c.as_str.result.now _ false c.if-eq.ensures c.as_str.ensures.value c.in_ok-decode.ensures.value.2 in
     let values = values-without key pair so_far.0 same ∙ append-nil (values_at key so_far.0) in (
       so_far.0 ++ pair ∷ [],
       one_more so_far.0 _ _ _ pair so_far.1 c.in-Some.ensures.steps,

@@ -16,7 +16,7 @@ pub returns-in-Err-Memory-clause-memory : goal.returns-in-Err-Memory-clause-memo
 returns-in-Err-Memory-clause-memory c =
     let same : c.in-Ok.text.now ≡ c.args.bytes.now = c.in-Ok.ensures.cases.0 in
     IsToken-of_not_not c.args.bytes.now (λ no.
-    let told = c.new.ensures.bad.1 (λ token. no (subst IsToken same token)) in
+    let returned = c.new.ensures.bad.1 (λ token. no (subst IsToken same token)) in
     let memory = c.in-Err-Memory.is in
     let is = c.in-Err-Memory.field-0-is in
     cc)

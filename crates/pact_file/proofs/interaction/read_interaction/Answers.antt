@@ -1,6 +1,7 @@
 use Rattle.serde_json.specs.View.{view}
 use Rattle.pact_file.specs.{Filled.{IsFilled}, Interactions.{at}, Normal.{InteractionRead}, Parts.{body_in}, PartsView.{parts_view}}
-use Rattle.pact_file.{specs.declared.fault.Part.TheVariants.{Headers}, proofs.{ReadLemmas.{parts_at-sound, parts_at-response}, NormalTexts.{interaction_of_text-same}}}
+use Rattle.pact_file.{specs.declared.fault.Part.TheVariants.{Headers}, proofs.ReadLemmas.{parts_at-sound, parts_at-response}}
+use Rattle.pact_file.proofs.NormalTexts.{interaction_of_text-same}
 use Rattle.std.proofs.{Common.{Ok, Err, option_map, option_and_then, string_bytes, refl, sym, ap, ◌∙◌, subst}, lemmas.Result.{err_from_is_err_and}}
 use Rattle.pact_file.proofs.interaction.read_interaction.Goals as goal
 

@@ -1,6 +1,7 @@
 use Rattle.std.{specs.Option.{ok_or}, proofs.{Common.{Err, sym, ap, ◌∙◌}, lemmas.Result.{err_from_is_err_and}, lemmas.List.{nil_from_length}}}
 use Rattle.pact_file.specs.{Pact.{key_cmp}, declared.fault.PactFault.TheVariants.{SameInteraction}, Sorting.{insert_sorted, same_text}}
-use Rattle.pact_file.proofs.{Steps.{ok_or-ok, ok_or-err}, OrderedSets.{key_cmp-total}, SetLemmas.{stays}, SortingSteps.{insert_all_sorted-goes_on, insert_all_sorted-ends, insert_all_sorted-done}}
+use Rattle.pact_file.proofs.{Steps.{ok_or-ok, ok_or-err}, OrderedSets.{key_cmp-total}, SetLemmas.{stays}}
+use Rattle.pact_file.proofs.SortingSteps.{insert_all_sorted-goes_on, insert_all_sorted-ends, insert_all_sorted-done}
 use Rattle.pact_file.proofs.order.in_key_order.Goals as goal
 
 pub loop-new-preserved : goal.loop-new-preserved

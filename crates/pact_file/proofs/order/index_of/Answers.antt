@@ -1,4 +1,5 @@
-use Rattle.pact_file.{specs.{Pact.{Interaction, key_cmp}, Sorting.{same_text}}, proofs.{OrderedSets.{key_cmp-total}, Searching.{IsRising-IsNonDecreasingBy, goes_between, meets}}}
+use Rattle.pact_file.{specs.{Pact.{Interaction, key_cmp}, Sorting.{same_text}}, proofs.OrderedSets.{key_cmp-total}}
+use Rattle.pact_file.proofs.Searching.{IsRising-IsNonDecreasingBy, goes_between, meets}
 use Rattle.std.proofs.{Common.{◌≡◌, Some, None, true, false, cond, refl, sym, ap, ◌∙◌, rules, arith}, lemmas.Fn.{always_returns_same}}
 use Rattle.pact_file.proofs.order.index_of.Goals as goal
 

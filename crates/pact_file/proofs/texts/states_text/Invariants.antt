@@ -6,7 +6,7 @@ use Rattle.pact_file.proofs.texts.states_text.Given as goal
 -- what is written, with what is left, is the whole; and none that is left has a fraction
 abbrev pub invariant-loop-index : goal.invariant-loop-index
 invariant-loop-index l =
-    let behind = drop l.index l.states in record {
-      text : string_bytes l.text ++ left state_data l.index behind ≡ compact_text (states_data l.states);
-      whole : items_have_float (items_of (map state_data behind)) ≡ false;
+    let following = drop l.index l.states in record {
+      text : string_bytes l.text ++ left state_data l.index following ≡ compact_text (states_data l.states);
+      whole : items_have_float (items_of (map state_data following)) ≡ false;
     }

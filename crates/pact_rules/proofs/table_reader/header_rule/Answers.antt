@@ -1,5 +1,6 @@
 use Rattle.std.{specs.Str.{str_to_ascii_lowercase}, proofs.{Common.{true, false}, lemmas.Result.{err_from_is_err_and}}}
-use Rattle.pact_rules.{specs.{Rules.{name_key}, RuleViews.{header_rules}, RuleReading.{entry_at}}, proofs.PatternLemmas.{FailsAs-bind, list_any-same_text, header_rule_at-free_name}}
+use Rattle.pact_rules.specs.{Rules.{name_key}, RuleViews.{header_rules}, RuleReading.{entry_at}}
+use Rattle.pact_rules.proofs.PatternLemmas.{FailsAs-bind, list_any-same_text, header_rule_at-free_name}
 use Rattle.serde_json.specs.View.{view}
 use Rattle.pact_rules.proofs.table_reader.header_rule.Goals as goal
 

@@ -1,7 +1,8 @@
 use Rattle.std.specs.{List.Sorted.{IsStrictlySortedBy}, Map.{keys_of}, String.{string_cmp}}
 use Rattle.std.proofs.Common.{◌≡◌, [], ◌∷◌, ◌++◌, length, true≢false, false, string_bytes, sym, ap, ◌∙◌, subst, append_assoc, arith}
 use Rattle.serde_json.{specs.{View.{members_view}, Written.{members_have_float}}, proofs.Views.{Entry, put_last}}
-use Rattle.pact_trees.{specs.Trees.{members_data}, proofs.Copies.{members_data-insert_entry, members_have_float-tail, has_parts-items, has_parts-members, OnErr-any_fact}}
+use Rattle.pact_trees.specs.Trees.{members_data}
+use Rattle.pact_trees.proofs.Copies.{members_data-insert_entry, members_have_float-tail, has_parts-items, has_parts-members, OnErr-any_fact}
 use Rattle.pact_trees.proofs.tree.+copying.Goals as goal
 
 pub copied_items-returns-in_err-trees-clause-memory : goal.copied_items-returns-in_err-trees-clause-memory

@@ -2,8 +2,9 @@ use Rattle.std.{specs.Option.{is_some}, proofs.Common.{[], ◌∷◌, codes, ref
 use Rattle.broker_names.specs.Name.{IsName}
 use Rattle.broker_core.specs.Text.{put_at, same_text, same_pair, Text}
 use Rattle.sqlite.specs.Held.{state}
-use Rattle.table_access.proofs.CallLemmas.{TellsMemoryUnless-Ok}
-use Rattle.command_facts.proofs.{CarryLemmas.{CarriesBetween-query_answer, CarriesBetween-query_change}, InPlace.{TellsMemory-after_query}, ShortTexts.{IsName-short}}
+use Rattle.table_access.proofs.CallLemmas.{ReportsMemoryUnless-Ok}
+use Rattle.command_facts.proofs.{CarryLemmas.{CarriesBetween-query_answer, CarriesBetween-query_change}, InPlace.{ReportsMemory-after_query}}
+use Rattle.command_facts.proofs.ShortTexts.{IsName-short}
 use Rattle.registry_commands.proofs.grants.put_grant.Goals as goal
 
 pub returns-in-Some-clause-carries : goal.returns-in-Some-clause-carries
@@ -21,10 +22,10 @@ returns-in-None-clause-carries g c =
     let grant_is : s.grants (c.as_str.result.now, c.as_str-in-None.result.now) ≡ false = ap (λ (k : Text × Text). s.grants k) (λ i. (by i, of i)) ∙ h.grant_is ∙ it.2 in
     (_, (team_is, environment_is, grant_is, λ i. record s { grants = put_at (same_pair same_text same_text) s.grants (sym by i, sym of i) true }), it.3))
     (λ long named. long (IsName-short _ (subst IsName (sym by) named.0), (IsName-short _ (subst IsName (sym of) named.1), tt)))
-    c.told.ensures c.in-Ok.ensures c.add_grant.ensures.changes c.add_grant.ensures.calm
+    c.returned.ensures c.in-Ok.ensures c.add_grant.ensures.changes c.add_grant.ensures.calm
 
 pub returns-in-Some-clause-memory : goal.returns-in-Some-clause-memory
-returns-in-Some-clause-memory g c = TellsMemoryUnless-Ok false (state g.S.Store c.args.conn.now) (state g.S.Store c.read_grant_facts.new.conn) c.in-Some.answer
+returns-in-Some-clause-memory g c = ReportsMemoryUnless-Ok false (state g.S.Store c.args.conn.now) (state g.S.Store c.read_grant_facts.new.conn) c.in-Some.answer
 
 pub returns-in-None-clause-memory : goal.returns-in-None-clause-memory
-returns-in-None-clause-memory g c = TellsMemory-after_query c.told.ensures c.in-Ok.ensures.call c.add_grant.ensures.changes
+returns-in-None-clause-memory g c = ReportsMemory-after_query c.returned.ensures c.in-Ok.ensures.call c.add_grant.ensures.changes

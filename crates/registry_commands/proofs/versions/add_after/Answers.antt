@@ -9,7 +9,7 @@ use Rattle.registry_commands.proofs.versions.add_after.Goals as goal
 pub returns-clause-changes : goal.returns-clause-changes
 returns-clause-changes g c =
     let old = state g.S.Store c.args.conn.now in
-    let new = state g.S.Store c.add_version_as.new.conn in
+    let new = state g.S.Store c.insert_version.new.conn in
     let number = c.in-Some.number in
     let same : version_named c.as_str.result.now c.as_str-2.result.now ≡ c.args.version.now = λ i. version_named (c.as_str.ensures i) (c.as_str-2.ensures i) in
     CallsBetween-then_Ok _ _ _ number _ _ (λ adds s held h.

@@ -1,8 +1,8 @@
 use Rattle.std.{specs.Prelude.{option_map}, proofs.{Common.{◌∙◌, ap, pos, inl, inr}, lemmas.Result.{IfOk-weaker, IfErr-weaker, MatchResult-from_both}}}
 use Rattle.sqlite.specs.declared.types.Value.TheVariants.{Int}
 use Rattle.table_access.proofs.Answered.{slice_get-has_first}
-use Rattle.broker_tables.proofs.{AnyTables.{IsRefusedAs-ends}, Asked.{Shown-IsShown, Shown-now_same, FailsToTake-explained_number}, QueryLemmas.{CalmQueriesBetween-read_result, CalmQueriesBetween-read_Err}}
-use Rattle.broker_tables.proofs.TruthLemmas.{mark_of-option_map}
+use Rattle.broker_tables.proofs.{AnyTables.{IsRefusedAs-ends}, Asked.{Shown-IsShown, Shown-now_same, FailsToTake-explained_number}}
+use Rattle.broker_tables.proofs.{QueryLemmas.{CalmQueriesBetween-read_result, CalmQueriesBetween-read_Err}, TruthLemmas.{mark_of-option_map}}
 use Rattle.registry_tables.proofs.EnvironmentRows.{gated, IsShown-gated, EachReads-gated, IsTruthAt-not_above_one, IsTruthAt-IsNumberRow, Asks-HasBrokerTables, IsMarkIn-found, HasNoMark-shown}
 use Rattle.registry_tables.proofs.environments.gated.Goals as goal
 
@@ -38,5 +38,5 @@ pub returns-in-Err-clause-mark : goal.returns-in-Err-clause-mark
 returns-in-Err-clause-mark g c clean asked =
     elim ((rw c.params-to_sql.ensures at c.in-Err.ensures.cause) clean) [
       | inl refused ↦ inl (IsRefusedAs-ends _ _ (Asks-HasBrokerTables _ asked.1 c.args.environment.now) asked.0 c.in-Err.fault refused)
-      | inr told ↦ inr (told.4.0, HasNoMark-shown c.args.environment.now _ _ asked.1 told.0 told.1 told.2 told.3 (λ stands. told.4.1 (IsTruthAt-IsNumberRow told.2 stands)))
+      | inr returned ↦ inr (returned.4.0, HasNoMark-shown c.args.environment.now _ _ asked.1 returned.0 returned.1 returned.2 returned.3 (λ is_present. returned.4.1 (IsTruthAt-IsNumberRow returned.2 is_present)))
     ]

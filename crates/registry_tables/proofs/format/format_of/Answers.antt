@@ -1,7 +1,8 @@
 use Rattle.std.{specs.Prelude.{IsSomeAnd}, proofs.{lemmas.Result.{IfOk-weaker, IfErr-weaker}, Common.{◌≡◌, Option, Some, None, refl, inl, inr}}}
 use Rattle.sqlite.specs.Table.{Table}
 use Rattle.table_access.proofs.CallLemmas.{CallsBetween-then_result}
-use Rattle.registry_tables.{specs.Format.{IsMetaTable}, proofs.FoundFormat.{Finds-format, Shown-format_now_same, HasNoFormat-no_number, IsRefusedAs-FailsToFind}}
+use Rattle.registry_tables.specs.Format.{IsMetaTable}
+use Rattle.registry_tables.proofs.FoundFormat.{Finds-format, Shown-format_now_same, HasNoFormat-no_number, IsRefusedAs-FailsToFind}
 use Rattle.registry_tables.proofs.format.format_of.Goals as goal
 
 marked : (found : Option Table) → IsSomeAnd found IsMetaTable → (t : Table) × (found ≡ Some t) × IsMetaTable t

@@ -1,4 +1,5 @@
-use Rattle.broker_tables.{specs.{Former.{added_tables, former_format}, Schema.{checked_results}}, proofs.{Former.{HoldsUnmarked-strict_environments}, MakingFails.{IsCalmOverBetween-then}}}
+use Rattle.broker_tables.{specs.{Former.{added_tables, former_format}, Schema.{checked_results}}, proofs.Former.{HoldsUnmarked-strict_environments}}
+use Rattle.broker_tables.proofs.MakingFails.{IsCalmOverBetween-then}
 use Rattle.registry_tables.{specs.Format.{CanBecomeFormat2}, proofs.FormerRows.{KeepsFormerRows-after_Creates}}
 use Rattle.sqlite.specs.Held.{state}
 use Rattle.std.proofs.Common.{[], ◌∷◌}

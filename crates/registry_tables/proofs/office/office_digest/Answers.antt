@@ -1,5 +1,6 @@
 use Rattle.std.proofs.Common.{◌≡◌, Some, None, ◌∙◌, string_bytes}
-use Rattle.broker_tables.proofs.{QueryLemmas.{CalmQueriesBetween-read_Ok, CalmQueriesBetween-read_Err, CalmQueriesBetween-read_never}, Asked.{Shown-IsShown, Shown-now_same, FailsToTake-explained_text}}
+use Rattle.broker_tables.proofs.QueryLemmas.{CalmQueriesBetween-read_Ok, CalmQueriesBetween-read_Err, CalmQueriesBetween-read_never}
+use Rattle.broker_tables.proofs.Asked.{Shown-IsShown, Shown-now_same, FailsToTake-explained_text}
 use Rattle.registry_tables.proofs.MetaRow.{office, IsShown-office, FirstReads-office, FailsToTake-no_office}
 use Rattle.registry_tables.proofs.office.office_digest.Goals as goal
 

@@ -18,14 +18,14 @@ loop-index-preserved c =
     let rs = c.args.replies.now in
     let l = c.loop-index in
     let x = c.index-interactions-index.result in
-    let stands = slice_get-of_get_or xs l.index x (omega arith) c.index-interactions-index.is in
+    let is_present = slice_get-of_get_or xs l.index x (omega arith) c.index-interactions-index.is in
     elim c.if-not-branch.branch [
       | then-not-branch+in_ok-push w ↦
           let e : c.if-not-branch.failing.items ≡ l.failing.items ++ l.index ∷ [] = ap (λ (v : Vec ℕ Global). v.items) w.failing-is ∙ w.in_ok-push.ensures.items in
-          subst (λ ps. IsSoFar xs rs (l.index + 1) ps) (sym e) (one_fails xs rs l.index x l.failing.items stands l.invariant (IsTrue-false_refutes c.in_ok-passes.field-0 w.if-not-branch.true c.in_ok-passes.ensures.value))
+          subst (λ ps. IsSoFar xs rs (l.index + 1) ps) (sym e) (one_fails xs rs l.index x l.failing.items is_present l.invariant (IsTrue-false_refutes c.in_ok-passes.field-0 w.if-not-branch.true c.in_ok-passes.ensures.value))
       | else-not-branch w ↦
           let e : c.if-not-branch.failing.items ≡ l.failing.items = ap (λ (v : Vec ℕ Global). v.items) w.failing-is in
-          subst (λ ps. IsSoFar xs rs (l.index + 1) ps) (sym e) (one_passes xs rs l.index x l.failing.items stands l.invariant (c.in_ok-passes.ensures.value.0 w.if-not-branch.false))
+          subst (λ ps. IsSoFar xs rs (l.index + 1) ps) (sym e) (one_passes xs rs l.index x l.failing.items is_present l.invariant (c.in_ok-passes.ensures.value.0 w.if-not-branch.false))
     ]
 
 pub returns-clause-indices : goal.returns-clause-indices

@@ -1,7 +1,8 @@
 use Rattle.std.proofs.Common.{Ok, Err, Result, ℕ, OnOk, OnErr, IsTrue, [], refl, codes, sym, subst}
 use Rattle.sqlite.{specs.{State.{State, Executes, Commits}, Command.TheVariants.{Commit}, declared.error.Error.{Error}}, proofs.Callers.{runs_as}}
 use Rattle.sqlite.proofs.StateLemmas.{survives_weaker}
-use Rattle.table_access.{specs.Unit.{IsLeft, FailsToCommit}, proofs.{Texts.{codes-commit, Executes-IsLeft, CommitsBy-commit}, RefusedEnds.{Executes-commit_fails}}}
+use Rattle.table_access.{specs.Unit.{IsLeft, FailsToCommit}, proofs.Texts.{codes-commit, Executes-IsLeft, CommitsBy-commit}}
+use Rattle.table_access.proofs.RefusedEnds.{Executes-commit_fails}
 use Rattle.table_access.proofs.committing.run_commit.Goals as goal
 
 committed : (old new : State) (r : Result ℕ Error) → Executes (codes "COMMIT") [] old new r → OnOk r (IsTrue old.in_transaction × Commits old new) × OnErr r (IsLeft old new)

@@ -1,5 +1,6 @@
 use Rattle.sqlite.proofs.StateLemmas.{survives_weaker}
-use Rattle.table_access.proofs.{Texts.{Executes-IsRefused}, WriteLemmas.{CommitsBy-write_outside, Executes-inside}, CallLemmas.{CallsStoreBetween-ran, CallsStoreBetween-refused}}
+use Rattle.table_access.proofs.{Texts.{Executes-IsRefused}, WriteLemmas.{CommitsBy-write_outside, Executes-inside}}
+use Rattle.table_access.proofs.CallLemmas.{CallsStoreBetween-ran, CallsStoreBetween-refused}
 use Rattle.table_access.proofs.counted.change_counted.Goals as goal
 
 pub returns-in-Ok-clause-leaves : goal.returns-in-Ok-clause-leaves

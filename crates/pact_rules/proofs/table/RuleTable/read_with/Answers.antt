@@ -1,5 +1,6 @@
 use Rattle.std.{specs.List.{filter}, proofs.{Common.{◌∙◌, map, ap}, lemmas.Result.{err_from_is_err_and}}}
-use Rattle.pact_rules.{specs.{Rules.{BodyRule, HeaderRule, Rules, has_effect}, RuleViews.{rule_view, header_view}}, proofs.ReadingLemmas.{IsReading-of_found_in, IsReading-of_FailsAs}}
+use Rattle.pact_rules.specs.{Rules.{BodyRule, HeaderRule, Rules, has_effect}, RuleViews.{rule_view, header_view}}
+use Rattle.pact_rules.proofs.ReadingLemmas.{IsReading-of_found_in, IsReading-of_FailsAs}
 use Rattle.serde_json.specs.View.{view}
 use Rattle.pact_rules.proofs.table.RuleTable.read_with.Goals as goal
 

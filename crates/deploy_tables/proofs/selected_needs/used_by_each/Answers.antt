@@ -1,0 +1,22 @@
+use Rattle.std.proofs.Common.{arith, Err}
+use Rattle.table_access.proofs.{Members.{has_contains}, ReadLemmas.{get_or-has}}
+use Rattle.broker_tables.proofs.FailLemmas.{IsCalmFromBetween-after_query}
+use Rattle.deploy_tables.{specs.Needs.{AreOfVersions}, proofs.AllowedQueries.{QueriesBetween-answers_both, QueriesBetween-answers_more}}
+use Rattle.deploy_tables.proofs.MatrixLoop.{IsOfSome-take_next_at, IsOfSome-take_all}
+use Rattle.deploy_tables.proofs.selected_needs.used_by_each.Goals as goal
+
+pub loop-contract-preserved : goal.loop-contract-preserved
+loop-contract-preserved g c =
+    QueriesBetween-answers_both _ _ _ _ _ _ _ _ _ (λ s was here listed. IsOfSome-take_next_at _ _ _ _ _ _ _ c.loop-contract-test.true c.in-Ok-add.ensures.added (was listed) (here listed))
+    c.loop-contract.invariant c.in-Ok.ensures.answers
+
+pub returns-clause-answers : goal.returns-clause-answers
+returns-clause-answers g c =
+    QueriesBetween-answers_more _ _ _ _ _ _ (λ s was listed. IsOfSome-take_all _ c.args.contracts.now c.loop-contract.contract-index _ (omega arith) (was listed)) c.loop-contract.invariant
+
+pub returns-in-Err-clause-calm : goal.returns-in-Err-clause-calm
+returns-in-Err-clause-calm g c =
+    let contracts = c.args.contracts.now in
+    λ clean s here may. IsCalmFromBetween-after_query _ _ _ _ (Err c.in-Err.fault) _ _ (λ s. AreOfVersions s contracts) _
+    (λ s held each was. each _ (has_contains contracts _ (get_or-has contracts c.loop-contract.contract-index _ c.loop-contract-test.true)))
+    c.loop-contract.invariant c.in-Err.ensures.answers c.in-Err.ensures.calm clean s here may
