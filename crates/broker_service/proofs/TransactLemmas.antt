@@ -1,5 +1,5 @@
 -- What the transaction of a command leaves.
-use Rattle.std.proofs.Common.{◌≡◌, ◌⊎◌, ◌↔◌, ◌≤◌, inl, inr, arith, Option, Result, Ok, Err, IsOk, IfErr, IfOk, IsOkAnd, Bool, IsTrue, refl, ap, sym, subst, subst₂, ◌∙◌}
+use Rattle.std.proofs.Common.{◌≡◌, ◌⊎◌, ◌↔◌, ◌≤◌, inl, inr, arith, Option, Result, Ok, Err, IsOk, IfErr, IsOkAnd, Bool, IsTrue, refl, ap, sym, subst, subst₂, ◌∙◌}
 use Rattle.std.proofs.lemmas.Result.{IfErr-weaker}
 use Rattle.sqlite.specs.{Effect.{Database}, Held.{Held}, State.{State, HasCleanDisk, Survives}}
 use Rattle.table_access.specs.{Calls.{HasFailed, GoesOn, EndsBy}, Unit.{Begins, IsLeft, FailsToBegin, RefusesCommit}, declared.StoreFault.{StoreFault}}
@@ -11,19 +11,13 @@ use Rattle.broker_tables.specs.{Calm.{Serves, HasFailedOrMemory, FailsFromBetwee
 use Rattle.broker_tables.proofs.RoomLemmas.{TakesRoom-same}
 use Rattle.command_facts.specs.{Performs.{PerformsBetween, TokensStep, IsToChange, IsMisnamed}, Primitives.{broker_primitives}}
 use Rattle.broker_database.specs.{Causes.{HoldsReadable, IsToBeDone, KeepsRoom}, Ends.{HoldsNext, Steps, KeepsAtPattern}, Stored.{Stores, HoldsState}}
-use Rattle.broker_database.specs.{Transaction.{Concludes, EndsFor, conclusion, returned}, declared.ending.Failure.{Failure}}
+use Rattle.broker_database.specs.{Transaction.{Concludes, EndsFor, returned}, declared.ending.Failure.{Failure}}
 use Rattle.broker_database.specs.declared.ending.Failure.TheVariants.{Call, Commit}
 use Rattle.broker_database.proofs.Transaction.{WholeTransaction, EndsOrFails-transaction, IsUnchangedUnless-transaction, now-after_transaction, Begins-transaction, LeavesNoTransaction-transaction, CommitsAtMostOnce-whole, Survives-before_whole_end, EndsOrFails-unbegun, IsUnchangedUnless-unbegun, LeavesNoTransaction-unbegun, CommitsAtMostOnce-of_survives}
 use Rattle.broker_database.proofs.StoreFailures.{HasFailed-of_transaction, HasFailed-of_work}
 use Rattle.broker_service.specs.Transacted.{AppliesOrFails, FailsAtCommit, FailsInside, Transacted}
 use Rattle.broker_service.proofs.EndLemmas.{Step-of_done, Stores-next, Steps-of_step, Steps-of_undone}
 use Rattle.table_access.proofs.EndLemmas as ends
-
--- an answer of the transaction is that of the work
-pub IfOk-returned_conclusion : (P : Answer → Type 0) (worked : Result Answer StoreFault) (ended : Result (Unit {0}) StoreFault) (result : Result Answer Failure) → returned result ≡ conclusion worked ended → IfOk worked P → IfOk result P
-IfOk-returned_conclusion P worked (Ok u) (Ok answer) is it = subst (λ (r : Result Answer StoreFault). IfOk r P) (sym is) it
-IfOk-returned_conclusion P worked (Err fault) (Ok answer) is it = absurd (cc)
-IfOk-returned_conclusion P worked ended (Err failure) is it = tt
 
 module _ (token : Option Text) (command : Command) where
   -- what the work promises of its answer

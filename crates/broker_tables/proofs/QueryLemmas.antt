@@ -4,7 +4,7 @@ use Rattle.std.proofs.Common.{Bool, true, false, refl, sym, subst, inl, inr, ◌
 use Rattle.std.proofs.lemmas.Result.{IfErr-weaker}
 use Rattle.sqlite.specs.State.{State, HasCleanDisk}
 use Rattle.table_access.specs.{declared.StoreFault.{StoreFault}, declared.StoreFault.TheVariants.{Memory, Store}, Calls.{CallsBetween, GoesOn, EndsBy}}
-use Rattle.table_access.proofs.CallLemmas.{CallsBetween-weaken, CallsBetween-then_result, CallsBetween-pass_Err, CallsBetween-then_call, CallsBetween-may_take_memory, EndsBy-later_call}
+use Rattle.table_access.proofs.CallLemmas.{CallsBetween-weaken, CallsBetween-then_result, CallsBetween-pass_Err, CallsBetween-then_call, EndsBy-later_call}
 use Rattle.broker_core.specs.State.{State as Broker}
 use Rattle.broker_tables.specs.{Holds.{Holds, IsRead, QueriesBetween}, Calm.{Serves, FailsOnlyBy, HasFailedTaking, CalmQueriesBetween}}
 
@@ -73,10 +73,6 @@ CalmQueriesBetween-read_never old new a e Q P never call = CalmQueriesBetween-re
 -- one that answers has no failure
 pub CalmQueriesBetween-Ok : {A : Type 0} {takes : Bool} (old new : State) (a : A) (P : A → Broker → Type 0) → QueriesBetween takes old new (Ok a) P → CalmQueriesBetween takes old new (Ok a) P
 CalmQueriesBetween-Ok old new a P it = record { call = it; calm = λ clean s here. tt }
-
--- a query whose answer takes no memory is one whose answer may take some
-pub CalmQueriesBetween-may_take_memory : {A : Type 0} (old new : State) (r : Result A StoreFault) (P : A → Broker → Type 0) → CalmQueriesBetween false old new r P → CalmQueriesBetween true old new r P
-CalmQueriesBetween-may_take_memory old new r P it = record { call = CallsBetween-may_take_memory old new r _ it.call; calm = λ clean s here. IfErr-weaker r _ _ (λ e why. inl why) (it.calm clean s here) }
 
 -- another answer, computed from the first
 pub CalmQueriesBetween-then_Ok : {A B : Type 0} {any takes : Bool} (old new : State) (a : A) (b : B) (P : A → Broker → Type 0) (Q : B → Broker → Type 0) → (IsRead old new P a → IsRead old new Q b) → CalmQueriesBetween any old new (Ok a) P → CalmQueriesBetween takes old new (Ok b) Q

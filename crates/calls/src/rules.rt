@@ -268,7 +268,7 @@ fn matchers(rt: HostRuntime) -> Result<(), Fail> {
     Ok(())
 }
 
-/// The keys from a least length out to the table, without a key where there is a list.
+/// The keys from a least length out to the table, without a key if it is a list.
 const LEAST: [&str; 5] = ["min", "", "matchers", "$", "body"];
 
 /// The rules that have a number within these keys, the innermost first.

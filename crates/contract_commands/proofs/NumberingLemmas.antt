@@ -1,18 +1,11 @@
 -- The numbers that versions and results have or get.
 use Rattle.std.specs.Prelude.{if◌then◌else◌}
-use Rattle.std.proofs.Common.{◌≡◌, ◌+◌, ◌||◌, ℕ, List, length, true, false, true≢false, is_some, IsTrue, Bool, Option, Some, None, ◌∷◌, [], ◌++◌, refl, sym, ap, ◌∙◌, subst}
+use Rattle.std.proofs.Common.{◌≡◌, ◌+◌, ◌||◌, ℕ, true, false, is_some, IsTrue, Bool, Option, Some, None, [], ◌∷◌, ◌++◌, refl, sym, ap, ◌∙◌, subst}
 use Rattle.broker_core.specs.{Limit.{has_room}, Change.{can_name}, Request.{is_known}, State.{State}, declared.command.Version.{Version}}
 use Rattle.broker_tables.specs.Numbers.{number_of}
 use Rattle.registry_tables.specs.Registry.{AddsVersion, AllowsVersionAs}
-use Rattle.content_store.proofs.TextNumbers.{has_room-of_count}
-use Rattle.contract_commands.specs.{Numbering.{IsNextNumber, IsNextOf, IsNumberFor, CanName, NamesAs}, declared.numbers.VersionNumber.{VersionNumber}}
+use Rattle.contract_commands.specs.{Numbering.{IsNumberFor, CanName, NamesAs}, declared.numbers.VersionNumber.{VersionNumber}}
 use Rattle.contract_commands.specs.declared.numbers.VersionNumber.TheVariants.{Old, New}
-
--- ---- the next number
-
-pub IsNextOf-of_number : {X : Type 0} (rows : List X) (count : ℕ) (found : Option ℕ) → IsNextNumber count found → count ≡ length rows → IsNextOf rows found
-IsNextOf-of_number rows count (Some n) it is = (has_room-of_count rows count true (λ _. it.0, λ _. refl) is, it.1 ∙ ap (λ k. k + 1) is)
-IsNextOf-of_number rows count None it is = has_room-of_count rows count false (λ h. absurd (true≢false (sym h)), λ has. absurd (it has)) is
 
 -- ---- a version that is named
 

@@ -1,3 +1,2 @@
-pub mod FollowLemmas
 pub mod GateJudgement
 pub mod PlaceLemmas

@@ -5,10 +5,6 @@ use Rattle.broker_core.specs.declared.command.Version.{Version}
 use Rattle.environment_commands.specs.{Places.{HasPlace, IsAdmitted, unless_environment}, declared.places.Admitted.{Admitted}}
 use Rattle.broker_core.specs.declared.answer.Missing.TheVariants as missing
 
--- an environment with these marks is there, or it is what is missing
-pub unless_environment-there : (s : State) (e : Text) (marks : Marks) (rest : Option Missing) → s.environments e ≡ Some marks → unless_environment s e rest ≡ rest
-unless_environment-there s e marks rest is = ap (λ (o : Option Marks). unless (is_some o) missing.Environment rest) is
-
 pub unless_environment-missing : (s : State) (e : Text) (rest : Option Missing) → s.environments e ≡ None → unless_environment s e rest ≡ Some missing.Environment
 unless_environment-missing s e rest is = ap (λ (o : Option Marks). unless (is_some o) missing.Environment rest) is
 

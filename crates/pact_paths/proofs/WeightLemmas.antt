@@ -15,9 +15,6 @@ pow-mul_le p w k a b =
 pub pow-within_60 : (k : ℕ) → k ≤ 60 → 2 ^ k ≤ 2 ^ 60
 pow-within_60 k h = pow-le-pow_right {n = 2} (lit< tt) {i = k} {j = 60} h
 
-pub mul-regroup : (p w r total : ℕ) → p * (w * r) ≡ total → (p * w) * r ≡ total
-mul-regroup p w r total h = omega (arith, h)
-
 -- the weight of the token at a index of a path
 pub token_weight-slice_get : (ts : List Token) (tokens : List PathToken) (index : ℕ) (t : Token) (s : PathStep) (n : ℕ) → tokens ≡ map token_view ts → index < length tokens → t ≡ get_or ts index t → n ≡ token_weight (token_view t) s
     → slice_get (map (λ u. token_weight u s) tokens) index ≡ Some n

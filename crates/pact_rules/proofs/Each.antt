@@ -32,10 +32,3 @@ module _ {V A B F : Type 0} (read : ℕ → A → Result B F → Type 0) (view :
   pub EachRead-of_Completes : (front : List B) → Completes front [] → EachRead read 0 (map view xs) (Ok front)
   unfolding EachRead
   EachRead-of_Completes front k = subst (EachRead read 0 (map view xs)) (ap Ok (append-nil front)) (k (Ok []) refl)
-
-  -- before the first element, nothing is read yet and all is left
-  pub Completes-whole : (front : List B) → front ≡ [] → Completes front xs
-  Completes-whole front none = subst (λ bs. Completes bs xs) (sym none) all where
-    all : Completes [] xs
-    all (Ok bs) r = r
-    all (Err e) r = r

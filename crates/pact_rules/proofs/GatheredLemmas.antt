@@ -1,6 +1,6 @@
 -- What was gathered says what the matchers say.
 use Rattle.std.specs.{List.{list_all, list_any}, List.Sorted.{IsPermutation}}
-use Rattle.std.proofs.Common.{◌≡◌, ◌∙◌, ℕ, zero, suc, ◌<◌, length, get_or, map, slice_get, Option, Some, None, String, Global, string_bytes, if◌then◌else◌, Bool, true, false, not, ◌++◌, ◌∷◌, ◌&&◌, ◌||◌, [], List, refl, sym, ap}
+use Rattle.std.proofs.Common.{◌≡◌, ◌∙◌, ℕ, zero, suc, ◌<◌, length, get_or, map, slice_get, Option, Some, None, String, Global, string_bytes, if◌then◌else◌, Bool, true, false, not, ◌++◌, [], ◌∷◌, ◌&&◌, ◌||◌, List, refl, sym, ap}
 use Rattle.std.proofs.{lemmas.List.Sorted.{list_any-IsPermutation}, lemmas.Bool.{or_right}, lemmas.Option.{same_Some}}
 use Rattle.pact_rules.specs.{Rules.{is_regex}, MatcherView.{matcher_view}, Matching.{passes, contains}, Gathered.{joined, judged, if_asked}}
 use Rattle.pact_rules.proofs.ChoiceLemmas.{slice_get-map_within}
@@ -37,18 +37,6 @@ joined-neutral_left false a = refl
 
 pub joined-neutral_right : (any a : Bool) → joined any a (not any) ≡ a
 joined-neutral_right any a = joined-comm any a (not any) ∙ joined-neutral_left any a
-
--- what decides
-pub joined-decided : (any a b : Bool) → a ≡ any → joined any a b ≡ any
-joined-decided true a b e = ap (λ c. joined true c b) e
-joined-decided false a b e = ap (λ c. joined false c b) e
-
--- what doesn't
-pub joined-undecided : (any a b : Bool) → ¬ (a ≡ any) → joined any a b ≡ b
-joined-undecided true true b n = absurd (n refl)
-joined-undecided true false b n = refl
-joined-undecided false true b n = refl
-joined-undecided false false b n = absurd (n refl)
 
 -- ---- one answer more, at a place of several
 

@@ -1,8 +1,8 @@
 -- The entry of a header by a search among names in lower case.
 use Rattle.std.specs.{List.Sorted.{IsSortedBy, IsNonDecreasingBy, IsPartitionPoint}, Char.{to_ascii_lowercase}, Cmp.Lexicographic.{slice_cmp}}
-use Rattle.std.specs.{List.{AllByRecursion, find}, Ordering.{is_lt, is_eq, is_ne, ordering_index, ordering_reverse, ordering_then}}
+use Rattle.std.specs.{List.{AllByRecursion, find}, Ordering.{is_lt, is_eq, ordering_index, ordering_reverse}}
 use Rattle.std.specs.Str.{str_to_ascii_lowercase, str_eq_ignore_ascii_case}
-use Rattle.std.proofs.Common.{◌≡◌, ℕ, zero, suc, ◌+◌, ◌<◌, List, [], ◌∷◌, Bool, true, false, cond, Ordering, Less, Equal, Greater, nat_cmp, Option, Some, None, option_map, map, get_or, length, bytes_eq, refl, sym, ap, ◌∙◌, subst, ⊎_elim, true≢false, arith}
+use Rattle.std.proofs.Common.{◌≡◌, ℕ, zero, suc, ◌+◌, ◌<◌, List, [], ◌∷◌, Bool, false, cond, Ordering, Less, Equal, Greater, nat_cmp, Option, Some, None, option_map, map, get_or, length, bytes_eq, refl, sym, ap, ◌∙◌, subst, ⊎_elim, arith}
 use Rattle.std.proofs.{lemmas.Map.Text.{is_eq-slice_cmp}, lemmas.Bool.{cases_lt}, lemmas.Cmp.{nat_list_cmp_total}, lemmas.List.Sorted.{searchable_from_sorted}}
 use Rattle.pact_rules.specs.{declared.table.HeaderRule.{HeaderRule}, Rules.{IsBefore, IsOrderedBy, name_key}, RuleViews.{header_view, entry_view}}
 use Rattle.pact_rules.{specs.Tables.{header_entry}, proofs.OrderLemmas.{slice_cmp-Equal}}
@@ -18,27 +18,6 @@ lower_cmp-longer xs ys more x h k = ap (λ zs. lower_cmp zs ys) h ∙ ap (lower_
 
 pub lower_cmp-shorter : (xs ys more : List ℕ) (y : ℕ) → xs ≡ [] → ys ≡ y ∷ more → lower_cmp xs ys ≡ Less
 lower_cmp-shorter xs ys more y h k = ap (λ zs. lower_cmp zs ys) h ∙ ap (lower_cmp []) k
-
-ordering_then-decided : (o rest : Ordering) → is_ne o ≡ true → ordering_then o rest ≡ o
-ordering_then-decided Equal rest h = absurd (true≢false (sym h))
-ordering_then-decided o rest h = refl
-
-ordering_then-undecided : (o rest : Ordering) → is_ne o ≡ false → ordering_then o rest ≡ rest
-ordering_then-undecided Equal rest h = refl
-ordering_then-undecided o rest h = absurd (true≢false h)
-
-lower_cmp-cons : (xs ys left right : List ℕ) (x y : ℕ) → xs ≡ x ∷ left → ys ≡ y ∷ right → lower_cmp xs ys ≡ ordering_then (nat_cmp (to_ascii_lowercase x) (to_ascii_lowercase y)) (lower_cmp left right)
-lower_cmp-cons xs ys left right x y h k = ap (λ zs. lower_cmp zs ys) h ∙ ap (lower_cmp (x ∷ left)) k
-
-pub lower_cmp-first_differs : (xs ys left right : List ℕ) (x y : ℕ) (o : Ordering) → xs ≡ x ∷ left → ys ≡ y ∷ right → o ≡ nat_cmp (to_ascii_lowercase x) (to_ascii_lowercase y) → is_ne o ≡ true
-    → lower_cmp xs ys ≡ o
-lower_cmp-first_differs xs ys left right x y o h k is ne =
-    lower_cmp-cons xs ys left right x y h k ∙ ap (λ p. ordering_then p (lower_cmp left right)) (sym is) ∙ ordering_then-decided o (lower_cmp left right) ne
-
-pub lower_cmp-first_equal : (xs ys left right : List ℕ) (x y : ℕ) (o : Ordering) → xs ≡ x ∷ left → ys ≡ y ∷ right → o ≡ nat_cmp (to_ascii_lowercase x) (to_ascii_lowercase y) → is_ne o ≡ false
-    → lower_cmp xs ys ≡ lower_cmp left right
-lower_cmp-first_equal xs ys left right x y o h k is same =
-    lower_cmp-cons xs ys left right x y h k ∙ ap (λ p. ordering_then p (lower_cmp left right)) (sym is) ∙ ordering_then-undecided o (lower_cmp left right) same
 
 -- ---- entries in the order of their names
 

@@ -18,7 +18,7 @@ items_len-items_data : (ts : List Tree) → items_len (items_data ts) ≡ length
 items_len-items_data [] = refl
 items_len-items_data (t ∷ ts) = ap suc (items_len-items_data ts)
 
--- the list that a vector of trees stands for has as many items as the vector has elements
+-- the list that a vector of trees is has as many items as the vector has elements
 len_data : (v : Vec Tree Global) → items_len (items_data v.items) ≡ vec_len v
 len_data v = items_len-items_data v.items ∙ omega (arith, v.ok)
 

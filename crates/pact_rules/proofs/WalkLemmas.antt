@@ -29,10 +29,6 @@ Contains-singleton : {A : Type 0} (x y : A) → Contains (y ∷ []) x → x ≡ 
 Contains-singleton x y (zero, lt, is) = sym is
 Contains-singleton x y (suc k, lt, is) = absurd (omega (arith, lt))
 
--- an empty list has no element
-pub Contains-empty_list : {T : Type 0} (e : ℕ × ℕ) (xs : List Survivor) → xs ≡ [] → Contains (map survivor_view xs) e → T
-Contains-empty_list e xs is h = absurd (omega (arith, h.1, ap (λ ys. length (map survivor_view ys)) is))
-
 -- one more element at the end
 pub Contains-push_one : {A : Type 0} (xs : List A) (y x : A) → Contains (xs ++ y ∷ []) x ↔ (Contains xs x ⊎ (x ≡ y))
 Contains-push_one xs y x = (

@@ -50,7 +50,7 @@ pub has_parts-members : (done : List Member) {e : Member} {left rest es : List M
 has_parts-members [] is next = rw (is, next) refl
 has_parts-members (d ∷ done) is next = rw is refl
 
--- a fact of whatever failed
+-- a fact of any failure
 pub OnErr-any_fact : {T E : Type 0} (r : Result T E) (P : Type 0) → P → OnErr r P
 OnErr-any_fact (Ok x) P p = tt
 OnErr-any_fact (Err e) P p = p

@@ -1,8 +1,8 @@
 -- Replies for one interaction, found by their keys: the description, and the text of the states.
 use Rattle.std.specs.{BTreeMap.{is_at}, BTreeSet.{BTreeSet, contains, IsEmpty, Updates}, Cmp.Lexicographic.{slice_cmp}, List.{AllByRecursion, list_any}}
 use Rattle.std.specs.{Ordering.{is_eq, ordering_then}, declared.cmp.Ordering.{Ordering}, declared.cmp.Ordering.TheVariants.{Equal}}
-use Rattle.std.proofs.Common.{◌≡◌, ◌⊎◌, inl, inr, ◌↔◌, ℕ, ◌+◌, ◌<◌, ◌≤◌, Bool, true, false, ◌&&◌, ◌||◌, cond, not, List, [], ◌∷◌, ◌++◌, length, take, drop, get_or, take-append-drop, IsTrue, Bor, bytes_eq, nat_cmp, refl, sym, ap, ap₂, ◌∙◌, subst, ⊎_elim, arith, true≢false}
-use Rattle.std.proofs.{lemmas.Bool.{and_from, and_parts, or_parts, not-true, not-false}, lemmas.List.{take_more, take_all}, lemmas.List.Folds.{list_any-append}}
+use Rattle.std.proofs.Common.{◌≡◌, ◌⊎◌, inl, inr, ◌↔◌, ℕ, ◌+◌, ◌<◌, Bool, true, false, ◌&&◌, ◌||◌, cond, not, List, [], ◌∷◌, ◌++◌, length, take, drop, get_or, take-append-drop, IsTrue, Bor, bytes_eq, nat_cmp, refl, sym, ap, ap₂, ◌∙◌, subst, ⊎_elim, arith, true≢false}
+use Rattle.std.proofs.{lemmas.Bool.{and_from, and_parts, or_parts, not-true, not-false}, lemmas.List.{take_more}, lemmas.List.Folds.{list_any-append}}
 use Rattle.std.proofs.{lemmas.Map.Text.{is_eq-slice_cmp}, lemmas.Slice.Eq.{bytes_eq-Decides}}
 use Rattle.serde_json.specs.Written.{compact_text}
 use Rattle.pact_file.{specs.{Pact.{State, states_data}, Sound.{IsSound}}, proofs.{Lists.{drop-at}, OrderedSets.{compact_text-same_states}}}
@@ -97,6 +97,3 @@ module _ (xs : List Reply) (i : ℕ) (r : Reply) (k : Key) (old : BTreeSet Key) 
             updates.0 q ∙ ap₂ (λ a b. cond a true b) (key_cmp-is_key r k q h) (s.known q) ∙ cond-true_or (is_key q r) (list_any (is_key q) (take i xs))
             ∙ sym (list_any-append (is_key q) (take i xs) (r ∷ []));
       })
-
-pub AreSeen-whole : (xs : List Reply) (i : ℕ) (seen : BTreeSet Key) → length xs ≤ i → AreSeen seen (take i xs) → ¬ HasRivals xs
-AreSeen-whole xs i seen all s = subst (λ ys. ¬ HasRivals ys) (take_all i xs all) s.apart
