@@ -2,6 +2,8 @@
 
 - A lemma that proofs of another crate cite is in a file of proofs/ that the README of its own crate names. The crate
   `uses` cites none: its callers are proved from public contracts.
+- A lemma is named by its subject and its law, as `take-append`: each that another crate cites, but for those of NAMED,
+  and seven of ten of all.
 - Each lemma is cited: by a proof, by a tactic of the code, or, as a worked example is, by a document. In a file whose
   name ends with Example or Examples none has to be.
 - No proof names a part of another function's: so each function can be checked with all others taken as proved.
@@ -19,6 +21,14 @@ PLACE = re.compile(
     r"(?<![\w'-])trees \d+\b|(?<![\w.'-])(?:(?:tree =|from_table|ChangesOnly|PutsRow|IsLowAt|frame_of \([^()]*\)) \d+"
     r"|(?:from_both|by_two) (?:[\w.]+ )?\d+|col [1-9] [1-9]\d*|(?:whole_at|text|truth|maybe_text) [1-9]\d*(?! row\b)"
     r"|column (?!row\b)[\w.]+ [1-9]\d*)\b(?!\.)"
+)
+# Lemmas that other crates cite by a name without a law: a file has a field of that name too, or a tactic of the code
+# names the lemma, which takes names of Rust alone.
+NAMED = "begins commits contents listed names number_found pair_shown programs_lead reads sessions teams_differ unmarked"
+NAMED = {*NAMED.split(), "version_number"}
+LAWS = 0.7
+FACT = re.compile(
+    r"(?m)^ {0,2}(?:pub )?(?!(?:use|module|let|where|mutual|record|data|abbrev)\b)([^\s:(){},;.=|λ]+) : "
 )
 CITED = re.compile(r"(?m)^\s*use Rattle\.(?:([\w.+]+)\.\{(.*)\}|([\w.]+)(?: as \w+)?)$")
 LEMMA = re.compile(
@@ -55,6 +65,25 @@ def not_offered(crates):
         readme = f"{TOP}/crates/{crate}/README.md"
         if not os.path.isfile(readme) or f"`proofs/{module}.antt`" not in text_of(readme):
             yield f"crates/{crate}/README.md doesn't offer proofs/{module}.antt: {', '.join(sorted(lemmas))}"
+
+
+def without_law(crates):
+    """Lemmas that aren't named by subject and law, of those that another crate cites; and whether too many are."""
+    facts = {}
+    for crate in crates:
+        for path in files_of(crate.name, "proofs", ".antt"):
+            module = os.path.relpath(path, f"{TOP}/crates/{crate.name}/proofs").removesuffix(".antt").replace("/", ".")
+            if not re.search(r"(?:^|\.)(?:Answers|Invariants|Proof|Lib)$", module):
+                facts |= {(crate.name, module, it): path for it in FACT.findall(text_of(path))}
+    for crate in crates:
+        for path in files(crate):
+            for other, module, lemmas in cited_in(text_of(path)):
+                for it in lemmas if other != crate.name else ():
+                    if (other, module, it) in facts and "-" not in it and it not in NAMED:
+                        yield f"{os.path.relpath(path, TOP)}: {other} names {it} by no law, as take-append is named"
+    lawful = sum("-" in it for _, _, it in facts)
+    if lawful < LAWS * len(facts):
+        yield f"only {lawful} of {len(facts)} lemmas are named by subject and law"
 
 
 def lemmas_in(text):
@@ -101,6 +130,7 @@ def unnamed(crates):
 
 def faults(product, checks):
     yield from not_offered(product + checks)
+    yield from without_law(product + checks)
     yield from idle(product + checks)
     yield from of_others(product + checks)
     yield from unnamed(product + checks)
