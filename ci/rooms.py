@@ -98,6 +98,13 @@ class Kept:
             lay(name, f"{at}/crates/{name}")
             yield f"{at}/crates/{name}"
 
+    def forget(self, names):
+        """These have to be built again, from nothing."""
+        for name in names:
+            with contextlib.suppress(FileNotFoundError):
+                os.remove(f"{self.at}/{name}.sum")
+            shutil.rmtree(f"{self.at}/crates/{name}", ignore_errors=True)
+
     def keep(self, name, folder):
         """Keeps the crate as it is in its room, now that it is built. The sum is away meanwhile, and comes last."""
         with contextlib.suppress(FileNotFoundError):

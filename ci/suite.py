@@ -179,15 +179,34 @@ class OnKit:
             self.suite.tell("FAILED", it, "NOT TRIED: what it needs isn't proved, or it stopped in the middle")
 
     def compare(self):
-        """Whether the program that ./build keeps is what `rt ci` built, to the byte; else also which files differ."""
-        pairs = [(f"{self.store.at}/{PROGRAM}{it}", f"{OUT}/{PROGRAM}{it}") for it in COMPILERS]
-        lost = [it for pair in pairs for it in pair if not os.path.isfile(it)]
-        differ = [] if lost else [it for it, other in pairs if not filecmp.cmp(it, other, shallow=False)]
-        why = [*(f"there is no {it}" for it in lost), *(f"{it} differs" for it in differ)]
-        self.suite.tell("FAILED" if why else "ok", SAME, "; ".join([*why, *(self.unlike() if differ else [])]))
+        """Whether the program that ./build keeps is what `rt ci` built, to the byte. If it isn't, the libraries that
+        differ, and what is above them, are built once more: that build has to give it. What differed is said."""
+        why = self.differing()
+        if why and self.has_programs():
+            unlike = self.unlike()
+            said = "; ".join([*why, *(f"{file} of {' '.join(names)}" for file, names in unlike)])
+            print(f"{SAME}: {said}; built once more", flush=True)
+            first = {PROGRAM, *(it for _, names in unlike for it in names)}
+            self.store.forget([it for it in self.build.names if first & {it, *below(it)}])
+            lanes = Lanes(self.build.tasks())
+            lanes.run(lambda: self.build.tells_of(lanes))
+            why = [f"{it}, twice; at first {said}" for it in self.differing()]
+        self.suite.tell("FAILED" if why else "ok", SAME, "; ".join(why))
+
+    def programs(self):
+        """The programs of ./build, each with that of `rt ci`."""
+        return [(f"{self.store.at}/{PROGRAM}{it}", f"{OUT}/{PROGRAM}{it}") for it in COMPILERS]
+
+    def has_programs(self):
+        return all(os.path.isfile(it) for pair in self.programs() for it in pair)
+
+    def differing(self):
+        """Which of the programs aren't there, or differ."""
+        lost = [f"there is no {it}" for pair in self.programs() for it in pair if not os.path.isfile(it)]
+        return lost or [f"{it} differs" for it, other in self.programs() if not filecmp.cmp(it, other, shallow=False)]
 
     def unlike(self):
-        """Which files of libraries the two made otherwise, beside those of which each crate has one."""
+        """The files of libraries that the two made otherwise, each with its crates, without those that differ in each."""
         crates, found = below(PROGRAM), collections.defaultdict(list)
         for name in crates:
             own, other = f"{self.store.at}/crates/{name}/out", f"{TOP}/crates/{name}/out"
@@ -195,7 +214,7 @@ class OnKit:
                 pair = f"{own}/{file}", f"{other}/{file}"
                 if os.path.isfile(pair[1]) and not filecmp.cmp(*pair, shallow=False):
                     found[file.replace(name, "*")].append(name)
-        return [f"{file} of {' '.join(names)}" for file, names in found.items() if len(names) < len(crates)]
+        return [(file, names) for file, names in found.items() if len(names) < len(crates)]
 
 
 def words_given():
