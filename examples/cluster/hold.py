@@ -12,8 +12,9 @@ answer that it is was asked for more than LIMIT seconds ago, the broker is kille
 when its process here has ended, since its lock is given up at once then. Nothing that was acknowledged is lost by it.
 
 A replica that was away and is connected again has no lock of the broker, and gets what it writes only by healing,
-until the broker opens its file again. So once that was seen LOOKS times, the broker is ended too, and systemd starts
-it again.
+until the broker opens its file again. If it came between the opening of the file and that of its log, it lacks the
+lock of one of them. So once a replica with fewer locks than another one was seen LOOKS times, the broker is ended too,
+and systemd starts it again.
 
 Says to systemd that the service is ready once the broker answers. Ends with the status of the broker, with 1 if it
 was killed, and then has one line that says why."""
@@ -40,16 +41,16 @@ def holder(file: str) -> int:
     return 0 if kind == fcntl.F_UNLCK else int(process)
 
 
-def replicas(folder: str) -> tuple[int, int]:
-    """How many replicas the volume of this folder is connected to, and at how many of them it has a lock."""
-    connected = held = 0
+def locks(folder: str) -> list[int]:
+    """How many locks this machine has at each replica that the volume of this folder is connected to. What isn't open at
+    a replica has a negative number there, and so has what an earlier broker left."""
+    found = []
     for path in glob.glob(f"{folder}/.meta/graphs/active/*-client-[0-9]*/private"):
         with open(path, encoding="utf-8") as it:
             text = it.read()
         if "\nconnected = 1\n" in text:
-            connected += 1
-            held += bool(re.search(r"remote_fd = \d+\n-+ = -+\ngranted-posix-lock", text))
-    return connected, held
+            found.append(len(re.findall(r"remote_fd = \d+\n-+ = -+\ngranted-posix-lock", text)))
+    return found
 
 
 class Lock:
@@ -87,11 +88,11 @@ class Lock:
             self.lost = f"the lock is that of process {found}" if found else "the lock is lost"
 
     def look(self) -> None:
-        """Whether a replica is back that doesn't have the lock."""
-        connected, held = replicas(os.path.dirname(self.file))
-        self.looks = self.looks + 1 if 0 < held < connected else 0
+        """Whether a replica is back that doesn't have each lock."""
+        found = locks(os.path.dirname(self.file))
+        self.looks = self.looks + 1 if found and min(found) < max(found) else 0
         if self.looks == LOOKS:
-            self.lost = "a replica is back, and gets its lock as the file is opened again"
+            self.lost = "a replica is back, and gets its locks as the file is opened again"
 
     def fault(self) -> str:
         """Why the broker may not go on; nothing while it has the lock, or hasn't got it yet."""

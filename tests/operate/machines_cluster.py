@@ -46,6 +46,10 @@ journalctl --no-pager -o short-iso -n 60 -u broker -u broker-volume -u broker-br
 for it in /var/log/glusterfs/broker-volume.log /var/log/glusterfs/bricks/*.log; do
   echo "$it"
   grep -v '^.[^]]*] I ' "$it" | tail -n 25
+done
+for it in /var/lib/broker/.meta/graphs/active/*-client-[0-9]*/private; do
+  echo "$it"
+  timeout 5 grep -E '^(connected|fd[.]|.*remote_fd|.*lock)' "$it"
 done"""
 
 
