@@ -181,8 +181,11 @@ class OnKit:
     def compare(self):
         """Whether the program that ./build keeps is what `rt ci` built, to the byte. If it isn't, the libraries that
         differ, and what is above them, are built once more: that build has to give it. What differed is said."""
+        if lost := [f"there is no {it}" for pair in self.programs() for it in pair if not os.path.isfile(it)]:
+            self.suite.tell("FAILED", SAME, "; ".join(lost))
+            return
         why = self.differing()
-        if why and self.has_programs():
+        if why:
             unlike = self.unlike()
             said = "; ".join([*why, *(f"{file} of {' '.join(names)}" for file, names in unlike)])
             print(f"{SAME}: {said}; built once more", flush=True)
@@ -197,13 +200,9 @@ class OnKit:
         """The programs of ./build, each with that of `rt ci`."""
         return [(f"{self.store.at}/{PROGRAM}{it}", f"{OUT}/{PROGRAM}{it}") for it in COMPILERS]
 
-    def has_programs(self):
-        return all(os.path.isfile(it) for pair in self.programs() for it in pair)
-
     def differing(self):
-        """Which of the programs aren't there, or differ."""
-        lost = [f"there is no {it}" for pair in self.programs() for it in pair if not os.path.isfile(it)]
-        return lost or [f"{it} differs" for it, other in self.programs() if not filecmp.cmp(it, other, shallow=False)]
+        """Which of the programs differ."""
+        return [f"{it} differs" for it, other in self.programs() if not filecmp.cmp(it, other, shallow=False)]
 
     def unlike(self):
         """The files of libraries that the two made otherwise, each with its crates, without those that differ in each."""
