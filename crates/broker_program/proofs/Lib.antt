@@ -1,5 +1,6 @@
 pub mod ResultLemmas
 pub mod UnchangedLemmas
+pub mod AuditLemmas
 pub mod CalmLemmas
 pub mod WordsLemmas
 pub mod RefusalLemmas

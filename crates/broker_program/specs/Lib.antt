@@ -11,5 +11,6 @@ pub mod Life
 pub mod Calm
 pub mod Tested
 pub mod Reasons
+pub mod Audits
 pub mod FileRefusals
 pub mod Cuts

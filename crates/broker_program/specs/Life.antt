@@ -1,5 +1,5 @@
 -- what a file keeps once a command over it has ended, in the words of the life of a broker's files (this project's own)
-use Rattle.std.specs.Prelude.{List, [], ◌∷◌, ◌++◌, IsTrue, Option, None, Some}
+use Rattle.std.specs.Prelude.{List, [], ◌∷◌, ◌++◌, IsTrue, Option, None, Some, Result}
 use Rattle.std.proofs.Common.{inl, inr}
 use Rattle.sqlite_disk.specs.declared.Disk.{Ghosts}
 use Rattle.sqlite_disk.specs.declared.Files.{Files}
@@ -12,6 +12,8 @@ use Rattle.sqlite.specs.WalFiles.{outcomes}
 use Rattle.sqlite.specs.WalReads.{AreClean}
 use Rattle.sqlite.specs.declared.FileStore.{FileStore}
 use Rattle.sqlite.specs.declared.file.Leftover.{Leftover}
+use Rattle.table_access.specs.declared.StoreFault.{StoreFault}
+use Rattle.table_audit.specs.declared.auditing.Finding.{Finding}
 use Rattle.broker_core.specs.Text.{Text}
 use Rattle.broker_core.specs.declared.answer.Answer.{Answer}
 use Rattle.broker_core.specs.declared.command.Command.{Command}
@@ -22,6 +24,7 @@ use Rattle.broker_database.specs.Sessions.{exit_of}
 use Rattle.broker_database.specs.declared.opening.OpenFault.{OpenFault}
 use Rattle.program_io.specs.Entrance.{Visit}
 use Rattle.program_io.specs.declared.fault.RunFault.{RunFault}
+use Rattle.broker_program.specs.Audits.{TablesAudited}
 use Rattle.broker_program.specs.Cuts.{FindsNoBroker, IsNotReopened, StaysShut, StaysUnclosed}
 use Rattle.broker_program.specs.Files.{EndsClean}
 use Rattle.broker_program.specs.Making.{MakesBroker, MigratesFile}
@@ -60,6 +63,12 @@ module _ {D : Type 0} (g : Ghosts D) where
       → BrokerAnswers held token command answer store
       → KeepsAfter held (Serving ((record { token = Some token; command = command }, exit_of answer) ∷ []) ∷ [])
       (store_state store).may_leave
+
+  -- of those whose tables `audit` read, and that it gave up: a period without commands
+  abbrev pub AuditingLeads : Type 0
+  AuditingLeads =
+      (held : Image) (given : Result (Option Finding) StoreFault) (store : FileStore D g)
+      → TablesAudited held given store → KeepsAfter held (Serving [] ∷ []) (store_state store).may_leave
 
   -- a period for each opening, of the commands that its broker ran for its peers
   abbrev pub periods_over : {held : Image} {visits : List Visit} {Ends : Held (FileStore D g) → Type 0}

@@ -1,20 +1,23 @@
 -- why a command over a broker failed (this project's own choice)
-use Rattle.std.specs.Prelude.{◌≡◌, ◌⊎◌, ⊤, ℕ, List, Option, None, IsSome}
+use Rattle.std.specs.Prelude.{◌≡◌, ◌⊎◌, ⊤, ℕ, List, Option, None, Some, IsSome, Ok, Err}
 use Rattle.sqlite_disk.specs.declared.Disk.{Ghosts}
 use Rattle.sqlite.specs.FileStore.{view}
 use Rattle.sqlite.specs.Recovery.{Image}
 use Rattle.sqlite.specs.View.{IsClean}
+use Rattle.table_access.specs.declared.StoreFault.{StoreFault}
+use Rattle.table_audit.specs.declared.auditing.Finding.{Finding}
 use Rattle.broker_names.specs.Name.{IsName, IsToken}
 use Rattle.broker_core.specs.Text.{Text}
 use Rattle.broker_core.specs.declared.answer.Answer.{Answer}
 use Rattle.broker_database.specs.declared.opening.OpenFault.TheVariants as opening
 use Rattle.command_line.specs.declared.line.Line.{Line}
-use Rattle.command_line.specs.declared.line.Line.TheVariants.{CanIDeploy, Check, Init, Migrate, Normalise}
+use Rattle.command_line.specs.declared.line.Line.TheVariants.{Audit, CanIDeploy, Check, Init, Migrate, Normalise}
 use Rattle.command_line.specs.declared.line.Line.TheVariants.{Replay, Serve}
 use Rattle.program_io.specs.Listening.{ListensOn}
 use Rattle.program_io.specs.Reported.{FailsToCheck, FailsToNormalise, IsFromOutside, IsNoName, IsTokenFault}
 use Rattle.program_io.specs.declared.fault.RunFault.{RunFault}
 use Rattle.program_io.specs.declared.fault.RunFault.TheVariants as run_fault
+use Rattle.broker_program.specs.Audits.{LeavesAudited, audit_fault}
 use Rattle.broker_program.specs.Cuts.{CutsFile}
 use Rattle.broker_program.specs.Files.{LeavesCut, LeavesRead, LeavesStore}
 use Rattle.broker_program.specs.Making.{MakesOn, MigratesOn}
@@ -86,6 +89,15 @@ module _ {D : Type 0} {g : Ghosts D} (held : Image) where
   FailsToMigrate f rest =
       FailsToConnect held f rest ⊎ (IsOfDatabase held MigratesNone f rest ⊎ EndsUnclosed held MigratesOn f rest)
 
+  -- the fault of `audit`: the file isn't opened, the store failed as its tables were read, or the line couldn't be written
+  abbrev pub FailsToReadTables : RunFault → Left D g → Type 0
+  FailsToReadTables f rest =
+      FailsToOpen f rest ⊎ ((fault : StoreFault) × LeavesAudited held rest (Err fault) × (f ≡ audit_fault fault))
+
+  abbrev pub FailsToAudit : RunFault → Left D g → Type 0
+  FailsToAudit f rest =
+      FailsToReadTables f rest ⊎ ((finding : Finding) × LeavesAudited held rest (Ok (Some finding)) × IsFromOutside f)
+
   -- The fault of `can-i-deploy`: its texts are looked at first, then the file is opened, and the broker there asked.
   abbrev pub FailsToAnswer : Question → RunFault → Left D g → Type 0
   FailsToAnswer question f rest =
@@ -115,6 +127,7 @@ module _ {D : Type 0} {g : Ghosts D} (held : Image) (before after old new : Opti
   IsFaultOf (Check pact replies) f = LeavesRead (λ read. FailsToCheck read f) rest
   IsFaultOf (Init file token) f = FailsToMake held token.now f rest
   IsFaultOf (Migrate file) f = FailsToMigrate held f rest
+  IsFaultOf (Audit file) f = FailsToAudit held f rest
   IsFaultOf (Serve file listen connections) f = FailsToServe held listen.now connections f rest
   IsFaultOf (CanIDeploy file token pacticipant version environment) f =
       FailsToAsk held (question token pacticipant version environment) f rest

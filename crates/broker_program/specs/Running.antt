@@ -11,6 +11,7 @@ use Rattle.command_line.specs.Lines.{IsFoundIn, Says, is_line}
 use Rattle.broker_program.specs.Replays.{Replays, ReplaysUntil}
 use Rattle.broker_program.specs.Files.{LeavesClosed, LeavesRead, LeavesServed}
 use Rattle.program_io.specs.Listening.{ListensOn}
+use Rattle.broker_program.specs.Audits.{Audits, AuditsUntil}
 use Rattle.broker_program.specs.Making.{BrokerIsMade, FileIsMigrated}
 use Rattle.broker_program.specs.Reasons.{IsFaultOf}
 use Rattle.program_io.specs.Faults.{fault_text}
@@ -24,7 +25,7 @@ use Rattle.broker_program.specs.Words.{ReportsOfWords}
 use Rattle.broker_program.specs.declared.left.Ended.{Ended}
 use Rattle.broker_program.specs.declared.left.Left.{Left}
 use Rattle.command_line.specs.declared.line.Line.{Line}
-use Rattle.command_line.specs.declared.line.Line.TheVariants.{CanIDeploy, Check, Init, Migrate, Normalise}
+use Rattle.command_line.specs.declared.line.Line.TheVariants.{Audit, CanIDeploy, Check, Init, Migrate, Normalise}
 use Rattle.command_line.specs.declared.line.Line.TheVariants.{Replay, Serve}
 
 -- Held is what the files of a command held at first, and rest what the command left of them.
@@ -33,12 +34,13 @@ module _ {D : Type 0} {g : Ghosts D} (held : Image) (before after old new : Opti
   abbrev pub IsSilent : Type 0
   IsSilent = (after ≡ before) × (new ≡ old)
 
-  -- The command ended; `passes` is true if it is done, its check passed or its version is permitted.
+  -- The command ended; `passes` is true if it is done, its check or its audit passed or its version is permitted.
   abbrev pub CommandEnds : Line → Bool → Type 0
   CommandEnds (Replay token) passes = (passes ≡ true) × IsToken token.now × Replays token.now before after old new
   CommandEnds (Init file token) passes =
       (passes ≡ true) × IsToken token.now × IsSilent × LeavesClosed (BrokerIsMade g held token.now) rest
   CommandEnds (Migrate file) passes = (passes ≡ true) × IsSilent × LeavesClosed (FileIsMigrated g held) rest
+  CommandEnds (Audit file) passes = (after ≡ before) × Audits held rest old new passes
   CommandEnds (Serve file listen connections) passes =
       (passes ≡ true) × IsSilent × ListensOn listen.now × LeavesServed (ServesFile g held connections) rest
   CommandEnds Normalise passes = (passes ≡ true) × Normalises before after old new
@@ -52,6 +54,7 @@ module _ {D : Type 0} {g : Ghosts D} (held : Image) (before after old new : Opti
   CommandFails (Replay token) = IsSilent ⊎ ReplaysUntil token.now before after old new
   CommandFails (Init file token) = IsSilent
   CommandFails (Migrate file) = IsSilent
+  CommandFails (Audit file) = (after ≡ before) × ((new ≡ old) ⊎ AuditsUntil held rest old new)
   CommandFails (Serve file listen connections) = IsSilent
   CommandFails Normalise = (new ≡ old) ⊎ NormalisesUntil before after old new
   CommandFails (Check pact replies) = (after ≡ before) × ((new ≡ old) ⊎ LeavesRead (ChecksUntil old new) rest)
@@ -77,7 +80,7 @@ module _ {D I O E : Type 0} {g : Ghosts D} (held : Image) (remaining : I → Opt
   -- what carrying out a command promises of the status that the program ends with
   pub record LineRan (line : Line) (before after : I) (old new : O) (silent returned : E) (end : Ended D g) : Type 0 where
     pub statuses : (end.status ≡ 0) ⊎ ((end.status ≡ 1) ⊎ (end.status ≡ 3))
-    -- it is done, or its check failed or its version isn't permitted; nothing is on standard error
+    -- it is done, or its check or its audit failed or its version isn't permitted; nothing is on standard error
     pub done : end.status ≡ 0
         → CommandEndsOn held remaining contents before after old new end.left line true × (returned ≡ silent)
     pub refused : end.status ≡ 1
@@ -95,7 +98,7 @@ module _ {D I O E : Type 0} {g : Ghosts D} (held : Image) (remaining : I → Opt
     pub done : end.status ≡ 0 → is_line words ≡ true
         → (line : Line) × Says words line
         × CommandEndsOn held remaining contents before after old new end.left line true
-    -- the check failed or the version isn't permitted, and standard output says so
+    -- the check or the audit failed or the version isn't permitted, and standard output says so
     pub refused : end.status ≡ 1
         → (line : Line) × Says words line
         × CommandEndsOn held remaining contents before after old new end.left line false

@@ -179,7 +179,7 @@ pub(crate) fn disconnect<S: Start>(
 }
 
 /// Gives the file up as it is: what is in its log stays there.
-fn leave<S: Start>(connection: FileConnection<S>) -> FileStore<FileFrom<S>>
+pub(crate) fn leave<S: Start>(connection: FileConnection<S>) -> FileStore<FileFrom<S>>
     ensures { GivesUpAs connection result }
 {
     connection.into_store()
@@ -224,7 +224,7 @@ pub(crate) fn open_broker<S: Start>(
 }
 
 /// The broker's connection.
-fn connection_of<S: Start>(broker: FileBroker<S>) -> FileConnection<S>
+pub(crate) fn connection_of<S: Start>(broker: FileBroker<S>) -> FileConnection<S>
     ensures { result ≡ broker.connection }
 {
     broker.close()

@@ -1,7 +1,7 @@
 //! What a broker's file keeps over a command. The program calls none of these.
 ghost use Rattle.sqlite_disk.specs.Modelled.{calls_of, start_of};
 ghost use Rattle.broker_program.specs.Calm.{ServesCalmly};
-ghost use Rattle.broker_program.specs.Life.{AskingLeads, FindingNoneLeads, MakingLeads, MigratingLeads, ServingLeads};
+ghost use Rattle.broker_program.specs.Life.{AskingLeads, AuditingLeads, FindingNoneLeads, MakingLeads, MigratingLeads, ServingLeads};
 ghost use Rattle.broker_program.specs.Life.{ShutLeads, UnclosedLeads};
 ghost use Rattle.broker_program.specs.Tested.{ServesHonestly};
 
@@ -19,6 +19,12 @@ pub fn life_over_commands<D: Disk>()
     ensures migrating { MigratingLeads D.Disk }
     ensures asking { AskingLeads D.Disk }
     ensures serving { ServingLeads D.Disk }
+{}
+
+/// `audit` is a period without commands of the life of its file: what a crash leaves of the file that was given up keeps
+/// what the file held.
+pub fn life_over_audit<D: Disk>()
+    ensures { AuditingLeads D.Disk }
 {}
 
 /// What is left of a file by a `serve` that fails once it served keeps what its periods lead to, too: if no broker is

@@ -1,6 +1,7 @@
 //! The program's commands over any reader and writers, and over the words and the streams of its process.
 #![tactic(auto)]
 
+mod audit;
 mod can_i_deploy;
 mod files;
 mod init;

@@ -7,6 +7,7 @@ ghost use Rattle.program_io.specs.Reported.{IsReported};
 ghost use Rattle.broker_program.specs.Running.{CommandEndsOn, CommandFailsOn, IsFaultOn, LineRan, Ran, RanTo};
 ghost use Rattle.broker_program.specs.Words.{LacksMemory, ReportsMistake, ReportsOfWords, ReportsText};
 
+use crate::audit::audit;
 use crate::can_i_deploy::{Question, ask};
 use crate::init::init;
 use crate::left::{Ended, Left};
@@ -88,8 +89,8 @@ fn print_usage<W: Write, E: Write>(
 /// A command that ended or failed, and what it left of the file that it worked on.
 type Carried<S> = (Result<bool, RunFault>, Left<FileFrom<S>>);
 
-/// Runs the command, and says whether it is done, its check passed or its version is permitted, and what it left of the
-/// file that it worked on.
+/// Runs the command, and says whether it is done, its check or its audit passed or its version is permitted, and what it
+/// left of the file that it worked on.
 fn carry_out<S: Start, R: Read, W: Write>(
     rt: &HostRuntime,
     line: Line<'_>,
@@ -117,6 +118,7 @@ fn carry_out<S: Start, R: Read, W: Write>(
             Ok(files) => (Ok(true), Left::Closed(files)),
             Err((fault, left)) => (Err(fault), left),
         },
+        Line::Audit { file } => audit(rt, file, start, output),
         Line::Serve {
             file,
             listen,
@@ -186,15 +188,15 @@ fn run_line<S: Start, R: Read, W: Write, E: Write>(
 /// Runs the command that the words name: the program's own name, a command and its options. The result
 /// has the status that the program ends with.
 ///
-/// 0: the command is done, its check passed or its version is permitted; or `clap`'s help or the version
+/// 0: the command is done, its check or its audit passed or its version is permitted; or `clap`'s help or the version
 /// was asked for, which is written to `output`.
-/// 1: the check failed, or the version isn't permitted.
+/// 1: the check or the audit failed, or the version isn't permitted.
 /// 2: the words are no command line, and `clap`'s text on them is written to `errors`.
 /// 3: the command failed, and one line on `errors` says why.
 /// `token`, `name`: the text of an option isn't a token or a name. `file`: a file, `input` or `output`
 /// can't be read or written, or the file isn't there, is in use or is no database. `open n`: the broker
 /// couldn't be made, opened or migrated, by the number of the fault of `Broker::create`, `Broker::open`
-/// and `migrate`.
+/// and `migrate`; `open 5` also if the database failed as it was audited.
 /// `listen`: the address isn't one of loopback, or can't be listened on.
 /// `serve 1`, `serve 2` and `serve 3`, only of `replay`: the input failed, the output failed, or there was no memory
 /// for a message; the answers before are out.

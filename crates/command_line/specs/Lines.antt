@@ -18,8 +18,8 @@ use Rattle.command_line.specs.declared.line.Line.{Line}
 use Rattle.command_line.specs.declared.path.FilePath.{FilePath}
 use Rattle.command_line.specs.declared.names.CommandName.{CommandName}
 use Rattle.command_line.specs.declared.names.CommandName.TheVariants as names
-use Rattle.command_line.specs.declared.line.Line.TheVariants.{CanIDeploy, Check, Init, Migrate, Normalise}
-use Rattle.command_line.specs.declared.line.Line.TheVariants.{Replay, Serve}
+use Rattle.command_line.specs.declared.line.Line.TheVariants.{Audit, CanIDeploy, Check, Init, Migrate}
+use Rattle.command_line.specs.declared.line.Line.TheVariants.{Normalise, Replay, Serve}
 
 -- the texts of the words
 abbrev pub texts_of : List (Bor Text) → List Text
@@ -44,6 +44,10 @@ init = with_rule (with_rule (new_app (codes "init")) (option (codes "file"))) (o
 -- `migrate --file F`
 abbrev pub migrate : App
 migrate = with_rule (new_app (codes "migrate")) (option (codes "file"))
+
+-- `audit --file F`
+abbrev pub audit : App
+audit = with_rule (new_app (codes "audit")) (option (codes "file"))
 
 -- `serve --file F --listen A --connections N`
 abbrev pub serve : App
@@ -70,13 +74,14 @@ abbrev pub can_i_deploy : App
 can_i_deploy = with_rule (with_rule asking (option (codes "version"))) (option (codes "to-environment"))
 
 abbrev pub commands : List App
-commands = init ∷ migrate ∷ serve ∷ can_i_deploy ∷ normalise ∷ check ∷ replay ∷ []
+commands = init ∷ migrate ∷ audit ∷ serve ∷ can_i_deploy ∷ normalise ∷ check ∷ replay ∷ []
 
 -- the command of a line
 abbrev pub command_of : Line → App
 command_of (Replay token) = replay
 command_of (Init file token) = init
 command_of (Migrate file) = migrate
+command_of (Audit file) = audit
 command_of (Serve file listen connections) = serve
 command_of Normalise = normalise
 command_of (Check pact replies) = check
@@ -104,6 +109,7 @@ abbrev pub HasValues : List Row → Line → Type 0
 HasValues rows (Replay token) = HasText rows (codes "office-token") token.now
 HasValues rows (Init file token) = HasText rows (codes "file") (path_of file) × HasText rows (codes "office-token") token.now
 HasValues rows (Migrate file) = HasText rows (codes "file") (path_of file)
+HasValues rows (Audit file) = HasText rows (codes "file") (path_of file)
 HasValues rows (Serve file listen connections) =
     HasText rows (codes "file") (path_of file) × HasText rows (codes "listen") listen.now
     × HasNumberOption rows (codes "connections") connections
@@ -203,6 +209,7 @@ abbrev pub command_named : CommandName → App
 command_named names.Replay = replay
 command_named names.Init = init
 command_named names.Migrate = migrate
+command_named names.Audit = audit
 command_named names.Serve = serve
 command_named names.Normalise = normalise
 command_named names.Check = check
@@ -213,6 +220,7 @@ abbrev pub LacksValue : List Row → CommandName → Type 0
 LacksValue rows names.Replay = HasNoText rows (codes "office-token")
 LacksValue rows names.Init = HasNoText rows (codes "file") ⊎ HasNoText rows (codes "office-token")
 LacksValue rows names.Migrate = HasNoText rows (codes "file")
+LacksValue rows names.Audit = HasNoText rows (codes "file")
 LacksValue rows names.Serve =
     HasNoText rows (codes "file") ⊎ HasNoText rows (codes "listen") ⊎ HasNoNumber rows (codes "connections")
 LacksValue rows names.Normalise = ⊥

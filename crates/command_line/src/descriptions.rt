@@ -59,6 +59,14 @@ const MIGRATE: CommandText<'static> = CommandText {
     options: &[FILE],
 };
 
+const AUDIT: CommandText<'static> = CommandText {
+    name: "audit",
+    words: "broker audit",
+    about: help::AUDIT,
+    after: help::AFTER_AUDIT,
+    options: &[FILE],
+};
+
 const SERVE: CommandText<'static> = CommandText {
     name: "serve",
     words: "broker serve",
@@ -119,6 +127,7 @@ pub(crate) fn description<'a>(name: CommandName) -> CommandText<'a>
         CommandName::Replay => REPLAY,
         CommandName::Init => INIT,
         CommandName::Migrate => MIGRATE,
+        CommandName::Audit => AUDIT,
         CommandName::Serve => SERVE,
         CommandName::Normalise => NORMALISE,
         CommandName::Check => CHECK,

@@ -64,6 +64,24 @@ Status 3, and on standard error one of
   open 5     the database failed: try it again
   memory     no memory for anything else";
 
+pub(crate) const AUDIT: &str =
+    "Says whether the tables of a broker's file hold a state of the broker";
+
+pub(crate) const AFTER_AUDIT: &str =
+    "Reads every row, and changes nothing. If the tables don't hold a state of the broker, prints one
+line: which table, which row, and which rule is broken.
+
+Example: broker audit --file broker.db
+
+Status 0: the tables hold a state of the broker. Status 1: they don't.
+Status 3, and on standard error one of
+  file       the file isn't there, can't be read or written, is in use, or is no database
+  open 2     the file isn't a broker's
+  open 3.N   the file has another format, of number N; `broker migrate` takes one of format 1
+  open 4     no memory to open the tables
+  open 5     the database failed
+  memory     no memory for anything else";
+
 pub(crate) const SERVE: &str =
     "Serves HTTP/1.1 on an address of this computer, over the broker in a file";
 

@@ -32,6 +32,11 @@ pub enum Line<'a> {
         /// The file's path.
         file: FilePath<'a>,
     },
+    /// Says whether the tables of a broker's file hold a state of the broker.
+    Audit {
+        /// The file's path.
+        file: FilePath<'a>,
+    },
     /// Serves connections over the broker in a file, one after the other.
     Serve {
         /// The file's path.

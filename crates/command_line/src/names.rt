@@ -10,6 +10,7 @@ pub(crate) enum CommandName {
     Replay,
     Init,
     Migrate,
+    Audit,
     Serve,
     Normalise,
     Check,
@@ -17,9 +18,10 @@ pub(crate) enum CommandName {
 }
 
 /// The commands, in the order in which the help lists them.
-pub(crate) const COMMANDS: [CommandName; 7] = [
+pub(crate) const COMMANDS: [CommandName; 8] = [
     CommandName::Init,
     CommandName::Migrate,
+    CommandName::Audit,
     CommandName::Serve,
     CommandName::CanIDeploy,
     CommandName::Normalise,

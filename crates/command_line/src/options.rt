@@ -48,6 +48,13 @@ fn migrate_in<'a>(matches: &ArgMatches<'a>) -> Option<Line<'a>>
     Some(Line::Migrate { file })
 }
 
+fn audit_in<'a>(matches: &ArgMatches<'a>) -> Option<Line<'a>>
+    ensures { IsLineOf CommandName.Audit (rows_of (found_of matches.now)) result }
+{
+    let file = file_of(matches)?;
+    Some(Line::Audit { file })
+}
+
 fn serve_in<'a>(matches: &ArgMatches<'a>) -> Option<Line<'a>>
     ensures { IsLineOf CommandName.Serve (rows_of (found_of matches.now)) result }
 {
@@ -94,6 +101,7 @@ pub(crate) fn line_in<'a>(name: CommandName, matches: &ArgMatches<'a>) -> Option
         CommandName::Replay => replay_in(matches),
         CommandName::Init => init_in(matches),
         CommandName::Migrate => migrate_in(matches),
+        CommandName::Audit => audit_in(matches),
         CommandName::Serve => serve_in(matches),
         CommandName::Normalise => Some(Line::Normalise),
         CommandName::Check => check_in(matches),

@@ -1,0 +1,16 @@
+pub mod Tried
+pub mod TriedLemmas
+pub mod RowTexts
+pub mod RowRules
+pub mod LinkTexts
+pub mod LinkRules
+pub mod NewestRule
+pub mod Counted
+pub mod StateRows
+pub mod LatestRows
+pub mod Sound
+pub mod Entries
+pub mod OwnRows
+pub mod LinkedRows
+pub mod Complete
+pub mod Verdict
