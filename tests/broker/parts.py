@@ -70,6 +70,10 @@ def migrating(file: str) -> list[str]:
     return ["migrate", "--file", file]
 
 
+def auditing(file: str) -> list[str]:
+    return ["audit", "--file", file]
+
+
 def making(file: str, token: str = OFFICE) -> list[str]:
     return ["init", "--file", file, "--office-token", token]
 
@@ -121,7 +125,7 @@ def unchanged(room: str, before: dict[str, tuple[int, bytes | None]]) -> None:
 def faults_of_file(broker: Broker, room: str, path: str, opened: str = "file", made: str | None = "file") -> None:
     """Each command over the file ends with 3 and its line, and changes nothing; but init ends with 0 if it has none."""
     before = kept(room)
-    for words in question(path), serving(path), migrating(path):
+    for words in question(path), serving(path), migrating(path), auditing(path):
         same(words, broker(*words), (3, "", opened + "\n"))
         unchanged(room, before)
     if made is None:

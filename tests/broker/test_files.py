@@ -2,8 +2,8 @@
 docs/OPERATING.md."""
 import hashlib, os, resource, socket, sqlite3
 import pytest
-from tests.broker.parts import FORMER, UNKNOWN, Broker, faults_of_file, former_file, kept, making, migrating, put_team
-from tests.broker.parts import question, serving, unchanged
+from tests.broker.parts import FORMER, UNKNOWN, Broker, auditing, faults_of_file, former_file, kept, making, migrating
+from tests.broker.parts import put_team, question, serving, unchanged
 from tests.players.files import statements
 from tests.wire import OFFICE, same
 from tests.world import DONE
@@ -26,7 +26,7 @@ def test_a_file_that_is_cut_in_its_middle(broker: Broker, room: str, more: int) 
     faults_of_file(broker, room, file)
 
 
-LOOKS = {"question": question, "serve": serving, "migrate": migrating}
+LOOKS = {"question": question, "serve": serving, "migrate": migrating, "audit": auditing}
 
 
 @pytest.mark.parametrize("kind", ["nought", "bare"])

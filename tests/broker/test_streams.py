@@ -2,8 +2,8 @@
 docs/OPERATING.md and docs/API.md."""
 import os
 import pytest
-from tests.broker.parts import PACT, UNKNOWN, Broker, kept, making, migrating, pact_files, put_team, question
-from tests.broker.parts import serving, unchanged
+from tests.broker.parts import PACT, UNKNOWN, Broker, auditing, kept, making, migrating, pact_files, put_team
+from tests.broker.parts import question, serving, unchanged
 from tests.wire import OFFICE, answers_in, same
 from tests.world import DONE
 
@@ -39,6 +39,7 @@ def faults(broker: Broker, room: str) -> list[tuple[list[str], str]]:
         (question(nowhere), "file"),
         (making(file), "open 1"),
         (migrating(file), "open 3.2"),
+        (auditing(nowhere), "file"),
         (serving(file), "listen"),
         (["normalise"], "pact 2"),
         (["check", "--pact", files["none"], "--replies", files["pass"]], "pact 3 file"),

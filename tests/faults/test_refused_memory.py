@@ -2,15 +2,17 @@
 contract that goes live, and replies that are checked (refuse.c). In each run the command that the refusal met is
 answered 503 {"answer":"memory"} and all others as if it hadn't been sent; or the program ends with status 3 after whole
 answers; or a commit was refused, and the broker is stopped: at most once in the making, and at most once at a command,
-and never at one that changes nothing."""
+and never at one that changes nothing. The same of what an audit asks for after the file is opened."""
 import collections, functools, os, subprocess
 from collections.abc import Iterator
 from concurrent.futures import ThreadPoolExecutor
 import pytest
+from tests.players.files import statements
 from tests.players.shims import library
 from tests.players.story import Story, file_of
-from tests.process import Ended, ran
+from tests.process import Ended, Server, ran
 from tests.wire import OFFICE, PATIENCE, Wrong, answer, same
+from tests.world import new_file, register, verify
 
 pytestmark = pytest.mark.needs("cc")
 STREAMS = "first-run", "goes-live", "checked-replies"
@@ -62,17 +64,7 @@ class Stream:
         """How many requests for memory the program makes, if none is refused."""
         done, answers = self.run(self.requests, LD_PRELOAD=library("refuse"), COUNTED=f"{room}/counted")
         same("the run without a refusal", (done.status, answers), (0, self.answers))
-        with open(f"{room}/counted", encoding="ascii") as it:
-            return int(it.read())
-
-    def refused(self, room: str, first: int, last: int) -> list[tuple[int, Ended]]:
-        """How the runs end in which the request for memory of each of these numbers is refused."""
-        settings = {"LD_PRELOAD": library("refuse"), "REFUSED": f"{first}-{last}", "INPUT": f"{room}/input"}
-        done = subprocess.run(self.words, env={**os.environ, **settings}, capture_output=True, timeout=10 * PATIENCE)
-        same("what refuses memory", (done.returncode, done.stderr), (0, b""))
-        found = [*ends_in(done.stdout)]
-        same("the runs", [number for number, _ in found], [*range(first, last + 1)])
-        return found
+        return counted(room)
 
     def judged(self, done: Ended) -> Outcome:
         """What comes of a run that ends so, and at which command the store failed, if it did."""
@@ -112,6 +104,21 @@ class Stream:
         return b'\r\n\r\n{"answer":"done"' in self.answers[place]
 
 
+def counted(room: str) -> int:
+    with open(f"{room}/counted", encoding="ascii") as it:
+        return int(it.read())
+
+
+def refused(words: list[str], room: str, first: int, last: int) -> list[tuple[int, Ended]]:
+    """How the runs of these words end in which the request for memory of each of these numbers is refused."""
+    settings = {"LD_PRELOAD": library("refuse"), "REFUSED": f"{first}-{last}", "INPUT": f"{room}/input"}
+    done = subprocess.run(words, env={**os.environ, **settings}, capture_output=True, timeout=10 * PATIENCE)
+    same("what refuses memory", (done.returncode, done.stderr), (0, b""))
+    found = [*ends_in(done.stdout)]
+    same("the runs", [number for number, _ in found], [*range(first, last + 1)])
+    return found
+
+
 def ends_in(told: bytes) -> Iterator[tuple[int, Ended]]:
     """The runs that are told of, each with its number."""
     while told:
@@ -128,7 +135,7 @@ def each_refused(stream: Stream, room: str, count: int) -> Iterator[tuple[int, E
     size = 256
     with ThreadPoolExecutor(len(os.sched_getaffinity(0))) as workers:
         firsts = range(1, count + 1, size)
-        for found in workers.map(lambda it: stream.refused(room, it, min(it + size - 1, count)), firsts):
+        for found in workers.map(lambda it: refused(stream.words, room, it, min(it + size - 1, count)), firsts):
             yield from found
 
 
@@ -149,3 +156,33 @@ def test_each_request_is_refused(program: str, room: str, name: str) -> None:
     assert any(outcome == "open 5" for outcome, _ in found), "no refused COMMIT of the making is reported"
     if name == STREAMS[0]:
         same("which ends were seen", {outcome for outcome, _ in found} - {"as without the refusal"}, ENDS)
+
+
+# How many of the requests of an audit are refused, the last of all: those before them are of the opening.
+LAST = 600
+BROKEN = Ended(1, "results, row 1: in latest an older result is named, or none\n", "")
+
+
+@pytest.mark.parametrize("text, usual", [("", Ended(0, "", "")), ("DELETE FROM latest", BROKEN)])
+def test_each_request_of_an_audit_is_refused(program: str, room: str, text: str, usual: Ended) -> None:
+    """It ends as with memory, or with 3; the file stays as it was."""
+    file, no_memory = new_file(program, room), Ended(3, "", "memory\n")
+    with Server(program, file) as server:
+        register(server)
+        verify(server)
+    with Server(program, file, 1) as server:
+        server.send()
+        same("the end", server.wait(), (0, "", ""))
+    statements(file, text)
+    with open(file, "rb") as it:
+        before = it.read()
+    words = [program, "audit", "--file", file]
+    env = {**os.environ, "LD_PRELOAD": library("refuse"), "COUNTED": f"{room}/counted"}
+    same("with memory", ran(words, env=env), usual)
+    open(f"{room}/input", "wb").close()
+    count = counted(room)
+    ends = collections.Counter(it for _, it in refused(words, room, count - LAST + 1, count))
+    same("other ends", {*ends} - {usual, no_memory, Ended(3, "", "open 4\n")}, set[Ended]())
+    assert ends[no_memory] > LAST / 2, ends
+    with open(file, "rb") as it:
+        same("the file", it.read() == before, True)

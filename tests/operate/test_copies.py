@@ -1,11 +1,12 @@
-"""Copies of a broker's file by examples/backup.sh and keep-copies.sh, in bad nights: two at once, a clock that jumps, a
-folder that is a link, a slow folder, a program of the machine that keeps a port busy, and kills. The broker is never
-left stopped, a new copy is never removed, and nothing is left for good."""
+"""Copies of a broker's file by examples/backup.sh, keep-copies.sh and nightly.sh, in bad nights: two at once, a clock
+that jumps, a folder that is a link, a slow folder, a program of the machine that keeps a port busy, and kills. The
+broker is never left stopped, a new copy is never removed, and nothing is left for good."""
 import os, shutil, signal, subprocess, tempfile, threading, time
 from collections.abc import Iterator
 import pytest
 from tests.operate.service import Service, only, read
 from tests.operate.test_restore import set_clock
+from tests.players.files import statements
 from tests.process import run
 from tests.wire import same
 from tests.world import RED
@@ -24,6 +25,22 @@ def keep(service: Service, count: int = 3, status: int = 0, folder: str = "") ->
 
 def names(service: Service) -> list[str]:
     return sorted(os.listdir(f"{service.room}/backup"))
+
+
+@pytest.mark.parametrize("text", ["", "UPDATE results SET run = char(9) || '9' WHERE number = 2"])
+def test_night(service: Service, text: str) -> None:
+    """There are a copy, a page, and nothing else. If a row of the copy breaks a rule, that is said, with status 1."""
+    service.systemctl("stop")
+    statements(service.file, text)
+    service.start()
+    folder, page = f"{service.room}/backup", f"{service.room}/report.html"
+    it = service.begin(["examples/nightly.sh", service.program, service.file, folder, "3", page, "broker"])
+    said = it.communicate()[0].splitlines()
+    (copy,) = names(service)
+    line = f"the audit of {folder}/{copy} ends with 1: results, row 2: a gap in the numbers, or no run"
+    same("how it ends", (it.returncode, said[1:]), (1, [line]) if text else (0, []))
+    assert read(page).startswith("<!"), "no page is made"
+    same("what is left", [it for it in os.listdir(service.room) if it.startswith("report.html.")], [])
 
 
 def edited(service: Service, script: str, old: str, new: str) -> str:
