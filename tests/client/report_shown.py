@@ -135,6 +135,13 @@ def can_be_read(page: Browser, scheme: str) -> None:
         raise Wrong(f"in the {scheme} scheme a text has a contrast of {least:.1f}")
 
 
+def scrolls(page: Browser) -> bool:
+    """Whether the element that has the keyboard is scrolled once the arrow was pressed: on a busy machine one press may
+    come before the page is laid out."""
+    page.press("ArrowRight")
+    return bool(page.js("document.activeElement.scrollLeft > 0"))
+
+
 def drawn(page: Browser, wanted: Picture) -> None:
     """Each arrow goes from the edge of its consumer's box to that of its provider's, and each name fits into its
     box."""
@@ -180,8 +187,7 @@ def looked_at(page: Browser, path: str, titles: list[str], wanted: Picture) -> N
         same(f"how much wider than {width} it is", page.js(WIDER), 0)
     same("tables that the keyboard can't reach", page.js(UNREACHED), 0)
     if page.js(TOO_WIDE):
-        page.press("ArrowRight")
-        page.wait("document.activeElement.scrollLeft > 0", "the end of a wide table, by the keyboard,")
+        page.until(lambda: scrolls(page), "the end of a wide table, by the keyboard,")
     page.js("0")
     same("what the browser reports, or asks for", [it for it in page.events if is_seen(it, url)][:2], [])
     same("whether a script in it is run", page.js(RUNS), False)
