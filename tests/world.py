@@ -13,6 +13,13 @@ def new_file(program: str, room: str, name: str = "broker.db", token: str = OFFI
     return file
 
 
+def folded(program: str, file: str) -> None:
+    """Serves one connection, so that all rows are in the file and none in its log."""
+    with Server(program, file, 1) as server:
+        server.send()
+        same("the end", server.wait(), (0, "", ""))
+
+
 def pact(description: str) -> str:
     """A pact file of shop with stock, of one interaction."""
     return (

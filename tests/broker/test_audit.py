@@ -7,7 +7,7 @@ from tests.broker.parts import PACT, UNKNOWN, Broker, auditing, former_file, kep
 from tests.players.files import has_sums, seal, statements
 from tests.process import Server
 from tests.wire import OFFICE, same
-from tests.world import BLUE, RED, new_file, pact, register, verify
+from tests.world import BLUE, RED, folded, new_file, pact, register, verify
 
 GREEN = "green-team-token-1"
 STOCK = "/pacts/provider/stock/consumer/shop/version"
@@ -39,13 +39,6 @@ def fill(server: Server) -> None:
     server.do("POST", "/environments/live/deployments", BLUE, second)
     server.do("POST", "/environments/live/releases", RED, '{"pacticipant":"shop","version":"4"}')
     server.do("POST", "/environments/open/undeployments", BLUE, '{"pacticipant":"stock","version":"1"}')
-
-
-def folded(program: str, file: str) -> None:
-    """Serves one connection, so that all rows are in the file and none in its log."""
-    with Server(program, file, 1) as server:
-        server.send()
-        same("the end", server.wait(), (0, "", ""))
 
 
 @pytest.fixture(scope="module")

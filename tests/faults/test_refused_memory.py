@@ -12,7 +12,7 @@ from tests.players.shims import library
 from tests.players.story import Story, file_of
 from tests.process import Ended, Server, ran
 from tests.wire import OFFICE, PATIENCE, Wrong, answer, same
-from tests.world import new_file, register, verify
+from tests.world import folded, new_file, register, verify
 
 pytestmark = pytest.mark.needs("cc")
 STREAMS = "first-run", "goes-live", "checked-replies"
@@ -170,9 +170,7 @@ def test_each_request_of_an_audit_is_refused(program: str, room: str, text: str,
     with Server(program, file) as server:
         register(server)
         verify(server)
-    with Server(program, file, 1) as server:
-        server.send()
-        same("the end", server.wait(), (0, "", ""))
+    folded(program, file)
     statements(file, text)
     with open(file, "rb") as it:
         before = it.read()
