@@ -1,5 +1,5 @@
 //! Where connections come in, and which of them comes next.
-ghost use Rattle.std.specs.Prelude.{◌≡◌, ◌≢◌, ◌+◌, ◌<◌, ◌≤◌, ◌↔◌, length, max, IfErr, IfOk, IfSome, IsTrue, MatchOption};
+ghost use Rattle.std.specs.Prelude.{◌≡◌, ◌≢◌, ◌+◌, ◌<◌, ◌≤◌, ◌↔◌, [], length, max, IfErr, IfOk, IfSome, IsTrue, MatchOption};
 ghost use Rattle.http_messages.specs.Arrival.{is_ready};
 ghost use Rattle.http_messages.specs.Room.{KeepsReady};
 ghost use Rattle.program_io.specs.Listening.{ListensOn};
@@ -73,7 +73,10 @@ impl Entrance {
     }
 
     /// The next one that comes in. None if it was lost.
-    fn wait_for_one(&mut self) -> Option<Waiting<TcpStream>> {
+    fn wait_for_one(&mut self) -> Option<Waiting<TcpStream>>
+        ensures taken { self.old.room ≢ 0 → self.old.room ≡ self.new.room + 1 }
+        ensures same { (self.new.waiting ≡ self.old.waiting) × (self.new.gone ≡ self.old.gone) }
+    {
         self.room = self.room.saturating_sub(1);
         self.listener.set_nonblocking(false).ok()?;
         let found = self.listener.accept();
@@ -81,8 +84,14 @@ impl Entrance {
         Waiting::new(self.rt.alloc(), found.ok()?.0)
     }
 
-    /// The next connection, of those that wait, or else once one has come in. None if it was lost.
-    fn next(&mut self) -> Option<Waiting<TcpStream>> {
+    /// The next connection, of those that wait, or else once one has come in. None if it was lost. If some are still to
+    /// be handed out or reported as lost, it is one of them.
+    fn next(&mut self) -> Option<Waiting<TcpStream>>
+        ensures counts { 0 < length self.old.waiting.items + self.old.room + self.old.gone →
+            length self.old.waiting.items + self.old.room + self.old.gone
+            ≡ length self.new.waiting.items + self.new.room + self.new.gone + 1 }
+    {
+        // Before others are taken in: in their place one might go at whom nobody looked.
         if self.gone > 0 {
             self.gone -= 1;
             return None;
@@ -91,6 +100,10 @@ impl Entrance {
         look(&mut self.waiting, &self.rt);
         match next_of(&self.waiting) {
             Some(place) => Some(self.waiting.remove(place)),
+            None if self.gone > 0 => {
+                self.gone -= 1;
+                None
+            }
             None => self.wait_for_one(),
         }
     }
@@ -163,6 +176,8 @@ impl Connections {
 /// So many connections to an address of loopback. `Listen`: the text says none, or it can't be listened on.
 pub fn listen_on(rt: &HostRuntime, listen: &str, connections: u32) -> Result<Connections, RunFault>
     ensures count { IfOk result (λ found. (found.all ≡ connections) × (found.served ≡ 0)) }
+    ensures room { IfOk result (λ found. (found.entrance.room ≡ connections) × (found.entrance.gone ≡ 0)
+        × (found.entrance.waiting.items ≡ [])) }
     ensures said { IfOk result (λ _. ListensOn listen.now) }
     ensures cause { IfErr result (λ fault. fault ≡ RunFault.Listen) }
 {

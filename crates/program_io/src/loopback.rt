@@ -6,14 +6,36 @@ use crate::fault::RunFault;
 use std::io;
 use std::net::{SocketAddr, TcpListener, TcpStream};
 
+/// What listens at an address.
+trait Listening {
+    ghost use Rattle.std.specs.Prelude.{Option, None, IfSome};
+    ghost use Rattle.std.specs.declared.net.socket_addr.SocketAddr.{SocketAddr};
+
+    /// The address, if it is known.
+    ghost address: { Self → Option SocketAddr } = { λ _. None };
+
+    /// The address.
+    fn own_address(&self) -> io::Result<SocketAddr>
+        ensures { IfOk result (λ own. IfSome (address self.now) (λ known. own ≡ known)) };
+}
+
+impl Listening for TcpListener {
+    fn own_address(&self) -> io::Result<SocketAddr> {
+        self.local_addr()
+    }
+}
+
 /// A listener on an address of loopback, which is the one that was asked for. Only `bound_to` makes one, which can't
 /// listen on anything itself.
 #[derive(Drop)]
-pub(crate) struct LoopbackListener {
-    listener: TcpListener,
+pub(crate) struct OnLoopback<L> {
+    listener: L,
 }
 
-impl LoopbackListener {
+/// One of the system.
+pub(crate) type LoopbackListener = OnLoopback<TcpListener>;
+
+impl OnLoopback<TcpListener> {
     /// The next connection, with its address.
     pub(crate) fn accept(&self) -> io::Result<(TcpStream, SocketAddr)> {
         self.listener.accept()
@@ -50,7 +72,7 @@ fn loopback_of(listen: &str) -> Option<SocketAddr>
 
 /// The address, if it is one of loopback with the port that was asked for. Port 0 asks for any.
 fn if_asked(found: SocketAddr, asked: SocketAddr) -> Option<SocketAddr>
-    ensures { IfSome result (λ bound. IsOfLoopback bound × HasPortOf asked bound) }
+    ensures { IfSome result (λ bound. (bound ≡ found) × IsOfLoopback bound × HasPortOf asked bound) }
 {
     let bound = if_loopback(found)?;
     if asked.port() == 0 || bound.port() == asked.port() {
@@ -60,13 +82,18 @@ fn if_asked(found: SocketAddr, asked: SocketAddr) -> Option<SocketAddr>
     }
 }
 
-/// The listener, if the system says that it listens on the address that was asked for, and that address.
-fn bound_to(listener: TcpListener, asked: SocketAddr) -> Option<(LoopbackListener, SocketAddr)>
+/// The listener, if it says that it listens on the address that was asked for, and that address, which is its own.
+fn bound_to<L: Listening + Drop>(
+    listener: L,
+    asked: SocketAddr,
+) -> Option<(OnLoopback<L>, SocketAddr)>
     ensures bound { IfSome result (λ found. IsOfLoopback found.1 × HasPortOf asked found.1) }
+    ensures own { IfSome result (λ found. IfSome (L.address listener) (λ known. found.1 ≡ known)) }
     ensures same { IfSome result (λ found. found.0.listener ≡ listener) }
 {
-    let bound = if_asked(listener.local_addr().ok()?, asked)?;
-    Some((LoopbackListener { listener }, bound))
+    let own = listener.own_address().ok()?;
+    let bound = if_asked(own, asked)?;
+    Some((OnLoopback { listener }, bound))
 }
 
 /// A listener on the address of loopback that the text says, and that address as the system says it.
