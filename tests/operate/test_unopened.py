@@ -91,6 +91,18 @@ def test_foreign(file: str, open_program: str) -> None:
     named(file, open_program, "foreign")
 
 
+def test_view_more(file: str, folder: str, open_program: str) -> None:
+    """A view for a report, an index that is gone and a column more are named, each in a line."""
+    script = "CREATE VIEW report AS SELECT 1; DROP INDEX contents_by_digest; ALTER TABLE grants ADD COLUMN since TEXT;"
+    declared = run(as_nobody("sqlite3", "-bail", file, ".dump"))
+    for it in os.scandir(folder):
+        os.remove(it.path)
+    run(as_nobody("sqlite3", "-bail", file), text=declared + script)
+    refused(file, open_program, "open 2\n")
+    lines = ["it has also: column grants.since TEXT", "it has also: view report", "it lacks: index contents_by_digest"]
+    same("what differs", sorted(named(file, open_program, "foreign")), lines)
+
+
 def test_damaged(file: str, open_program: str) -> None:
     with open(file, "r+b") as it:
         it.seek(5000)
