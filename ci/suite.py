@@ -21,6 +21,7 @@ STATIC = {
     "the form of the sources": ["ci/formats"],
     "the lists of what has to be believed": ["ci/believed"],
     "the list of what has to be read": ["ci/read"],
+    "the calls that READMEs list": ["ci/readmes"],
     "the calls that callers are promised": ["ci/calls"],
     "the table of times": ["ci/times"],
     "the edits can be made": ["ci/wrong-bodies", "--read"],

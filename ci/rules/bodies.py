@@ -6,7 +6,7 @@
   wrong-definitions/, and changes files of specs/ alone.
 - Only the crates of KIT have edits in must-fail/, which `rt ci` proves once more for them; all others are in
   wrong-bodies/.
-- Each public function is called by another crate of the product, by `uses` or a test of `calls`, or by a law. ci/UNCALLED
+- Each public function is called by another crate of the product, by `worked_examples` or a test of `calls`, or by a law. ci/UNCALLED
   has the others.
 
 A line of either list is `CRATE::NAME: why`."""
@@ -123,7 +123,7 @@ def against(list, lacking, what, has):
 
 def uncalled(product, checks):
     """The public functions that nothing of another crate calls, and no law."""
-    callers = [*product, *(it for it in checks if it.name in ("uses", "calls"))]
+    callers = [*product, *(it for it in checks if it.name in ("worked_examples", "calls"))]
     for crate in product:
         among = [it for other in callers for it in other.functions if other is not crate or it.is_law]
         for callee in (it for it in crate.functions if crate.is_public(it) and not it.is_law and it.name != "main"):

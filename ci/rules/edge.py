@@ -6,10 +6,9 @@ import re
 from definitions import TOP, text_of
 from sources import bare, place
 
-STREAMS = ("broker_program/src/process.rt",)
 PLACES = (
-    ("the standard streams", re.compile(r"\bstd(?:in|out|err)\b"), STREAMS),
-    ("the words and variables of the process", re.compile(r"\benv\b"), STREAMS),
+    ("the standard streams", re.compile(r"\bstd(?:in|out|err)\b"), ("broker/src/main.rt",)),
+    ("the words and variables of the process", re.compile(r"\benv\b"), ("broker_program/src/process.rt",)),
     ("files", re.compile(r"\bfs\b"), ("broker_program/src/files.rt", "program_io/src/check.rt")),
     ("a database's file", re.compile(r"\bopen_from\b|\bsqlite_std_file\b"), ("broker_program/src/files.rt",)),
     ("a seed", re.compile(r"\bRandomState\b"), ("broker_program/src/seed.rt",)),

@@ -1,7 +1,7 @@
 """The rules of lemmas, tables and columns.
 
 - A lemma that proofs of another crate cite is in a file of proofs/ that the README of its own crate names. The crate
-  `uses` cites none: its callers are proved from public contracts.
+  `worked_examples` cites none: its callers are proved from public contracts.
 - A lemma is named by its subject and its law, as `take-append`: each that another crate cites, but for those of NAMED,
   and seven of ten of all.
 - Each lemma is cited: by a proof, by a tactic of the code, or, as a worked example is, by a document. In a file whose
@@ -57,7 +57,7 @@ def not_offered(crates):
     for crate in crates:
         for path in files(crate):
             for other, module, lemmas in cited_in(text_of(path)):
-                if other in names and other != crate.name and crate.name == "uses":
+                if other in names and other != crate.name and crate.name == "worked_examples":
                     yield f"{os.path.relpath(path, TOP)}: it cites lemmas of {other}"
                 elif other in names and other != crate.name:
                     cited[other, module.replace(".", "/")] |= set(lemmas)

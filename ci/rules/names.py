@@ -3,12 +3,12 @@
 - A crate has at most 110 functions; MORE has one with more, and why. No two of its functions outside `impl` have one name, and no two definitions of
   its specs/ that aren't operators have one.
 - No two crates define one word, a name with a capital letter; TWICE has those that do, with why none is taken for
-  the other."""
-import os
+  the other. Nor do they give one name to a type that others may call; TYPES has those that do."""
+import os, re
 from collections import defaultdict
 
 from definitions import TOP, definitions_in, files_of, text_of
-from sources import place
+from sources import bare, place
 
 MOST = 110
 MORE = {
@@ -31,13 +31,16 @@ TWICE = {
     "IsPlaceRead": "each crate of commands, of the place that it reads",
     "Reads": "private in pact_rules; how a file is read",
     # Two things of two subjects, which no clause and no crate names together.
-    "IsCalm": "references without actions, in table_access; failures with a cause, in broker_tables",
     "IsKept": "JSON as a reader keeps it; the rules of tables",
     "IsRefusal": "the answer to a deployment; the fault of a pattern",
     "IsToken": "a caller's token; one of a path expression",
-    "Serves": "a connection to its look-ups; a broker to a stream",
     "State": "the broker's; one of a provider, which is the Pact Specification's word",
     "Step": "the machine's; one down a tree",
+}
+# The same of public types.
+TYPES = {
+    "Place": "where a fault is, in a pact file or in recorded replies",
+    "Refused": "a database that has no broker, with its connection; a head, with why",
 }
 
 
@@ -86,7 +89,21 @@ def words(crates):
     yield from (f"ci/rules/names.py: TWICE has {it}, which one crate defines" for it in sorted(left))
 
 
+def types(crates):
+    """A public type's name has one crate."""
+    places = defaultdict(dict)
+    for crate in crates:
+        for path in crate.files:
+            for it in re.findall(r"(?m)^pub (?:struct|enum|trait|type) (\w+)", bare(text_of(path))):
+                if crate.is_lent(it, path):
+                    places[it][crate.name] = os.path.relpath(path, TOP)
+    twice = {name: found for name, found in places.items() if len(found) > 1}
+    yield from (f"{len(it)} crates have a type {name}: {', '.join(it.values())}" for name, it in twice.items() if name not in TYPES)
+    yield from (f"ci/rules/names.py: TYPES has {it}, which one crate has" for it in sorted(set(TYPES) - set(twice)))
+
+
 def faults(product, checks):
     yield from too_large(product + checks)
     yield from twice(product + checks)
     yield from words(product)
+    yield from types(product)

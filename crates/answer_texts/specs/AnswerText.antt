@@ -7,7 +7,7 @@ use Rattle.broker_core.specs.declared.answer.Detail.{Detail}
 use Rattle.broker_core.specs.declared.answer.Detail.TheVariants as detail
 use Rattle.broker_core.specs.declared.answer.Shown.{Shown}
 use Rattle.broker_core.specs.declared.answer.Shown.TheVariants as shown
-use Rattle.broker_core.specs.declared.policy.Rule.TheVariants.{A1}
+use Rattle.broker_core.specs.declared.policy.Rule.TheVariants.{KnownCaller}
 use Rattle.broker_core.specs.Text.{Text}
 use Rattle.broker_core.specs.Words.{rule_text, missing_text, clash_text, fault_text, named_in}
 use Rattle.answer_texts.specs.declared.constants.BodyText.{BodyText}
@@ -41,7 +41,7 @@ abbrev pub status_of : Answer → ℕ
 status_of (answer.Done d) = 200
 status_of (answer.Already d) = 200
 status_of (answer.Shown x) = 200
-status_of (answer.Denied A1) = 401
+status_of (answer.Denied KnownCaller) = 401
 status_of (answer.Denied rule) = 403
 status_of (answer.Unknown what) = 404
 status_of (answer.BadForm f) = 422

@@ -95,7 +95,7 @@ impl RenderedAnswer {
     {
         match &self.answer {
             Answer::Done(_) | Answer::Already(_) | Answer::Shown(_) => StatusCode::OK,
-            Answer::Denied(Rule::A1) => StatusCode::UNAUTHORIZED,
+            Answer::Denied(Rule::KnownCaller) => StatusCode::UNAUTHORIZED,
             Answer::Denied(_) => StatusCode::FORBIDDEN,
             Answer::Unknown(_) => StatusCode::NOT_FOUND,
             Answer::BadForm(_) => StatusCode::UNPROCESSABLE_ENTITY,

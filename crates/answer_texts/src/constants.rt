@@ -32,14 +32,14 @@ pub(crate) fn denied_text(rule: Rule) -> &'static str
     ensures { result.now ≡ answer_text (answers.Denied rule) }
 {
     match rule {
-        Rule::A1 => "{\"answer\":\"denied\",\"rule\":\"A1\"}",
-        Rule::A2 => "{\"answer\":\"denied\",\"rule\":\"A2\"}",
-        Rule::A3 => "{\"answer\":\"denied\",\"rule\":\"A3\"}",
-        Rule::A4 => "{\"answer\":\"denied\",\"rule\":\"A4\"}",
-        Rule::A5 => "{\"answer\":\"denied\",\"rule\":\"A5\"}",
-        Rule::A6 => "{\"answer\":\"denied\",\"rule\":\"A6\"}",
-        Rule::A7 => "{\"answer\":\"denied\",\"rule\":\"A7\"}",
-        Rule::A8 => "{\"answer\":\"denied\",\"rule\":\"A8\"}",
+        Rule::KnownCaller => "{\"answer\":\"denied\",\"rule\":\"A1\"}",
+        Rule::OfficeOnly => "{\"answer\":\"denied\",\"rule\":\"A2\"}",
+        Rule::OwnerToPublish => "{\"answer\":\"denied\",\"rule\":\"A3\"}",
+        Rule::OwnerToVerify => "{\"answer\":\"denied\",\"rule\":\"A4\"}",
+        Rule::OwnerOrOfficeToRead => "{\"answer\":\"denied\",\"rule\":\"A5\"}",
+        Rule::OwnerOrOfficeToAsk => "{\"answer\":\"denied\",\"rule\":\"A6\"}",
+        Rule::OwnerWithGrant => "{\"answer\":\"denied\",\"rule\":\"A7\"}",
+        Rule::KnownCallerToList => "{\"answer\":\"denied\",\"rule\":\"A8\"}",
     }
 }
 

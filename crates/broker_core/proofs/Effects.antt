@@ -3,7 +3,7 @@ use Rattle.std.specs.{Prelude.{Option, Some, None, is_some}, Option.{option_map_
 use Rattle.std.proofs.Common.{◌≡◌, ◌∷◌, [], ◌++◌, ℕ, List, refl, sym, ◌∙◌, ap, subst, Bool, true, false, ◌&&◌, ◌||◌, if◌then◌else◌}
 use Rattle.broker_core.specs.declared.command.Command.TheVariants.{PutTeam, PutPacticipant, PutEnvironment, PutGrant, DeleteGrant, PutVersion, PutPact, GetPact, GetBranchPact, PostResult, PostReplies, Deploy, Undeploy, Release, EndSupport, GetEnvironment, CanIDeploy, GetMatrix, Malformed}
 use Rattle.broker_core.specs.Request.{asks, refused, first_missing, is_allowed, is_known, consumer_version}
-use Rattle.broker_core.specs.Change.{Transition, unchanged_with, repeated, named, joined, stored, is_stored, can_name, on_branch, is_text, text_of, content_number, result_of_run, says_same, report, instance_of}
+use Rattle.broker_core.specs.Change.{Transition, unchanged_with, repeated, with_version, with_branch, with_content, is_stored, can_name, on_branch, is_text, text_of, content_number, result_of_run, says_same, report, instance_of}
 use Rattle.broker_core.specs.{Machine.{Primitives, HasDigest, IsCallerOfDigest, Step, TakesEffect, report_replies, is_step, is_empty}, Machine.Reading.{IsPact}}
 use Rattle.broker_core.specs.{declared.policy.Caller.{Caller}, declared.command.Command.{Command}, declared.command.Marks.{Marks}}
 use Rattle.broker_core.specs.{declared.command.PactPath.{PactPath}, declared.command.Report.{Report}, declared.command.Version.{Version}}
@@ -34,19 +34,19 @@ with_contract s v provider text = record s {
 abbrev pub with_result : State → Verification → State
 with_result s r = record s { versions = versions_with s r.version; results = s.results ++ r ∷ [] }
 
-pub named-versions_with : (s : State) (v : Version) → named s v ≡ record s { versions = versions_with s v }
-named-versions_with s v =
+pub with_version-versions_with : (s : State) (v : Version) → with_version s v ≡ record s { versions = versions_with s v }
+with_version-versions_with s v =
     let more : State = record s { versions = s.versions ++ v ∷ [] } in
     elim (is_known s v) as (λ b. (if b then s else more) ≡ record s { versions = if b then s.versions else more.versions }) [ true ↦ refl | false ↦ refl ]
 
-pub stored-contents_with : (s : State) (text : Text) → stored s text ≡ record s { contents = contents_with s.contents text }
-stored-contents_with s text =
+pub with_content-contents_with : (s : State) (text : Text) → with_content s text ≡ record s { contents = contents_with s.contents text }
+with_content-contents_with s text =
     let more : State = record s { contents = s.contents ++ text ∷ [] } in
     elim (is_stored s text) as (λ b. (if b then s else more) ≡ record s { contents = if b then s.contents else more.contents }) [ true ↦ refl | false ↦ refl ]
 
-joined-branches_with : (s : State) (v : Version) (branch : Option Text) → joined s v branch ≡ record s { branches = branches_with s v branch }
-joined-branches_with s v None = refl
-joined-branches_with s v (Some branch) = refl
+with_branch-branches_with : (s : State) (v : Version) (branch : Option Text) → with_branch s v branch ≡ record s { branches = branches_with s v branch }
+with_branch-branches_with s v None = refl
+with_branch-branches_with s v (Some branch) = refl
 
 -- ---- the changes
 
@@ -121,7 +121,7 @@ module _ (parts : Primitives) (s : State) (c : Command) where
   Effect-report : (r : Verification) (detail : ℕ → Detail)
       → (result_of_run s r.version.pacticipant r.run ≡ None → Change parts s c (with_result s r)) → Effect parts s c (report s r detail)
   Effect-report r detail change =
-      let added = ap (λ (t : State). record t { results = s.results ++ r ∷ [] }) (named-versions_with s r.version) in
+      let added = ap (λ (t : State). record t { results = s.results ++ r ∷ [] }) (with_version-versions_with s r.version) in
       Effect-option_map_or _ _ (result_of_run s r.version.pacticipant r.run) (λ e. Effect-cond_answer (says_same e.1 r) _ _ refl refl)
       (λ free. Effect-cond (can_name s r.version && has_room s.results) _ _ (λ _. Effect-done _ (with_result s r) _ added (change free)) (λ _. returned _ refl))
 
@@ -137,7 +137,7 @@ module _ (parts : Primitives) (s : State) where
   Effect-of_TakesEffect (DeleteGrant name e) out x =
       Effect-of_equal parts s _ x (Effect-cond parts s _ (s.grants (name, e)) _ _ (λ there. changed _ _ (end_of_grant name e there)) (λ _. returned _ refl))
   Effect-of_TakesEffect (PutVersion v branch) out x =
-      let put = ap (λ (t : State). joined t v branch) (named-versions_with s v) ∙ joined-branches_with (record s { versions = versions_with s v }) v branch in
+      let put = ap (λ (t : State). with_branch t v branch) (with_version-versions_with s v) ∙ with_branch-branches_with (record s { versions = versions_with s v }) v branch in
       Effect-of_equal parts s _ x (Effect-cond parts s _ (is_known s v && on_branch s v branch) _ _ (λ _. returned _ refl)
       (λ new. Effect-cond parts s _ (can_name s v) _ _ (λ _. Effect-done parts s _ _ _ _ put (named_version v branch new)) (λ _. returned _ refl)))
   Effect-of_TakesEffect (PutPact path file) out x =
@@ -147,12 +147,12 @@ module _ (parts : Primitives) (s : State) where
       (λ _. Effect-done parts s _ _ _ _ (published v path.provider x.0) (contract path file x.0 free x.1)) (λ _. returned _ refl)))
     where
       published : (v : Version) (provider text : Text)
-          → record (stored (named s v) text) { contracts = put_at (same_pair same_version same_text) s.contracts (v, provider) (Some (content_number s text)) }
+          → record (with_content (with_version s v) text) { contracts = put_at (same_pair same_version same_text) s.contracts (v, provider) (Some (content_number s text)) }
           ≡ with_contract s v provider text
       published v provider text =
           let table = put_at (same_pair same_version same_text) s.contracts (v, provider) (Some (content_number s text)) in
-          ap (λ (t : State). record (stored t text) { contracts = table }) (named-versions_with s v)
-          ∙ ap (λ (t : State). record t { contracts = table }) (stored-contents_with (record s { versions = versions_with s v }) text)
+          ap (λ (t : State). record (with_content t text) { contracts = table }) (with_version-versions_with s v)
+          ∙ ap (λ (t : State). record t { contracts = table }) (with_content-contents_with (record s { versions = versions_with s v }) text)
   Effect-of_TakesEffect (GetPact path) out x = Effect-of_equal parts s _ x.2 (returned _ refl)
   Effect-of_TakesEffect (GetBranchPact provider consumer branch) out x = Effect-of_equal parts s _ x.2.2 (returned _ refl)
   Effect-of_TakesEffect (PostResult path r success) out x = Effect-of_equal parts s _ x.2 (Effect-report parts s _ _ _ (claim path r success x.0 x.1))

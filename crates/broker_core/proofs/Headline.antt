@@ -11,7 +11,7 @@ use Rattle.broker_core.specs.{declared.policy.Caller.{Caller}, declared.policy.C
 use Rattle.broker_core.specs.{declared.command.Command.TheVariants.{Deploy, Release}, declared.command.Version.{Version}}
 use Rattle.broker_core.specs.{declared.command.FormFault.{FormFault}, declared.need.Need.{Need}, declared.need.Latest.{Latest}}
 use Rattle.broker_core.specs.{declared.need.PairFault.{PairFault}, declared.answer.Answer.{Answer}, declared.answer.Detail.TheVariants.{Plain}}
-use Rattle.broker_core.specs.{declared.answer.Missing.{Missing}, declared.policy.Rule.TheVariants.{A1, A7}}
+use Rattle.broker_core.specs.{declared.answer.Missing.{Missing}, declared.policy.Rule.TheVariants.{KnownCaller, OwnerWithGrant}}
 use Rattle.broker_core.specs.{Text.{Text, same_text, same_version, same_pair, same_place, put_at, version}, State.{State, latest, is_gated, is_strict}}
 use Rattle.broker_core.specs.{Policy.{allows}, Machine.{Primitives, IsCallerOfToken, FindsFault, Step, TakesEffect}, Laws.{TeamsDiffer}}
 use Rattle.broker_core.proofs.Lists.{Some-injective, None-not_Some, list_any-of_member}
@@ -60,7 +60,7 @@ says_recorded-differs answer other (inr is) = let wrong : false ≡ true = sym o
 
 -- what the owner's rule asks of the caller
 owns : State → Text → Version → Caller → Bool
-owns s e v caller = allows A7 caller (filter_map s.pacticipants (v.pacticipant ∷ [])) (has_grant s caller (Some e))
+owns s e v caller = allows OwnerWithGrant caller (filter_map s.pacticipants (v.pacticipant ∷ [])) (has_grant s caller (Some e))
 
 module _ (parts : Primitives) (s : State) (token : Option Text) (e : Text) (v : Version) (one : TeamsDiffer s) where
   -- what was recorded might be; or it was refused, might not be, and nothing changed
@@ -128,7 +128,7 @@ module _ (parts : Primitives) (s : State) (token : Option Text) (e : Text) (v : 
   absent = unless (is_some (s.environments e)) missing.Environment (unless (is_some (s.pacticipants v.pacticipant)) missing.Pacticipant (unless (is_known s v) missing.Version None))
 
   -- a known caller's command, name by name, then the policy, then what the gate makes of it
-  Ends-by_caller : (IsRecorded : State → Type 0) (out : Transition) (c : Command) → (asks c).rule ≡ A7 → (caller : Caller) → IsCallerOfToken parts s token (Some caller)
+  Ends-by_caller : (IsRecorded : State → Type 0) (out : Transition) (c : Command) → (asks c).rule ≡ OwnerWithGrant → (caller : Caller) → IsCallerOfToken parts s token (Some caller)
       → (NamesExist s e v → IsGranted parts s token e v → TakesEffect parts s c out → Ends IsRecorded out) → After parts s c out (refused c absent (owns s e v caller)) → Ends IsRecorded out
   Ends-by_caller IsRecorded out c rule caller called acts h = by_names (is_some (s.environments e)) (is_some (s.pacticipants v.pacticipant)) (is_known s v) (owns s e v caller) refl refl refl refl h
     where
@@ -156,10 +156,10 @@ module _ (parts : Primitives) (s : State) (token : Option Text) (e : Text) (v : 
           by_owner true d names is = acts names (IsGranted-of_owns caller called d) is
           by_owner false d names is =
               let bars : ¬ (IsGranted parts s token e v) = λ g. clash _ d (owns-of_IsGranted caller called g) in
-              Ends-refused IsRecorded out (Denied A7) (is ∙ ap (λ r. unchanged_with s (Denied r)) rule) (known, names, bars) (λ may. bars may.granted) (says_recorded-differs _ refl)
+              Ends-refused IsRecorded out (Denied OwnerWithGrant) (is ∙ ap (λ r. unchanged_with s (Denied r)) rule) (known, names, bars) (λ may. bars may.granted) (says_recorded-differs _ refl)
 
   -- the whole step
-  Ends-by_step : (IsRecorded : State → Type 0) (out : Transition) (c : Command) → (asks c).rule ≡ A7 → ((f : Option FormFault) → FindsFault parts c f → f ≡ None)
+  Ends-by_step : (IsRecorded : State → Type 0) (out : Transition) (c : Command) → (asks c).rule ≡ OwnerWithGrant → ((f : Option FormFault) → FindsFault parts c f → f ≡ None)
       → ((caller : Caller) → refusal s caller c ≡ refused c absent (owns s e v caller))
       → (NamesExist s e v → IsGranted parts s token e v → TakesEffect parts s c out → Ends IsRecorded out)
       → Step parts s token c out → Ends IsRecorded out
@@ -172,7 +172,7 @@ module _ (parts : Primitives) (s : State) (token : Option Text) (e : Text) (v : 
       no_one called may = let wrong = IsCallerOfToken-unique parts s token one None (Some (Team may.granted.team)) called may.granted.caller in cc
 
       by_way : (o : Transition) → Way parts s token c o → (NamesExist s e v → IsGranted parts s token e v → TakesEffect parts s c o → Ends IsRecorded o) → Ends IsRecorded o
-      by_way _ (nobody called) acts = Ends-refused IsRecorded _ (Denied A1) refl called (no_one called) (says_recorded-differs _ refl)
+      by_way _ (nobody called) acts = Ends-refused IsRecorded _ (Denied KnownCaller) refl called (no_one called) (says_recorded-differs _ refl)
       by_way _ (misformed caller called f form) acts = absurd (None-not_Some f (sym (formed (Some f) form)))
       by_way _ (refused_way caller called form answer is) acts = Ends-by_caller IsRecorded _ c rule caller called acts (as_asked caller (Some answer) _ is refl)
       by_way _ (acting caller called form o is it) acts = Ends-by_caller IsRecorded o c rule caller called acts (as_asked caller None o is it)

@@ -6,7 +6,7 @@ use Rattle.broker_core.specs.Change.{Transition, unchanged_with, put_team, put_p
 use Rattle.broker_core.specs.declared.answer.Detail.TheVariants.{Result}
 use Rattle.broker_core.specs.Machine.{Primitives, IsCallerOfDigest, IsCallerOfToken, StepOfCaller, Reading, pact_text, Step, FindsFault, TakesEffect, deployed_cmp, version_cmp, matrix_cmp, verified_version, report_replies, fault_of_reading}
 use Rattle.broker_core.specs.{Gate.{Judges}, declared.need.PairFault.{PairFault}, declared.policy.Caller.TheVariants.{Office, Team}}
-use Rattle.broker_core.specs.{declared.policy.Caller.{Caller}, declared.policy.Rule.TheVariants.{A1}, declared.command.Command.{Command}}
+use Rattle.broker_core.specs.{declared.policy.Caller.{Caller}, declared.policy.Rule.TheVariants.{KnownCaller}, declared.command.Command.{Command}}
 use Rattle.broker_core.specs.{declared.command.Version.{Version}, declared.command.FormFault.{FormFault}, declared.answer.Answer.{Answer}}
 use Rattle.broker_core.specs.{declared.answer.Answer.TheVariants.{Denied, BadForm, NotPermitted, Shown}, declared.answer.DeployedItem.{DeployedItem}}
 use Rattle.broker_core.specs.{declared.answer.MatrixRow.{MatrixRow}, Text.{Text, version}, State.{State, claimed_result}, Request.{refusal, consumer_version}}
@@ -126,7 +126,7 @@ module _ (parts : Primitives) (is_refusal : FormFault → Bool) (s : State) (one
   FindsFault-unique _ are f g x y = inl (x ∙ sym y)
 
   Rest : Command → Transition → Option Caller → Type 0
-  Rest c out who = MatchOption who (out ≡ unchanged_with s (Denied A1)) (λ caller. StepOfCaller parts s caller c out)
+  Rest c out who = MatchOption who (out ≡ unchanged_with s (Denied KnownCaller)) (λ caller. StepOfCaller parts s caller c out)
 
   Same : Transition → Transition → Type 0
   Same a b = (a ≡ b) ⊎ (AnswersRefusal is_refusal a.answer ⊎ AnswersRefusal is_refusal b.answer)

@@ -3,10 +3,10 @@ use Rattle.std.{specs.Prelude.{Option, Some, None, MatchOption}, proofs.Common.{
 use Rattle.broker_core.specs.{Text.{Text}, State.{State}, Request.{refusal}, Change.{Transition, unchanged_with}}
 use Rattle.broker_core.specs.{Machine.{Primitives, FindsFault, IsCallerOfToken, Step, StepOfCaller, TakesEffect}, declared.answer.Answer.{Answer}}
 use Rattle.broker_core.specs.{declared.answer.Answer.TheVariants.{BadForm, Denied}, declared.command.Command.{Command}, declared.command.FormFault.{FormFault}}
-use Rattle.broker_core.specs.{declared.policy.Caller.{Caller}, declared.policy.Rule.TheVariants.{A1}}
+use Rattle.broker_core.specs.{declared.policy.Caller.{Caller}, declared.policy.Rule.TheVariants.{KnownCaller}}
 
 pub data Way (parts : Primitives) (s : State) (token : Option Text) (c : Command) : Transition → Type 0 where
-  nobody : IsCallerOfToken parts s token None → Way parts s token c (unchanged_with s (Denied A1))
+  nobody : IsCallerOfToken parts s token None → Way parts s token c (unchanged_with s (Denied KnownCaller))
   misformed : (caller : Caller) → IsCallerOfToken parts s token (Some caller) → (f : FormFault) → FindsFault parts c (Some f)
       → Way parts s token c (unchanged_with s (BadForm f))
   refused : (caller : Caller) → IsCallerOfToken parts s token (Some caller) → FindsFault parts c None
@@ -36,7 +36,7 @@ module _ (parts : Primitives) (s : State) (token : Option Text) (c : Command) wh
       by_form caller calls (Some f) form it = returned _ it (misformed caller calls f form)
 
       by_who : (who : Option Caller) → IsCallerOfToken parts s token who
-          → MatchOption who (out ≡ unchanged_with s (Denied A1)) (λ caller. StepOfCaller parts s caller c out) → Way parts s token c out
+          → MatchOption who (out ≡ unchanged_with s (Denied KnownCaller)) (λ caller. StepOfCaller parts s caller c out) → Way parts s token c out
       by_who None calls it = returned _ it (nobody calls)
       by_who (Some caller) calls it = by_form caller calls it.0 it.1 it.2
 

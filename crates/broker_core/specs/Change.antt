@@ -67,8 +67,8 @@ delete_grant s team e =
     else unchanged_with s (Unknown missing.Grant)
 
 -- the version is there, with the next number if it is new
-abbrev pub named : State → Version → State
-named s v = if is_known s v then s else record s { versions = s.versions ++ v ∷ [] }
+abbrev pub with_version : State → Version → State
+with_version s v = if is_known s v then s else record s { versions = s.versions ++ v ∷ [] }
 
 -- it is there, or may be numbered
 abbrev pub can_name : State → Version → Bool
@@ -80,16 +80,16 @@ on_branch s v (Some branch) = s.branches (v, branch)
 on_branch s v None = true
 
 -- the version is on the branch, if one is given
-abbrev pub joined : State → Version → Option Text → State
-joined s v (Some branch) =
+abbrev pub with_branch : State → Version → Option Text → State
+with_branch s v (Some branch) =
     record s { branches = put_at (same_pair same_version same_text) s.branches (v, branch) true }
-joined s v None = s
+with_branch s v None = s
 
 -- the version is named and put on the branch
 abbrev pub put_version : State → Version → Option Text → Transition
 put_version s v branch =
     if is_known s v && on_branch s v branch then already s
-    else if can_name s v then done (joined (named s v) v branch)
+    else if can_name s v then done (with_branch (with_version s v) v branch)
     else unchanged_with s Full
 
 -- the text of the content with a number
@@ -105,8 +105,8 @@ abbrev pub content_number : State → Text → ℕ
 content_number s text = position_or_len (same_text text) s.contents + 1
 
 -- the text is one of the contents, with the next number if it is new
-abbrev pub stored : State → Text → State
-stored s text = if is_stored s text then s else record s { contents = s.contents ++ text ∷ [] }
+abbrev pub with_content : State → Text → State
+with_content s text = if is_stored s text then s else record s { contents = s.contents ++ text ∷ [] }
 
 -- there is a text, and it is this one
 abbrev pub is_text : Text → Option Text → Bool
@@ -125,7 +125,7 @@ put_pact s v provider text =
     (if can_name s v && (is_stored s text || has_room s.contents)
     then record {
       answer = Done (Content (content_number s text));
-      state = record (stored (named s v) text) {
+      state = record (with_content (with_version s v) text) {
         contracts = put_at (same_pair same_version same_text) s.contracts (v, provider) (Some (content_number s text));
       };
     }
@@ -152,7 +152,7 @@ report s r detail =
     (if can_name s r.version && has_room s.results
     then record {
       answer = Done (detail (length s.results + 1));
-      state = record (named s r.version) { results = s.results ++ r ∷ [] };
+      state = record (with_version s r.version) { results = s.results ++ r ∷ [] };
     }
     else unchanged_with s Full)
 

@@ -6,7 +6,7 @@
 use Rattle.std.specs.Prelude.{◌≡◌, ◌≢◌, ◌⊎◌, ◌↔◌, ℕ, Option, Some, None, IsSome, IsNone, IsSomeAnd, IsTrue, Contains}
 use Rattle.broker_core.specs.declared.policy.Caller.{Caller}
 use Rattle.broker_core.specs.declared.policy.Caller.TheVariants.{Team}
-use Rattle.broker_core.specs.declared.policy.Rule.TheVariants.{A1, A7}
+use Rattle.broker_core.specs.declared.policy.Rule.TheVariants.{KnownCaller, OwnerWithGrant}
 use Rattle.broker_core.specs.declared.command.Command.TheVariants.{Deploy, Release}
 use Rattle.broker_core.specs.declared.command.Version.{Version}
 use Rattle.broker_core.specs.declared.answer.Answer.{Answer}
@@ -93,9 +93,9 @@ module _ (parts : Primitives) (s : State) (token : Option Text) (e : Text) (v : 
   -- the refusals, each with its case: no one's token; a name that isn't there; a caller that isn't granted; and all
   -- faults in order
   abbrev pub IsRefusal : Answer → Type 0
-  IsRefusal (Denied A1) = IsCallerOfToken parts s token None
+  IsRefusal (Denied KnownCaller) = IsCallerOfToken parts s token None
   IsRefusal (Unknown what) = HasCaller × IsFirstMissing s e v what
-  IsRefusal (Denied A7) = HasCaller × NamesExist s e v × ¬ IsGranted
+  IsRefusal (Denied OwnerWithGrant) = HasCaller × NamesExist s e v × ¬ IsGranted
   IsRefusal (NotPermitted faults) =
       NamesExist s e v × IsGranted × (¬ (IsPermitted s v e)) × Lists fault_cmp (IsFault s v e) faults
   IsRefusal _ = ⊥

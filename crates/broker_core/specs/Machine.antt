@@ -6,7 +6,7 @@ use Rattle.std.specs.Ordering.{ordering_then}
 use Rattle.std.specs.Option.{option_cmp}
 use Rattle.broker_core.specs.declared.policy.Caller.{Caller}
 use Rattle.broker_core.specs.declared.policy.Caller.TheVariants.{Office, Team}
-use Rattle.broker_core.specs.declared.policy.Rule.TheVariants.{A1}
+use Rattle.broker_core.specs.declared.policy.Rule.TheVariants.{KnownCaller}
 use Rattle.broker_core.specs.declared.command.Command.{Command}
 use Rattle.broker_core.specs.declared.command.Command.TheVariants.{PutTeam, PutPacticipant, PutEnvironment, PutGrant, DeleteGrant, PutVersion, PutPact, GetPact, GetBranchPact, PostResult, PostReplies, Deploy, Undeploy, Release, EndSupport, GetEnvironment, CanIDeploy, GetMatrix, Malformed}
 use Rattle.broker_core.specs.declared.command.FormFault.{FormFault}
@@ -213,7 +213,7 @@ StepOfCaller parts s caller command out =
 abbrev pub Step : Primitives → State → Option Text → Command → Transition → Type 0
 Step parts s token command out =
     (who : Option Caller) × IsCallerOfToken parts s token who
-    × MatchOption who (out ≡ unchanged_with s (Denied A1)) (λ caller. StepOfCaller parts s caller command out)
+    × MatchOption who (out ≡ unchanged_with s (Denied KnownCaller)) (λ caller. StepOfCaller parts s caller command out)
 
 -- a command with the token that came with it
 pub record Request : Type 0 where

@@ -5,7 +5,7 @@ use Rattle.std.specs.List.{last_or, list_any}
 use Rattle.broker_core.specs.declared.policy.Caller.{Caller}
 use Rattle.broker_core.specs.declared.policy.Caller.TheVariants.{Office, Team}
 use Rattle.broker_core.specs.declared.policy.Rule.{Rule}
-use Rattle.broker_core.specs.declared.policy.Rule.TheVariants.{A1, A2, A3, A4, A5, A6, A7, A8}
+use Rattle.broker_core.specs.declared.policy.Rule.TheVariants.{KnownCaller, OfficeOnly, OwnerToPublish, OwnerToVerify, OwnerOrOfficeToRead, OwnerOrOfficeToAsk, OwnerWithGrant, KnownCallerToList}
 use Rattle.broker_core.specs.declared.command.Command.{Command}
 use Rattle.broker_core.specs.declared.command.Command.TheVariants.{PutTeam, PutPacticipant, PutEnvironment, PutGrant, DeleteGrant, PutVersion, PutPact, GetPact, GetBranchPact, PostResult, PostReplies, Deploy, Undeploy, Release, EndSupport, GetEnvironment, CanIDeploy, GetMatrix, Malformed}
 use Rattle.broker_core.specs.declared.command.PactPath.{PactPath}
@@ -32,42 +32,42 @@ branch_version s provider consumer branch =
     s.versions)
 
 -- something that has to exist: whether it does in a state, and what is said to be missing if it doesn't
-abbrev pub Wanted : Type 0
-Wanted = State → Bool × Missing
+abbrev pub Required : Type 0
+Required = State → Bool × Missing
 
-abbrev pub team_there : Text → Wanted
+abbrev pub team_there : Text → Required
 team_there team s = (is_some (s.teams team), missing.Team)
 
-abbrev pub pacticipant_there : Text → Wanted
+abbrev pub pacticipant_there : Text → Required
 pacticipant_there p s = (is_some (s.pacticipants p), missing.Pacticipant)
 
-abbrev pub environment_there : Text → Wanted
+abbrev pub environment_there : Text → Required
 environment_there e s = (is_some (s.environments e), missing.Environment)
 
-abbrev pub version_there : Version → Wanted
+abbrev pub version_there : Version → Required
 version_there v s = (is_known s v, missing.Version)
 
-abbrev pub contract_there : PactPath → Wanted
+abbrev pub contract_there : PactPath → Required
 contract_there path s = (is_some (s.contracts (consumer_version path, path.provider)), missing.Contract)
 
-abbrev pub branch_there : Text → Text → Text → Wanted
+abbrev pub branch_there : Text → Text → Text → Required
 branch_there provider consumer branch s = (is_some (branch_version s provider consumer branch), missing.Contract)
 
 -- a version with its pacticipant, two pacticipants, and a contract between them
-abbrev pub version_of : Version → List Wanted
+abbrev pub version_of : Version → List Required
 version_of v = pacticipant_there v.pacticipant ∷ version_there v ∷ []
 
-abbrev pub two_sides : Text → Text → List Wanted
+abbrev pub two_sides : Text → Text → List Required
 two_sides provider consumer = pacticipant_there provider ∷ pacticipant_there consumer ∷ []
 
-abbrev pub contract_of : PactPath → List Wanted
+abbrev pub contract_of : PactPath → List Required
 contract_of path =
     two_sides path.provider path.consumer ++ version_there (consumer_version path) ∷ contract_there path ∷ []
 
 -- what a command asks before its state is looked at
-pub record Asked : Type 0 where
+pub record Access : Type 0 where
   -- what has to exist, in this order
-  pub wanted : List Wanted
+  pub required : List Required
   -- the rule of the policy by which it is judged
   pub rule : Rule
   -- the pacticipants whose owners count as owners here
@@ -75,43 +75,43 @@ pub record Asked : Type 0 where
   -- the environment for which a grant is asked
   pub target : Option Text
 
-abbrev pub asked : List Wanted → Rule → List Text → Option Text → Asked
-asked wanted rule sides target = record { wanted = wanted; rule = rule; sides = sides; target = target }
+abbrev pub access : List Required → Rule → List Text → Option Text → Access
+access required rule sides target = record { required = required; rule = rule; sides = sides; target = target }
 
 -- a malformed command asks for nothing: it is refused for its form
-abbrev pub asks : Command → Asked
-asks (PutTeam team token) = asked [] A2 [] None
-asks (PutPacticipant p team) = asked (team_there team ∷ []) A2 [] None
-asks (PutEnvironment e marks) = asked [] A2 [] None
-asks (PutGrant team e) = asked (team_there team ∷ environment_there e ∷ []) A2 [] None
-asks (DeleteGrant team e) = asked (team_there team ∷ environment_there e ∷ []) A2 [] None
-asks (PutVersion v branch) = asked (pacticipant_there v.pacticipant ∷ []) A3 (v.pacticipant ∷ []) None
-asks (PutPact path file) = asked (two_sides path.provider path.consumer) A3 (path.consumer ∷ []) None
-asks (GetPact path) = asked (contract_of path) A5 (path.provider ∷ path.consumer ∷ []) None
+abbrev pub asks : Command → Access
+asks (PutTeam team token) = access [] OfficeOnly [] None
+asks (PutPacticipant p team) = access (team_there team ∷ []) OfficeOnly [] None
+asks (PutEnvironment e marks) = access [] OfficeOnly [] None
+asks (PutGrant team e) = access (team_there team ∷ environment_there e ∷ []) OfficeOnly [] None
+asks (DeleteGrant team e) = access (team_there team ∷ environment_there e ∷ []) OfficeOnly [] None
+asks (PutVersion v branch) = access (pacticipant_there v.pacticipant ∷ []) OwnerToPublish (v.pacticipant ∷ []) None
+asks (PutPact path file) = access (two_sides path.provider path.consumer) OwnerToPublish (path.consumer ∷ []) None
+asks (GetPact path) = access (contract_of path) OwnerOrOfficeToRead (path.provider ∷ path.consumer ∷ []) None
 asks (GetBranchPact provider consumer branch) =
-    asked (two_sides provider consumer ++ branch_there provider consumer branch ∷ []) A5 (provider ∷ consumer ∷ []) None
-asks (PostResult path report success) = asked (contract_of path) A4 (path.provider ∷ []) None
-asks (PostReplies path report replies) = asked (contract_of path) A4 (path.provider ∷ []) None
-asks (Deploy e v instance) = asked (environment_there e ∷ version_of v) A7 (v.pacticipant ∷ []) (Some e)
-asks (Undeploy e v instance) = asked (environment_there e ∷ version_of v) A7 (v.pacticipant ∷ []) (Some e)
-asks (Release e v) = asked (environment_there e ∷ version_of v) A7 (v.pacticipant ∷ []) (Some e)
-asks (EndSupport e v) = asked (environment_there e ∷ version_of v) A7 (v.pacticipant ∷ []) (Some e)
-asks (GetEnvironment e) = asked (environment_there e ∷ []) A8 [] None
-asks (CanIDeploy v e) = asked (version_of v ++ environment_there e ∷ []) A6 (v.pacticipant ∷ []) None
-asks (GetMatrix v) = asked (version_of v) A6 (v.pacticipant ∷ []) None
-asks (Malformed fault) = asked [] A1 [] None
+    access (two_sides provider consumer ++ branch_there provider consumer branch ∷ []) OwnerOrOfficeToRead (provider ∷ consumer ∷ []) None
+asks (PostResult path report success) = access (contract_of path) OwnerToVerify (path.provider ∷ []) None
+asks (PostReplies path report replies) = access (contract_of path) OwnerToVerify (path.provider ∷ []) None
+asks (Deploy e v instance) = access (environment_there e ∷ version_of v) OwnerWithGrant (v.pacticipant ∷ []) (Some e)
+asks (Undeploy e v instance) = access (environment_there e ∷ version_of v) OwnerWithGrant (v.pacticipant ∷ []) (Some e)
+asks (Release e v) = access (environment_there e ∷ version_of v) OwnerWithGrant (v.pacticipant ∷ []) (Some e)
+asks (EndSupport e v) = access (environment_there e ∷ version_of v) OwnerWithGrant (v.pacticipant ∷ []) (Some e)
+asks (GetEnvironment e) = access (environment_there e ∷ []) KnownCallerToList [] None
+asks (CanIDeploy v e) = access (version_of v ++ environment_there e ∷ []) OwnerOrOfficeToAsk (v.pacticipant ∷ []) None
+asks (GetMatrix v) = access (version_of v) OwnerOrOfficeToAsk (v.pacticipant ∷ []) None
+asks (Malformed fault) = access [] KnownCaller [] None
 
 -- the first that isn't there
 abbrev pub unless : Bool → Missing → Option Missing → Option Missing
 unless true what rest = rest
 unless false what rest = Some what
 
-abbrev pub first_absent : State → List Wanted → Option Missing
+abbrev pub first_absent : State → List Required → Option Missing
 first_absent s [] = None
-first_absent s (wanted ∷ more) = unless (wanted s).0 (wanted s).1 (first_absent s more)
+first_absent s (required ∷ more) = unless (required s).0 (required s).1 (first_absent s more)
 
 abbrev pub first_missing : State → Command → Option Missing
-first_missing s command = first_absent s (asks command).wanted
+first_missing s command = first_absent s (asks command).required
 
 abbrev pub has_grant : State → Caller → Option Text → Bool
 has_grant s (Team team) (Some e) = s.grants (team, e)

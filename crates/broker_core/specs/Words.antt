@@ -2,7 +2,7 @@
 -- faults of form (this project's own choice)
 use Rattle.std.specs.Prelude.{◌++◌, codes, Option, Some, None}
 use Rattle.broker_core.specs.declared.policy.Rule.{Rule}
-use Rattle.broker_core.specs.declared.policy.Rule.TheVariants.{A1, A2, A3, A4, A5, A6, A7, A8}
+use Rattle.broker_core.specs.declared.policy.Rule.TheVariants.{KnownCaller, OfficeOnly, OwnerToPublish, OwnerToVerify, OwnerOrOfficeToRead, OwnerOrOfficeToAsk, OwnerWithGrant, KnownCallerToList}
 use Rattle.broker_core.specs.declared.need.Kind.{Kind}
 use Rattle.broker_core.specs.declared.need.Kind.TheVariants as kind
 use Rattle.broker_core.specs.declared.answer.Missing.{Missing}
@@ -14,14 +14,14 @@ use Rattle.broker_core.specs.declared.command.FormFault.TheVariants as fault
 use Rattle.broker_core.specs.Text.{Text}
 
 abbrev pub rule_text : Rule → Text
-rule_text A1 = codes "A1"
-rule_text A2 = codes "A2"
-rule_text A3 = codes "A3"
-rule_text A4 = codes "A4"
-rule_text A5 = codes "A5"
-rule_text A6 = codes "A6"
-rule_text A7 = codes "A7"
-rule_text A8 = codes "A8"
+rule_text KnownCaller = codes "A1"
+rule_text OfficeOnly = codes "A2"
+rule_text OwnerToPublish = codes "A3"
+rule_text OwnerToVerify = codes "A4"
+rule_text OwnerOrOfficeToRead = codes "A5"
+rule_text OwnerOrOfficeToAsk = codes "A6"
+rule_text OwnerWithGrant = codes "A7"
+rule_text KnownCallerToList = codes "A8"
 
 abbrev pub kind_text : Kind → Text
 kind_text kind.Absent = codes "absent"

@@ -20,40 +20,40 @@ pub enum Caller {
 #[derive(Clone, Copy, Debug, PartialEq, Eq)]
 pub enum Rule {
     /// The token is the office's or a team's.
-    A1,
+    KnownCaller,
     /// Only the office names teams, pacticipants with their owners, and environments, and gives and takes grants.
-    A2,
+    OfficeOnly,
     /// A version is named by the pacticipant's owner, and a pact published by the consumer's.
-    A3,
+    OwnerToPublish,
     /// Results and replies come from the provider's owner.
-    A4,
+    OwnerToVerify,
     /// A pact is read by the owner of either side, or by the office.
-    A5,
+    OwnerOrOfficeToRead,
     /// can-i-deploy and the matrix are asked by the pacticipant's owner, or by the office.
-    A6,
+    OwnerOrOfficeToAsk,
     /// Deployments, undeployments, releases and ends of support come from the pacticipant's owner,
     /// with a grant for the environment; not from the office.
-    A7,
+    OwnerWithGrant,
     /// An environment is listed to each known caller.
-    A8,
+    KnownCallerToList,
 }
 
 impl Rule {
     ghost use Rattle.broker_core.specs.Words.{rule_text};
 
-    /// The rule's name in answers, from `A1` to `A8`.
+    /// The rule's name in answers, from `KnownCaller` to `KnownCallerToList`.
     pub const fn as_str(self) -> &'static str
         ensures { result.now ≡ rule_text self }
     {
         match self {
-            Rule::A1 => "A1",
-            Rule::A2 => "A2",
-            Rule::A3 => "A3",
-            Rule::A4 => "A4",
-            Rule::A5 => "A5",
-            Rule::A6 => "A6",
-            Rule::A7 => "A7",
-            Rule::A8 => "A8",
+            Rule::KnownCaller => "A1",
+            Rule::OfficeOnly => "A2",
+            Rule::OwnerToPublish => "A3",
+            Rule::OwnerToVerify => "A4",
+            Rule::OwnerOrOfficeToRead => "A5",
+            Rule::OwnerOrOfficeToAsk => "A6",
+            Rule::OwnerWithGrant => "A7",
+            Rule::KnownCallerToList => "A8",
         }
     }
 }
@@ -116,18 +116,19 @@ impl Caller {
         ensures { result ≡ allows ask.now.rule self.now (map (λ o. o.now) ask.now.owners.now) ask.now.granted }
     {
         match ask.rule {
-            Rule::A1 | Rule::A8 => true,
-            Rule::A2 => self.is_office(),
-            Rule::A3 | Rule::A4 => self.is_owner(ask.owners),
-            Rule::A5 | Rule::A6 => self.is_office() || self.is_owner(ask.owners),
-            Rule::A7 => self.is_owner(ask.owners) && ask.granted,
+            Rule::KnownCaller | Rule::KnownCallerToList => true,
+            Rule::OfficeOnly => self.is_office(),
+            Rule::OwnerToPublish | Rule::OwnerToVerify => self.is_owner(ask.owners),
+            Rule::OwnerOrOfficeToRead | Rule::OwnerOrOfficeToAsk => self.is_office()
+                || self.is_owner(ask.owners),
+            Rule::OwnerWithGrant => self.is_owner(ask.owners) && ask.granted,
         }
     }
 }
 
 /// Whether the policy allows the caller what is asked: nothing, or the rule that denies, which is the one asked for.
 ///
-/// `A1` and `A8` let every caller that is known. A team is an owner if it is among the owners. Takes no memory.
+/// `KnownCaller` and `KnownCallerToList` let every caller that is known. A team is an owner if it is among the owners. Takes no memory.
 pub fn allowed(caller: &Caller, ask: &Ask<'_>) -> Result<(), Rule>
     ensures { result ≡ (if allows ask.now.rule caller.now (map (λ o. o.now) ask.now.owners.now) ask.now.granted
         then Ok tt else Err ask.now.rule) }

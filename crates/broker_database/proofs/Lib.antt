@@ -14,8 +14,8 @@ pub mod MigrationLemmas
 pub mod MakeLemmas
 pub mod ListedLemmas
 pub mod StoredLemmas
-pub mod FormerOpening
-pub mod FormerRoom
+pub mod Format1Opening
+pub mod Format1Room
 pub mod LifeLemmas
 mod LifeExamples
 mod MigrationExamples

@@ -19,14 +19,14 @@ use Rattle.sqlite_wal.proofs.{AppendLemmas.{some_value}, CreateLemmas.{begun_is_
 use Rattle.table_access.specs.Durability.{HoldsDurably, IsOnDisk}
 use Rattle.broker_core.specs.{Text.{Text}, Machine.{Request}, State.{State as Broker, opening}, Laws.{Exit, LeavesSessions}}
 use Rattle.broker_core.proofs.{DoneLemmas.{SessionsRun-holds}, SessionLemmas.{sessions, RunsOnce-holds}}
-use Rattle.broker_tables.specs.{Former.{former_format, former_tables}, Holds.{format}, Making.{IsBlank, IsMarked}, Schema.{no_schema, schema_of, broker_schema}}
+use Rattle.broker_tables.specs.{Format1.{format_1, format_1_tables}, Holds.{format}, Making.{IsBlank, IsMarked}, Schema.{no_schema, schema_of, broker_schema}}
 use Rattle.command_facts.specs.Primitives.{broker_primitives}
 use Rattle.broker_database.specs.{BrokerView.{BrokerView}, Calls.{Created, Opened, Migrated}, Ends.{AddsNoCrashState}, Handed.{verdict}}
 use Rattle.broker_database.specs.Life.{Kept, Period, calls_of, RunsFrom, LeavesAsWas, PeriodLeads, LifeLeads, BeginsFrom, sessions_in, LivesRun, AreTreesOf, PeriodRuns, PeriodsLead, MayLeave, EndsAs, HoldsAsBefore, IsKeptIn, LeavesUnopened, OpenedFilesHold, IsUnharmed, OpeningSpares, PeriodLeaves, Programs, ProgramsLead, RunsOver}
-use Rattle.broker_database.specs.{Life.Kept.{Blank, OfFormer, OfToday}, Life.Period.{Serving, Making, Migrating, NotOpened}, Migration.{StoresFormer, IsFormer}}
-use Rattle.broker_database.specs.{Opening.{Refuses, Judged, judgement}, Sessions.{IsOpenedOn, GivenRuns}, Stored.{Stores, HoldsState}}
-use Rattle.broker_database.specs.{declared.opening.Refused.{Refused}, declared.opening.OpenFault.{OpenFault}}
-use Rattle.broker_database.proofs.{Judgements.{Finds-blank_none, Finds-marked}, MigrationLemmas.{IsMarked-of_former, HoldsDurably-now}}
+use Rattle.broker_database.specs.{Life.Kept.{Blank, OfFormat1, OfToday}, Life.Period.{Serving, Making, Migrating, NotOpened}}
+use Rattle.broker_database.specs.{Migration.{StoresFormat1, IsFormat1}, Opening.{Refuses, Judged, judgement}, Sessions.{IsOpenedOn, GivenRuns}}
+use Rattle.broker_database.specs.{Stored.{Stores, HoldsState}, declared.opening.Refused.{Refused}, declared.opening.OpenFault.{OpenFault}}
+use Rattle.broker_database.proofs.{Judgements.{Finds-blank_none, Finds-marked}, MigrationLemmas.{IsMarked-of_format_1, HoldsDurably-now}}
 use Rattle.broker_database.proofs.{SchemaLemmas.{Lists-unique_schema}, SessionLemmas.{GivenRuns-clean, Leads-of_given}}
 use Rattle.broker_database.proofs.Transaction.{AddsNoCrashState-of_survives}
 use base.Stored.{Coded-set}
@@ -51,8 +51,8 @@ module _ (trees : Trees) (c : State) (it : IsOpenedOn trees c) (settled : (t : T
   HoldsDurably-blank : IsOnDisk IsBlank trees → HoldsDurably IsBlank c
   HoldsDurably-blank = HoldsDurably-of_opened IsBlank (λ db is. ap (λ (x : Schema). x.views) is.schema)
 
-  HoldsDurably-former : (s : Broker) → IsOnDisk (λ db. StoresFormer db s) trees → HoldsDurably (λ db. StoresFormer db s) c
-  HoldsDurably-former s = HoldsDurably-of_opened (λ db. StoresFormer db s) (λ db is. ap (λ (x : Schema). x.views) is.tables.schema)
+  HoldsDurably-format_1 : (s : Broker) → IsOnDisk (λ db. StoresFormat1 db s) trees → HoldsDurably (λ db. StoresFormat1 db s) c
+  HoldsDurably-format_1 s = HoldsDurably-of_opened (λ db. StoresFormat1 db s) (λ db is. ap (λ (x : Schema). x.views) is.tables.schema)
 
   HoldsDurably-today : (s : Broker) → IsOnDisk (λ db. Stores db s) trees → HoldsDurably (λ db. Stores db s) c
   HoldsDurably-today s = HoldsDurably-of_opened (λ db. Stores db s) (λ db is. ap (λ (x : Schema). x.views) is.tables.broker.schema)
@@ -147,17 +147,17 @@ module _ {X : Type 0} (shown : Held X → State) (settled : (c : Held X) (t : Tr
 
     -- ---- a migration
 
-    migrates_former : (s : Broker) (given : Result (Unit {0}) OpenFault) → IsOnDisk (λ db. StoresFormer db s) trees → Migrated shown first last given
-        → (new : Kept) × PeriodLeads (OfFormer s) Migrating new × AreTreesOf new end
-    migrates_former s given are migrated = by given (migrated.migrates clean s held) (migrated.refuses clean s held)
+    migrates_format_1 : (s : Broker) (given : Result (Unit {0}) OpenFault) → IsOnDisk (λ db. StoresFormat1 db s) trees → Migrated shown first last given
+        → (new : Kept) × PeriodLeads (OfFormat1 s) Migrating new × AreTreesOf new end
+    migrates_format_1 s given are migrated = by given (migrated.migrates clean s held) (migrated.refuses clean s held)
       where
-        held : HoldsDurably (λ db. StoresFormer db s) (shown first)
-        held = HoldsDurably-former trees (shown first) on (settled first) s are
+        held : HoldsDurably (λ db. StoresFormat1 db s) (shown first)
+        held = HoldsDurably-format_1 trees (shown first) on (settled first) s are
 
-        by : (r : Result (Unit {0}) OpenFault) → OnOk r (HoldsState s (shown last)) → IfErr r (Refuses (λ db. StoresFormer db s) (λ db. Stores db s) (shown last)) → (new : Kept) × PeriodLeads (OfFormer s) Migrating new × AreTreesOf new end
+        by : (r : Result (Unit {0}) OpenFault) → OnOk r (HoldsState s (shown last)) → IfErr r (Refuses (λ db. StoresFormat1 db s) (λ db. Stores db s) (shown last)) → (new : Kept) × PeriodLeads (OfFormat1 s) Migrating new × AreTreesOf new end
         by (Ok u) now is = (OfToday s, inr refl, now.left end may)
-        by (Err fault.Memory) now kept = (OfFormer s, inl refl, kept.left end may)
-        by (Err fault.Store) now either = elim (either.left end may) [ inl is ↦ (OfFormer s, inl refl, is) | inr is ↦ (OfToday s, inr refl, is) ]
+        by (Err fault.Memory) now kept = (OfFormat1 s, inl refl, kept.left end may)
+        by (Err fault.Store) now either = elim (either.left end may) [ inl is ↦ (OfFormat1 s, inl refl, is) | inr is ↦ (OfToday s, inr refl, is) ]
         by (Err fault.NotEmpty) now never = absurd never
         by (Err fault.NotABroker) now never = absurd never
         by (Err (fault.Format n)) now never = absurd never
@@ -166,27 +166,27 @@ module _ {X : Type 0} (shown : Held X → State) (settled : (c : Held X) (t : Tr
 
   pub PeriodsLead-holds : PeriodsLead shown
   PeriodsLead-holds (OfToday s) (Serving calls) first last trees end are on it clean may = serves_today first last trees end on clean may s it.0 calls are it.1 it.2
-  PeriodsLead-holds (OfFormer s) (Serving calls) first last trees end are on it clean may =
-      let held = HoldsDurably-weaker (λ db. StoresFormer db s) (IsMarked former_format s.office) (shown first) (λ db is. IsMarked-of_former db s is.tables) (HoldsDurably-former trees (shown first) on (settled first) s are) in
-      let judged = it.1.tables.marked (GivenRuns-clean shown it.0 calls last it.2 clean) former_format s.office (λ same. absurd (let wrong : former_format ≡ format = same in cc)) held in
-      serves_none first last trees end on clean may (OfFormer s) it.0 calls are it.1 (Judged-not_ok (Some former_format) (verdict it.0) (λ ok. let wrong : Err (fault.Format former_format) ≡ Ok tt = ok in cc) judged) it.2
+  PeriodsLead-holds (OfFormat1 s) (Serving calls) first last trees end are on it clean may =
+      let held = HoldsDurably-weaker (λ db. StoresFormat1 db s) (IsMarked format_1 s.office) (shown first) (λ db is. IsMarked-of_format_1 db s is.tables) (HoldsDurably-format_1 trees (shown first) on (settled first) s are) in
+      let judged = it.1.tables.marked (GivenRuns-clean shown it.0 calls last it.2 clean) format_1 s.office (λ same. absurd (let wrong : format_1 ≡ format = same in cc)) held in
+      serves_none first last trees end on clean may (OfFormat1 s) it.0 calls are it.1 (Judged-not_ok (Some format_1) (verdict it.0) (λ ok. let wrong : Err (fault.Format format_1) ≡ Ok tt = ok in cc) judged) it.2
   PeriodsLead-holds Blank (Serving calls) first last trees end are on it clean may =
       let judged = it.1.tables.blank (GivenRuns-clean shown it.0 calls last it.2 clean) (HoldsDurably-blank trees (shown first) on (settled first) are) in
       serves_none first last trees end on clean may Blank it.0 calls are it.1 (Judged-not_ok None (verdict it.0) (λ ok. let wrong : Err fault.NotABroker ≡ Ok tt = ok in cc) judged) it.2
   PeriodsLead-holds (OfToday s) (Making office calls) first last trees end are on it clean may =
       let some = schema-some_table trees (shown first) on (settled first) (λ db. Stores db s) broker_schema (λ db is. is.tables.broker.schema) refl (HoldsDurably-today trees (shown first) on (settled first) s are) in
       makes_none first last trees end on clean may (OfToday s) office it.0 calls are it.1 some it.2
-  PeriodsLead-holds (OfFormer s) (Making office calls) first last trees end are on it clean may =
-      let some = schema-some_table trees (shown first) on (settled first) (λ db. StoresFormer db s) (schema_of (former_tables ++ [])) (λ db is. is.tables.schema) refl (HoldsDurably-former trees (shown first) on (settled first) s are) in
-      makes_none first last trees end on clean may (OfFormer s) office it.0 calls are it.1 some it.2
+  PeriodsLead-holds (OfFormat1 s) (Making office calls) first last trees end are on it clean may =
+      let some = schema-some_table trees (shown first) on (settled first) (λ db. StoresFormat1 db s) (schema_of (format_1_tables ++ [])) (λ db is. is.tables.schema) refl (HoldsDurably-format_1 trees (shown first) on (settled first) s are) in
+      makes_none first last trees end on clean may (OfFormat1 s) office it.0 calls are it.1 some it.2
   PeriodsLead-holds Blank (Making office calls) first last trees end are on it clean may = makes_new first last trees end on clean may office it.0 calls are it.1 it.2
   PeriodsLead-holds (OfToday s) Migrating first last trees end are on it clean may =
       let marked = IsMarked-of_stores (shown first).now s (HoldsDurably-now (λ db. Stores db s) (shown first) (HoldsDurably-today trees (shown first) on (settled first) s are) on.opens.is_open) in
-      let other : ¬ (IsFormer (shown first).now) = λ former. absurd (let wrong : Some former_format ≡ Some format = Finds-marked format s.office (shown first).now (Some former_format) marked former.0 in cc) in
+      let other : ¬ (IsFormat1 (shown first).now) = λ of_1. absurd (let wrong : Some format_1 ≡ Some format = Finds-marked format s.office (shown first).now (Some format_1) marked of_1.0 in cc) in
       (OfToday s, (refl, refl), as_was first last trees end on clean may (OfToday s) are (it.1.spares clean other))
-  PeriodsLead-holds (OfFormer s) Migrating first last trees end are on it clean may = migrates_former first last trees end on clean may s it.0 are it.1
+  PeriodsLead-holds (OfFormat1 s) Migrating first last trees end are on it clean may = migrates_format_1 first last trees end on clean may s it.0 are it.1
   PeriodsLead-holds Blank Migrating first last trees end are on it clean may =
-      let other : ¬ (IsFormer (shown first).now) = λ former. absurd (let wrong : Some former_format ≡ None = Finds-blank_none (shown first).now (Some former_format) (schema-no_table trees (shown first) on (settled first) are) former.0 in cc) in
+      let other : ¬ (IsFormat1 (shown first).now) = λ of_1. absurd (let wrong : Some format_1 ≡ None = Finds-blank_none (shown first).now (Some format_1) (schema-no_table trees (shown first) on (settled first) are) of_1.0 in cc) in
       (Blank, (refl, refl), as_was first last trees end on clean may Blank are (it.1.spares clean other))
   PeriodsLead-holds old NotOpened first last trees end are on it clean may = absurd it
 
@@ -195,7 +195,7 @@ module _ {X : Type 0} (shown : Held X → State) (settled : (c : Held X) (t : Tr
 -- a period in which the files weren't opened
 PeriodLeads-not_opened : (old : Kept) → PeriodLeads old NotOpened old
 PeriodLeads-not_opened (OfToday s) = (refl, refl)
-PeriodLeads-not_opened (OfFormer s) = (refl, refl)
+PeriodLeads-not_opened (OfFormat1 s) = (refl, refl)
 PeriodLeads-not_opened Blank = (refl, refl)
 
 -- trees without an entry have no tables
@@ -325,7 +325,7 @@ Ran old life last = (first : Broker) × BeginsFrom old life first × LeavesSessi
 
 BeginsFrom-later : (old : Kept) (period : Period) (life : List Period) (first : Broker) → BeginsFrom old life first → BeginsFrom old (period ∷ life) first
 BeginsFrom-later (OfToday s) period life first it = it
-BeginsFrom-later (OfFormer s) period life first it = it
+BeginsFrom-later (OfFormat1 s) period life first it = it
 BeginsFrom-later Blank period life first it = (period ∷ it.0, it.1, it.2, it.3, ap (λ (more : List Period). period ∷ more) it.4, it.5)
 
 -- a period in which nothing was run
@@ -344,15 +344,15 @@ Ran-period : (old mid : Kept) (period : Period) (life : List Period) (last : Bro
 Ran-period (OfToday s) mid (Serving calls) life last run more = (s, refl, LeavesSessions-of_runs s mid calls life last run more)
 Ran-period Blank mid (Making office calls) life last (inl was) more = Ran-idle Blank mid (Making office calls) life last was more
 Ran-period Blank mid (Making office calls) life last (inr run) more = (opening office, ([], office, calls, life, refl, refl), LeavesSessions-of_runs (opening office) mid calls life last run more)
-Ran-period (OfFormer s) mid Migrating life last (inl same) more = Ran-idle (OfFormer s) mid Migrating life last (refl, same) more
-Ran-period (OfFormer s) mid Migrating life last (inr same) more =
+Ran-period (OfFormat1 s) mid Migrating life last (inl same) more = Ran-idle (OfFormat1 s) mid Migrating life last (refl, same) more
+Ran-period (OfFormat1 s) mid Migrating life last (inr same) more =
     let here : Ran (OfToday s) life last = subst (λ (k : Kept). Ran k life last) same more in
     (here.0, here.1, (here.0, tt, refl, here.2))
 Ran-period old mid period life last was more = Ran-idle old mid period life last was more
 
 Ran-life : (old : Kept) (life : List Period) (last : Broker) → LifeLeads old life (OfToday last) → Ran old life last
 Ran-life (OfToday s) [] last same = (s, refl, (let is : last ≡ s = cc in is))
-Ran-life (OfFormer s) [] last same = absurd (cc)
+Ran-life (OfFormat1 s) [] last same = absurd (cc)
 Ran-life Blank [] last same = absurd (cc)
 Ran-life old (period ∷ life) last it = Ran-period old it.0 period life last it.1 (Ran-life it.0 life last it.2)
 

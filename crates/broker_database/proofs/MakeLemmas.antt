@@ -1,13 +1,13 @@
 -- What the transactions leave that make a broker's tables, look for a format, and bring a database up.
 use Rattle.broker_core.specs.{State.{State as Broker, opening}, Text.{Text}}
-use Rattle.broker_database.specs.Migration.{Migrates, MigratesOrNot, FindsFormerAlone, HasFormerRoomFor, IsFormer, KeepsFormerRoom, OnlyIfNotMigrated, StoresFormer}
+use Rattle.broker_database.specs.Migration.{Migrates, MigratesOrNot, FindsFormat1Alone, HasFormat1RoomFor, IsFormat1, KeepsFormat1Room, OnlyIfNotMigrated, StoresFormat1}
 use Rattle.broker_database.specs.Opening.{IsFresh, IsUncommitted, MakesOrFails, OnlyIfRefused, OnlyIfStoreFailed, Refuses, open_fault}
 use Rattle.broker_database.specs.{Stored.{HoldsState, Stores}, declared.ending.Failure.{Failure}, declared.ending.Failure.TheVariants.{Call, Commit}}
-use Rattle.broker_database.{specs.Transaction.{Concludes, EndsFor, returned}, proofs.MigrationLemmas.{FindsFormerAlone-former}}
+use Rattle.broker_database.{specs.Transaction.{Concludes, EndsFor, returned}, proofs.MigrationLemmas.{FindsFormat1Alone-format_1}}
 use Rattle.broker_database.proofs.{OpenFailures.{ReportsNothing-of_look_up, HasFailed-unbegun}, Sound.{HasSoundContents-opening}}
 use Rattle.broker_database.proofs.StoreFailures.{HasFailed-of_transaction}
 use Rattle.broker_database.proofs.Transaction.{WholeTransaction, AddsNoCrashState-of_survives, CommitsAtMostOnce-of_survives, Begins-transaction, EndsOrFails-transaction, CommitsAtMostOnce-whole, LeavesNoTransaction-transaction, AddsNoCrashState-transaction, IfOk-transaction, IsUnchangedUnless-transaction, Survives-before_whole_end, EndsOrFails-unbegun, LeavesNoTransaction-unbegun, IsUnchangedUnless-unbegun}
-use Rattle.broker_tables.specs.{Former.{former_format}, Holds.{Holds}, Making.{IsBlank, IsCalmOverBetween}, Room.{HasAllNumbers, HasRoomFor}}
+use Rattle.broker_tables.specs.{Format1.{format_1}, Holds.{Holds}, Making.{IsBlank, FailsByStoreOverBetween}, Room.{HasAllNumbers, HasRoomFor}}
 use Rattle.broker_tables.specs.Schema.{broker_schema}
 use Rattle.registry_tables.specs.Format.{FailsToFind, IsOfFormat}
 use Rattle.sqlite.specs.{Effect.{Database}, Held.{Held}, State.{HasCleanDisk, State, Survives}}
@@ -59,7 +59,7 @@ IsOk-of_kept Keeps (Ok a) is = refl
 IsOk-of_kept Keeps (Err why) is = absurd is
 
 module _ {X A : Type 0} (shown : Held X → State) (Ready Before : Database → Type 0) (s : Broker) (old mid done new : Held X) (Does Keeps : A → Type 0) (result : Result A Failure) (t : WholeTransaction (shown old) (shown mid) (shown done) (shown new) Does Keeps (returned result)) where
-  module _ (calm : IsCalmOverBetween Ready (shown mid) (shown done) t.worked) (refused : HasCleanDisk (shown new) → IfErr result (EndsFor shown t.keeps t.worked done new))
+  module _ (failure : FailsByStoreOverBetween Ready (shown mid) (shown done) t.worked) (refused : HasCleanDisk (shown new) → IfErr result (EndsFor shown t.keeps t.worked done new))
       (ready : (db : Database) → Before db → Ready db) (makes : (a : A) → Does a → Keeps a → Before (shown mid).now → Holds (shown done).now s) (clean : HasCleanDisk (shown new)) (fresh : IsFresh (shown old)) (holds : HoldsDurably Before (shown old)) where
     begun : Begins (shown old) (shown mid)
     begun = Begins-transaction (shown old) (shown mid) (shown done) (shown new) Does Keeps (returned result) t clean
@@ -68,16 +68,16 @@ module _ {X A : Type 0} (shown : Held X → State) (Ready Before : Database → 
     before = ends.begins Before (shown old) (shown mid) begun holds
 
     -- the work fails by Store only as the store fails
-    work_calm : (Why : Type 0) → IfErr t.worked (λ fault. fault ≡ Store → HasFailed (shown mid) (shown done) fault ⊎ Why)
-    work_calm Why =
+    work_failure : (Why : Type 0) → IfErr t.worked (λ fault. fault ≡ Store → HasFailed (shown mid) (shown done) fault ⊎ Why)
+    work_failure Why =
         let worked : HasCleanDisk (shown done) = omega (arith, t.concludes.ends.survives.clean, clean) in
-        IfErr-weaker t.worked _ _ (λ fault failed store. inl failed) (calm worked begun.1.mode (t.begins.limit ∙ fresh.1) (ready (shown mid).now before))
+        IfErr-weaker t.worked _ _ (λ fault failed store. inl failed) (failure worked begun.1.mode (t.begins.limit ∙ fresh.1) (ready (shown mid).now before))
 
     -- so does a call
     by_call : result ≡ Err (Call Store) → HasFailed (shown old) (shown new) Store
     by_call is =
         let why : EndsFor shown t.keeps t.worked done new (Call Store) = subst (λ (r : Result A Failure). IfErr r (EndsFor shown t.keeps t.worked done new)) is (refused clean) in
-        elim (HasFailed-of_transaction (shown old) (shown mid) (shown done) (shown new) Does Keeps ⊥ clean (returned result) t (work_calm ⊥) (λ a did keeps kept on. absurd (why kept (IsOk-of_kept Keeps t.worked (t.kept.0 kept)))) (ap returned is)) [
+        elim (HasFailed-of_transaction (shown old) (shown mid) (shown done) (shown new) Does Keeps ⊥ clean (returned result) t (work_failure ⊥) (λ a did keeps kept on. absurd (why kept (IsOk-of_kept Keeps t.worked (t.kept.0 kept)))) (ap returned is)) [
           | inl failed ↦ failed
           | inr never ↦ absurd never
         ]
@@ -86,7 +86,7 @@ module _ {X A : Type 0} (shown : Held X → State) (Ready Before : Database → 
     by_commit : (why : StoreFault) → result ≡ Err (Commit why) → HasFailed (shown old) (shown new) Store ⊎ ((why ≡ Memory) × IsUncommitted shown s old new)
     by_commit why is =
         let refusal : EndsFor shown t.keeps t.worked done new (Commit why) = subst (λ (r : Result A Failure). IfErr r (EndsFor shown t.keeps t.worked done new)) is (refused clean) in
-        HasFailed-of_transaction (shown old) (shown mid) (shown done) (shown new) Does Keeps ((why ≡ Memory) × IsUncommitted shown s old new) clean (returned result) t (work_calm ((why ≡ Memory) × IsUncommitted shown s old new))
+        HasFailed-of_transaction (shown old) (shown mid) (shown done) (shown new) Does Keeps ((why ≡ Memory) × IsUncommitted shown s old new) clean (returned result) t (work_failure ((why ≡ Memory) × IsUncommitted shown s old new))
         (λ a did keeps kept on. not_kept (makes a did keeps before) on why refusal.1) (ap returned is)
       where
         not_kept : Holds (shown done).now s → GoesOn (shown mid) (shown done) → (fault : StoreFault) → RefusesCommit shown done new fault → HasFailed (shown old) (shown new) Store ⊎ ((fault ≡ Memory) × IsUncommitted shown s old new)
@@ -96,11 +96,11 @@ module _ {X A : Type 0} (shown : Held X → State) (Ready Before : Database → 
             inr (refl, record { worked = done; inside = on.0; survives = Survives-before_whole_end (shown old) (shown mid) (shown done) (shown new) Does Keeps (returned result) t; made = made; refused = refusal })
 
   -- why it fails by Store: of a database from which the work makes one that holds this state
-  pub OnlyIfRefused-of_transaction : IsCalmOverBetween Ready (shown mid) (shown done) t.worked → (HasCleanDisk (shown new) → IfErr result (EndsFor shown t.keeps t.worked done new))
+  pub OnlyIfRefused-of_transaction : FailsByStoreOverBetween Ready (shown mid) (shown done) t.worked → (HasCleanDisk (shown new) → IfErr result (EndsFor shown t.keeps t.worked done new))
       → ((db : Database) → Before db → Ready db) → ((a : A) → Does a → Keeps a → Before (shown mid).now → Holds (shown done).now s) → OnlyIfRefused shown Before s old new result
-  OnlyIfRefused-of_transaction calm refused ready makes = record {
-    call = by_call calm refused ready makes;
-    commit = by_commit calm refused ready makes;
+  OnlyIfRefused-of_transaction failure refused ready makes = record {
+    call = by_call failure refused ready makes;
+    commit = by_commit failure refused ready makes;
   }
 
 -- the fault that is reported is Store only for these causes
@@ -117,48 +117,48 @@ Refuses-of_fails office new Store it = it
 
 -- ---- a database of format 1 is upgraded
 
-abbrev pub IsBroughtUp : State → State → Option ℕ → Type 0
-IsBroughtUp mid done found = FindsFormerAlone mid.now found × (found ≡ Some former_format → Migrates mid.now done.now × (done.now.schema ≡ broker_schema))
+abbrev pub IsUpgraded : State → State → Option ℕ → Type 0
+IsUpgraded mid done found = FindsFormat1Alone mid.now found × (found ≡ Some format_1 → Migrates mid.now done.now × (done.now.schema ≡ broker_schema))
 
 -- nothing is committed but by a database of format 1
-pub IsFormer-of_found : (db : Database) (found : Option ℕ) → FindsFormerAlone db found → found ≡ Some former_format → IsFormer db
-IsFormer-of_found db None it is = absurd (cc)
-IsFormer-of_found db (Some n) it is = let same : n ≡ former_format = cc in (subst (λ k. IsOfFormat k db) same it.0, it.1 same)
+pub IsFormat1-of_found : (db : Database) (found : Option ℕ) → FindsFormat1Alone db found → found ≡ Some format_1 → IsFormat1 db
+IsFormat1-of_found db None it is = absurd (cc)
+IsFormat1-of_found db (Some n) it is = let same : n ≡ format_1 = cc in (subst (λ k. IsOfFormat k db) same it.0, it.1 same)
 
 abbrev pub going_up : (old mid done new : State) (worked result : Result (Option ℕ) StoreFault) (keeps : Bool) → (HasCleanDisk mid → Begins old mid) → Survives old mid (λ _. ⊥)
-    → CallsStoreBetween mid done worked (IsBroughtUp mid done) → (IsTrue keeps ↔ IsOkAnd worked (λ found. found ≡ Some former_format)) → Concludes done new keeps worked result
-    → WholeTransaction old mid done new (IsBroughtUp mid done) (λ found. found ≡ Some former_format) result
+    → CallsStoreBetween mid done worked (IsUpgraded mid done) → (IsTrue keeps ↔ IsOkAnd worked (λ found. found ≡ Some format_1)) → Concludes done new keeps worked result
+    → WholeTransaction old mid done new (IsUpgraded mid done) (λ found. found ≡ Some format_1) result
 going_up old mid done new worked result keeps begun begins works kept concludes =
     record { worked = worked; keeps = keeps; begun = begun; begins = begins; works = CallsBetween-may_take_memory mid done worked _ works; kept = kept; concludes = concludes }
 
 pub MigratesOrNot-of_transaction : {X : Type 0} (shown : Held X → State) (old mid done new : Held X) (worked result : Result (Option ℕ) StoreFault) (keeps : Bool) → (HasCleanDisk (shown mid) → Begins (shown old) (shown mid)) → Survives (shown old) (shown mid) (λ _. ⊥)
-    → CallsStoreBetween (shown mid) (shown done) worked (IsBroughtUp (shown mid) (shown done)) → (IsTrue keeps ↔ IsOkAnd worked (λ found. found ≡ Some former_format)) → Concludes (shown done) (shown new) keeps worked result
-    → (HasCleanDisk (shown done) → (shown mid).step_limit ≡ None → IfErr worked (λ fault. FailsToFind (shown mid) (shown done) fault ⊎ IsFormer (shown mid).now))
+    → CallsStoreBetween (shown mid) (shown done) worked (IsUpgraded (shown mid) (shown done)) → (IsTrue keeps ↔ IsOkAnd worked (λ found. found ≡ Some format_1)) → Concludes (shown done) (shown new) keeps worked result
+    → (HasCleanDisk (shown done) → (shown mid).step_limit ≡ None → IfErr worked (λ fault. FailsToFind (shown mid) (shown done) fault ⊎ IsFormat1 (shown mid).now))
     → OnlyIfNotMigrated shown old new (result ≡ Err Store) → MigratesOrNot shown old new result
-MigratesOrNot-of_transaction shown old mid done new worked result keeps begun begins works kept concludes looks former = record {
-  found = λ clean. IfOk-weaker result _ _ (λ found it. (it.0, subst (λ (db : Database). FindsFormerAlone db found) it.1 it.2.0)) (IfOk-transaction (shown old) (shown mid) (shown done) (shown new) _ _ result t clean);
+MigratesOrNot-of_transaction shown old mid done new worked result keeps begun begins works kept concludes looks not_migrated = record {
+  found = λ clean. IfOk-weaker result _ _ (λ found it. (it.0, subst (λ (db : Database). FindsFormat1Alone db found) it.1 it.2.0)) (IfOk-transaction (shown old) (shown mid) (shown done) (shown new) _ _ result t clean);
   ends = λ clean s holds.
       let begun = Begins-transaction (shown old) (shown mid) (shown done) (shown new) _ _ result t clean in
-      EndsOrFails-transaction (shown old) (shown mid) (shown done) (shown new) _ _ result t (λ db. StoresFormer db s) (λ db. Stores db s) (λ found. (found ≡ Some former_format) × HoldsState s (shown new) × KeepsFormerRoom (shown old) (shown new)) clean holds
+      EndsOrFails-transaction (shown old) (shown mid) (shown done) (shown new) _ _ result t (λ db. StoresFormat1 db s) (λ db. Stores db s) (λ found. (found ≡ Some format_1) × HoldsState s (shown new) × KeepsFormat1Room (shown old) (shown new)) clean holds
       (λ found was up is. stored s found was up is)
       (λ found was up is commit. (
         is,
         commit (λ db. Stores db s) (stored s found was up is),
-        λ n room. commit (HasRoomFor n) (((up.1 is).0 s was.tables).1 n (subst (HasFormerRoomFor n) (sym begun.1.now_is) room)),
+        λ n room. commit (HasRoomFor n) (((up.1 is).0 s was.tables).1 n (subst (HasFormat1RoomFor n) (sym begun.1.now_is) room)),
       ))
-      (λ found was up other kept. absurd (other (FindsFormerAlone-former (shown mid).now s found was.tables up.0)));
+      (λ found was up other kept. absurd (other (FindsFormat1Alone-format_1 (shown mid).now s found was.tables up.0)));
   unchanged = IsUnchangedUnless-transaction (shown old) (shown mid) (shown done) (shown new) _ _ result t;
   over = LeavesNoTransaction-transaction (shown old) (shown mid) (shown done) (shown new) _ _ result t;
   survives = CommitsAtMostOnce-whole (shown old) (shown mid) (shown done) (shown new) _ _ result t;
-  spares = λ clean other. AddsNoCrashState-transaction (shown old) (shown mid) (shown done) (shown new) _ _ result t (λ found same up is. other (subst IsFormer same (IsFormer-of_found (shown mid).now found up.0 is))) clean;
-  calm = λ clean fresh. ReportsNothing-of_look_up (shown old) (shown mid) (shown done) (shown new) _ _ result t clean fresh IsFormer looks (λ found up is. IsFormer-of_found (shown mid).now found up.0 is);
-  calm_former = former;
+  spares = λ clean other. AddsNoCrashState-transaction (shown old) (shown mid) (shown done) (shown new) _ _ result t (λ found same up is. other (subst IsFormat1 same (IsFormat1-of_found (shown mid).now found up.0 is))) clean;
+  failure = λ clean fresh. ReportsNothing-of_look_up (shown old) (shown mid) (shown done) (shown new) _ _ result t clean fresh IsFormat1 looks (λ found up is. IsFormat1-of_found (shown mid).now found up.0 is);
+  failure_format_1 = not_migrated;
 }
   where
-    t : WholeTransaction (shown old) (shown mid) (shown done) (shown new) (IsBroughtUp (shown mid) (shown done)) (λ found. found ≡ Some former_format) result
+    t : WholeTransaction (shown old) (shown mid) (shown done) (shown new) (IsUpgraded (shown mid) (shown done)) (λ found. found ≡ Some format_1) result
     t = going_up (shown old) (shown mid) (shown done) (shown new) worked result keeps begun begins works kept concludes
 
-    stored : (s : Broker) (found : Option ℕ) → StoresFormer (shown mid).now s → IsBroughtUp (shown mid) (shown done) found → found ≡ Some former_format → Stores (shown done).now s
+    stored : (s : Broker) (found : Option ℕ) → StoresFormat1 (shown mid).now s → IsUpgraded (shown mid) (shown done) found → found ≡ Some format_1 → Stores (shown done).now s
     stored s found was up is = record { tables = ((up.1 is).0 s was.tables).0; contents = was.contents }
 
 -- if BEGIN was refused
@@ -166,13 +166,13 @@ pub MigratesOrNot-unbegun : {X : Type 0} (shown : Held X → State) (old new : H
     → MigratesOrNot shown old new (Err why)
 MigratesOrNot-unbegun shown old new why refused cause begins = record {
   found = λ clean. tt;
-  ends = λ clean s holds. EndsOrFails-unbegun (shown old) (shown new) why refused begins (λ db. StoresFormer db s) (λ db. Stores db s) (λ found. (found ≡ Some former_format) × HoldsState s (shown new) × KeepsFormerRoom (shown old) (shown new)) clean holds;
-  unchanged = IsUnchangedUnless-unbegun (shown old) (shown new) why refused begins (λ found. found ≡ Some former_format);
+  ends = λ clean s holds. EndsOrFails-unbegun (shown old) (shown new) why refused begins (λ db. StoresFormat1 db s) (λ db. Stores db s) (λ found. (found ≡ Some format_1) × HoldsState s (shown new) × KeepsFormat1Room (shown old) (shown new)) clean holds;
+  unchanged = IsUnchangedUnless-unbegun (shown old) (shown new) why refused begins (λ found. found ≡ Some format_1);
   over = LeavesNoTransaction-unbegun (shown old) (shown new) refused;
   survives = CommitsAtMostOnce-of_survives (shown old) (shown new) begins;
   spares = λ clean other. AddsNoCrashState-of_survives (shown old) (shown new) begins clean;
-  calm = λ clean fresh is. inl (inl (failed clean fresh is));
-  calm_former = λ s fit clean fresh holds is. inl (failed clean fresh is);
+  failure = λ clean fresh is. inl (inl (failed clean fresh is));
+  failure_format_1 = λ s fit clean fresh holds is. inl (failed clean fresh is);
 }
   where
     failed : HasCleanDisk (shown new) → IsFresh (shown old) → ◌≡◌ {A = Result (Option ℕ) StoreFault} (Err why) (Err Store) → HasFailed (shown old) (shown new) Store

@@ -6,7 +6,7 @@ use Rattle.broker_core.specs.{declared.command.Version.{Version}, declared.need.
 use Rattle.broker_core.specs.{declared.need.PairFault.{PairFault}, Change.{unchanged_with}}
 use Rattle.broker_core.specs.{State.{State as Broker, Verification, opening, claimed_result, checked_result}, Text.{Text, same_text, put_at, version}}
 use Rattle.broker_core.proofs.Judgement.{Rows, with_rows, row_keys, Judges-is_permitted}
-use Rattle.broker_tables.specs.{Former.{IsUnmarked}, Holds.{AreResults}}
+use Rattle.broker_tables.specs.{Format1.{IsUnmarked}, Holds.{AreResults}}
 use Rattle.broker_database.{specs.Migration.{Showed}, proofs.MigrationLemmas.{JudgesAsBefore-unmarked}}
 
 abbrev shop : Version
@@ -34,8 +34,8 @@ with_results results =
 abbrev result_row : Bool → Row
 result_row pass = Int (pos 1) ∷ Null ∷ Int (pos 1) ∷ Words (codes "stock") ∷ Int (pos 2) ∷ Int (if pass then pos 1 else pos 0) ∷ Null ∷ []
 
-pub AreResults-former_row_is_claim : AreResults (shop ∷ stock ∷ []) (claimed_result 1 stock true None ∷ []) (result_row true ∷ []) []
-AreResults-former_row_is_claim = refl
+pub AreResults-format_1_row_is_claim : AreResults (shop ∷ stock ∷ []) (claimed_result 1 stock true None ∷ []) (result_row true ∷ []) []
+AreResults-format_1_row_is_claim = refl
 
 -- after the migration the same row is still a claim, and a row that is listed among the checked ones isn't
 pub AreResults-checked_row : AreResults (shop ∷ stock ∷ []) (checked_result 1 stock false None ∷ []) (result_row false ∷ []) ((Int (pos 1) ∷ Null ∷ []) ∷ [])

@@ -12,11 +12,11 @@ use Rattle.broker_core.specs.{declared.need.PairFault.{PairFault}, Change.{Trans
 use Rattle.broker_core.specs.{Gate.{IsGood, IsPermitted, IsFault, Judges}, Machine.{TakesEffect}, State.{State as Broker, is_strict}, Text.{Text}}
 use Rattle.sqlite_schema.specs.{declared.schema.Column.{Column}, Names.{same_name}}
 use Rattle.broker_tables.specs.{Schema.{no_schema, schema_of, in_meta}, Holds.{IsMeta}, Making.{IsBlank, IsMarked}}
-use Rattle.broker_tables.{specs.Former.{HoldsFormer, IsUnmarked, former_tables, former_format}, proofs.Former.{unmarked}}
-use Rattle.registry_tables.specs.Format.{AreLike, AreKeys, CompareBytes, HasForm, HasFormerTables, HasNoFormat, SharesTree, IsOfFormat}
+use Rattle.broker_tables.{specs.Format1.{HoldsFormat1, IsUnmarked, format_1_tables, format_1}, proofs.Format1.{unmarked}}
+use Rattle.registry_tables.specs.Format.{AreLike, AreKeys, CompareBytes, HasForm, HasFormat1Tables, HasNoFormat, SharesTree, IsOfFormat}
 use Rattle.command_facts.specs.Primitives.{broker_primitives}
 use Rattle.broker_database.specs.{Calls.{Migrated}, Ends.{IsUnchangedUnless}}
-use Rattle.broker_database.specs.Migration.{StoresFormer, MigratesOrNot, FindsFormerAlone, HasFormerAlone, KeepsFormerRoom, MigratesOrRefuses, WasGood, WasPermitted, WasFault, WasJudged, Showed, JudgesAsBefore, former_kind, former_fault, former_marks}
+use Rattle.broker_database.specs.Migration.{StoresFormat1, MigratesOrNot, FindsFormat1Alone, HasFormat1Alone, KeepsFormat1Room, MigratesOrRefuses, WasGood, WasPermitted, WasFault, WasJudged, Showed, JudgesAsBefore, format_1_kind, format_1_fault, format_1_marks}
 use Rattle.broker_database.specs.{Opening.{Refuses, IsUnchangedUnlessStore, judgement, open_fault}, Stored.{Stores, HoldsState}}
 use Rattle.broker_database.specs.{declared.opening.OpenFault.{OpenFault}, declared.opening.OpenFault.TheVariants.{Format}}
 use Rattle.broker_database.proofs.{Judgements.{IsMeta-format, table_of-meta_unique, Finds-blank_none, Finds-marked}, OpenFailures.{judgement-not_store}}
@@ -30,8 +30,8 @@ HoldsDurably-now P c keeps now = let was = keeps.held now in subst P (sym was.sa
 -- ---- the format that is found
 
 -- a database of format 1 has meta as its first table, with its one row
-pub IsMarked-of_former : (db : Database) (s : Broker) → HoldsFormer db s → IsMarked former_format s.office db
-IsMarked-of_former db s held = record { tables = drop 1 (schema_of former_tables).tables; indexes = (schema_of former_tables).indexes; schema = held.schema; row = held.meta }
+pub IsMarked-of_format_1 : (db : Database) (s : Broker) → HoldsFormat1 db s → IsMarked format_1 s.office db
+IsMarked-of_format_1 db s held = record { tables = drop 1 (schema_of format_1_tables).tables; indexes = (schema_of format_1_tables).indexes; schema = held.schema; row = held.meta }
 
 -- each column is like itself
 AreLike-refl : (cs : List Column) → AreLike cs cs
@@ -46,49 +46,49 @@ AreKeys-refl (places ∷ keys) = (refl, AreKeys-refl keys)
 HasForm-own : (t : Table) (tree : ℕ) → CompareBytes t.columns → HasForm t (record t { tree = tree })
 HasForm-own t tree bytes = (AreLike-refl t.columns, bytes, (refl, refl, AreKeys-refl t.uniques))
 
-HasFormerTables-former_schema : HasFormerTables (schema_of former_tables)
+HasFormat1Tables-format_1_schema : HasFormat1Tables (schema_of format_1_tables)
 unfolding same_name
-HasFormerTables-former_schema = (HasForm-own tables.meta 0 (refl, (refl, (refl, tt))), (HasForm-own tables.teams 1 (refl, (refl, tt)), (HasForm-own tables.pacticipants 4 (refl, (refl, tt)), (HasForm-own tables.versions 6 (refl, (refl, (refl, tt))), (HasForm-own tables.branches 8 (refl, (refl, tt)), (HasForm-own tables.environments 10 (refl, (refl, tt)), (HasForm-own tables.grants 12 (refl, (refl, tt)), (HasForm-own tables.contents 14 (refl, (refl, (refl, tt))), (HasForm-own tables.contracts 15 (refl, (refl, (refl, tt))), (HasForm-own tables.results 17 (refl, (refl, (refl, (refl, (refl, (refl, tt)))))), (HasForm-own tables.latest 19 (refl, (refl, (refl, tt))), (HasForm-own tables.deployed 21 (refl, (refl, (refl, (refl, tt)))), (HasForm-own tables.released 23 (refl, (refl, tt)), tt)))))))))))))
+HasFormat1Tables-format_1_schema = (HasForm-own tables.meta 0 (refl, (refl, (refl, tt))), (HasForm-own tables.teams 1 (refl, (refl, tt)), (HasForm-own tables.pacticipants 4 (refl, (refl, tt)), (HasForm-own tables.versions 6 (refl, (refl, (refl, tt))), (HasForm-own tables.branches 8 (refl, (refl, tt)), (HasForm-own tables.environments 10 (refl, (refl, tt)), (HasForm-own tables.grants 12 (refl, (refl, tt)), (HasForm-own tables.contents 14 (refl, (refl, (refl, tt))), (HasForm-own tables.contracts 15 (refl, (refl, (refl, tt))), (HasForm-own tables.results 17 (refl, (refl, (refl, (refl, (refl, (refl, tt)))))), (HasForm-own tables.latest 19 (refl, (refl, (refl, tt))), (HasForm-own tables.deployed 21 (refl, (refl, (refl, (refl, tt)))), (HasForm-own tables.released 23 (refl, (refl, tt)), tt)))))))))))))
 
-pub HasFormerAlone-of_former : (db : Database) (s : Broker) → HoldsFormer db s → HasFormerAlone db.schema
-HasFormerAlone-of_former db s held = subst HasFormerAlone (sym held.schema) (HasFormerTables-former_schema, refl, refl, refl)
+pub HasFormat1Alone-of_format_1 : (db : Database) (s : Broker) → HoldsFormat1 db s → HasFormat1Alone db.schema
+HasFormat1Alone-of_format_1 db s held = subst HasFormat1Alone (sym held.schema) (HasFormat1Tables-format_1_schema, refl, refl, refl)
 
-pub FindsFormerAlone-former : (db : Database) (s : Broker) (found : Option ℕ) → HoldsFormer db s → FindsFormerAlone db found → found ≡ Some former_format
-FindsFormerAlone-former db s None held (inl foreign) = Finds-marked former_format s.office db None (IsMarked-of_former db s held) foreign
-FindsFormerAlone-former db s None held (inr (reports, lacks)) = absurd (lacks (HasFormerAlone-of_former db s held))
-FindsFormerAlone-former db s (Some n) held it = Finds-marked former_format s.office db (Some n) (IsMarked-of_former db s held) it.0
+pub FindsFormat1Alone-format_1 : (db : Database) (s : Broker) (found : Option ℕ) → HoldsFormat1 db s → FindsFormat1Alone db found → found ≡ Some format_1
+FindsFormat1Alone-format_1 db s None held (inl foreign) = Finds-marked format_1 s.office db None (IsMarked-of_format_1 db s held) foreign
+FindsFormat1Alone-format_1 db s None held (inr (reports, lacks)) = absurd (lacks (HasFormat1Alone-of_format_1 db s held))
+FindsFormat1Alone-format_1 db s (Some n) held it = Finds-marked format_1 s.office db (Some n) (IsMarked-of_format_1 db s held) it.0
 
 -- and its format can be found
-pub HoldsFormer-has_format : (db : Database) (s : Broker) → HoldsFormer db s → ¬ (HasNoFormat db ⊎ SharesTree db)
-HoldsFormer-has_format db s held (inl (table, at, is, (row, rows, none))) =
-    let one : db.trees in_meta.tree ≡ row ∷ [] = subst (λ (t : Table). db.trees t.tree ≡ row ∷ []) (table_of-meta_unique former_format s.office db (IsMarked-of_former db s held) table at) rows in
+pub HoldsFormat1-has_format : (db : Database) (s : Broker) → HoldsFormat1 db s → ¬ (HasNoFormat db ⊎ SharesTree db)
+HoldsFormat1-has_format db s held (inl (table, at, is, (row, rows, none))) =
+    let one : db.trees in_meta.tree ≡ row ∷ [] = subst (λ (t : Table). db.trees t.tree ≡ row ∷ []) (table_of-meta_unique format_1 s.office db (IsMarked-of_format_1 db s held) table at) rows in
     let there = has_place db.schema.tables 0 tables.meta (ap (λ (c : Schema). slice_get c.tables 0) held.schema) in
     let number = column-Int db held.kept.sound tables.meta there row (subst (λ xs. Has xs row) (sym one) (inl refl)) 1 _ refl refl refl refl refl in
-    none former_format (number ∙ ap Int (IsMeta-format former_format s.office row (subst (IsMeta former_format s.office) one held.meta))) (omega arith)
-HoldsFormer-has_format db s held (inr (table, at, is, other)) =
-    other (subst (λ (t : Table). find (λ u. u.tree == t.tree) db.schema.tables ≡ Some t) (sym (table_of-meta_unique former_format s.office db (IsMarked-of_former db s held) table at)) (ap (λ (c : Schema). find (λ u. u.tree == in_meta.tree) c.tables) held.schema))
+    none format_1 (number ∙ ap Int (IsMeta-format format_1 s.office row (subst (IsMeta format_1 s.office) one held.meta))) (omega arith)
+HoldsFormat1-has_format db s held (inr (table, at, is, other)) =
+    other (subst (λ (t : Table). find (λ u. u.tree == t.tree) db.schema.tables ≡ Some t) (sym (table_of-meta_unique format_1 s.office db (IsMarked-of_format_1 db s held) table at)) (ap (λ (c : Schema). find (λ u. u.tree == in_meta.tree) c.tables) held.schema))
 
 -- the judgement by what is found is right
-MigratesOrRefuses-judgement : (db : Database) (found : Option ℕ) → FindsFormerAlone db found → MigratesOrRefuses db (judgement former_format found)
+MigratesOrRefuses-judgement : (db : Database) (found : Option ℕ) → FindsFormat1Alone db found → MigratesOrRefuses db (judgement format_1 found)
 MigratesOrRefuses-judgement db None it = it
-MigratesOrRefuses-judgement db (Some n) it = go (n == former_format) refl
+MigratesOrRefuses-judgement db (Some n) it = go (n == format_1) refl
   where
-    go : (b : Bool) → (n == former_format) ≡ b → MigratesOrRefuses db (if b then Ok tt else Err (Format n))
+    go : (b : Bool) → (n == format_1) ≡ b → MigratesOrRefuses db (if b then Ok tt else Err (Format n))
     go true e =
-        let same : n ≡ former_format = eqb-true n former_format e in
+        let same : n ≡ format_1 = eqb-true n format_1 e in
         (subst (λ k. IsOfFormat k db) same it.0, it.1 same)
-    go false e = (it.0, eqb-false n former_format e)
+    go false e = (it.0, eqb-false n format_1 e)
 
-FindsFormerAlone-blank : (db : Database) (found : Option ℕ) → db.schema ≡ no_schema → FindsFormerAlone db found → found ≡ None
-FindsFormerAlone-blank db None blank it = refl
-FindsFormerAlone-blank db (Some n) blank it = Finds-blank_none db (Some n) blank it.0
+FindsFormat1Alone-blank : (db : Database) (found : Option ℕ) → db.schema ≡ no_schema → FindsFormat1Alone db found → found ≡ None
+FindsFormat1Alone-blank db None blank it = refl
+FindsFormat1Alone-blank db (Some n) blank it = Finds-blank_none db (Some n) blank it.0
 
-FindsFormerAlone-marked : (n : ℕ) (office : Text) (db : Database) (found : Option ℕ) → n ≢ former_format → IsMarked n office db → FindsFormerAlone db found → found ≡ Some n
-FindsFormerAlone-marked n office db None other marked (inl foreign) = Finds-marked n office db None marked foreign
-FindsFormerAlone-marked n office db None other marked (inr (reports, lacks)) =
-    let is : Some former_format ≡ Some n = Finds-marked n office db (Some former_format) marked reports in
-    absurd (other (let same : n ≡ former_format = cc in same))
-FindsFormerAlone-marked n office db (Some k) other marked it = Finds-marked n office db (Some k) marked it.0
+FindsFormat1Alone-marked : (n : ℕ) (office : Text) (db : Database) (found : Option ℕ) → n ≢ format_1 → IsMarked n office db → FindsFormat1Alone db found → found ≡ Some n
+FindsFormat1Alone-marked n office db None other marked (inl foreign) = Finds-marked n office db None marked foreign
+FindsFormat1Alone-marked n office db None other marked (inr (reports, lacks)) =
+    let is : Some format_1 ≡ Some n = Finds-marked n office db (Some format_1) marked reports in
+    absurd (other (let same : n ≡ format_1 = cc in same))
+FindsFormat1Alone-marked n office db (Some k) other marked it = Finds-marked n office db (Some k) marked it.0
 
 -- ---- the gate's words
 
@@ -106,23 +106,23 @@ IsGood-now need good = (good.0, passes need.latest good.1)
     passes None h = h
     passes (Some latest) h = (h, λ never. absurd cc)
 
-kind_of-former_kind : (w : Option Text) (latest : Option Latest) → kind_of false w latest ≡ former_kind w latest
-kind_of-former_kind None latest = refl
-kind_of-former_kind (Some w) None = refl
-kind_of-former_kind (Some w) (Some latest) = by_pass latest.pass
+kind_of-format_1_kind : (w : Option Text) (latest : Option Latest) → kind_of false w latest ≡ format_1_kind w latest
+kind_of-format_1_kind None latest = refl
+kind_of-format_1_kind (Some w) None = refl
+kind_of-format_1_kind (Some w) (Some latest) = by_pass latest.pass
   where
     by_pass : (pass : Bool) → (if not pass then Some Failed else if false && not latest.checked then Some Claimed else None) ≡ (if pass then None else Some Failed)
     by_pass true = refl
     by_pass false = refl
 
-fault_of-former_fault : (need : Need) → fault_of false need ≡ former_fault need
-fault_of-former_fault need = ap (option_map (λ kind. record {
+fault_of-format_1_fault : (need : Need) → fault_of false need ≡ format_1_fault need
+fault_of-format_1_fault need = ap (option_map (λ kind. record {
   consumer = need.consumer;
   consumer_version = need.consumer_version;
   provider = need.provider;
   provider_version = need.provider_version;
   kind = kind;
-})) (kind_of-former_kind need.provider_version need.latest)
+})) (kind_of-format_1_kind need.provider_version need.latest)
 
 -- ---- if no environment is strict
 
@@ -145,13 +145,13 @@ module _ (s : Broker) (are : IsUnmarked s) where
       back (inl all) = inl (λ need is. subst (λ strict. IsGood strict need) (sym (lenient e)) (IsGood-now need (all need is)))
       back (inr ungated) = inr ungated
 
-  fault_of-is_strict_former : (e : Text) (need : Need) → fault_of (is_strict s e) need ≡ former_fault need
-  fault_of-is_strict_former e need = ap (λ strict. fault_of strict need) (lenient e) ∙ fault_of-former_fault need
+  fault_of-is_strict_format_1 : (e : Text) (need : Need) → fault_of (is_strict s e) need ≡ format_1_fault need
+  fault_of-is_strict_format_1 e need = ap (λ strict. fault_of strict need) (lenient e) ∙ fault_of-format_1_fault need
 
   IsFault-was_fault : (v : Version) (e : Text) (fault : PairFault) → IsFault s v e fault ↔ WasFault s v e fault
   IsFault-was_fault v e fault = (
-    λ it. (it.0, it.1, sym (fault_of-is_strict_former e it.0) ∙ it.2),
-    λ it. (it.0, it.1, fault_of-is_strict_former e it.0 ∙ it.2),
+    λ it. (it.0, it.1, sym (fault_of-is_strict_format_1 e it.0) ∙ it.2),
+    λ it. (it.0, it.1, fault_of-is_strict_format_1 e it.0 ∙ it.2),
   )
 
   Judges-was : (v : Version) (e : Text) (permitted : Bool) (faults : List PairFault) → Judges s v e permitted faults → WasJudged s v e permitted faults
@@ -172,14 +172,14 @@ module _ (s : Broker) (are : IsUnmarked s) where
     };
   }
 
-  former_marks-same : (e : Text) (marks : Marks) → s.environments e ≡ Some marks → marks ≡ former_marks marks.gated
-  former_marks-same e marks is = ap (λ strict. record marks { strict = strict }) (are.lenient e marks is)
+  format_1_marks-same : (e : Text) (marks : Marks) → s.environments e ≡ Some marks → marks ≡ format_1_marks marks.gated
+  format_1_marks-same e marks is = ap (λ strict. record marks { strict = strict }) (are.lenient e marks is)
 
   Showed-of_effect : (v : Version) (e : Text) (out : Transition) → TakesEffect broker_primitives s (CanIDeploy v e) out → Showed s v e out
   Showed-of_effect v e out (marks, is, (permitted, faults, judged, shown)) = (
     marks.gated,
     ap (option_map (λ (m : Marks). m.gated)) is,
-    (permitted, faults, Judges-was v e permitted faults judged, shown ∙ ap (λ m. unchanged_with s (Shown (Gate e m permitted faults))) (former_marks-same e marks is)),
+    (permitted, faults, Judges-was v e permitted faults judged, shown ∙ ap (λ m. unchanged_with s (Shown (Gate e m permitted faults))) (format_1_marks-same e marks is)),
   )
 
   TakesEffect-of_showed : (v : Version) (e : Text) (out : Transition) → Showed s v e out → TakesEffect broker_primitives s (CanIDeploy v e) out
@@ -189,14 +189,14 @@ module _ (s : Broker) (are : IsUnmarked s) where
       go None none = absurd (let some = is in cc)
       go (Some marks) some =
           let same : marks.gated ≡ gated = (let both : Some marks.gated ≡ Some gated = sym (ap (option_map (λ (m : Marks). m.gated)) some) ∙ is in cc) in
-          (marks, some, (permitted, faults, Judges-now v e permitted faults judged, shown ∙ ap (λ m. unchanged_with s (Shown (Gate e m permitted faults))) (ap former_marks (sym same) ∙ sym (former_marks-same e marks some))))
+          (marks, some, (permitted, faults, Judges-now v e permitted faults judged, shown ∙ ap (λ m. unchanged_with s (Shown (Gate e m permitted faults))) (ap format_1_marks (sym same) ∙ sym (format_1_marks-same e marks some))))
 
   pub JudgesAsBefore-unmarked : JudgesAsBefore s
   JudgesAsBefore-unmarked = record { unmarked = are; permits = IsPermitted-was_permitted; faults = IsFault-was_fault; shows = λ v e out. (Showed-of_effect v e out, TakesEffect-of_showed v e out) }
 
 -- of each state that a database of format 1 holds
-pub judges_former : (db : Database) (s : Broker) → HoldsFormer db s → JudgesAsBefore s
-judges_former db s held = JudgesAsBefore-unmarked s (unmarked former_format [] db s held)
+pub judges_format_1 : (db : Database) (s : Broker) → HoldsFormat1 db s → JudgesAsBefore s
+judges_format_1 db s held = JudgesAsBefore-unmarked s (unmarked format_1 [] db s held)
 
 -- ---- the record of a migration, from what its transaction leaves
 
@@ -205,31 +205,31 @@ OnOk-const (Ok u) P it = it
 OnOk-const (Err fault) P it = tt
 
 -- if the judgement refuses, no database of format 1 was found
-judgement-refused_unchanged : (old new : State) (found : Option ℕ) → IsUnchangedUnless (λ f. f ≡ Some former_format) old new (Ok found) → IfErr (judgement former_format found) (IsUnchangedUnlessStore old new)
+judgement-refused_unchanged : (old new : State) (found : Option ℕ) → IsUnchangedUnless (λ f. f ≡ Some format_1) old new (Ok found) → IfErr (judgement format_1 found) (IsUnchangedUnlessStore old new)
 judgement-refused_unchanged old new None it = it (λ is. cc)
-judgement-refused_unchanged old new (Some n) it = go (n == former_format) refl
+judgement-refused_unchanged old new (Some n) it = go (n == format_1) refl
   where
-    go : (b : Bool) → (n == former_format) ≡ b → IfErr {T = Unit {0}} (if b then Ok tt else Err (Format n)) (IsUnchangedUnlessStore old new)
+    go : (b : Bool) → (n == format_1) ≡ b → IfErr {T = Unit {0}} (if b then Ok tt else Err (Format n)) (IsUnchangedUnlessStore old new)
     go true e = tt
-    go false e = it (λ is. eqb-false n former_format e (let same : n ≡ former_format = cc in same))
+    go false e = it (λ is. eqb-false n format_1 e (let same : n ≡ format_1 = cc in same))
 
 -- a format was found
-pub Migrated-found : {X : Type 0} (shown : Held X → State) (old new : Held X) (found : Option ℕ) → MigratesOrNot shown old new (Ok found) → Migrated shown old new (judgement former_format found)
+pub Migrated-found : {X : Type 0} (shown : Held X → State) (old new : Held X) (found : Option ℕ) → MigratesOrNot shown old new (Ok found) → Migrated shown old new (judgement format_1 found)
 Migrated-found shown old new found up = record {
-  migrates = λ clean s keeps. OnOk-const (judgement former_format found) (HoldsState s (shown new)) (up.ends clean s keeps).1;
-  room = λ clean s keeps. OnOk-const (judgement former_format found) (KeepsFormerRoom (shown old) (shown new)) (up.ends clean s keeps).2;
+  migrates = λ clean s keeps. OnOk-const (judgement format_1 found) (HoldsState s (shown new)) (up.ends clean s keeps).1;
+  room = λ clean s keeps. OnOk-const (judgement format_1 found) (KeepsFormat1Room (shown old) (shown new)) (up.ends clean s keeps).2;
   refuses = λ clean s keeps.
-      let is : Ok tt ≡ judgement former_format found = sym (ap (judgement former_format) (up.ends clean s keeps).0) in
-      subst (λ (r : Result (Unit {0}) OpenFault). IfErr r (Refuses (λ db. StoresFormer db s) (λ db. Stores db s) (shown new))) is tt;
+      let is : Ok tt ≡ judgement format_1 found = sym (ap (judgement format_1) (up.ends clean s keeps).0) in
+      subst (λ (r : Result (Unit {0}) OpenFault). IfErr r (Refuses (λ db. StoresFormat1 db s) (λ db. Stores db s) (shown new))) is tt;
   judges = λ clean. MigratesOrRefuses-judgement (shown old).now found (up.found clean).1;
-  calm = λ clean fresh is. absurd (judgement-not_store former_format found is);
-  calm_former = λ s fit clean fresh holds is. absurd (judgement-not_store former_format found is);
+  failure = λ clean fresh is. absurd (judgement-not_store format_1 found is);
+  failure_format_1 = λ s fit clean fresh holds is. absurd (judgement-not_store format_1 found is);
   blank = λ clean keeps.
       let it = up.found clean in
-      inl (ap (judgement former_format) (FindsFormerAlone-blank (shown old).now found (HoldsDurably-now IsBlank (shown old) keeps it.0).schema it.1));
+      inl (ap (judgement format_1) (FindsFormat1Alone-blank (shown old).now found (HoldsDurably-now IsBlank (shown old) keeps it.0).schema it.1));
   marked = λ clean n office other keeps.
       let it = up.found clean in
-      inl (ap (judgement former_format) (FindsFormerAlone-marked n office (shown old).now found other (HoldsDurably-now (IsMarked n office) (shown old) keeps it.0) it.1));
+      inl (ap (judgement format_1) (FindsFormat1Alone-marked n office (shown old).now found other (HoldsDurably-now (IsMarked n office) (shown old) keeps it.0) it.1));
   unchanged = λ clean. judgement-refused_unchanged (shown old) (shown new) found (up.unchanged clean);
   over = up.over;
   survives = up.survives;
@@ -243,8 +243,8 @@ Migrated-failed shown old new store_fault.Memory up = record {
   room = λ _ _ _. tt;
   refuses = up.ends;
   judges = λ _. tt;
-  calm = λ clean fresh is. absurd (cc);
-  calm_former = λ s fit clean fresh holds is. absurd (cc);
+  failure = λ clean fresh is. absurd (cc);
+  failure_format_1 = λ s fit clean fresh holds is. absurd (cc);
   blank = λ _ _. inr (inl refl);
   marked = λ _ _ _ _ _. inr (inl refl);
   unchanged = up.unchanged;
@@ -257,8 +257,8 @@ Migrated-failed shown old new store_fault.Store up = record {
   room = λ _ _ _. tt;
   refuses = up.ends;
   judges = λ _. tt;
-  calm = λ clean fresh is. up.calm clean fresh refl;
-  calm_former = λ s fit clean fresh holds is. up.calm_former s fit clean fresh holds refl;
+  failure = λ clean fresh is. up.failure clean fresh refl;
+  failure_format_1 = λ s fit clean fresh holds is. up.failure_format_1 s fit clean fresh holds refl;
   blank = λ _ _. inr (inr refl);
   marked = λ _ _ _ _ _. inr (inr refl);
   unchanged = up.unchanged;

@@ -15,7 +15,7 @@ use Rattle.broker_core.specs.declared.answer.Answer.TheVariants as answers
 use Rattle.broker_core.specs.declared.command.Command.{Command}
 use Rattle.broker_core.specs.declared.command.Command.TheVariants.{Deploy, Release}
 use Rattle.broker_core.specs.declared.command.Version.{Version}
-use Rattle.broker_tables.specs.Former.{former_format}
+use Rattle.broker_tables.specs.Format1.{format_1}
 use Rattle.broker_tables.specs.Making.{IsBlank, IsMarked}
 use Rattle.broker_tables.specs.Room.{HasRoomFor}
 use Rattle.broker_database.specs.BrokerView.{BrokerView}
@@ -23,7 +23,7 @@ use Rattle.broker_database.specs.Causes.{HoldsReadable, IsNotKept, KeepsRoom, St
 use Rattle.broker_database.specs.Ends.{Applies, IsAsBefore, AddsNoCrashState, CommitsAtMostOnce, LeavesNoTransaction}
 use Rattle.broker_database.specs.Handed.{left_by, verdict}
 use Rattle.broker_database.specs.Headline.{RecordsExactly}
-use Rattle.broker_database.specs.Migration.{StoresFormer, HoldsFormerState, KeepsFormerRoom, MigratesOrRefuses, IsFormer, OnlyIfNotMigrated}
+use Rattle.broker_database.specs.Migration.{StoresFormat1, HoldsFormat1State, KeepsFormat1Room, MigratesOrRefuses, IsFormat1, OnlyIfNotMigrated}
 use Rattle.broker_database.specs.Opening.{TablesMade, TablesFound, Refuses, IsUnchangedUnlessStore, Judged, IsFresh, ReportsNothing}
 use Rattle.broker_database.specs.Stored.{Stores, HoldsState}
 use Rattle.broker_database.specs.declared.opening.Refused.{Refused}
@@ -59,7 +59,7 @@ module _ {X : Type 0} (shown : Held X → State) where
     -- Store, from a state that can be read back: the store failed, unless the command was to be done; so no refusal, no
     -- request without a token and none that only reads stops a broker whose disk works. And one that was to be done, if
     -- the tables have numbers for its rows, only if the store failed or COMMIT was refused since memory ran out.
-    pub calm : HasCleanDisk (shown new.connection) → old.is_stopped ≡ false → answer ≡ answers.Store
+    pub failure : HasCleanDisk (shown new.connection) → old.is_stopped ≡ false → answer ≡ answers.Store
         → (s : Broker) → HoldsReadable s (shown old.connection)
         → HasFailed (shown old.connection) (shown new.connection) faults.Store
         ⊎ IsNotKept shown s token command old.connection new.connection
@@ -101,29 +101,29 @@ module _ {X : Type 0} (shown : Held X → State) where
   -- What a migration leaves of a connection, and what it answers.
   pub record Migrated (old new : Held X) (given : Result (Unit {0}) OpenFault) : Type 0 where
     -- of a broker's database of format 1: it is one of today's with the same state, of which the gate says what it said
-    -- (the law `former_gate`)
-    pub migrates : HasCleanDisk (shown new) → (s : Broker) → HoldsFormerState s (shown old)
+    -- (the law `format_1_gate`)
+    pub migrates : HasCleanDisk (shown new) → (s : Broker) → HoldsFormat1State s (shown old)
         → OnOk given (HoldsState s (shown new))
     -- and its tables have numbers for as many rows more as those of format 1 had: none is taken
-    pub room : HasCleanDisk (shown new) → (s : Broker) → HoldsFormerState s (shown old)
-        → OnOk given (KeepsFormerRoom (shown old) (shown new))
+    pub room : HasCleanDisk (shown new) → (s : Broker) → HoldsFormat1State s (shown old)
+        → OnOk given (KeepsFormat1Room (shown old) (shown new))
     -- or a failure: it is of format 1 with that state, and after Store a crash may leave today's
-    pub refuses : HasCleanDisk (shown new) → (s : Broker) → HoldsFormerState s (shown old)
-        → IfErr given (Refuses (λ db. StoresFormer db s) (λ db. Stores db s) (shown new))
+    pub refuses : HasCleanDisk (shown new) → (s : Broker) → HoldsFormat1State s (shown old)
+        → IfErr given (Refuses (λ db. StoresFormat1 db s) (λ db. Stores db s) (shown new))
     -- unless it failed: the database had the tables of format 1, or the fault says what it is instead
     pub judges : HasCleanDisk (shown new) → MigratesOrRefuses (shown old).now given
     -- Store: on a connection as it is opened, the store failed, or meta has no number as its format; or the database had
     -- the tables of format 1, and a change or the commit was refused
-    pub calm : HasCleanDisk (shown new) → IsFresh (shown old) → given ≡ Err fault.Store
-        → ReportsNothing (shown old) (shown new) ⊎ IsFormer (shown old).now
+    pub failure : HasCleanDisk (shown new) → IsFresh (shown old) → given ≡ Err fault.Store
+        → ReportsNothing (shown old) (shown new) ⊎ IsFormat1 (shown old).now
     -- and if it held a state in that format that can be read back: the store failed, or COMMIT was refused since memory
     -- ran out; no statement that makes a table or an index, or sets the format, is refused
-    pub calm_former : OnlyIfNotMigrated shown old new (given ≡ Err fault.Store)
+    pub failure_format_1 : OnlyIfNotMigrated shown old new (given ≡ Err fault.Store)
     -- of a database without tables: NotABroker, or a failure
-    pub blank : HasCleanDisk (shown new) → HoldsDurably IsBlank (shown old) → Judged former_format None given
+    pub blank : HasCleanDisk (shown new) → HoldsDurably IsBlank (shown old) → Judged format_1 None given
     -- of one that is marked with another format: which that is, or a failure
-    pub marked : HasCleanDisk (shown new) → (n : ℕ) (office : List ℕ) → n ≢ former_format
-        → HoldsDurably (IsMarked n office) (shown old) → Judged former_format (Some n) given
+    pub marked : HasCleanDisk (shown new) → (n : ℕ) (office : List ℕ) → n ≢ format_1
+        → HoldsDurably (IsMarked n office) (shown old) → Judged format_1 (Some n) given
     -- of any database: if it isn't migrated it is as it was, or after Store the last commit is the old one
     pub unchanged : HasCleanDisk (shown new) → IfErr given (IsUnchangedUnlessStore (shown old) (shown new))
     -- for any answer, no transaction is left open
@@ -131,4 +131,4 @@ module _ {X : Type 0} (shown : Held X → State) where
     -- on a disk that fails, and when the program is stopped in the call: a crash leaves one more database at most
     pub survives : CommitsAtMostOnce (shown old) (shown new)
     -- and none on a database that isn't of format 1, for any answer: what a crash leaves, it left before
-    pub spares : HasCleanDisk (shown new) → ¬ (IsFormer (shown old).now) → AddsNoCrashState (shown old) (shown new)
+    pub spares : HasCleanDisk (shown new) → ¬ (IsFormat1 (shown old).now) → AddsNoCrashState (shown old) (shown new)

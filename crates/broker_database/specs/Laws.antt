@@ -15,7 +15,7 @@ use Rattle.broker_core.specs.RunHeadline.{IsTaken}
 use Rattle.broker_core.specs.State.{State as Broker}
 use Rattle.broker_core.specs.Text.{Text}
 use Rattle.command_facts.specs.Primitives.{broker_primitives}
-use Rattle.broker_tables.specs.Former.{HoldsFormer}
+use Rattle.broker_tables.specs.Format1.{HoldsFormat1}
 use Rattle.broker_tables.specs.Holds.{IsBroker}
 use Rattle.broker_tables.specs.Rows.{rows_of}
 use Rattle.broker_tables.specs.Schema.{in_versions, in_branches, in_contracts, in_results, in_latest, in_deployed, in_released}
@@ -44,8 +44,8 @@ abbrev pub StoredTeamsDiffer : Type 0
 StoredTeamsDiffer = (db : Database) (s : Broker) → Stores db s → TeamsDiffer s
 
 -- of a state that a database of format 1 holds the gate says what it said in format 1
-abbrev pub FormerGateStays : Type 0
-FormerGateStays = (db : Database) (s : Broker) → HoldsFormer db s → JudgesAsBefore s
+abbrev pub Format1GateStays : Type 0
+Format1GateStays = (db : Database) (s : Broker) → HoldsFormat1 db s → JudgesAsBefore s
 
 -- in a state that a database holds every command has a step that is read in some way and whose replies can be compared
 abbrev pub StoredStepExists : Type 0

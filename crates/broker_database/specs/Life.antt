@@ -30,7 +30,7 @@ use Rattle.broker_tables.specs.Rows.{rows_of}
 use Rattle.command_facts.specs.Primitives.{broker_primitives}
 use Rattle.broker_database.specs.BrokerView.{BrokerView}
 use Rattle.broker_database.specs.Calls.{Created, Opened, Migrated}
-use Rattle.broker_database.specs.Migration.{StoresFormer}
+use Rattle.broker_database.specs.Migration.{StoresFormat1}
 use Rattle.broker_database.specs.Sessions.{IsOpenedOn, GivenRuns}
 use Rattle.broker_database.specs.Stored.{Stores, HoldsState}
 use Rattle.broker_database.specs.declared.opening.Refused.{Refused}
@@ -41,7 +41,7 @@ use Rattle.broker_database.specs.declared.opening.OpenFault.{OpenFault}
 -- what files keep: no tables; a broker's state in format 1; a broker's state in today's
 pub data Kept : Type 0 where
   Blank : Kept
-  OfFormer : Broker → Kept
+  OfFormat1 : Broker → Kept
   OfToday : Broker → Kept
 
 -- what a program does from the opening of the files to their end
@@ -75,7 +75,7 @@ LeavesAsWas old calls new = (calls ≡ []) × (new ≡ old)
 abbrev pub PeriodLeads : Kept → Period → Kept → Type 0
 PeriodLeads (OfToday s) (Serving calls) new = RunsFrom s calls new
 PeriodLeads Blank (Making office calls) new = LeavesAsWas Blank calls new ⊎ RunsFrom (opening office) calls new
-PeriodLeads (OfFormer s) Migrating new = (new ≡ OfFormer s) ⊎ (new ≡ OfToday s)
+PeriodLeads (OfFormat1 s) Migrating new = (new ≡ OfFormat1 s) ⊎ (new ≡ OfToday s)
 PeriodLeads old period new = LeavesAsWas old (calls_of period) new
 
 -- one period after another
@@ -86,7 +86,7 @@ LifeLeads old (period ∷ life) new = (mid : Kept) × PeriodLeads old period mid
 -- the state from which the commands of a life are run: the one that was kept, or that of a broker which was made
 abbrev pub BeginsFrom : Kept → List Period → Broker → Type 0
 BeginsFrom (OfToday s) life first = first ≡ s
-BeginsFrom (OfFormer s) life first = first ≡ s
+BeginsFrom (OfFormat1 s) life first = first ≡ s
 BeginsFrom Blank life first =
     (before : List Period) × (office : Text) × (calls : List (Request × Exit)) × (after : List Period)
     × (life ≡ before ++ Making office calls ∷ after) × (first ≡ opening office)
@@ -115,7 +115,7 @@ LivesRun = (old : Kept) (life : List Period) (last : Broker) → LifeLeads old l
 -- these trees keep it
 abbrev pub AreTreesOf : Kept → Trees → Type 0
 AreTreesOf Blank = IsOnDisk IsBlank
-AreTreesOf (OfFormer s) = IsOnDisk (λ db. StoresFormer db s)
+AreTreesOf (OfFormat1 s) = IsOnDisk (λ db. StoresFormat1 db s)
 AreTreesOf (OfToday s) = IsOnDisk (λ db. Stores db s)
 
 -- the latest results that are kept are right: for each content and each version of its provider the result with the

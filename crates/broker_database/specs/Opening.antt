@@ -166,7 +166,7 @@ module _ {X : Type 0} (shown : Held X → State) (old new : Held X) where
     pub refuses : IfErr given (RefusesNew office (shown old) (shown new))
     -- Store: on a connection as it is opened and a database without tables, the store failed, or COMMIT was refused
     -- since memory ran out; no statement that makes a table or an index is refused
-    pub calm : OnlyIfStoreFailed shown IsBlank (opening office) old new (given ≡ Err Store)
+    pub failure : OnlyIfStoreFailed shown IsBlank (opening office) old new (given ≡ Err Store)
     -- NotEmpty: there is a table, an index or a view
     pub not_empty : (given ≡ Err NotEmpty) ↔ (¬ ((shown old).now.schema ≡ no_schema))
     -- and the connection is as it was
@@ -184,7 +184,7 @@ module _ {X : Type 0} (shown : Held X → State) (old new : Held X) where
     -- trigger beside it; or the fault says what it is instead
     pub judges : HasCleanDisk (shown new) → OpensOrRefuses (shown old).now given
     -- Store: on a connection as it is opened, the store failed, or meta has no number as its format
-    pub calm : OnlyIfSilent (shown old) (shown new) (given ≡ Err Store)
+    pub failure : OnlyIfSilent (shown old) (shown new) (given ≡ Err Store)
     -- of a database without tables: NotABroker, or a failure
     pub blank : HasCleanDisk (shown new) → HoldsDurably IsBlank (shown old) → Judged format None given
     -- of one that is marked with another format: which that is, or a failure

@@ -5,7 +5,7 @@ ghost use Rattle.std.specs.List.{AllZip};
 ghost use Rattle.sqlite_schema.specs.Code.{term_in};
 ghost use Rattle.sqlite_schema.specs.declared.code.Op.TheVariants.{Column as Place, Literal};
 ghost use Rattle.sqlite_value.specs.declared.value.Value.TheVariants.{Int, Null};
-ghost use Rattle.broker_tables.specs.Former.{former_tables};
+ghost use Rattle.broker_tables.specs.Format1.{format_1_tables};
 ghost use Rattle.broker_tables.specs.Schema.{broker_schema, schema_of};
 ghost use Rattle.broker_database.specs.Catalog.{IsColumnOf, IsReferenceOf, IsEqualOp, IsTruthOp, HasNoStamps, HasKeysOf, HasRulesOf, columns_of, references_of, IsTableOf, IsIndexOf, HasForms, schema_by, made_table, made_index, check_of, checks_of, IsKeyOf, IsPlain};
 
@@ -689,8 +689,8 @@ pub(crate) fn is_broker_schema(schema: &Schema) -> bool
 }
 
 /// Whether exactly the tables of format 1 are declared, and the indexes of their keys, in their places.
-pub(crate) fn is_former_schema(schema: &Schema) -> bool
-    ensures { IsTrue result ↔ (schema.now ≡ schema_of former_tables) }
+pub(crate) fn is_format_1_schema(schema: &Schema) -> bool
+    ensures { IsTrue result ↔ (schema.now ≡ schema_of format_1_tables) }
 {
     let tables = broker_tables();
     let indexes = broker_indexes();

@@ -5,7 +5,7 @@ ghost use Rattle.broker_core.specs.declared.command.Command.{Command};
 ghost use Rattle.command_facts.specs.Readings.{is_refusal};
 ghost use Rattle.sqlite.specs.Held.{state};
 ghost use Rattle.command_facts.specs.Primitives.{broker_primitives};
-ghost use Rattle.broker_database.specs.Laws.{FormerGateStays, StoredRunsDeployExactly, StoredRunsReleaseExactly, StoredTeamsDiffer, StoredStepExists, RowsNameVersions};
+ghost use Rattle.broker_database.specs.Laws.{Format1GateStays, StoredRunsDeployExactly, StoredRunsReleaseExactly, StoredTeamsDiffer, StoredStepExists, RowsNameVersions};
 ghost use Rattle.broker_database.specs.Life.{KeepsLatest, LivesRun, OpenedFilesHold, OpeningSpares, PeriodsLead};
 ghost use Rattle.broker_database.specs.Life.{Programs, ProgramsLead, two};
 
@@ -128,9 +128,9 @@ pub fn sessions_done()
 
 /// Of each state that a database of format 1 holds, the gate says today what it said in format 1: what each version is
 /// permitted in each environment, its faults, and what can-i-deploy shows. A migration keeps that state.
-#[tactic(auto, using(crate::proofs::MigrationLemmas::judges_former))]
-pub fn former_gate()
-    ensures { FormerGateStays }
+#[tactic(auto, using(crate::proofs::MigrationLemmas::judges_format_1))]
+pub fn format_1_gate()
+    ensures { Format1GateStays }
 {}
 
 /// Every command has a step in each state that a database holds, if its file is read and its replies

@@ -3,19 +3,19 @@ ghost use Rattle.std.specs.Prelude.{◌≡◌, ◌≢◌, ◌↔◌, [], length,
 ghost use Rattle.sqlite.specs.Held.{state};
 ghost use Rattle.table_access.specs.Calls.{CallsStore};
 ghost use Rattle.broker_core.specs.State.{State as BrokerState};
-ghost use Rattle.broker_tables.specs.Making.{IsCalmOver};
-ghost use Rattle.broker_tables.specs.Former.{former_format, former_tables};
+ghost use Rattle.broker_tables.specs.Making.{FailsByStoreOver};
+ghost use Rattle.broker_tables.specs.Format1.{format_1, format_1_tables};
 ghost use Rattle.broker_tables.specs.Schema.{broker_schema, schema_of};
 ghost use Rattle.registry_tables.specs.Format.{BecomesFormat2, FailsToFind, FailsOnlyFor};
 ghost use Rattle.broker_database.specs.Calls.{Migrated};
-ghost use Rattle.broker_database.specs.Migration.{Migrates, MigratesOrNot, FindsFormerAlone, CanBeMigrated, CanBeStoredAgain};
-ghost use Rattle.broker_database.specs.Migration.{FailsToBringUp, StoresFormer};
+ghost use Rattle.broker_database.specs.Migration.{Migrates, MigratesOrNot, FindsFormat1Alone, CanBeMigrated, CanBeStoredAgain};
+ghost use Rattle.broker_database.specs.Migration.{FailsToUpgrade, StoresFormat1};
 ghost use Rattle.broker_database.specs.Opening.{OnlyIfRefused};
 ghost use Rattle.broker_database.specs.Transaction.{returned};
 
-use crate::catalog::{is_broker_schema, is_former_schema};
+use crate::catalog::{is_broker_schema, is_format_1_schema};
 use crate::ending::{Failure, conclude};
-use crate::opening::{OpenFault, judge, make_indexes, open_fault};
+use crate::opening::{OpenFault, judge_format, make_indexes, open_fault};
 use crate::renewal::renew;
 use registry_tables::format_to_migrate;
 use sqlite::{Alter, Connection};
@@ -26,7 +26,7 @@ use table_access::{StoreFault, begin};
 fn add_tables<S: Alter>(conn: &mut Connection<S>) -> Result<(), StoreFault>
     ensures adds { CallsStore S.Store conn.old conn.new result
         (λ _ old new. BecomesFormat2 [] old.now new.now) }
-    ensures calm { IsCalmOver S.Store conn.old conn.new result CanBeMigrated }
+    ensures failure { FailsByStoreOver S.Store conn.old conn.new result CanBeMigrated }
 {
     done!(contract_tables::to_format_2(conn));
     registry_tables::to_format_2(conn)
@@ -34,9 +34,9 @@ fn add_tables<S: Alter>(conn: &mut Connection<S>) -> Result<(), StoreFault>
 
 /// Makes the tables and the indexes that format 1 has not, and sets the format.
 fn add_all<S: Alter>(conn: &mut Connection<S>) -> Result<(), StoreFault>
-    ensures brings { CallsStore S.Store conn.old conn.new result
+    ensures upgrades { CallsStore S.Store conn.old conn.new result
         (λ _ old new. Migrates old.now new.now) }
-    ensures calm { IsCalmOver S.Store conn.old conn.new result CanBeMigrated }
+    ensures failure { FailsByStoreOver S.Store conn.old conn.new result CanBeMigrated }
 {
     done!(add_tables(conn));
     make_indexes(conn)
@@ -53,7 +53,7 @@ fn has_no_more(schema: &Schema) -> bool
 /// The format, but `None` if it is 1 and a table of it isn't there with its columns and keys, or anything else is.
 fn format_to_upgrade<S: Alter>(conn: &mut Connection<S>) -> Result<Option<u32>, StoreFault>
     ensures finds { CallsStore S.Store conn.old conn.new result
-        (λ found old new. FindsFormerAlone old.now found × (new.now ≡ old.now)) }
+        (λ found old new. FindsFormat1Alone old.now found × (new.now ≡ old.now)) }
     ensures cause { FailsOnlyFor (state S.Store conn.old) (state S.Store conn.new) result FailsToFind }
 {
     match done!(format_to_migrate(conn)) {
@@ -69,10 +69,10 @@ fn format_to_upgrade<S: Alter>(conn: &mut Connection<S>) -> Result<Option<u32>, 
 /// Makes the tables of format 1 again, if they aren't declared as a broker of that format declared them.
 fn make_exact<S: Alter>(conn: &mut Connection<S>) -> Result<(), StoreFault>
     ensures makes { CallsStore S.Store conn.old conn.new result
-        (λ _ old new. old.now.schema ≡ schema_of former_tables → new.now ≡ old.now) }
-    ensures calm { IsCalmOver S.Store conn.old conn.new result CanBeMigrated }
+        (λ _ old new. old.now.schema ≡ schema_of format_1_tables → new.now ≡ old.now) }
+    ensures failure { FailsByStoreOver S.Store conn.old conn.new result CanBeMigrated }
 {
-    if is_former_schema(conn.schema()) {
+    if is_format_1_schema(conn.schema()) {
         return Ok(());
     }
     renew(conn)
@@ -93,9 +93,9 @@ fn confirm<S: Alter>(conn: &Connection<S>) -> Result<(), StoreFault>
 
 /// Makes a database of format 1 one of today's, which declares exactly what a new broker does.
 fn make_today<S: Alter>(conn: &mut Connection<S>) -> Result<(), StoreFault>
-    ensures brings { CallsStore S.Store conn.old conn.new result
+    ensures upgrades { CallsStore S.Store conn.old conn.new result
         (λ _ old new. Migrates old.now new.now × (new.now.schema ≡ broker_schema)) }
-    ensures calm { IsCalmOver S.Store conn.old conn.new result CanBeMigrated }
+    ensures failure { FailsByStoreOver S.Store conn.old conn.new result CanBeMigrated }
 {
     done!(make_exact(conn));
     done!(add_all(conn));
@@ -104,12 +104,12 @@ fn make_today<S: Alter>(conn: &mut Connection<S>) -> Result<(), StoreFault>
 
 /// Looks for the format, and if it is 1 and only its tables are there, makes the database one of today's. The answer is
 /// the format that was found.
-fn bring_up<S: Alter>(conn: &mut Connection<S>) -> Result<Option<u32>, StoreFault>
-    ensures brings { CallsStore S.Store conn.old conn.new result
-        (λ found old new. FindsFormerAlone old.now found × (found ≡ Some former_format
+fn upgrade<S: Alter>(conn: &mut Connection<S>) -> Result<Option<u32>, StoreFault>
+    ensures upgrades { CallsStore S.Store conn.old conn.new result
+        (λ found old new. FindsFormat1Alone old.now found × (found ≡ Some format_1
         → Migrates old.now new.now × (new.now.schema ≡ broker_schema))) }
-    ensures cause { FailsOnlyFor (state S.Store conn.old) (state S.Store conn.new) result FailsToBringUp }
-    ensures calm { IsCalmOver S.Store conn.old conn.new result CanBeMigrated }
+    ensures cause { FailsOnlyFor (state S.Store conn.old) (state S.Store conn.new) result FailsToUpgrade }
+    ensures failure { FailsByStoreOver S.Store conn.old conn.new result CanBeMigrated }
 {
     match done!(format_to_upgrade(conn)) {
         Some(1) => {
@@ -121,8 +121,8 @@ fn bring_up<S: Alter>(conn: &mut Connection<S>) -> Result<Option<u32>, StoreFaul
 }
 
 /// Whether the format that was found is 1, so that there is something to commit.
-fn is_former(found: &Result<Option<u32>, StoreFault>) -> bool
-    ensures { IsTrue result ↔ IsOkAnd found.now (λ format. format ≡ Some former_format) }
+fn is_format_1(found: &Result<Option<u32>, StoreFault>) -> bool
+    ensures { IsTrue result ↔ IsOkAnd found.now (λ format. format ≡ Some format_1) }
 {
     matches!(found, Ok(Some(1)))
 }
@@ -132,14 +132,14 @@ fn is_former(found: &Result<Option<u32>, StoreFault>) -> bool
 fn run<S: Alter>(conn: &mut Connection<S>) -> Result<Option<u32>, Failure>
     ensures migrates { MigratesOrNot (state S.Store) conn.old conn.new (returned result) }
     ensures refused { (s : BrokerState) → CanBeStoredAgain s →
-        OnlyIfRefused (state S.Store) (λ db. StoresFormer db s) s conn.old conn.new result }
+        OnlyIfRefused (state S.Store) (λ db. StoresFormat1 db s) s conn.old conn.new result }
 {
     match begin(conn) {
         Ok(()) => {},
         Err(fault) => return Err(Failure::Call(fault)),
     }
-    let found = bring_up(conn);
-    let keeps = is_former(&found);
+    let found = upgrade(conn);
+    let keeps = is_format_1(&found);
     conclude(conn, found, keeps)
 }
 
@@ -162,7 +162,7 @@ pub fn migrate<S: Alter>(conn: &mut Connection<S>) -> Result<(), OpenFault>
     ensures { Migrated (state S.Store) conn.old conn.new result }
 {
     match run(conn) {
-        Ok(found) => judge(1, found),
+        Ok(found) => judge_format(1, found),
         Err(failure) => Err(open_fault(failure.fault())),
     }
 }

@@ -8,7 +8,7 @@ ghost use Rattle.table_access.specs.Statements.{MakesIndexes};
 ghost use Rattle.broker_core.specs.State.{opening};
 ghost use Rattle.broker_tables.specs.Schema.{registry_part, contents, contract_part, all_tables, all_indexes, schema_of};
 ghost use Rattle.broker_tables.specs.Holds.{Holds, format};
-ghost use Rattle.broker_tables.specs.Making.{IsBlank, HasTables, HasShortKeys, IsCalmOver};
+ghost use Rattle.broker_tables.specs.Making.{IsBlank, HasTables, HasShortKeys, FailsByStoreOver};
 ghost use Rattle.broker_tables.specs.ChangeRefusals.{AreShort};
 ghost use Rattle.registry_tables.specs.Format.{FailsToFind, FailsOnlyFor};
 ghost use Rattle.command_facts.specs.Primitives.{broker_primitives};
@@ -72,7 +72,7 @@ fn make_first<S: Alter>(conn: &mut Connection<S>, digest: &str) -> Result<(), St
     ensures makes { CallsStore S.Store conn.old conn.new result
         (λ _ old new. IsBlank old.now
         → HasTables (registry_part ++ contents ∷ contract_part) format digest.now new.now) }
-    ensures calm { IsCalmOver S.Store conn.old conn.new result
+    ensures failure { FailsByStoreOver S.Store conn.old conn.new result
         (λ db. IsBlank db × AreShort (digest.now ∷ [])) }
 {
     done!(registry_tables::make_tables(conn, 2, digest));
@@ -84,7 +84,7 @@ fn make_first<S: Alter>(conn: &mut Connection<S>, digest: &str) -> Result<(), St
 fn make_rest<S: Alter>(conn: &mut Connection<S>) -> Result<(), StoreFault>
     ensures makes { CallsStore S.Store conn.old conn.new result
         (λ _ old new. MakesRest old.now new.now) }
-    ensures calm { IsCalmOver S.Store conn.old conn.new result
+    ensures failure { FailsByStoreOver S.Store conn.old conn.new result
         (λ db. (office : List ℕ) × HasTables (registry_part ++ contents ∷ contract_part) format office db) }
 {
     done!(deploy_tables::make_tables(conn));
@@ -97,7 +97,7 @@ pub(crate) fn make_indexes<S: Alter>(conn: &mut Connection<S>) -> Result<(), Sto
     ensures makes { CallsStore S.Store conn.old conn.new result
         (λ _ old new. old.now.schema ≡ schema_of all_tables
         → MakesIndexes all_indexes old.now new.now) }
-    ensures calm { IsCalmOver S.Store conn.old conn.new result
+    ensures failure { FailsByStoreOver S.Store conn.old conn.new result
         (λ db. (db.schema ≡ schema_of all_tables) × HasShortKeys db) }
 {
     done!(content_store::make_index(conn));
@@ -109,7 +109,7 @@ pub(crate) fn make_indexes<S: Alter>(conn: &mut Connection<S>) -> Result<(), Sto
 fn make_all<S: Alter>(conn: &mut Connection<S>, digest: &str) -> Result<(), StoreFault>
     ensures makes { CallsStore S.Store conn.old conn.new result
         (λ _ old new. IsBlank old.now → Holds new.now (opening digest.now) × HasAllNumbers new.now) }
-    ensures calm { IsCalmOver S.Store conn.old conn.new result
+    ensures failure { FailsByStoreOver S.Store conn.old conn.new result
         (λ db. IsBlank db × AreShort (digest.now ∷ [])) }
 {
     done!(make_first(conn, digest));
@@ -123,7 +123,7 @@ fn make<S: Alter>(conn: &mut Connection<S>, digest: &str) -> Result<(), Failure>
         → MakesOrFails digest.now (state S.Store conn.new) (returned result) }
     ensures unchanged { HasCleanDisk (state S.Store conn.new)
         → IsUnchangedUnless (λ _. Unit {0}) (state S.Store conn.old) (state S.Store conn.new) (returned result) }
-    ensures calm { AreShort (digest.now ∷ [])
+    ensures failure { AreShort (digest.now ∷ [])
         → OnlyIfRefused (state S.Store) IsBlank (opening digest.now) conn.old conn.new result }
     ensures over { LeavesNoTransaction (state S.Store conn.old) (state S.Store conn.new) }
     ensures survives { CommitsAtMostOnce (state S.Store conn.old) (state S.Store conn.new) }
@@ -162,7 +162,7 @@ pub fn create<S: Alter>(
 }
 
 /// The judgement of a database that is to be of this format, by the format that was found.
-pub(crate) fn judge(wanted: u32, found: Option<u32>) -> Result<(), OpenFault>
+pub(crate) fn judge_format(wanted: u32, found: Option<u32>) -> Result<(), OpenFault>
     ensures { result ≡ judgement wanted found }
 {
     match found {
@@ -197,7 +197,7 @@ fn find_format<S: Alter>(conn: &mut Connection<S>) -> Result<Option<u32>, StoreF
     ensures found { HasCleanDisk (state S.Store conn.new)
         → IfOk result (λ found. IsTrue (state S.Store conn.old).is_open × FindsToday (state S.Store conn.old).now found) }
     ensures same { HasCleanDisk (state S.Store conn.new) → IsAsBefore (state S.Store conn.old) (state S.Store conn.new) }
-    ensures calm { OnlyIfSilent (state S.Store conn.old) (state S.Store conn.new) (result ≡ Err StoreFault.Store) }
+    ensures failure { OnlyIfSilent (state S.Store conn.old) (state S.Store conn.new) (result ≡ Err StoreFault.Store) }
     ensures over { LeavesNoTransaction (state S.Store conn.old) (state S.Store conn.new) }
     ensures survives { Survives (state S.Store conn.old) (state S.Store conn.new) (λ _. ⊥) }
 {
@@ -217,7 +217,7 @@ pub fn open<S: Alter>(conn: &mut Connection<S>) -> Result<(), OpenFault>
     ensures { TablesFound (state S.Store) conn.old conn.new result }
 {
     match find_format(conn) {
-        Ok(found) => judge(2, found),
+        Ok(found) => judge_format(2, found),
         Err(fault) => Err(open_fault(fault)),
     }
 }

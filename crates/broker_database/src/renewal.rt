@@ -101,7 +101,7 @@ fn drop_each<S: Alter>(conn: &mut Connection<S>, texts: &[&str]) -> Result<(), S
 }
 
 /// Takes the tables of format 1 away, each before those to which it refers.
-fn drop_former<S: Alter>(conn: &mut Connection<S>) -> Result<(), StoreFault>
+fn drop_format_1<S: Alter>(conn: &mut Connection<S>) -> Result<(), StoreFault>
     ensures { CallsStore S.Store conn.old conn.new result (λ _ _ _. Unit {0}) }
 {
     drop_each(
@@ -125,7 +125,7 @@ fn drop_former<S: Alter>(conn: &mut Connection<S>) -> Result<(), StoreFault>
 }
 
 /// Makes the tables of format 1 as a broker made them.
-fn make_former<S: Alter>(conn: &mut Connection<S>) -> Result<(), StoreFault>
+fn make_format_1<S: Alter>(conn: &mut Connection<S>) -> Result<(), StoreFault>
     ensures { CallsStore S.Store conn.old conn.new result (λ _ _ _. Unit {0}) }
 {
     make_each(
@@ -152,8 +152,8 @@ fn make_former<S: Alter>(conn: &mut Connection<S>) -> Result<(), StoreFault>
 fn make_empty<S: Alter>(conn: &mut Connection<S>) -> Result<(), StoreFault>
     ensures { CallsStore S.Store conn.old conn.new result (λ _ _ _. Unit {0}) }
 {
-    done!(drop_former(conn));
-    make_former(conn)
+    done!(drop_format_1(conn));
+    make_format_1(conn)
 }
 
 /// The value at this place of a row, and NULL past its end.

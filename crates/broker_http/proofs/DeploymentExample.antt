@@ -18,7 +18,8 @@ use Rattle.command_facts.specs.Primitives.{broker_primitives}
 use Rattle.http_messages.specs.{Limits.{head_limit}, Lines.{head_text}}
 use Rattle.http_responses.specs.{Head.{phrase, status_line, content_fields, own_field, close_field}, Responses.{answer_response, sent_part}}
 use Rattle.broker_http.specs.{Calls.{ByMachine}, Journal.{Journal, blank}, Serving.{Serves}, Serving.Mode.{Running}, Stream.{Responses, texts}}
-use Rattle.broker_http.{specs.declared.served.Ended.TheVariants.{AtEnd}, proofs.PlainRequests.{Asked, head_of, bytes_of, request_of, after, response, answered}}
+use Rattle.broker_http.specs.declared.served.Ended.TheVariants.{AtEnd}
+use Rattle.broker_http.proofs.PlainRequests.{PlainRequest, head_of, bytes_of, request_of, after, response, answered}
 use Rattle.broker_http.proofs.DeploymentPact.{shop, stock, normal_form, Reads-pact_file}
 use Rattle.broker_http.proofs.DeploymentRequests.{office_token, red_token, red, live, one, gated, put_red, put_shop, put_stock, put_live, grant_live, publish, name_stock_1, deploy_stock_1, deploy_shop_1, pass_stock_1, requests, IsComputed-put_red, IsComputed-put_shop, IsComputed-put_stock, IsComputed-put_live, IsComputed-grant_live, IsComputed-publish, IsComputed-name_stock_1, IsComputed-deploy_stock_1, IsComputed-deploy_shop_1, IsComputed-pass_stock_1, IsAsked-put_red, IsAsked-put_shop, IsAsked-put_stock, IsAsked-put_live, IsAsked-grant_live, IsAsked-publish, IsAsked-name_stock_1, IsAsked-deploy_stock_1, IsAsked-deploy_shop_1, IsAsked-pass_stock_1}
 
@@ -147,7 +148,7 @@ stock_rows = record rows { deployed = ((live, stock, []), one) ∷ [] }
 
 -- ---- the stream
 
-abbrev Turn : Asked → Broker → Answer → Broker → Type 0
+abbrev Turn : PlainRequest → Broker → Answer → Broker → Type 0
 Turn q s answer t = Step broker_primitives s (Some q.token) q.command (record { answer = answer; state = t })
 
 Turn-put_red : Turn put_red new_broker (Done Plain) with_red
@@ -186,7 +187,7 @@ Turn-deploy_shop_1 = (Some (Team red), (digest_of-office_not_red, refl), (None, 
 -- ---- the stream
 
 -- Each head ends at the same place, for any bytes after the body.
-abbrev Ends : Asked → Type 0
+abbrev Ends : PlainRequest → Type 0
 Ends q = (rest : List ℕ) → head_text (take head_limit (head_of q ++ (q.body ++ rest))) ≡ Some (head_of q)
 
 Ends-put_red : Ends put_red

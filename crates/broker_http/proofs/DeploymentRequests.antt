@@ -10,7 +10,7 @@ use Rattle.broker_core.specs.declared.command.Command.TheVariants.{PutTeam, PutP
 use Rattle.http_messages.specs.{Fields.{same_name}, Heads.{judge, body_length, served_method}}
 use Rattle.http_routes.specs.Routes.{fits, is_on, resource_of, segment}
 use Rattle.http_requests.specs.{Bodies.{IsObject, only_object}, Commands.{IsCommand, IsPactPath}, Requests.{path_of, query_of}}
-use Rattle.broker_http.proofs.PlainRequests.{Asked, asked, IsComputed, is_ascii, IsUtf8-of_ascii, IsPathName-plain, IsNameField-plain}
+use Rattle.broker_http.proofs.PlainRequests.{PlainRequest, plain_request, IsComputed, is_ascii, IsUtf8-of_ascii, IsPathName-plain, IsNameField-plain}
 use Rattle.broker_http.proofs.DeploymentPact.{shop, stock, pact_file, with_text}
 use Rattle.http_routes.specs.declared.Operation.TheVariants as operation
 
@@ -40,48 +40,48 @@ by_stock_1 = record { provider_version = one; run = None }
 
 -- ---- the requests: the method, the target, the caller's token, the length of the body, the body; and what they ask
 
-abbrev pub put_red : Asked
-put_red = asked (codes "PUT") (codes "/teams/red") office_token (codes "29") (codes "{\"token\":\"red-team-token-01\"}")
+abbrev pub put_red : PlainRequest
+put_red = plain_request (codes "PUT") (codes "/teams/red") office_token (codes "29") (codes "{\"token\":\"red-team-token-01\"}")
     operation.PutTeam (PutTeam red red_token)
 
-abbrev pub put_shop : Asked
-put_shop = asked (codes "PUT") (codes "/pacticipants/shop") office_token (codes "14") (codes "{\"team\":\"red\"}")
+abbrev pub put_shop : PlainRequest
+put_shop = plain_request (codes "PUT") (codes "/pacticipants/shop") office_token (codes "14") (codes "{\"team\":\"red\"}")
     operation.PutPacticipant (PutPacticipant shop red)
 
-abbrev pub put_stock : Asked
-put_stock = asked (codes "PUT") (codes "/pacticipants/stock") office_token (codes "14") (codes "{\"team\":\"red\"}")
+abbrev pub put_stock : PlainRequest
+put_stock = plain_request (codes "PUT") (codes "/pacticipants/stock") office_token (codes "14") (codes "{\"team\":\"red\"}")
     operation.PutPacticipant (PutPacticipant stock red)
 
-abbrev pub put_live : Asked
-put_live = asked (codes "PUT") (codes "/environments/live") office_token (codes "14") (codes "{\"gated\":true}")
+abbrev pub put_live : PlainRequest
+put_live = plain_request (codes "PUT") (codes "/environments/live") office_token (codes "14") (codes "{\"gated\":true}")
     operation.PutEnvironment (PutEnvironment live gated)
 
-abbrev pub grant_live : Asked
-grant_live = asked (codes "PUT") (codes "/grants/team/red/environment/live") office_token (codes "0") []
+abbrev pub grant_live : PlainRequest
+grant_live = plain_request (codes "PUT") (codes "/grants/team/red/environment/live") office_token (codes "0") []
     operation.PutGrant (PutGrant red live)
 
-abbrev pub publish : Asked
-publish = asked (codes "PUT") (codes "/pacts/provider/stock/consumer/shop/version/1") red_token (codes "170") pact_file
+abbrev pub publish : PlainRequest
+publish = plain_request (codes "PUT") (codes "/pacts/provider/stock/consumer/shop/version/1") red_token (codes "170") pact_file
     operation.PutPact (PutPact path pact_file)
 
-abbrev pub name_stock_1 : Asked
-name_stock_1 = asked (codes "PUT") (codes "/pacticipants/stock/versions/1") red_token (codes "0") []
+abbrev pub name_stock_1 : PlainRequest
+name_stock_1 = plain_request (codes "PUT") (codes "/pacticipants/stock/versions/1") red_token (codes "0") []
     operation.PutVersion (PutVersion (version stock one) None)
 
-abbrev pub deploy_stock_1 : Asked
-deploy_stock_1 = asked (codes "POST") (codes "/environments/live/deployments") red_token (codes "37") (codes "{\"pacticipant\":\"stock\",\"version\":\"1\"}")
+abbrev pub deploy_stock_1 : PlainRequest
+deploy_stock_1 = plain_request (codes "POST") (codes "/environments/live/deployments") red_token (codes "37") (codes "{\"pacticipant\":\"stock\",\"version\":\"1\"}")
     operation.Deploy (Deploy live (version stock one) None)
 
-abbrev pub deploy_shop_1 : Asked
-deploy_shop_1 = asked (codes "POST") (codes "/environments/live/deployments") red_token (codes "36") (codes "{\"pacticipant\":\"shop\",\"version\":\"1\"}")
+abbrev pub deploy_shop_1 : PlainRequest
+deploy_shop_1 = plain_request (codes "POST") (codes "/environments/live/deployments") red_token (codes "36") (codes "{\"pacticipant\":\"shop\",\"version\":\"1\"}")
     operation.Deploy (Deploy live (version shop one) None)
 
-abbrev pub pass_stock_1 : Asked
-pass_stock_1 = asked (codes "POST") (codes "/pacts/provider/stock/consumer/shop/version/1/results") red_token (codes "49") (codes "{\"providerApplicationVersion\":\"1\",\"success\":true}")
+abbrev pub pass_stock_1 : PlainRequest
+pass_stock_1 = plain_request (codes "POST") (codes "/pacts/provider/stock/consumer/shop/version/1/results") red_token (codes "49") (codes "{\"providerApplicationVersion\":\"1\",\"success\":true}")
     operation.PostResult (PostResult path by_stock_1 true)
 
 -- and then deploy_shop_1 again
-abbrev pub requests : List Asked
+abbrev pub requests : List PlainRequest
 requests = put_red ∷ put_shop ∷ put_stock ∷ put_live ∷ grant_live ∷ publish ∷ name_stock_1 ∷ deploy_stock_1 ∷ deploy_shop_1 ∷ pass_stock_1 ∷ deploy_shop_1 ∷ []
 
 -- ---- what the requests ask, computed from their bytes
@@ -126,7 +126,7 @@ pub IsComputed-pass_stock_1 : IsComputed pass_stock_1
 unfolding httparse_on_literals resource_of is_on fits judge body_length served_method same_name
 IsComputed-pass_stock_1 = refl
 
-abbrev IsAsked : Asked → Type 0
+abbrev IsAsked : PlainRequest → Type 0
 IsAsked q = IsCommand q.operation (path_of q.target) (query_of q.target) q.body q.command
 
 -- a body of JSON

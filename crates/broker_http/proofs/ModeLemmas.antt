@@ -209,7 +209,7 @@ module _ {X : Type 0} (shown : Held X → State) (from : Mode) (first : Held X) 
           let no_failure : HasFailed (shown old.connection) (shown new.connection) Store → ⊥ = λ failed.
           none (IsDiskAtFault-since (shown first) (shown old.connection) (shown new.connection) at.since
           (le-zero _ _ a.survives.1.clean clean) a.survives.1.counts (HasFailed-disk_at_fault (shown old.connection) (shown new.connection) failed)) in
-          elim (a.calm clean at.held.0 store s (record { held = at.held.1; readable = at.stops.0 readable; unlimited = at.since.limit ∙ unlimited })) [
+          elim (a.failure clean at.held.0 store s (record { held = at.held.1; readable = at.stops.0 readable; unlimited = at.since.limit ∙ unlimited })) [
             | inl failed ↦ absurd (no_failure failed)
             | inr to_do ↦ inr (to_do.0, λ room. elim (to_do.1 (room_here none room)) [ inl failed ↦ absurd (no_failure failed) | inr lacks ↦ (old.connection, lacks) ])
           ]

@@ -43,7 +43,7 @@ IsNameField-plain key fields text is low name = (Some text, subst (λ (t : Optio
 -- ---- a request
 
 -- the method, the target, the caller's token, how long the body is, the body; and what they ask
-pub record Asked : Type 0 where
+pub record PlainRequest : Type 0 where
   pub method : List ℕ
   pub target : List ℕ
   pub token : List ℕ
@@ -52,25 +52,25 @@ pub record Asked : Type 0 where
   pub operation : Operation
   pub command : Command
 
-abbrev pub asked : (method target token size body : List ℕ) → Operation → Command → Asked
-asked method target token size body operation command =
+abbrev pub plain_request : (method target token size body : List ℕ) → Operation → Command → PlainRequest
+plain_request method target token size body operation command =
     record { method = method; target = target; token = token; size = size; body = body; operation = operation; command = command }
 
 -- its head
-abbrev pub head_of : Asked → List ℕ
+abbrev pub head_of : PlainRequest → List ℕ
 head_of a =
     a.method ++ codes " " ++ a.target ++ codes " HTTP/1.1\r\nhost: broker\r\nauthorization: Bearer " ++ a.token
     ++ codes "\r\ncontent-length: " ++ a.size ++ codes "\r\n\r\n"
 
-abbrev pub message_of : Asked → Message
+abbrev pub message_of : PlainRequest → Message
 message_of a = message (head_of a) a.body
 
 -- the bytes of these requests, one after another
-abbrev pub bytes_of : List Asked → List ℕ
+abbrev pub bytes_of : List PlainRequest → List ℕ
 bytes_of [] = []
 bytes_of (a ∷ more) = head_of a ++ (a.body ++ bytes_of more)
 
-abbrev pub request_of : Asked → Returned
+abbrev pub request_of : PlainRequest → Returned
 request_of a = record { token = Some a.token; command = a.command }
 
 -- ---- what a computation says of it
@@ -78,23 +78,23 @@ request_of a = record { token = Some a.token; command = a.command }
 abbrev field : List ℕ → List ℕ → Field
 field name raw = record { name = name; raw = raw; end = crlf }
 
-abbrev authorization : Asked → List ℕ
+abbrev authorization : PlainRequest → List ℕ
 authorization a = codes " Bearer " ++ a.token
 
-abbrev content_length : Asked → List ℕ
+abbrev content_length : PlainRequest → List ℕ
 content_length a = codes " " ++ a.size
 
-abbrev fields : Asked → List Field
+abbrev fields : PlainRequest → List Field
 fields a = field (codes "host") (codes " broker") ∷ field (codes "authorization") (authorization a) ∷ field (codes "content-length") (content_length a) ∷ []
 
-abbrev parsed : Asked → RequestHead
+abbrev parsed : PlainRequest → RequestHead
 parsed a = record { blank = []; method = a.method; target = a.target; minor = 1; line_end = crlf; fields = fields a; last = crlf }
 
 abbrev is_field_text : List ℕ → List ℕ → Bool
 is_field_text name raw = ltb 0 (length name) && (list_all is_token_byte name && list_all is_value_byte raw)
 
 -- each part is of its class
-abbrev is_sound : Asked → Bool
+abbrev is_sound : PlainRequest → Bool
 is_sound a =
     (ltb 0 (length a.method) && list_all is_token_byte a.method)
     && ((ltb 0 (length a.target) && (list_all is_uri_byte a.target && is_ascii a.target))
@@ -104,7 +104,7 @@ is_sound a =
 abbrev Facts : Type 0
 Facts = Bool × List ℕ × Bool × Result ℕ Refusal × Bool × Option Operation × Option (List ℕ)
 
-abbrev facts : Asked → Facts
+abbrev facts : PlainRequest → Facts
 facts a = (
   is_sound a,
   print_request (parsed a) ++ [],
@@ -117,10 +117,10 @@ facts a = (
 
 -- The IsComputed-parts are sound and print as the head, which isn't too large; it announces the body, the stream goes on, the method
 -- and the target name the operation, and the caller has the token.
-abbrev pub IsComputed : Asked → Type 0
+abbrev pub IsComputed : PlainRequest → Type 0
 IsComputed a = facts a ≡ (true, head_of a, false, Ok (length a.body), false, Some a.operation, Some a.token)
 
-module _ (a : Asked) (it : IsComputed a) where
+module _ (a : PlainRequest) (it : IsComputed a) where
   IsComputed-parts : ((ltb 0 (length a.method) && list_all is_token_byte a.method) ≡ true) × (((ltb 0 (length a.target) && (list_all is_uri_byte a.target && is_ascii a.target)) ≡ true)
       × (((is_field_text (codes "host") (codes " broker") && (is_field_text (codes "authorization") (authorization a) && is_field_text (codes "content-length") (content_length a))) ≡ true)
       × ((ltb 15 (length a.token) && (ltb (length a.token) 129 && list_all is_callers_byte a.token)) ≡ true)))
@@ -213,7 +213,7 @@ abbrev pub response : List ℕ → Response
 response bytes = record { text = bytes; closes = false }
 
 -- The request is answered by a step, and then the rest of the stream is.
-pub answered : (a : Asked) → IsComputed a → IsCommand a.operation (path_of a.target) (query_of a.target) a.body a.command
+pub answered : (a : PlainRequest) → IsComputed a → IsCommand a.operation (path_of a.target) (query_of a.target) a.body a.command
     → (rest : List ℕ) → head_text (take head_limit (head_of a ++ (a.body ++ rest))) ≡ Some (head_of a)
     → (s t : Broker) (steps : List (Returned × Answer)) (answer : Answer) → is_step answer ≡ true → TeamsDiffer s → Step broker_primitives s (Some a.token) a.command (record { answer = answer; state = t })
     → (bytes : List ℕ) → response bytes ≡ answer_response answer false

@@ -59,7 +59,7 @@ module _ {X : Type 0} (shown : Held X → State) (s t : BrokerView X) (before af
     -- if one of these answers stopped the broker, the disk failed, or the command was to be done, and its change was
     -- made whole and undone, as by a COMMIT that lacked memory, as long as its tables have numbers for rows; so no
     -- request that changes nothing stops a broker whose disk works
-    pub calm : StopsOnlyBy shown mode s.connection t.connection (length last.steps) last.mode
+    pub failure : StopsOnlyBy shown mode s.connection t.connection (length last.steps) last.mode
 
   -- what serving a stream promises
   pub record IsServed (result : Result Served StreamFault) : Type 0 where

@@ -1,7 +1,7 @@
 pub mod ResultLemmas
 pub mod UnchangedLemmas
 pub mod AuditLemmas
-pub mod CalmLemmas
+pub mod FailureLemmas
 pub mod WordsLemmas
 pub mod RefusalLemmas
 pub mod ReopeningLemmas
@@ -9,6 +9,6 @@ pub mod VisitLemmas
 pub mod ServingLemmas
 mod CallLemmas
 pub mod PeriodLemmas
-pub mod ServiceCalm
+pub mod ServiceStops
 pub mod TestedLemmas
 mod WitnessExamples

@@ -7,16 +7,17 @@ use Rattle.sqlite.specs.declared.FileStore.{FileStore}
 use Rattle.broker_database.specs.declared.opening.OpenFault.{OpenFault}
 use Rattle.broker_program.specs.Files.{GivesUpAs, LeavesCut, LeavesStore, OpensOn, StartsFrom}
 use Rattle.broker_program.specs.FileRefusals.{EndsUnclosed, FailsThere, GivesUpUnopened, IsNotClosed, IsOfDatabase, OpensNone}
-use Rattle.broker_program.specs.{declared.left.CutService.{CutService}, declared.left.Left.{Left}, declared.left.Left.TheVariants.{Cut, GivenUp}}
+use Rattle.broker_program.specs.{declared.run_end.CutService.{CutService}, declared.run_end.FileAfter.{FileAfter}}
+use Rattle.broker_program.specs.declared.run_end.FileAfter.TheVariants.{Cut, GivenUp}
 use Rattle.program_io.specs.{Reported.{IsFromOutside}, declared.fault.RunFault.{RunFault}}
 use Rattle.program_io.specs.declared.fault.RunFault.TheVariants as run_fault
 
 module _ {D : Type 0} {g : Ghosts D} where
-  LeavesStore-weaker : (P Q : FileStore D g → Type 0) (rest : Left D g) → ((store : FileStore D g) → P store → Q store) → LeavesStore P rest → LeavesStore Q rest
+  LeavesStore-weaker : (P Q : FileStore D g → Type 0) (rest : FileAfter D g) → ((store : FileStore D g) → P store → Q store) → LeavesStore P rest → LeavesStore Q rest
   LeavesStore-weaker P Q (GivenUp store) f p = f store p
   LeavesStore-weaker P Q _ f p = absurd p
 
-  pub IsOfDatabase-of_failure : (held : Image) (Fails : Held (FileStore D g) → Held (FileStore D g) → OpenFault → Type 0) (old new : Held (FileStore D g)) (fault : OpenFault) (returned : RunFault) (rest : Left D g)
+  pub IsOfDatabase-of_failure : (held : Image) (Fails : Held (FileStore D g) → Held (FileStore D g) → OpenFault → Type 0) (old new : Held (FileStore D g)) (fault : OpenFault) (returned : RunFault) (rest : FileAfter D g)
       → OpensOn held old → doubt (file_state old).is_clean ≤ doubt (file_state new).is_clean → Fails old new fault
       → returned ≡ run_fault.Open fault → LeavesStore (GivesUpAs new) rest → IsOfDatabase held Fails returned rest
   IsOfDatabase-of_failure held Fails old new fault returned rest opens later fails is gives =
@@ -54,6 +55,6 @@ module _ {D : Type 0} {g : Ghosts D} where
   )
 
   -- a service that was cut, of which more is known
-  pub LeavesCut-weaker : (P Q : CutService D g → Type 0) (rest : Left D g) → ((service : CutService D g) → P service → Q service) → LeavesCut P rest → LeavesCut Q rest
+  pub LeavesCut-weaker : (P Q : CutService D g → Type 0) (rest : FileAfter D g) → ((service : CutService D g) → P service → Q service) → LeavesCut P rest → LeavesCut Q rest
   LeavesCut-weaker P Q (Cut service) f p = f service p
   LeavesCut-weaker P Q _ f p = absurd p

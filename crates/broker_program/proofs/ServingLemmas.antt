@@ -11,7 +11,7 @@ use Rattle.broker_program.specs.{Cuts.{CutsFile, CutsQueue, CountsCut, IsBrokerl
 use Rattle.broker_program.specs.FileRefusals.{IsLeftUnserved, IsNotClosed, IsReopeningFault}
 use Rattle.broker_program.specs.Reopening.{CutsAll, FailsToReopen, FindsNoneAgain, OpensBrokerAgain, ServesAll, ServesBetween, ServesMore, ServesNoMore, ServesOn, ServesSoFar}
 use Rattle.broker_program.specs.Serving.{IsPeerOf, LosesFiles, ServesFile, ServesNext, ServesOver, ServesPeer, ServesPeers, ServesQueue, ServesTo, ServesVisits, Work, Works, calls_of_peers, visits_of}
-use Rattle.broker_program.specs.{declared.left.CutService.{CutService}, declared.left.Service.{Service}, declared.seed.NoSeed.{NoSeed}}
+use Rattle.broker_program.specs.{declared.run_end.CutService.{CutService}, declared.run_end.ServiceEnd.{ServiceEnd}, declared.seed.NoSeed.{NoSeed}}
 use Rattle.broker_program.proofs.VisitLemmas.{AreVisited-none_is_in, IsLost-fewer_coming, AreVisited-then_lost, AreVisited-went_length, AreVisited-none, AreVisited-one, IsVisited-fewer_coming, AreVisited-append}
 use Rattle.program_io.specs.declared.fault.RunFault.TheVariants as run_fault
 use Rattle.sqlite.specs.declared.file.Leftover.TheVariants as left
@@ -227,7 +227,7 @@ module _ {D L : Type 0} (g : Ghosts D) (later : Ghosts L) where
       record { visits = it.0.visits; visited = it.0.visited; served = λ visit is. inl (it.0.served visit is); file = it.1 }
 
   -- so many connections
-  pub ServesFile-counts : (held : Image) (old new : Queue) (all : ℕ) (service : Service D) → (length old.went ≡ 0) × (length old.coming + old.lost ≡ all) → ServesQueue g later held old new service.files
+  pub ServesFile-counts : (held : Image) (old new : Queue) (all : ℕ) (service : ServiceEnd D) → (length old.went ≡ 0) × (length old.coming + old.lost ≡ all) → ServesQueue g later held old new service.files
       → (service.served ≡ length new.went) × (service.lost ≡ new.lost) → ServesFile g held all service
   ServesFile-counts held old new all service first it counts =
       let went = AreVisited-went_length old new it.visits it.visited in (

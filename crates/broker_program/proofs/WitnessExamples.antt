@@ -6,7 +6,7 @@ use Rattle.clap.specs.Words.{Text}
 use Rattle.broker_database.specs.BrokerView.{BrokerView}
 use Rattle.command_line.specs.Lines.{is_line}
 use Rattle.program_io.specs.Entrance.{Peer, Queue, IsLetIn}
-use Rattle.broker_program.specs.{Running.{RanOver}, Serving.{ServesNext}, declared.left.Ended.{Ended}}
+use Rattle.broker_program.specs.{Running.{Ran}, Serving.{ServesNext}, declared.run_end.RunEnd.{RunEnd}}
 
 append-not_self : {A : Type 0} (xs : List A) (x : A) → ¬ (xs ++ x ∷ [] ≡ xs)
 append-not_self xs x same = let counts = ap length same in omega (arith, counts, length-append xs (x ∷ []))
@@ -22,8 +22,9 @@ module _ {D : Type 0} {g : Ghosts D} (s t : BrokerView (FileStore D g)) (old new
 
 -- `status_halved_in_process`: words that are no command line don't end with 1, for any streams
 module _ {D I O E : Type 0} {g : Ghosts D} (held : Image) (remaining : I → Option (List ℕ)) (contents : O → Option (List ℕ)) (shows : E → Option (List ℕ)) where
-  pub RanOver-mistake_not_1 : (words : List Text) (end : Ended D g) → is_line words ≢ true → RanOver held remaining contents shows words end → end.status ≢ 1
-  RanOver-mistake_not_1 words end mistaken (before, after, old, new, silent, returned, ran) is = elim (ran.returned_of mistaken) [
+  pub Ran-mistake_not_1 : (words : List Text) (before after : I) (old new : O) (silent returned : E) (end : RunEnd D g) → is_line words ≢ true
+      → Ran held remaining contents shows words before after old new silent returned end → end.status ≢ 1
+  Ran-mistake_not_1 words before after old new silent returned end mistaken ran is = elim (ran.returned_of mistaken) [
     | inl mistake ↦ let clash = sym is ∙ mistake.1.0 in absurd cc
     | inr (inl (asks, inl shown)) ↦ let clash = sym is ∙ shown.0 in absurd cc
     | inr (inl (asks, inr lost)) ↦ let clash = sym is ∙ lost.0 in absurd cc

@@ -6,7 +6,7 @@ use Rattle.clap.specs.{Words.{HasKind, IsAmong, Text, kind_of}, declared.error.E
 use Rattle.clap.specs.declared.error.kind.ErrorKind.TheVariants.{DisplayHelp, DisplayVersion, OutOfMemory}
 use Rattle.command_line.specs.Lines.{AsksForText, IsFoundIn, is_line, mistakes}
 use Rattle.http_responses.specs.declared.writing.WriteFault.{WriteFault}
-use Rattle.broker_program.specs.{Running.{Ran}, Words.{LacksMemory, ReportsMistake, ReportsOfWords, ReportsText}, declared.left.Ended.{Ended}}
+use Rattle.broker_program.specs.{Running.{Ran}, Words.{LacksMemory, ReportsMistake, ReportsOfWords, ReportsText}, declared.run_end.RunEnd.{RunEnd}}
 
 -- an error has one of the kinds that clap finds in the words
 pub IsFoundIn-of_kind : (words : List Text) (e : Error) → HasKind (mistakes words) e → (kind : ErrorKind) → (kind_of e ≢ OutOfMemory) × (kind_of e ≡ kind) → IsFoundIn words kind
@@ -51,7 +51,7 @@ module _ {O E : Type 0} (contents : O → Option (List ℕ)) (shows : E → Opti
 
 -- what is reported of the words is what a run of them promises
 module _ {D I O E : Type 0} {g : Ghosts D} (held : Image) (remaining : I → Option (List ℕ)) (contents : O → Option (List ℕ)) (shows : E → Option (List ℕ)) (words : List Text) (e : Error)
-    (taken : is_line words ≡ true → kind_of e ≡ OutOfMemory) (kind : HasKind (mistakes words) e) (before : I) (old new : O) (silent returned : E) (end : Ended D g)
+    (taken : is_line words ≡ true → kind_of e ≡ OutOfMemory) (kind : HasKind (mistakes words) e) (before : I) (old new : O) (silent returned : E) (end : RunEnd D g)
     (memory : kind_of e ≡ OutOfMemory → LacksMemory contents shows old new silent returned end.line end.status)
     (reports : ReportsOfWords contents shows (λ (k : ErrorKind). (kind_of e ≢ OutOfMemory) × (kind_of e ≡ k)) old new silent returned end.line end.status) where
   LacksMemory-of_line : is_line words ≡ true → LacksMemory contents shows old new silent returned end.line end.status
@@ -83,7 +83,7 @@ module _ {D I O E : Type 0} {g : Ghosts D} (held : Image) (remaining : I → Opt
   }
 
 -- the words that are run are these texts
-pub Ran-of_texts : {D I O E : Type 0} {g : Ghosts D} (held : Image) (remaining : I → Option (List ℕ)) (contents : O → Option (List ℕ)) (shows : E → Option (List ℕ)) (words texts : List Text) (before after : I) (old new : O) (silent returned : E) (end : Ended D g)
+pub Ran-of_texts : {D I O E : Type 0} {g : Ghosts D} (held : Image) (remaining : I → Option (List ℕ)) (contents : O → Option (List ℕ)) (shows : E → Option (List ℕ)) (words texts : List Text) (before after : I) (old new : O) (silent returned : E) (end : RunEnd D g)
     → words ≡ texts → Ran held remaining contents shows words before after old new silent returned end → Ran held remaining contents shows texts before after old new silent returned end
 Ran-of_texts held remaining contents shows words texts before after old new silent returned end same ran =
     subst (λ (these : List Text). Ran held remaining contents shows these before after old new silent returned end) same ran

@@ -23,7 +23,7 @@ use Rattle.program_io.specs.Written.{IsBegun, newline}
 use Rattle.program_io.specs.declared.fault.RunFault.{RunFault}
 use Rattle.program_io.specs.declared.fault.RunFault.TheVariants as run_fault
 use Rattle.broker_program.specs.Files.{LeavesStore, StartsFrom}
-use Rattle.broker_program.specs.declared.left.Left.{Left}
+use Rattle.broker_program.specs.declared.run_end.FileAfter.{FileAfter}
 
 -- nothing if the tables hold a state, and else the line of the row that breaks a rule
 abbrev pub output_of : Option Finding → List ℕ
@@ -55,7 +55,7 @@ module _ {D : Type 0} {g : Ghosts D} (held : Image) where
   abbrev pub IsAuditedTo : Result (Option Finding) StoreFault → FileStore D g → Type 0
   IsAuditedTo given store = IsClean (view store) → TablesAudited given store
 
-  module _ (rest : Left D g) where
+  module _ (rest : FileAfter D g) where
     abbrev pub LeavesAudited : Result (Option Finding) StoreFault → Type 0
     LeavesAudited given = LeavesStore (IsAuditedTo given) rest
 

@@ -22,8 +22,8 @@ use Rattle.program_io.specs.declared.fault.RunFault.TheVariants as run_fault
 use Rattle.broker_program.specs.FileRefusals.{IsNotClosed, IsReopeningFault, OpensNone, returned_of}
 use Rattle.broker_program.specs.Serving.{IsPeerOf, LosesFiles, ServesOver, ServesTo, StartsAfter, Work, visits_of}
 use Rattle.broker_program.specs.Files.{Leaves, LeavesCut}
-use Rattle.broker_program.specs.declared.left.CutService.{CutService}
-use Rattle.broker_program.specs.declared.left.Left.{Left}
+use Rattle.broker_program.specs.declared.run_end.CutService.{CutService}
+use Rattle.broker_program.specs.declared.run_end.FileAfter.{FileAfter}
 use Rattle.broker_program.specs.declared.seed.NoSeed.{NoSeed}
 
 module _ {D : Type 0} {g : Ghosts D} where
@@ -111,7 +111,7 @@ module _ {D L : Type 0} (g : Ghosts D) (later : Ghosts L) where
       (service.served ≡ length new.went) × (service.lost ≡ new.lost)
       × CutsQueue held old new fault service.rest service.seed
 
-  abbrev pub CutsService : Image → Queue → Queue → RunFault × Left D g → Type 0
+  abbrev pub CutsService : Image → Queue → Queue → RunFault × FileAfter D g → Type 0
   CutsService held old new failed = LeavesCut (CountsCut held old new failed.0) failed.1
 
 module _ {D : Type 0} {g : Ghosts D} where

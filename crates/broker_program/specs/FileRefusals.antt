@@ -24,8 +24,8 @@ use Rattle.broker_program.specs.Files.{GivesUpAs, LeavesStore, StartsFrom}
 use Rattle.program_io.specs.declared.fault.RunFault.{RunFault}
 use Rattle.program_io.specs.declared.fault.RunFault.TheVariants as run_fault
 use Rattle.program_io.specs.Reported.{IsFromOutside}
-use Rattle.broker_program.specs.declared.left.Left.{Left}
-use Rattle.broker_program.specs.declared.left.Left.TheVariants.{Nothing, Unopened}
+use Rattle.broker_program.specs.declared.run_end.FileAfter.{FileAfter}
+use Rattle.broker_program.specs.declared.run_end.FileAfter.TheVariants.{Nothing, Unopened}
 
 -- the fault that reports an error of the files: Memory only if memory ran out
 abbrev pub returned_of : Error → RunFault
@@ -85,7 +85,7 @@ module _ {D : Type 0} {g : Ghosts D} (held : Image) where
     pub left : IsCleanLeft rest → LeavesFiles files rest
 
   -- no connection is opened: the file isn't there or couldn't be taken, or it isn't opened
-  abbrev pub FailsToConnect : RunFault → Left D g → Type 0
+  abbrev pub FailsToConnect : RunFault → FileAfter D g → Type 0
   FailsToConnect fault Nothing = IsFromOutside fault
   FailsToConnect fault (Unopened rest) = IsUnopened fault rest
   FailsToConnect fault _ = ⊥
@@ -107,7 +107,7 @@ module _ {D : Type 0} {g : Ghosts D} (held : Image) where
     pub cause : FailsToClose end store error
 
   -- the same, if the disk is clean to the end
-  abbrev pub EndsUnclosed : (Held (FileStore D g) → Held (FileStore D g) → Type 0) → RunFault → Left D g → Type 0
+  abbrev pub EndsUnclosed : (Held (FileStore D g) → Held (FileStore D g) → Type 0) → RunFault → FileAfter D g → Type 0
   EndsUnclosed Does fault rest =
       IsFromOutside fault × LeavesStore (λ store. IsClean (view store) → IsUnclosed Does fault store) rest
 
@@ -123,7 +123,7 @@ module _ {D : Type 0} {g : Ghosts D} (held : Image) where
     pub left : IsGivenBack g end store
 
   -- The fault is `open n`, and if the disk is clean to the end, such a call failed with it.
-  abbrev pub IsOfDatabase : (Held (FileStore D g) → Held (FileStore D g) → OpenFault → Type 0) → RunFault → Left D g
+  abbrev pub IsOfDatabase : (Held (FileStore D g) → Held (FileStore D g) → OpenFault → Type 0) → RunFault → FileAfter D g
       → Type 0
   IsOfDatabase Fails (run_fault.Open fault) rest = LeavesStore (λ store. IsClean (view store) → FailsThere Fails fault store) rest
   IsOfDatabase Fails _ rest = ⊥

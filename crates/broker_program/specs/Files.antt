@@ -16,10 +16,10 @@ use Rattle.broker_database.specs.BrokerView.{BrokerView}
 use Rattle.broker_database.specs.Calls.{Opened}
 use Rattle.broker_database.specs.Life.{EndsAs}
 use Rattle.program_io.specs.declared.check.FilesRead.{FilesRead}
-use Rattle.broker_program.specs.declared.left.CutService.{CutService}
-use Rattle.broker_program.specs.declared.left.Left.{Left}
-use Rattle.broker_program.specs.declared.left.Left.TheVariants.{Closed, Cut, GivenUp, Read, Served}
-use Rattle.broker_program.specs.declared.left.Service.{Service}
+use Rattle.broker_program.specs.declared.run_end.CutService.{CutService}
+use Rattle.broker_program.specs.declared.run_end.FileAfter.{FileAfter}
+use Rattle.broker_program.specs.declared.run_end.FileAfter.TheVariants.{Closed, Cut, GivenUp, Read, Served}
+use Rattle.broker_program.specs.declared.run_end.ServiceEnd.{ServiceEnd}
 
 module _ {D : Type 0} {g : Ghosts D} where
   -- A connection was opened on a log and a database file that held this.
@@ -73,26 +73,26 @@ module _ {D : Type 0} {g : Ghosts D} where
   -- ---- what is left of the file that a command worked on
 
   -- files were read, such ones
-  abbrev pub LeavesRead : (FilesRead → Type 0) → Left D g → Type 0
+  abbrev pub LeavesRead : (FilesRead → Type 0) → FileAfter D g → Type 0
   LeavesRead P (Read read) = P read
   LeavesRead P _ = ⊥
 
   -- it was closed, and its files are such
-  abbrev pub LeavesClosed : (Files D → Type 0) → Left D g → Type 0
+  abbrev pub LeavesClosed : (Files D → Type 0) → FileAfter D g → Type 0
   LeavesClosed P (Closed files) = P files
   LeavesClosed P _ = ⊥
 
   -- it was given up, and its store is such
-  abbrev pub LeavesStore : (FileStore D g → Type 0) → Left D g → Type 0
+  abbrev pub LeavesStore : (FileStore D g → Type 0) → FileAfter D g → Type 0
   LeavesStore P (GivenUp store) = P store
   LeavesStore P _ = ⊥
 
   -- it was served, in such a way
-  abbrev pub LeavesServed : (Service D → Type 0) → Left D g → Type 0
+  abbrev pub LeavesServed : (ServiceEnd D → Type 0) → FileAfter D g → Type 0
   LeavesServed P (Served service) = P service
   LeavesServed P _ = ⊥
 
   -- it was served up to a fault, in such a way
-  abbrev pub LeavesCut : (CutService D g → Type 0) → Left D g → Type 0
+  abbrev pub LeavesCut : (CutService D g → Type 0) → FileAfter D g → Type 0
   LeavesCut P (Cut service) = P service
   LeavesCut P _ = ⊥

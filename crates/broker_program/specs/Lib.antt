@@ -8,7 +8,7 @@ pub mod Making
 pub mod Words
 pub mod Running
 pub mod Life
-pub mod Calm
+pub mod Stops
 pub mod Tested
 pub mod Reasons
 pub mod Audits

@@ -26,7 +26,7 @@ use Rattle.broker_program.specs.FileRefusals.{MakesNone, MigratesNone, OpensNone
 use Rattle.broker_program.specs.Replays.{ReplaysUpTo}
 use Rattle.broker_program.specs.Returned.{AnswersQuestion, permission, question}
 use Rattle.broker_program.specs.declared.can_i_deploy.Question.{Question}
-use Rattle.broker_program.specs.declared.left.Left.{Left}
+use Rattle.broker_program.specs.declared.run_end.FileAfter.{FileAfter}
 
 -- a new broker over tables in memory wasn't made: memory lacked, or the database failed
 abbrev pub IsUnmade : RunFault → Type 0
@@ -71,56 +71,56 @@ IsAnswerFault answer f =
 -- path isn't there or can't be taken.
 module _ {D : Type 0} {g : Ghosts D} (held : Image) where
   -- no broker is opened there: the fault is what the database there is found to be
-  abbrev pub FailsToOpen : RunFault → Left D g → Type 0
+  abbrev pub FailsToOpen : RunFault → FileAfter D g → Type 0
   FailsToOpen f rest = FailsToConnect held f rest ⊎ IsOfDatabase held OpensNone f rest
 
   -- none is made there whose office has this token; or one is, and the file couldn't be closed
-  abbrev pub FailsToMakeIn : Text → RunFault → Left D g → Type 0
+  abbrev pub FailsToMakeIn : Text → RunFault → FileAfter D g → Type 0
   FailsToMakeIn office f rest =
       FailsToConnect held f rest
       ⊎ (IsOfDatabase held (MakesNone office) f rest ⊎ EndsUnclosed held (MakesOn office) f rest)
 
   -- the fault of `init`: the token is looked at first
-  abbrev pub FailsToMake : Text → RunFault → Left D g → Type 0
+  abbrev pub FailsToMake : Text → RunFault → FileAfter D g → Type 0
   FailsToMake office f rest = IsTokenFault office f ⊎ (IsToken office × FailsToMakeIn office f rest)
 
   -- the fault of `migrate`: the database isn't migrated; or it is, and the file couldn't be closed
-  abbrev pub FailsToMigrate : RunFault → Left D g → Type 0
+  abbrev pub FailsToMigrate : RunFault → FileAfter D g → Type 0
   FailsToMigrate f rest =
       FailsToConnect held f rest ⊎ (IsOfDatabase held MigratesNone f rest ⊎ EndsUnclosed held MigratesOn f rest)
 
   -- the fault of `audit`: the file isn't opened, the store failed as its tables were read, or the line couldn't be written
-  abbrev pub FailsToReadTables : RunFault → Left D g → Type 0
+  abbrev pub FailsToReadTables : RunFault → FileAfter D g → Type 0
   FailsToReadTables f rest =
       FailsToOpen f rest ⊎ ((fault : StoreFault) × LeavesAudited held rest (Err fault) × (f ≡ audit_fault fault))
 
-  abbrev pub FailsToAudit : RunFault → Left D g → Type 0
+  abbrev pub FailsToAudit : RunFault → FileAfter D g → Type 0
   FailsToAudit f rest =
       FailsToReadTables f rest ⊎ ((finding : Finding) × LeavesAudited held rest (Ok (Some finding)) × IsFromOutside f)
 
   -- The fault of `can-i-deploy`: its texts are looked at first, then the file is opened, and the broker there asked.
-  abbrev pub FailsToAnswer : Question → RunFault → Left D g → Type 0
+  abbrev pub FailsToAnswer : Question → RunFault → FileAfter D g → Type 0
   FailsToAnswer question f rest =
       IsQuestionFault question f ⊎ (IsToken question.token.now × AsksByNames question × FailsToOpen f rest)
 
-  abbrev pub FailsToAsk : Question → RunFault → Left D g → Type 0
+  abbrev pub FailsToAsk : Question → RunFault → FileAfter D g → Type 0
   FailsToAsk question f rest =
       FailsToAnswer question f rest
       ⊎ ((answer : Answer) × LeavesStore (AnswersQuestion held question answer) rest × IsAnswerFault answer f)
 
   -- the address isn't listened on, and the broker there was opened first; no contract says why an address of loopback
   -- isn't listened on
-  abbrev pub FailsToListen : RunFault → Left D g → Type 0
+  abbrev pub FailsToListen : RunFault → FileAfter D g → Type 0
   FailsToListen run_fault.Listen rest = LeavesStore (λ store. IsClean (view store) → IsLeftUnserved held store) rest
   FailsToListen _ rest = ⊥
 
   -- The fault of `serve`: the file is opened first, then the address is listened on, and so many connections are served.
-  abbrev pub FailsToServe : Text → ℕ → RunFault → Left D g → Type 0
+  abbrev pub FailsToServe : Text → ℕ → RunFault → FileAfter D g → Type 0
   FailsToServe listen connections f rest =
       FailsToOpen f rest ⊎ FailsToListen f rest ⊎ (ListensOn listen × LeavesCut (CutsFile held connections f) rest)
 
 -- The fault of a command has its reason.
-module _ {D : Type 0} {g : Ghosts D} (held : Image) (before after old new : Option (List ℕ)) (rest : Left D g) where
+module _ {D : Type 0} {g : Ghosts D} (held : Image) (before after old new : Option (List ℕ)) (rest : FileAfter D g) where
   abbrev pub IsFaultOf : Line → RunFault → Type 0
   IsFaultOf (Replay token) f = EndsReplay token.now before after old new f
   IsFaultOf Normalise f = FailsToNormalise before after f

@@ -25,7 +25,7 @@ use Rattle.broker_database.specs.Life.{IsGivenBack}
 use Rattle.program_io.specs.Written.{IsBegun, newline}
 use Rattle.broker_program.specs.Files.{LeavesStore, StartsFrom}
 use Rattle.broker_program.specs.declared.can_i_deploy.Question.{Question}
-use Rattle.broker_program.specs.declared.left.Left.{Left}
+use Rattle.broker_program.specs.declared.run_end.FileAfter.{FileAfter}
 
 -- whether the gate permits the version, if the answer is the gate's
 abbrev pub permission : Answer → Option Bool
@@ -76,7 +76,7 @@ module _ {D : Type 0} {g : Ghosts D} (held : Image) where
   abbrev pub AnswersQuestion : Question → Answer → FileStore D g → Type 0
   AnswersQuestion question = AnswersFrom question.token.now (asked question)
 
-  module _ (question : Question) (old new : Option (List ℕ)) (rest : Left D g) where
+  module _ (question : Question) (old new : Option (List ℕ)) (rest : FileAfter D g) where
     abbrev pub Asks : Bool → Type 0
     Asks permitted =
         (answer : Answer) × LeavesStore (AnswersQuestion question answer) rest

@@ -22,14 +22,14 @@ use Rattle.program_io.specs.Written.{Checks, ChecksUntil, IsLineOut, Normalises,
 use Rattle.program_io.specs.declared.fault.RunFault.{RunFault}
 use Rattle.program_io.specs.declared.fault.RunFault.TheVariants as run_fault
 use Rattle.broker_program.specs.Words.{ReportsOfWords}
-use Rattle.broker_program.specs.declared.left.Ended.{Ended}
-use Rattle.broker_program.specs.declared.left.Left.{Left}
+use Rattle.broker_program.specs.declared.run_end.RunEnd.{RunEnd}
+use Rattle.broker_program.specs.declared.run_end.FileAfter.{FileAfter}
 use Rattle.command_line.specs.declared.line.Line.{Line}
 use Rattle.command_line.specs.declared.line.Line.TheVariants.{Audit, CanIDeploy, Check, Init, Migrate, Normalise}
 use Rattle.command_line.specs.declared.line.Line.TheVariants.{Replay, Serve}
 
 -- Held is what the files of a command held at first, and rest what the command left of them.
-module _ {D : Type 0} {g : Ghosts D} (held : Image) (before after old new : Option (List ℕ)) (rest : Left D g) where
+module _ {D : Type 0} {g : Ghosts D} (held : Image) (before after old new : Option (List ℕ)) (rest : FileAfter D g) where
   -- nothing was read or written
   abbrev pub IsSilent : Type 0
   IsSilent = (after ≡ before) × (new ≡ old)
@@ -63,7 +63,7 @@ module _ {D : Type 0} {g : Ghosts D} (held : Image) (before after old new : Opti
       × ((new ≡ old) ⊎ AsksUntil held (question token pacticipant version environment) old new rest)
 
 -- Remaining is what a reader still gives, contents what a writer has taken.
-module _ {D I O : Type 0} {g : Ghosts D} (held : Image) (remaining : I → Option (List ℕ)) (contents : O → Option (List ℕ)) (before after : I) (old new : O) (rest : Left D g) where
+module _ {D I O : Type 0} {g : Ghosts D} (held : Image) (remaining : I → Option (List ℕ)) (contents : O → Option (List ℕ)) (before after : I) (old new : O) (rest : FileAfter D g) where
   abbrev pub CommandEndsOn : Line → Bool → Type 0
   CommandEndsOn = CommandEnds held (remaining before) (remaining after) (contents old) (contents new) rest
 
@@ -78,7 +78,7 @@ module _ {D I O : Type 0} {g : Ghosts D} (held : Image) (remaining : I → Optio
 -- was to take, and what is left of the command's file.
 module _ {D I O E : Type 0} {g : Ghosts D} (held : Image) (remaining : I → Option (List ℕ)) (contents : O → Option (List ℕ)) (shows : E → Option (List ℕ)) where
   -- what carrying out a command promises of the status that the program ends with
-  pub record LineRan (line : Line) (before after : I) (old new : O) (silent returned : E) (end : Ended D g) : Type 0 where
+  pub record LineRan (line : Line) (before after : I) (old new : O) (silent returned : E) (end : RunEnd D g) : Type 0 where
     pub statuses : (end.status ≡ 0) ⊎ ((end.status ≡ 1) ⊎ (end.status ≡ 3))
     -- it is done, or its check or its audit failed or its version isn't permitted; nothing is on standard error
     pub done : end.status ≡ 0
@@ -92,7 +92,7 @@ module _ {D I O E : Type 0} {g : Ghosts D} (held : Image) (remaining : I → Opt
         × IsReported fault end.line (shows silent) (shows returned)
 
   -- what running the words promises of it
-  pub record Ran (words : List Text) (before after : I) (old new : O) (silent returned : E) (end : Ended D g) : Type 0 where
+  pub record Ran (words : List Text) (before after : I) (old new : O) (silent returned : E) (end : RunEnd D g) : Type 0 where
     pub statuses : (end.status ≡ 0) ⊎ ((end.status ≡ 1) ⊎ ((end.status ≡ 2) ⊎ (end.status ≡ 3)))
     -- what the command was to do is done, and standard output has what it writes
     pub done : end.status ≡ 0 → is_line words ≡ true
@@ -124,18 +124,12 @@ module _ {D I O E : Type 0} {g : Ghosts D} (held : Image) (remaining : I → Opt
         × IsFaultOn held remaining contents before after old new end.left line fault
         × IsReported fault end.line (shows silent) (shows returned))
 
-  -- these words were run over some streams, and it ended so
-  abbrev pub RanOver : List Text → Ended D g → Type 0
-  RanOver words end =
-      (before : I) × (after : I) × (old : O) × (new : O) × (silent : E) × (returned : E)
-      × Ran words before after old new silent returned end
-
 -- these words were run over files of a disk, and it ended with this status
 abbrev pub RanTo : {D I O E : Type 0} (g : Ghosts D) (held : Image) (remaining : I → Option (List ℕ))
     (contents : O → Option (List ℕ)) (shows : E → Option (List ℕ))
     → List Text → (before after : I) (old new : O) (silent returned : E) → ℕ → Type 0
 RanTo {D} g held remaining contents shows words before after old new silent returned status =
-    (end : Ended D g) × (status ≡ end.status)
+    (end : RunEnd D g) × (status ≡ end.status)
     × Ran held remaining contents shows words before after old new silent returned end
 
 -- the status of a process whose words can't be read, for an error of this kind: 2 for a word that isn't UTF-8

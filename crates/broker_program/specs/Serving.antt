@@ -24,7 +24,7 @@ use Rattle.broker_http.specs.declared.served.Served.{Served}
 use Rattle.program_io.specs.Entrance.{AreVisited, IsLost, IsVisited, Queue, Visit}
 use Rattle.broker_program.specs.Asked.{calls_of_served}
 use Rattle.broker_program.specs.Files.{Leaves, OpensOn}
-use Rattle.broker_program.specs.declared.left.Service.{Service}
+use Rattle.broker_program.specs.declared.run_end.ServiceEnd.{ServiceEnd}
 
 -- what a broker does over one opening of its file: it serves these peers, and runs these commands for them
 pub record Work : Type 0 where
@@ -145,7 +145,7 @@ module _ {D : Type 0} (g : Ghosts D) where
   -- So many connections were taken, each served or lost as it came in. If the disk is clean to the end, the brokers in
   -- the file served them, and it was closed; or a sync of it failed, and the file of that path then was opened: over
   -- that one others were served, of which no more is said.
-  abbrev pub ServesFile : Image → ℕ → Service D → Type 0
+  abbrev pub ServesFile : Image → ℕ → ServiceEnd D → Type 0
   ServesFile held all service =
       (service.served + service.lost ≡ all)
       × ((visits : List Visit) × (length visits ≡ service.served) × ServesVisits g held visits service.files)

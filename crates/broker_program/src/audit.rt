@@ -10,7 +10,7 @@ ghost use Rattle.broker_program.specs.Audits.{Audits, AuditsUntil, LeavesAudited
 ghost use Rattle.broker_program.specs.Reasons.{FailsToAudit, FailsToReadTables};
 
 use crate::files::{connection_of, leave, open_broker};
-use crate::left::Left;
+use crate::run_end::FileAfter;
 use broker_service::OpenFault;
 use command_line::FilePath;
 use program_io::fault::RunFault;
@@ -32,7 +32,7 @@ fn reported(fault: StoreFault) -> RunFault
 }
 
 /// What the audit of a file found, and what it left of the file.
-type Found<S> = (Result<Option<Finding>, RunFault>, Left<FileFrom<S>>);
+type Found<S> = (Result<Option<Finding>, RunFault>, FileAfter<FileFrom<S>>);
 
 /// Audits the tables of the broker in the file, which is given up as it is.
 fn findings_in<S: Start>(rt: &HostRuntime, file: FilePath<'_>, start: S) -> Found<S>
@@ -45,7 +45,7 @@ fn findings_in<S: Start>(rt: &HostRuntime, file: FilePath<'_>, start: S) -> Foun
     };
     let mut connection = connection_of(broker);
     let found = table_audit::audit(rt.alloc(), &mut connection);
-    let left = Left::GivenUp(leave(connection));
+    let left = FileAfter::GivenUp(leave(connection));
     match found {
         Ok(found) => (Ok(found), left),
         Err(fault) => (Err(reported(fault)), left),
@@ -83,7 +83,7 @@ pub(crate) fn audit<S: Start, W: Write>(
     file: FilePath<'_>,
     start: S,
     output: &mut W,
-) -> (Result<bool, RunFault>, Left<FileFrom<S>>)
+) -> (Result<bool, RunFault>, FileAfter<FileFrom<S>>)
     ensures ok { IfOk result.0 (Audits (image_at S.Start) result.1 (W.contents output.old) (W.contents output.new)) }
     // Nothing was written, or a beginning of the line.
     ensures err { OnErr result.0 ((output.new ≡ output.old)

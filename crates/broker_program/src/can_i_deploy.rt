@@ -8,7 +8,7 @@ ghost use Rattle.broker_program.specs.Returned.{AnswersFrom, AnswersQuestion, As
 ghost use Rattle.broker_program.specs.Returned.{ReportsGate, ReportsGateUntil};
 
 use crate::files::{Failed, open_broker, release};
-use crate::left::Left;
+use crate::run_end::FileAfter;
 use answer_texts::RenderedAnswer;
 use broker_core::answer::{Answer, Shown};
 use broker_core::command::{Command, Version};
@@ -93,7 +93,7 @@ fn answer_to<S: Start>(
             drop(command);
             answered
         }
-        Err(fault) => Err((fault, Left::Nothing)),
+        Err(fault) => Err((fault, FileAfter::Nothing)),
     }
 }
 
@@ -135,7 +135,7 @@ pub(crate) fn ask<S: Start, W: Write>(
     question: Question<'_>,
     start: S,
     output: &mut W,
-) -> (Result<bool, RunFault>, Left<FileFrom<S>>)
+) -> (Result<bool, RunFault>, FileAfter<FileFrom<S>>)
     ensures ok { IfOk result.0 (Asks (image_at S.Start) question.entry
         (W.contents output.old) (W.contents output.new) result.1) }
     // Nothing was written, or a beginning of the answer.
@@ -145,7 +145,7 @@ pub(crate) fn ask<S: Start, W: Write>(
     ensures cause { IfErr result.0 (λ fault. FailsToAsk (image_at S.Start) question.entry fault result.1) }
 {
     match answer_to(rt, file, question, start) {
-        Ok((answer, store)) => (print_answer(answer, output), Left::GivenUp(store)),
+        Ok((answer, store)) => (print_answer(answer, output), FileAfter::GivenUp(store)),
         Err((fault, left)) => (Err(fault), left),
     }
 }

@@ -9,7 +9,7 @@ ghost use Rattle.broker_program.specs.Reasons.{FailsToOpen};
 ghost use Rattle.program_io.specs.Reported.{IsFromOutside};
 ghost use Rattle.broker_program.specs.FileRefusals.{FailsToConnect, GivesUpUnopened, IsNotClosed, returned_of};
 
-use crate::left::Left;
+use crate::run_end::FileAfter;
 use crate::seed::{store_options, with_pages};
 use broker_service::{Broker, OpenFault};
 use command_line::FilePath;
@@ -27,7 +27,7 @@ pub(crate) type FileConnection<S> = Connection<FileStore<FileFrom<S>>>;
 pub(crate) type FileBroker<S> = Broker<FileStore<FileFrom<S>>>;
 
 /// Why a command over a file failed, and what it left of the file.
-pub(crate) type Failed<S> = (RunFault, Left<FileFrom<S>>);
+pub(crate) type Failed<S> = (RunFault, FileAfter<FileFrom<S>>);
 
 /// Why a file isn't closed, and its store, which was given up.
 pub(crate) type Unclosed<S> = (RunFault, FileStore<FileFrom<S>>);
@@ -122,18 +122,18 @@ pub(crate) fn connect<S: Start>(
 {
     let options = match options_for(rt, path.as_str()) {
         Ok(options) => options,
-        Err(fault) => return Err((fault, Left::Nothing)),
+        Err(fault) => return Err((fault, FileAfter::Nothing)),
     };
     let files = match take_files(rt, path.as_str(), start) {
         Ok(files) => files,
-        Err(fault) => return Err((fault, Left::Nothing)),
+        Err(fault) => return Err((fault, FileAfter::Nothing)),
     };
     match Connection::open_files_with(rt.alloc(), files, options, true) {
         Ok(mut connection) => {
             connection.set_clock(rt);
             Ok(connection)
         },
-        Err((error, rest)) => Err((returned_of(&error), Left::Unopened(rest))),
+        Err((error, rest)) => Err((returned_of(&error), FileAfter::Unopened(rest))),
     }
 }
 
@@ -159,7 +159,7 @@ pub(crate) fn connect_existing<S: Start>(
     if is_there(fs::exists(rt, path.as_str())) {
         connect(rt, path, start)
     } else {
-        Err((RunFault::File, Left::Nothing))
+        Err((RunFault::File, FileAfter::Nothing))
     }
 }
 
@@ -189,7 +189,7 @@ pub(crate) fn leave<S: Start>(connection: FileConnection<S>) -> FileStore<FileFr
 pub(crate) fn give_up<S: Start>(connection: FileConnection<S>, fault: OpenFault) -> Failed<S>
     ensures { (result.0 ≡ RunFault.Open fault) × LeavesStore (GivesUpAs connection) result.1 }
 {
-    (RunFault::Open(fault), Left::GivenUp(leave(connection)))
+    (RunFault::Open(fault), FileAfter::GivenUp(leave(connection)))
 }
 
 /// The broker in the database of the connection. If none is opened the file is given up.
@@ -219,7 +219,7 @@ pub(crate) fn open_broker<S: Start>(
     let connection = connect_existing(rt, path, start)?;
     match broker_of(connection) {
         Ok(broker) => Ok(broker),
-        Err((fault, store)) => Err((RunFault::Open(fault), Left::GivenUp(store))),
+        Err((fault, store)) => Err((RunFault::Open(fault), FileAfter::GivenUp(store))),
     }
 }
 

@@ -8,7 +8,7 @@ ghost use Rattle.broker_program.specs.Reasons.{FailsToMake, FailsToMakeIn};
 ghost use Rattle.broker_program.specs.FileRefusals.{IsOfDatabase, MakesNone};
 
 use crate::files::{Failed, FileBroker, FileConnection, close, connect, give_up};
-use crate::left::Left;
+use crate::run_end::FileAfter;
 use broker_names::name::Token;
 use broker_service::Broker;
 use command_line::FilePath;
@@ -47,7 +47,7 @@ fn make<S: Start>(
     let broker = create(rt.alloc(), connection, office)?;
     match close(broker) {
         Ok(files) => Ok(files),
-        Err((fault, store)) => Err((fault, Left::GivenUp(store))),
+        Err((fault, store)) => Err((fault, FileAfter::GivenUp(store))),
     }
 }
 
@@ -64,6 +64,6 @@ pub(crate) fn init<S: Start>(
 {
     match token_of(rt.alloc(), office_token) {
         Ok(office) => make(rt, file, &office, start),
-        Err(fault) => Err((fault, Left::Nothing)),
+        Err(fault) => Err((fault, FileAfter::Nothing)),
     }
 }

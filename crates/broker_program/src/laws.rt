@@ -1,6 +1,6 @@
 //! What a broker's file keeps over a command. The program calls none of these.
 ghost use Rattle.sqlite_disk.specs.Modelled.{calls_of, start_of};
-ghost use Rattle.broker_program.specs.Calm.{ServesCalmly};
+ghost use Rattle.broker_program.specs.Stops.{StopsOnlyAtChanges};
 ghost use Rattle.broker_program.specs.Life.{AskingLeads, AuditingLeads, FindingNoneLeads, MakingLeads, MigratingLeads, ServingLeads};
 ghost use Rattle.broker_program.specs.Life.{ShutLeads, UnclosedLeads};
 ghost use Rattle.broker_program.specs.Tested.{ServesHonestly};
@@ -42,8 +42,8 @@ pub fn life_over_cuts<D: Disk>()
 /// that changes nothing: each broker over the file that is stopped is so at a command that was to be done, whichever
 /// opening it is. That a broker stops only at such an answer, and that the states that a run reaches can be read back,
 /// are promises of `Broker::apply`. Of `replay` it is part of what that command promises.
-pub fn service_is_calm<D: Disk>()
-    ensures { ServesCalmly D.Disk }
+pub fn stops_only_at_changes<D: Disk>()
+    ensures { StopsOnlyAtChanges D.Disk }
 {}
 
 /// If the disk was clean as `serve` opened its file, the last time, it is to the end, or two texts share a digest: each

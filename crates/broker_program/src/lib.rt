@@ -3,22 +3,22 @@
 
 mod audit;
 mod can_i_deploy;
+mod commands;
 mod files;
 mod init;
 pub mod laws;
-mod left;
 mod migrate;
 mod process;
 mod reopening;
 mod replay;
 mod routes;
-mod running;
+mod run_end;
 mod seed;
 mod serve;
 
 pub use command_line::{FilePath, Line, read_line};
-pub use left::{CutService, Ended, Left, Processed, Service, Unread};
-pub use process::run_process;
-pub use running::{run, run_from};
+pub use commands::{run, run_from};
+pub use process::{process_words, run_over};
+pub use run_end::{CutService, FileAfter, ProcessEnd, RunEnd, ServiceEnd, Unread};
 pub use seed::NoSeed;
 pub use serve::serve_each;

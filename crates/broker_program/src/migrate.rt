@@ -7,7 +7,7 @@ ghost use Rattle.broker_program.specs.Reasons.{FailsToMigrate};
 ghost use Rattle.broker_program.specs.FileRefusals.{IsOfDatabase, MigratesNone};
 
 use crate::files::{Failed, FileConnection, connect_existing, disconnect, give_up};
-use crate::left::Left;
+use crate::run_end::FileAfter;
 use command_line::FilePath;
 use sqlite::{FileFrom, Files, Start};
 use sqlite_disk::Disk;
@@ -39,6 +39,6 @@ pub(crate) fn migrate<S: Start>(
     let connection = migrated(connection)?;
     match disconnect(connection) {
         Ok(files) => Ok(files),
-        Err((fault, store)) => Err((fault, Left::GivenUp(store))),
+        Err((fault, store)) => Err((fault, FileAfter::GivenUp(store))),
     }
 }

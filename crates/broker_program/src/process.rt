@@ -1,19 +1,17 @@
-//! The program over the words and the standard streams of its process.
-ghost use Rattle.std.specs.Prelude.{◌≡◌, IfErr, IfOk, MatchResult, OnErr, map, string_bytes};
+//! The program over the words of its process, and any streams.
+ghost use Rattle.std.specs.Prelude.{◌≡◌, IfErr, IfOk, OnErr, map, string_bytes};
 ghost use Rattle.std.specs.IoError.{error_kind};
-ghost use Rattle.std.specs.Process.{exit_status};
 ghost use Rattle.sqlite.specs.WalFiles.{image_at};
 ghost use Rattle.command_line.specs.Lines.{texts_of};
 ghost use Rattle.program_io.specs.Written.{IsLineOut};
-ghost use Rattle.broker_program.specs.Running.{IsUnread, Ran, RanOver, ReportsUnread, unread_text};
+ghost use Rattle.broker_program.specs.Running.{IsUnread, Ran, ReportsUnread, unread_text};
 
-use crate::left::{Ended, Processed, Unread};
-use crate::running::run_from;
+use crate::commands::run_from;
+use crate::run_end::{ProcessEnd, RunEnd, Unread};
 use program_io::output::put_line;
 use sqlite::{FileFrom, Start};
 use std::alloc::{AllocError, Global};
-use std::io::{ErrorKind, Read, Stderr, Stdin, Stdout, Write};
-use std::process::ExitCode;
+use std::io::{ErrorKind, Read, Write};
 use std::{env, io};
 
 /// The words, borrowed from their texts.
@@ -35,7 +33,7 @@ fn run_texts<S: Start, R: Read, W: Write, E: Write>(
     input: &mut R,
     output: &mut W,
     errors: &mut E,
-) -> Result<Ended<FileFrom<S>>, AllocError>
+) -> Result<RunEnd<FileFrom<S>>, AllocError>
     ensures ran { IfOk result (Ran (image_at S.Start) R.remaining W.contents E.contents
         (map string_bytes texts.now) input.old input.new output.old output.new errors.old errors.new) }
     ensures idle { OnErr result ((input.new ≡ input.old) × (output.new ≡ output.old) × (errors.new ≡ errors.old)) }
@@ -68,16 +66,19 @@ fn report_unread<E: Write>(error: io::Error, errors: &mut E) -> (u8, Unread)
     (status, Unread { error, line })
 }
 
-/// Runs these words, and answers the status to end with. If they can't be read, or there is no memory for them, nothing
-/// is run, and one line on `errors` says why.
-fn run_over<S: Start, R: Read, W: Write, E: Write>(
+/// Runs the words of a process over these streams as `run_from` does, and answers the status to end with. The words come
+/// with it, with how their run ended: the status is that of these words. If they can't be read, or there is no memory
+/// for them, nothing is run, one line on `errors` says why, and their error comes: the status is 2 if a word isn't
+/// UTF-8, and 3, with `memory` on `errors`, if there is no memory for them. Nothing is kept back, so that there is
+/// nothing to flush.
+pub fn run_over<S: Start, R: Read, W: Write, E: Write>(
     rt: &HostRuntime,
     words: io::Result<Vec<String>>,
     start: S,
     input: &mut R,
     output: &mut W,
     errors: &mut E,
-) -> (u8, Result<Processed<FileFrom<S>>, Unread>)
+) -> (u8, Result<ProcessEnd<FileFrom<S>>, Unread>)
     ensures status { IfOk result.1 (λ run. result.0 ≡ run.ended.status) }
     ensures ran { IfOk result.1 (λ run. Ran (image_at S.Start) R.remaining W.contents E.contents
         (map string_bytes run.words.items) input.old input.new output.old output.new errors.old errors.new run.ended) }
@@ -92,7 +93,7 @@ fn run_over<S: Start, R: Read, W: Write, E: Write>(
         }
     };
     match run_texts(rt, words.as_slice(), start, input, output, errors) {
-        Ok(ended) => (ended.status, Ok(Processed { words, ended })),
+        Ok(ended) => (ended.status, Ok(ProcessEnd { words, ended })),
         Err(error) => {
             let (status, unread) = report_unread(io::Error::from(error), errors);
             (status, Err(unread))
@@ -100,33 +101,11 @@ fn run_over<S: Start, R: Read, W: Write, E: Write>(
     }
 }
 
-/// The process's words.
-fn process_words(rt: &HostRuntime) -> io::Result<Vec<String>> {
+/// The process's words. The error says that one isn't UTF-8, or that there is no memory for them.
+pub fn process_words(rt: &HostRuntime) -> io::Result<Vec<String>> {
     let mut words = Vec::new(rt.alloc());
     for text in env::args(rt)? {
         words.push(text)?;
     }
     Ok(words)
-}
-
-/// Runs the process's words over its standard streams as `run_from` does, and answers the status to end with. The words
-/// come with it, with how their run ended: the status is that of these words. If they can't be read their error comes:
-/// the status is 2 if a word isn't UTF-8, and 3, with `memory` on standard error, if there is no memory for them. The
-/// streams keep nothing back, so that there is nothing to flush.
-pub fn run_process<S: Start>(
-    rt: &HostRuntime,
-    start: S,
-) -> (ExitCode, Result<Processed<FileFrom<S>>, Unread>)
-    ensures status { MatchResult result.1 (λ run. exit_status result.0 ≡ run.ended.status)
-        (λ unread. IsUnread (error_kind unread.error) (exit_status result.0)) }
-    ensures ran { IfOk result.1 (λ run. RanOver (image_at S.Start)
-        ⟦<Stdin as Read>⟧.remaining ⟦<Stdout as Write>⟧.contents ⟦<Stderr as Write>⟧.contents
-        (map string_bytes run.words.items) run.ended) }
-{
-    let mut input = rt.stdin();
-    let mut output = rt.stdout();
-    let mut errors = rt.stderr();
-    let words = process_words(rt);
-    let (status, ran) = run_over(rt, words, start, &mut input, &mut output, &mut errors);
-    (ExitCode::from(status), ran)
 }

@@ -16,7 +16,7 @@ use sqlite_trees::store::Store;
 use std::alloc::Global;
 
 /// Why a broker's files aren't opened again, what is left of them, and that there is no seed, if that is why.
-pub(crate) type Refused<S> = (RunFault, Leftover<FileFrom<S>>, Option<NoSeed>);
+pub(crate) type NotReopened<S> = (RunFault, Leftover<FileFrom<S>>, Option<NoSeed>);
 
 /// Copies the log of a store that was given up into the database file, so that the log has room again, and says whether
 /// the store broke in that. One that is broken already is left as it is, and so is one of which this fails at once.
@@ -65,7 +65,7 @@ fn connect_again<D: Disk + Drop>(
 fn reopen<S: Start>(
     rt: &HostRuntime,
     broker: FileBroker<S>,
-) -> Result<Option<FileBroker<S>>, Refused<S>>
+) -> Result<Option<FileBroker<S>>, NotReopened<S>>
     requires { IsTrue broker.is_stopped }
     ensures runs { IfOk result (λ found. IfSome found (λ b. b.is_stopped ≡ false)) }
     ensures again { IfOk result (OpensBrokerAgain broker) }
@@ -89,10 +89,10 @@ fn reopen<S: Start>(
 }
 
 /// The broker, or if it is stopped the one of its files, opened again. None if a sync of them failed.
-pub(crate) fn running<S: Start>(
+pub(crate) fn ensure_running<S: Start>(
     rt: &HostRuntime,
     broker: FileBroker<S>,
-) -> Result<Option<FileBroker<S>>, Refused<S>>
+) -> Result<Option<FileBroker<S>>, NotReopened<S>>
     ensures same { broker.is_stopped ≡ false → result ≡ Ok (Some broker) }
     ensures runs { IfOk result (λ found. IfSome found (λ b. b.is_stopped ≡ false)) }
     ensures goes { KeepsServing (image_at S.Start) broker result }

@@ -11,9 +11,9 @@ ghost use Rattle.broker_program.specs.Reopening.{CutsAll, ServesAll, ServesBetwe
 ghost use Rattle.broker_program.specs.Serving.{ServesFile, ServesNext, ServesQueue};
 
 use crate::files::{Failed, FileBroker, close, fault_of, open_broker, release};
-use crate::left::{CutService, Left, Service};
-use crate::reopening::{Refused, running};
+use crate::reopening::{NotReopened, ensure_running};
 use crate::routes::route_table;
+use crate::run_end::{CutService, FileAfter, ServiceEnd};
 use crate::seed::NoSeed;
 use broker_http::RouteTable;
 use broker_http::patience::serve_peer;
@@ -60,7 +60,7 @@ fn serve_opened<S: Start, P: Peers>(
     routes: &RouteTable,
     broker: FileBroker<S>,
     peers: &mut P,
-) -> Result<Option<Files<FileFrom<S>>>, Refused<S>>
+) -> Result<Option<Files<FileFrom<S>>>, NotReopened<S>>
     requires runs { broker.is_stopped ≡ false }
     requires opened { OpensBroker (image_at S.Start) broker }
     requires idle { NoneIsIn (P.queue peers.old) }
@@ -76,7 +76,7 @@ fn serve_opened<S: Start, P: Peers>(
 {
     let mut broker = broker;
     while peers.left() > 0 {
-        broker = match running(rt, broker) {
+        broker = match ensure_running(rt, broker) {
             Ok(Some(broker)) => broker,
             Ok(None) => return Ok(None),
             Err(failed) => return Err(failed),
@@ -162,11 +162,11 @@ fn serve_queue<S: Start, P: Peers>(
 }
 
 /// What was served, and what is left of the files.
-fn service_of<P: Peers, D: Disk>(peers: &P, files: Option<Files<D>>) -> Service<D>
+fn service_of<P: Peers, D: Disk>(peers: &P, files: Option<Files<D>>) -> ServiceEnd<D>
     ensures { (result.served ≡ length (P.queue peers.now).went) × (result.lost ≡ (P.queue peers.now).lost)
         × (result.files ≡ files) }
 {
-    Service {
+    ServiceEnd {
         served: peers.gone(),
         lost: peers.lost(),
         files,
@@ -196,14 +196,14 @@ fn cut_of<P: Peers, D: Disk>(
 ///
 /// How serving a peer failed isn't said: its connection is over then, and the next one comes in. If the files can't be
 /// opened again or closed, the fault is the reason (`File`, `Open`, `Memory`), and the other peers aren't served. What was
-/// served up to there comes with it, and what is left of the files (`Left::Cut`).
+/// served up to there comes with it, and what is left of the files (`FileAfter::Cut`).
 pub fn serve_each<S: Start, P: Peers>(
     rt: &HostRuntime,
     routes: &RouteTable,
     broker: FileBroker<S>,
     file: FilePath<'_>,
     peers: &mut P,
-) -> Result<Service<FileFrom<S>>, Failed<S>>
+) -> Result<ServiceEnd<FileFrom<S>>, Failed<S>>
     requires runs { broker.is_stopped ≡ false }
     requires opened { OpensBroker (image_at S.Start) broker }
     requires fresh { IsNewQueue (P.queue peers.old) }
@@ -216,7 +216,7 @@ pub fn serve_each<S: Start, P: Peers>(
 {
     match serve_queue(rt, routes, broker, file, peers) {
         Ok(files) => Ok(service_of(peers, files)),
-        Err((fault, rest, seed)) => Err((fault, Left::Cut(cut_of(peers, rest, seed)))),
+        Err((fault, rest, seed)) => Err((fault, FileAfter::Cut(cut_of(peers, rest, seed)))),
     }
 }
 
@@ -228,7 +228,7 @@ fn serve_listening<S: Start>(
     listen: &str,
     connections: u32,
     start: S,
-) -> Result<Service<FileFrom<S>>, Failed<S>>
+) -> Result<ServiceEnd<FileFrom<S>>, Failed<S>>
     ensures said { IfOk result (λ _. ListensOn listen.now) }
     ensures ok { IfOk result (ServesFile ⟦<FileFrom<S> as Disk>⟧ (image_at S.Start) connections) }
     ensures cause { IfErr result (λ failed. FailsToServe (image_at S.Start) listen.now connections failed.0 failed.1) }
@@ -236,7 +236,7 @@ fn serve_listening<S: Start>(
     let broker = open_broker(rt, file, start)?;
     match listen_on(rt, listen, connections) {
         Ok(connections) => serve_each(rt, routes, broker, file, &mut Sockets::new(connections)),
-        Err(fault) => Err((fault, Left::GivenUp(release(broker)))),
+        Err(fault) => Err((fault, FileAfter::GivenUp(release(broker)))),
     }
 }
 
@@ -247,13 +247,13 @@ pub(crate) fn serve_file<S: Start>(
     listen: &str,
     connections: u32,
     start: S,
-) -> Result<Service<FileFrom<S>>, Failed<S>>
+) -> Result<ServiceEnd<FileFrom<S>>, Failed<S>>
     ensures said { IfOk result (λ _. ListensOn listen.now) }
     ensures ok { IfOk result (ServesFile ⟦<FileFrom<S> as Disk>⟧ (image_at S.Start) connections) }
     ensures cause { IfErr result (λ failed. FailsToServe (image_at S.Start) listen.now connections failed.0 failed.1) }
 {
     match route_table(rt.alloc()) {
         Ok(routes) => serve_listening(rt, &routes, file, listen, connections, start),
-        Err(fault) => Err((fault, Left::Nothing)),
+        Err(fault) => Err((fault, FileAfter::Nothing)),
     }
 }

@@ -55,7 +55,7 @@ module _ {X : Type 0} (shown : Held X → State) where
   Transacted-store_cause : (token : Option Text) (command : Command) (r : Result Answer Failure) (old new : Held X) → Transacted shown token command old new r → HasCleanDisk (shown new) → AreNames command
       → (s : Broker) → HoldsReadable s (shown old) → returned r ≡ Err fault.Store → HasFailed (shown old) (shown new) fault.Store ⊎ IsNotKept shown s token command old new
   Transacted-store_cause token command r old new it clean named s holds is = elim (returned-store r is) [
-    | inl call ↦ elim (it.calm clean named s holds call) [ inl failed ↦ inl failed | inr inside ↦ inr (inside.0, λ room. inl (inside.1 room)) ]
+    | inl call ↦ elim (it.failure clean named s holds call) [ inl failed ↦ inl failed | inr inside ↦ inr (inside.0, λ room. inl (inside.1 room)) ]
     | inr commit ↦ elim (it.refused clean s holds commit.0 commit.1) [ inl failed ↦ inl failed | inr lacks ↦ inr (lacks.1, λ room. inr lacks.2) ]
   ]
 
@@ -70,7 +70,7 @@ module _ {X : Type 0} (shown : Held X → State) where
     releases = λ clean _ step s holds. RecordsExactly-released s token command _ answer (applies clean s holds) step;
     unchanged = λ clean _ other undone. IsAsBefore-not_done _ _ (returned r) (it.unchanged clean) (subst (λ (a : Answer). a ≢ answers.Store) is other) (subst (λ (a : Answer). ¬ (IsDone a)) is undone);
     fails = λ clean store. KeepsLastCommit-store _ _ (returned r) (it.unchanged clean) (sym is ∙ store);
-    calm = λ clean _ store s holds. Transacted-store_cause token command r old.connection new.connection it clean named s holds (answer_of-store (returned r) answered (sym is ∙ store));
+    failure = λ clean _ store s holds. Transacted-store_cause token command r old.connection new.connection it clean named s holds (answer_of-store (returned r) answered (sym is ∙ store));
     room = λ clean _. it.room clean;
     over = it.over;
     stops = λ _. stops;
@@ -91,7 +91,7 @@ module _ {X : Type 0} (shown : Held X → State) where
     releases = λ clean running. absurd (cc);
     unchanged = λ clean running. absurd (cc);
     fails = λ clean store. absurd (cc);
-    calm = λ clean running. absurd (cc);
+    failure = λ clean running. absurd (cc);
     room = λ clean running. absurd (cc);
     over = λ clean was. was;
     stops = λ running. absurd (cc);

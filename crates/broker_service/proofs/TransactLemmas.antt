@@ -7,7 +7,7 @@ use Rattle.table_access.{specs.declared.StoreFault.TheVariants.{Memory, Store}, 
 use Rattle.broker_core.specs.{Change.{Transition}, Contents.{HasSoundContents}, Laws.{IsDone}, Machine.{Step}, State.{State as Broker}, Text.{Text}}
 use Rattle.broker_core.specs.{declared.answer.Answer.{Answer}, declared.answer.Answer.TheVariants.{Done}, declared.command.Command.{Command}}
 use Rattle.broker_core.specs.SoundNames.{AreNames}
-use Rattle.broker_tables.specs.{Calm.{Serves, HasFailedOrMemory, FailsFromBetween}, Holds.{Holds, HoldsAfter}, Room.{HasRoomFor, TakesRoom, enough}}
+use Rattle.broker_tables.specs.{Failures.{ShowsState, HasFailedOrMemory, FailsFromBetween}, Holds.{Holds, HoldsAfter}, Room.{HasRoomFor, TakesRoom, enough}}
 use Rattle.broker_tables.proofs.RoomLemmas.{TakesRoom-same}
 use Rattle.command_facts.specs.{Performs.{PerformsBetween, TokensStep, IsToChange, IsMisnamed}, Primitives.{broker_primitives}}
 use Rattle.broker_database.specs.{Causes.{HoldsReadable, IsToBeDone, KeepsRoom}, Ends.{HoldsNext, Steps, KeepsAtPattern}, Stored.{Stores, HoldsState}}
@@ -128,7 +128,7 @@ module _ (token : Option Text) (command : Command) where
         by_call : AreNames command → FailsFromBetween (shown mid) (shown done) t.worked (IsMisnamed command) (HasSoundContents broker_primitives) (IsToChange (TokensStep token command))
             → result ≡ Err (Call Store) → HasFailed (shown old) (shown new) Store ⊎ FailsInside s token command (shown old) (shown new)
         by_call named why is =
-            let served : Serves (shown mid) s = record { inside = begun_there.1.mode; unlimited = t.begins.limit ∙ ready.unlimited; held = was.tables; readable = ready.readable } in
+            let served : ShowsState (shown mid) s = record { inside = begun_there.1.mode; unlimited = t.begins.limit ∙ ready.unlimited; held = was.tables; readable = ready.readable } in
             let none : EndsFor shown t.keeps t.worked done new (Call Store) = subst (λ (r : Result Answer Failure). IfErr r (EndsFor shown t.keeps t.worked done new)) is refused in
             HasFailed-of_transaction (shown old) (shown mid) (shown done) (shown new) _ _ (FailsInside s token command (shown old) (shown new)) clean (returned result) t
             (IfErr-weaker t.worked _ _ (λ fault it store. work_fails named fault it store) (why worked_clean s served was.contents))
@@ -146,10 +146,10 @@ module _ (token : Option Text) (command : Command) where
         → PerformsBetween (shown mid) (shown done) (TokensStep token command) worked
         → FailsFromBetween (shown mid) (shown done) worked (IsMisnamed command) (HasSoundContents broker_primitives) (IsToChange (TokensStep token command)) → (IsTrue keeps ↔ IsOkAnd worked IsDone) → Concludes (shown done) (shown new) keeps worked (returned result)
         → (HasCleanDisk (shown new) → IfErr result (EndsFor shown keeps worked done new)) → Transacted shown token command old new result
-    transacted old mid done new worked result keeps begun begins works calm kept concludes refused = record {
+    transacted old mid done new worked result keeps begun begins works failure kept concludes refused = record {
       ends = AppliesOrFails-of_transaction (shown old) (shown mid) (shown done) (shown new) (returned result) t;
       unchanged = IsUnchangedUnless-transaction (shown old) (shown mid) (shown done) (shown new) _ _ (returned result) t;
-      calm = λ clean named s ready. by_call old mid done new result t clean s ready (refused clean) named calm;
+      failure = λ clean named s ready. by_call old mid done new result t clean s ready (refused clean) named failure;
       refused = λ clean s ready. by_commit old mid done new result t clean s ready (refused clean);
       room = KeepsRoom-of_transaction (shown old) (shown mid) (shown done) (shown new) (returned result) t;
       over = LeavesNoTransaction-transaction (shown old) (shown mid) (shown done) (shown new) _ _ (returned result) t;
@@ -165,7 +165,7 @@ module _ (token : Option Text) (command : Command) where
     untransacted old new why refused cause begins = record {
       ends = λ clean s holds. EndsOrFails-unbegun (shown old) (shown new) why refused begins (λ db. Stores db s) (HoldsNext s token command) (λ answer. Steps s token command (shown new) answer ⊎ KeepsAtPattern s token command (shown new) answer) clean holds;
       unchanged = IsUnchangedUnless-unbegun (shown old) (shown new) why refused begins IsDone;
-      calm = λ clean named s ready is. let same : why ≡ Store = (let h = is in cc) in inl (subst (HasFailed (shown old) (shown new)) same (HasFailed-at_begin s (shown old) (shown new) why ready.held (cause clean)));
+      failure = λ clean named s ready is. let same : why ≡ Store = (let h = is in cc) in inl (subst (HasFailed (shown old) (shown new)) same (HasFailed-at_begin s (shown old) (shown new) why ready.held (cause clean)));
       refused = λ clean s ready fault is. absurd (let h = is in cc);
       room = λ clean s holds now. TakesRoom-same enough (shown old).now (shown new).now (now-unchanged_unbegun (shown old) (shown new) holds (refused clean) now);
       over = LeavesNoTransaction-unbegun (shown old) (shown new) refused;

@@ -27,7 +27,7 @@ module _ {X : Type 0} (shown : Held X → State) (token : Option Text) (command 
   pub Transacted-no_done_given_up : Transacted shown token command old new result → HasCleanDisk (shown new) → AreNames command
       → (s : Broker) → HoldsReadable s (shown old) → IsTrue (shown old).is_open → DiskWorks (shown old) (shown new) → HasRoomFor enough (shown old).now
       → result ≢ Err (Call faults.Store)
-  Transacted-no_done_given_up it clean names s holds was_open works room is = elim (it.calm clean names s holds is) [
+  Transacted-no_done_given_up it clean names s holds was_open works room is = elim (it.failure clean names s holds is) [
     | inl failed ↦ HasFailed-not_if_disk_works (shown old) (shown new) was_open works failed
     | inr inside ↦ HasFailed-not_if_disk_works (shown old) (shown new) was_open works (inside.1 room)
   ]

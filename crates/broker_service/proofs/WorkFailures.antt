@@ -6,7 +6,7 @@ use Rattle.table_access.{specs.{Calls.{CallsTablesBetween, EndsBy}, declared.Sto
 use Rattle.broker_core.specs.{Contents.{HasSoundContents}, Change.{Transition}, Machine.{IsCallerOfToken, is_step}, State.{State as Broker}, Text.{Text}}
 use Rattle.broker_core.specs.{declared.answer.Answer.{Answer}, declared.command.Command.{Command}, declared.policy.Caller.{Caller}, SoundNames.{AreNames}}
 use Rattle.broker_core.proofs.StepLemmas.{Step-is_step}
-use Rattle.broker_tables.specs.{Calm.{Serves, FailsOnlyBy, HasFailedOrMemory, CalmQueriesBetween, FailsFromBetween}, Room.{HasRoomFor, enough}}
+use Rattle.broker_tables.specs.{Failures.{ShowsState, FailsOnlyBy, HasFailedOrMemory, LooksUpBetween, FailsFromBetween}, Room.{HasRoomFor, enough}}
 use Rattle.broker_tables.proofs.FailLemmas.{FailsFromBetween-after_query}
 use Rattle.command_facts.specs.Performs.{PerformsBetween, CarriesBetween, FailsBetween, IsStepOf, CallersStep, TokensStep, IsToChange, IsMisnamed}
 use Rattle.command_facts.{specs.Primitives.{broker_primitives}, proofs.{CarryLemmas.{PerformsBetween-of_carries}, PerformLemmas.{CallersStep-of_step}}}
@@ -22,7 +22,7 @@ module _ (old new : State) (r : Result Answer StoreFault) (caller : Caller) (giv
 
   returned : (s : Broker) (fault : StoreFault) → HasFailedOrMemory old new fault ⊎ (IsToChange (IsStepOf caller command) s × (HasRoomFor enough old.now → EndsBy (IsMisnamed command) old new fault))
       → HasFailedOrMemory old new fault ⊎ (IsToChange (CallersStep caller given) s × (HasRoomFor enough old.now → EndsBy (IsMisnamed given) old new fault))
-  returned s fault (inl calm) = inl calm
+  returned s fault (inl failure) = inl failure
   returned s fault (inr change) = inr (changes s change.0, λ room. EndsBy-weaken old new fault (λ long named. long (subst AreNames same named)) (change.1 room))
 
   -- a command that may change something
@@ -34,8 +34,8 @@ module _ (old new : State) (r : Result Answer StoreFault) (caller : Caller) (giv
   FailsFromBetween-of_sound_change why clean s here sound = IfErr-weaker r _ _ (returned s) (why clean s here sound)
 
 -- a command whose change is never refused
-pub FailsFromBetween-of_calm : (TooBig : Type 0) (old new : State) (r : Result Answer StoreFault) (Allows Changes : Broker → Type 0) → FailsOnlyBy old new r (HasFailedOrMemory old new) → FailsFromBetween old new r TooBig Allows Changes
-FailsFromBetween-of_calm TooBig old new r Allows Changes why clean s here allowed = IfErr-weaker r _ _ (λ fault it. inl it) (why clean s here)
+pub FailsFromBetween-of_failure : (TooBig : Type 0) (old new : State) (r : Result Answer StoreFault) (Allows Changes : Broker → Type 0) → FailsOnlyBy old new r (HasFailedOrMemory old new) → FailsFromBetween old new r TooBig Allows Changes
+FailsFromBetween-of_failure TooBig old new r Allows Changes why clean s here allowed = IfErr-weaker r _ _ (λ fault it. inl it) (why clean s here)
 
 -- what a known caller's command does, the token's does
 pub TokensStep-of_caller : (s : Broker) (token : Option Text) (command : Command) (caller : Caller) → IsCallerOfToken broker_primitives s token (Some caller) → (out : Transition) → CallersStep caller command s out → TokensStep token command s out
@@ -43,7 +43,7 @@ TokensStep-of_caller s token command caller who out it sound = elim (it sound) [
 
 -- a query, and then a command
 pub FailsFromBetween-query_then : {A : Type 0} (TooBig : Type 0) (old mid new : State) (a : A) (r : Result Answer StoreFault) (P : A → Broker → Type 0) (Q : Answer → Type 0) (Allows Made Changes : Broker → Type 0) → ((s : Broker) → P a s → Made s → Changes s)
-    → CalmQueriesBetween true old mid (Ok a) P → CallsTablesBetween mid new r Q → FailsFromBetween mid new r TooBig Allows Made → FailsFromBetween old new r TooBig Allows Changes
+    → LooksUpBetween true old mid (Ok a) P → CallsTablesBetween mid new r Q → FailsFromBetween mid new r TooBig Allows Made → FailsFromBetween old new r TooBig Allows Changes
 FailsFromBetween-query_then TooBig old mid new a r P Q Allows Made Changes more one = FailsFromBetween-after_query TooBig old mid new a r P Q Allows Allows Changes Made (λ s held allowed read. (allowed, more s read)) one.call
 
 -- ---- the answer of a command is no failure
@@ -62,7 +62,7 @@ IsNoFailure-pattern answer pattern = (
   λ is. let clash : answers.Pattern ≡ answers.Stopped = sym pattern ∙ is in cc,
 )
 
-pub IsNoFailure-performs : (old new : State) (answer : Answer) (token : Option Text) (command : Command) → PerformsBetween old new (TokensStep token command) (Ok answer) → HasCleanDisk new → (s : Broker) → Serves old s → HasSoundContents broker_primitives s → IsNoFailure answer
+pub IsNoFailure-performs : (old new : State) (answer : Answer) (token : Option Text) (command : Command) → PerformsBetween old new (TokensStep token command) (Ok answer) → HasCleanDisk new → (s : Broker) → ShowsState old s → HasSoundContents broker_primitives s → IsNoFailure answer
 IsNoFailure-performs old new answer token command it clean s here sound =
     let next = it.ok clean s here.held in
     elim (next.1 sound) [
@@ -75,7 +75,7 @@ IsNoFailure-performs old new answer token command it clean s here sound =
 FailsFromBetween-of_fails : (changes : Bool) (old new : State) (r : Result Answer StoreFault) (caller : Caller) (given command : Command) → given ≡ command → FailsBetween changes old new r (IsMisnamed command) (λ _. ⊤) (IsStepOf caller command)
     → FailsFromBetween old new r (IsMisnamed given) (HasSoundContents broker_primitives) (IsToChange (CallersStep caller given))
 FailsFromBetween-of_fails true old new r caller given command same why = FailsFromBetween-of_change old new r caller given command same why
-FailsFromBetween-of_fails false old new r caller given command same why = FailsFromBetween-of_calm _ old new r _ _ (λ clean s here. why clean s here tt)
+FailsFromBetween-of_fails false old new r caller given command same why = FailsFromBetween-of_failure _ old new r _ _ (λ clean s here. why clean s here tt)
 
 pub DoesBetween-of_carries : {changes : Bool} {old new : State} {r : Result Answer StoreFault} {given command : Command} (caller : Caller) → given ≡ command → CarriesBetween changes old new (λ _. ⊤) (λ _. ⊤) (IsMisnamed command) (IsStepOf caller command) r → DoesBetween old new (IsMisnamed given) (CallersStep caller given) r
-DoesBetween-of_carries {changes} {old} {new} {r} {given} {command} caller same it = record { answers = CallersStep-of_step old new r caller given command same (PerformsBetween-of_carries it); calm = FailsFromBetween-of_fails changes old new r caller given command same it.calm }
+DoesBetween-of_carries {changes} {old} {new} {r} {given} {command} caller same it = record { answers = CallersStep-of_step old new r caller given command same (PerformsBetween-of_carries it); failure = FailsFromBetween-of_fails changes old new r caller given command same it.failure }

@@ -10,14 +10,14 @@ use Rattle.broker_core.specs.Change.{Transition}
 use Rattle.broker_core.specs.declared.answer.Answer.{Answer}
 use Rattle.broker_core.specs.declared.command.Command.{Command}
 use Rattle.broker_core.specs.declared.policy.Caller.{Caller}
-use Rattle.broker_tables.specs.Calm.{FailsFromBetween}
+use Rattle.broker_tables.specs.Failures.{FailsFromBetween}
 use Rattle.command_facts.specs.Performs.{PerformsBetween, IsToChange, IsMisnamed, CallersStep}
 use Rattle.command_facts.specs.Primitives.{broker_primitives}
 
 pub record DoesBetween (old new : State) (TooBig : Type 0) (P : Broker → Transition → Type 0)
     (r : Result Answer StoreFault) : Type 0 where
   pub answers : PerformsBetween old new P r
-  pub calm : FailsFromBetween old new r TooBig (HasSoundContents broker_primitives) (IsToChange P)
+  pub failure : FailsFromBetween old new r TooBig (HasSoundContents broker_primitives) (IsToChange P)
 
 -- the same of a connection over this store
 module _ {X : Type 0} (store : Ghosts X) (old new : Held X) where

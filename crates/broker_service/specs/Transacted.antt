@@ -57,7 +57,7 @@ pub record Transacted {X : Type 0} (shown : Held X → State) (token : Option Te
       → AppliesOrFails s token command (shown new) (returned result)
   pub unchanged : HasCleanDisk (shown new) → IsUnchangedUnless IsDone (shown old) (shown new) (returned result)
   -- a call failed by Store: the store failed, or the tables have no numbers left for what was to be done
-  pub calm : HasCleanDisk (shown new) → AreNames command → (s : Broker) → HoldsReadable s (shown old)
+  pub failure : HasCleanDisk (shown new) → AreNames command → (s : Broker) → HoldsReadable s (shown old)
       → result ≡ Err (Call faults.Store)
       → HasFailed (shown old) (shown new) faults.Store ⊎ FailsInside s token command (shown old) (shown new)
   -- COMMIT was refused by this: the store failed, or what was to be done was done, and there was no memory for COMMIT

@@ -135,12 +135,12 @@ fn step_of<S: Alter>(
     command: &Command,
 ) -> Result<Answer, StoreFault>
     ensures answers { Performs S.Store conn.old conn.new result (TokensStep (token_of token.entry) command.now) }
-    ensures calm { FailsToChangeFrom S.Store conn.old conn.new result (IsMisnamed command.now)
+    ensures failure { FailsToChangeFrom S.Store conn.old conn.new result (IsMisnamed command.now)
         (HasSoundContents broker_primitives) (TokensStep (token_of token.entry) command.now) }
 {
     match done!(caller_of(alloc, conn, token)) {
         Some(caller) => follow(alloc, conn, &caller, command),
-        None => Ok(Answer::Denied(Rule::A1)),
+        None => Ok(Answer::Denied(Rule::KnownCaller)),
     }
 }
 
@@ -167,7 +167,7 @@ fn work<S: Alter>(
     command: &Command,
 ) -> Result<RenderedAnswer, StoreFault>
     ensures performs { Performs S.Store conn.old conn.new result (TokensStep (token_of token.entry) command.now) }
-    ensures calm { FailsToChangeFrom S.Store conn.old conn.new result (IsMisnamed command.now)
+    ensures failure { FailsToChangeFrom S.Store conn.old conn.new result (IsMisnamed command.now)
         (HasSoundContents broker_primitives) (TokensStep (token_of token.entry) command.now) }
     ensures answers { IfOk result IsNoFailure }
 {

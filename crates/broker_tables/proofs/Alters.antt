@@ -12,7 +12,7 @@ pub CallsStoreBetween-alters : {old new : State} {r : Result (Unit {0}) StoreFau
 CallsStoreBetween-alters {old = old} {new = new} {r = r} does = CallsBetween-weaken old new r _ _ (λ _ h s held t next. does s held t next h.0 h.1)
 
 -- and it fails for what the statement fails for
-pub IfErr-calm : {A : Type 0} {old : State} (r : Result A StoreFault) {Allows : Broker → Type 0} {Numbers Clean : Type 0} {Cause Why : StoreFault → Type 0}
+pub IfErr-failure : {A : Type 0} {old : State} (r : Result A StoreFault) {Allows : Broker → Type 0} {Numbers Clean : Type 0} {Cause Why : StoreFault → Type 0}
     → ((s : Broker) → HoldsOpen old s → Allows s → Numbers → (fault : StoreFault) → Cause fault → Why fault) → (Clean → IfErr r Cause)
     → Clean → (s : Broker) → HoldsOpen old s → Allows s → Numbers → IfErr r Why
-IfErr-calm r ends cause clean s here allowed numbers = IfErr-weaker r _ _ (ends s here allowed numbers) (cause clean)
+IfErr-failure r ends cause clean s here allowed numbers = IfErr-weaker r _ _ (ends s here allowed numbers) (cause clean)

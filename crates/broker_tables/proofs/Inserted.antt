@@ -4,7 +4,7 @@ use Rattle.broker_tables.specs.{Holds.{Holds, HoldsAfter, IsBroker, marks_in}, N
 use Rattle.broker_tables.specs.{Room.{LeaveNumbers}, Rows.{rows_of, value_at}}
 use Rattle.broker_tables.specs.Schema.{broker_schema, in_environments, in_pacticipants, in_teams, in_versions, to}
 use Rattle.broker_tables.proofs.{Frames.{Frame, ChangesOnly-Frame, Means-over_broker_schema}, Keyed.{IsFree}}
-use Rattle.broker_tables.proofs.Placed.{Need, Placed, at_environments, at_pacticipants, at_teams, calm, plainly-same, listed, Placed-IsNumbered, slice_get-Placed_plainly, plainly, IsBroker-IsReady, column-texts, slice_get-Placed_table}
+use Rattle.broker_tables.proofs.Placed.{Need, Placed, at_environments, at_pacticipants, at_teams, no_actions, plainly-same, listed, Placed-IsNumbered, slice_get-Placed_plainly, plainly, IsBroker-IsReady, column-texts, slice_get-Placed_table}
 use Rattle.broker_tables.proofs.{RoomLemmas.{Grows, HoldsAfter-one_table, Grows-added, fits_i64-next_rowid}, Orders.{text_cmp-antisymmetric}}
 use Rattle.broker_tables.proofs.{References.{LeadsTo, LeadsTo-each, enumerate_from-row_number}, VersionRows.{number_of-has_row, version_number}}
 use Rattle.sqlite.specs.{Cast.{cast_all, cast_row}, Collation.TheVariants.{Binary}, Command.TheVariants.{Insert}, Does.{due}, Edit.{next_rowid, with_rowid}}
@@ -93,7 +93,7 @@ module _ (db : Database) (broker : IsBroker db) (t : Table) (listed : Has db.sch
   EditSuits-putting : (keys : Keys) → EditSuits (¬ AreShort texts) db.schema keys db.trees (putting t made)
   EditSuits-putting keys = record {
     apart = subst (λ (s : Schema). IsAscending (λ a b. a.tree ≡ b.tree → ⊥) s.tables) (sym broker.schema) apart;
-    calm = calm db broker;
+    no_actions = no_actions db broker;
     listed = listed;
     ordered = (at_has _ db.schema.tables t broker.kept.numbered listed).0;
     rules = broker.kept.sound.obeys.rules;

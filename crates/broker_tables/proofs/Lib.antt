@@ -1,7 +1,7 @@
 pub mod Definitions
 pub mod Frames
 pub mod QueryLemmas
-pub mod Asked
+pub mod TableQuery
 pub mod AnyTables
 pub mod TruthLemmas
 pub mod ReadableRows
@@ -22,7 +22,7 @@ pub mod Listed
 pub mod VersionRows
 pub mod NoVersion
 pub mod ByNumber
-pub mod Former
+pub mod Format1
 pub mod RoomLemmas
 pub mod FailLemmas
 pub mod Alters

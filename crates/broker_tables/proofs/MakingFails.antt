@@ -10,7 +10,7 @@ use Rattle.table_access.{specs.Statements.{Creates, IndexesTable, MakesIndexes, 
 use Rattle.table_access.proofs.{Indexing.{MakesIndexes-KeepsRows, MakesIndexes-IsKept}, SoundLemmas.{at_has}}
 use Rattle.sqlite_keyed.proofs.ListLemmas.{all_weaker, all_both}
 use Rattle.broker_tables.specs.Schema.{no_schema, schema_of, all_tables, all_indexes}
-use Rattle.broker_tables.specs.Making.{Maker, makes_of, AreNext, CanMake, MakesTexts, HasTables, AreShortKeys, HasShortKeys, IsCalmOverBetween, table_texts, index_texts}
+use Rattle.broker_tables.specs.Making.{Maker, makes_of, AreNext, CanMake, MakesTexts, HasTables, AreShortKeys, HasShortKeys, FailsByStoreOverBetween, table_texts, index_texts}
 use Rattle.broker_tables.proofs.CreationRefused.{DefinesTable, DefinesIndex, Executes-table_fails, Executes-index_fails}
 use Rattle.broker_tables.proofs.{Definitions.{AreDefinedTables-table_texts, AreDefinedIndexes-index_texts}, Opening.{IsEmpty}}
 use Rattle.broker_tables.proofs.Written.{MakesPart-next, Creates-schema, DefinesTable-Creates, IndexesTable-schema, DefinesIndex-IndexesTable}
@@ -81,9 +81,9 @@ FailsToRun-next_text texts front n sql old mid new fault more (inr (next, keys))
 -- ---- one call after another
 
 -- two calls fail only if the store failed, if the first leaves what the second needs
-pub IsCalmOverBetween-then : {A B : Type 0} (One Two : Database → Type 0) (old mid new : State) (a : A) (r : Result B StoreFault) (P : A → Type 0) (Q : B → Type 0)
-    → CallsStoreBetween old mid (Ok a) P → CallsStoreBetween mid new r Q → IsCalmOverBetween Two mid new r → (P a → One old.now → Two mid.now) → IsCalmOverBetween One old new r
-IsCalmOverBetween-then One Two old mid new a r P Q one two calm next clean inside unlimited before =
+pub FailsByStoreOverBetween-then : {A B : Type 0} (One Two : Database → Type 0) (old mid new : State) (a : A) (r : Result B StoreFault) (P : A → Type 0) (Q : B → Type 0)
+    → CallsStoreBetween old mid (Ok a) P → CallsStoreBetween mid new r Q → FailsByStoreOverBetween Two mid new r → (P a → One old.now → Two mid.now) → FailsByStoreOverBetween One old new r
+FailsByStoreOverBetween-then One Two old mid new a r P Q one two failure next clean inside unlimited before =
     let mid_clean : HasCleanDisk mid = omega (arith, two.survives.clean, clean) in
     let on = one.goes_on mid_clean inside in
-    IfErr-weaker r _ _ (λ fault failed. EndsBy-later_call old mid new fault on one.survives.counts failed) (calm clean on.0 (one.survives.limit ∙ unlimited) (next (one.ok mid_clean) before))
+    IfErr-weaker r _ _ (λ fault failed. EndsBy-later_call old mid new fault on one.survives.counts failed) (failure clean on.0 (one.survives.limit ∙ unlimited) (next (one.ok mid_clean) before))

@@ -7,7 +7,7 @@ use Rattle.sqlite_schema.specs.{declared.schema.Column.{Column}, Names.{is_key},
 use Rattle.sqlite_value.specs.{declared.keys.Order.{Order}, Keys.{plain}}
 use Rattle.sqlite_rules.specs.Lists.{Has}
 use Rattle.sqlite_tied.specs.Compute.{everything}
-use Rattle.table_access.specs.{Columns.{text, whole_at}, Sound.{IsNumbered}, Statements.{IsCalm, plain_table}}
+use Rattle.table_access.specs.{Columns.{text, whole_at}, Sound.{IsNumbered}, Statements.{HasNoActions, plain_table}}
 use Rattle.table_access.proofs.{SoundLemmas.{at_has, has_place, column-Text, column-Int}, Keys.{IsKept-unique_index_apart}}
 use Rattle.table_access.proofs.{Members.{has_map, map_has, filter_has}, UpsertRefused.{key_of}}
 use Rattle.broker_tables.specs.{Holds.{IsBroker}, Rows.{tree_of}}
@@ -110,8 +110,8 @@ broker_schema-names : map {B = List ℕ × ℕ × List (ℕ × List ℕ)} (λ t.
 broker_schema-names = refl
 
 -- no foreign key acts on a change of its parent
-pub broker_schema-IsCalm : IsCalm schema.broker_schema.tables
-broker_schema-IsCalm =
+pub broker_schema-HasNoActions : HasNoActions schema.broker_schema.tables
+broker_schema-HasNoActions =
     (tt, (tt, (((refl, refl), tt), (((refl, refl), tt), (((refl, refl), tt), (tt, (((refl, refl), ((refl, refl), tt)), (tt, (((refl, refl), ((refl, refl), ((refl, refl), tt))), (((refl, refl), ((refl, refl), ((refl, refl), tt))), (((refl, refl), ((refl, refl), ((refl, refl), tt))), (((refl, refl), ((refl, refl), ((refl, refl), tt))), (((refl, refl), ((refl, refl), tt)), (((refl, refl), tt), (((refl, refl), tt), tt)))))))))))))))
 
 -- ---- where each table is
@@ -191,8 +191,8 @@ pub IsBroker-IsReady : (db : Database) → IsBroker db → (t : Table) → Has d
 IsBroker-IsReady db broker t listed = at_has _ db.schema.tables t (subst (λ (s : Schema). AllByRecursion (IsReady s) s.tables) (sym broker.schema) broker_schema-IsReady) listed
 
 -- no foreign key acts on a change of its parent
-pub calm : (db : Database) → IsBroker db → IsCalm db.schema.tables
-calm db broker = subst (λ (s : Schema). IsCalm s.tables) (sym broker.schema) broker_schema-IsCalm
+pub no_actions : (db : Database) → IsBroker db → HasNoActions db.schema.tables
+no_actions db broker = subst (λ (s : Schema). HasNoActions s.tables) (sym broker.schema) broker_schema-HasNoActions
 
 -- the column at this place, if it isn't the row's number
 abbrev pub column_at : Table → ℕ → Option Column

@@ -8,7 +8,7 @@ use Rattle.broker_core.specs.declared.command.Command.TheVariants.{PutTeam, PutP
 use Rattle.broker_core.specs.{declared.command.Marks.{Marks}, declared.command.Version.{Version}, declared.answer.Answer.TheVariants.{Full, NotPermitted}}
 use Rattle.broker_core.specs.{declared.answer.Detail.{Detail}, Text.{Text, same_text, same_place, put_at}, Limit.{has_room}}
 use Rattle.broker_core.specs.{State.{State as Broker, Verification}, Request.{is_known, consumer_version}}
-use Rattle.broker_core.specs.Change.{Transition, unchanged_with, repeated, put_team, put_pacticipant, put_environment, put_version, named, joined, put_pact, stored, is_stored, report, is_text, instance_of, can_name, on_branch}
+use Rattle.broker_core.specs.Change.{Transition, unchanged_with, repeated, put_team, put_pacticipant, put_environment, put_version, with_version, with_branch, put_pact, with_content, is_stored, report, is_text, instance_of, can_name, on_branch}
 use Rattle.broker_core.{specs.{Machine.{Primitives, TakesEffect, report_replies}, SoundNames.{IsDigest, IsHexDigit}}, proofs.Effects.{Step-by_cases}}
 use Rattle.broker_core.proofs.{Lists.{Some-injective}, Judgement.{and_both, same_text-equal, same_place-equal}}
 use Rattle.broker_tables.specs.{Readable.{IsReadable, IsNamed, AreFew}, Laws.{HasReadableNames, KeepsUtf8, ReadableBegins, ReadableStays, ReadableStaysInRuns}}
@@ -82,7 +82,7 @@ module _ (s : Broker) (n : IsReadable s) where
   Leaves-repeated false = n
 
   -- a version, if it may be named
-  IsReadable-named : (v : Version) → IsNamed v.pacticipant × IsNamed v.name → can_name s v ≡ true → IsReadable (named s v)
+  IsReadable-named : (v : Version) → IsNamed v.pacticipant × IsNamed v.name → can_name s v ≡ true → IsReadable (with_version s v)
   IsReadable-named v is can =
       elim (is_known s v) as (λ b. (b || has_room s.versions) ≡ true → IsReadable (if b then s else record s { versions = s.versions ++ v ∷ [] })) [
         | true ↦ λ _. n
@@ -90,7 +90,7 @@ module _ (s : Broker) (n : IsReadable s) where
       ] can
 
   -- a text, if there is room
-  IsReadable-stored : (text : Text) → IsUtf8 text → (is_stored s text || has_room s.contents) ≡ true → IsReadable (stored s text)
+  IsReadable-stored : (text : Text) → IsUtf8 text → (is_stored s text || has_room s.contents) ≡ true → IsReadable (with_content s text)
   IsReadable-stored text is can =
       elim (is_stored s text) as (λ b. (b || has_room s.contents) ≡ true → IsReadable (if b then s else record s { contents = s.contents ++ text ∷ [] })) [
         | true ↦ λ _. n
@@ -98,12 +98,12 @@ module _ (s : Broker) (n : IsReadable s) where
       ] can
 
 -- naming a version leaves the texts
-named-leaves_contents : (s : Broker) (v : Version) → s.contents ≡ (named s v).contents
-named-leaves_contents s v = elim (is_known s v) as (λ b. s.contents ≡ (if b then s else record s { versions = s.versions ++ v ∷ [] }).contents) [ true ↦ refl | false ↦ refl ]
+with_version-leaves_contents : (s : Broker) (v : Version) → s.contents ≡ (with_version s v).contents
+with_version-leaves_contents s v = elim (is_known s v) as (λ b. s.contents ≡ (if b then s else record s { versions = s.versions ++ v ∷ [] }).contents) [ true ↦ refl | false ↦ refl ]
 
-joined-IsReadable : (s : Broker) → IsReadable s → (v : Version) (branch : Option Text) → IsReadable (joined s v branch)
-joined-IsReadable s n v None = n
-joined-IsReadable s n v (Some branch) = IsReadable-others s n _ s.environments s.grants s.contracts s.released
+with_branch-IsReadable : (s : Broker) → IsReadable s → (v : Version) (branch : Option Text) → IsReadable (with_branch s v branch)
+with_branch-IsReadable s n v None = n
+with_branch-IsReadable s n v (Some branch) = IsReadable-others s n _ s.environments s.grants s.contracts s.released
 
 instance_of-IsUtf8 : (instance : Option Text) → IfSome instance IsUtf8 → IsUtf8 (instance_of instance)
 instance_of-IsUtf8 None is = IsUtf8-nil
@@ -136,23 +136,23 @@ module _ (parts : Primitives) (keeps : KeepsUtf8 parts) (s : Broker) (n : IsRead
   unfolding Leaves
   put_version-Leaves v branch is =
       Leaves-if s n (is_known s v && on_branch s v branch) _ _ (λ _. n)
-      (Leaves-if s n (can_name s v) _ (unchanged_with s Full) (λ can. joined-IsReadable (named s v) (IsReadable-named s n v is can) v branch) n)
+      (Leaves-if s n (can_name s v) _ (unchanged_with s Full) (λ can. with_branch-IsReadable (with_version s v) (IsReadable-named s n v is can) v branch) n)
 
   put_pact-Leaves : (v : Version) (provider text : Text) → IsNamed v.pacticipant × IsNamed v.name → IsUtf8 text → Leaves s n (put_pact s v provider text)
   unfolding Leaves
   put_pact-Leaves v provider text is utf8 =
       Leaves-option_map_or s n _ _ (s.contracts (v, provider)) (λ content. n) (Leaves-if s n (can_name s v && (is_stored s text || has_room s.contents)) _ (unchanged_with s Full) (λ can.
       let both = and_both (can_name s v) (is_stored s text || has_room s.contents) can in
-      let t = stored (named s v) text in
-      let room : (is_stored (named s v) text || has_room (named s v).contents) ≡ true = subst (λ texts. (list_any (same_text text) texts || has_room texts) ≡ true) (named-leaves_contents s v) both.1 in
-      IsReadable-others t (IsReadable-stored (named s v) (IsReadable-named s n v is both.0) text utf8 room) t.branches t.environments t.grants _ t.released) n)
+      let t = with_content (with_version s v) text in
+      let room : (is_stored (with_version s v) text || has_room (with_version s v).contents) ≡ true = subst (λ texts. (list_any (same_text text) texts || has_room texts) ≡ true) (with_version-leaves_contents s v) both.1 in
+      IsReadable-others t (IsReadable-stored (with_version s v) (IsReadable-named s n v is both.0) text utf8 room) t.branches t.environments t.grants _ t.released) n)
 
   report-Leaves : (r : Verification) (detail : ℕ → Detail) → IsNamed r.version.pacticipant × IsNamed r.version.name → Leaves s n (report s r detail)
   unfolding Leaves
   report-Leaves r detail is =
       Leaves-option_map_or s n _ _ _ (λ e. n) (Leaves-if s n (can_name s r.version && has_room s.results) _ (unchanged_with s Full) (λ can.
       let both = and_both (can_name s r.version) (has_room s.results) can in
-      IsReadable-results (named s r.version) (IsReadable-named s n r.version is both.0) _ (AreFew-append s.results r both.1)) n)
+      IsReadable-results (with_version s r.version) (IsReadable-named s n r.version is both.0) _ (AreFew-append s.results r both.1)) n)
 
   report_replies-Leaves : (content : ℕ) (v : Version) (run : Option Text) (failing : Option (List ℕ)) → IsNamed v.pacticipant × IsNamed v.name → Leaves s n (report_replies s content v run failing)
   unfolding Leaves

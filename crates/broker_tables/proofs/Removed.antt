@@ -10,7 +10,7 @@ use Rattle.table_access.proofs.{SoundLemmas.{has_place}, Steps.{Means, deletes}}
 use Rattle.broker_core.specs.State.{State as Broker}
 use Rattle.broker_tables.specs.{Schema.{broker_schema}, Holds.{IsBroker, Holds, HoldsAfter}}
 use Rattle.broker_tables.proofs.{Frames.{Frame, ChangesOnly-Frame, Means-over_broker_schema, Runs-over_broker_schema}, Inserted.{apart}}
-use Rattle.broker_tables.proofs.Placed.{Placed, calm, Placed-IsNumbered, slice_get-Placed_plainly, plainly}
+use Rattle.broker_tables.proofs.Placed.{Placed, no_actions, Placed-IsNumbered, slice_get-Placed_plainly, plainly}
 use Rattle.broker_tables.proofs.RoomLemmas.{Grows, HoldsAfter-one_table, Grows-filter}
 
 -- The text, with these parameters, takes the rows that WHERE keeps out of the table. `refl` finds each field but the last,
@@ -32,7 +32,7 @@ module _ {t : Table} {at : Placed t} {sql : List ℕ} {params : Row} {terms : Li
   pub Executes-delete_rows : (count : ℕ) → Executes sql params old new (Ok count) → ChangesOnly t.tree old new × (new.now.trees t.tree ≡ filter (λ r. not (keeps terms params r)) (old.now.trees t.tree))
       × (count ≡ length (filter (keeps terms params) (old.now.trees t.tree)))
   Executes-delete_rows = deletes t.name t.tree t.columns t.key t.primary t.uniques t.orders t.checks t.references sql params old new at.place slice_get-Delete_table terms
-      (Means-over_broker_schema old.now broker sql takes.means) (calm old.now broker) IsNumbered-before_delete
+      (Means-over_broker_schema old.now broker sql takes.means) (no_actions old.now broker) IsNumbered-before_delete
 
   -- so the next state is held, if that follows from the rows that are left and the tables that stayed
   pub HoldsAfter-deleted : {taken : ℕ} → 1 ≤ taken → {next : Broker} (count : ℕ) → Executes sql params old new (Ok count)
@@ -49,7 +49,7 @@ module _ {t : Table} {at : Placed t} {sql : List ℕ} {params : Row} {terms : Li
       let here : (P : Schema → Type 0) → P broker_schema → P old.now.schema = λ P. subst P (sym broker.schema) in
       let leaf : IsLeaf t.name t.tree t.columns t.key t.primary t.uniques t.orders t.checks t.references old.now.schema = record {
         apart = here (λ s. IsAscending (λ a b. a.tree ≡ b.tree → ⊥) s.tables) apart;
-        calm = calm old.now broker;
+        no_actions = no_actions old.now broker;
         alone = here (λ s. IsAlone s t.tree) takes.alone;
         fits = here (λ s. (removes : Bool) → references_fit s (plainly t) false removes ≡ true) takes.fits;
       } in

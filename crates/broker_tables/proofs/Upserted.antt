@@ -18,7 +18,7 @@ use Rattle.table_access.proofs.{Changes.{find-after_upsert}, Keys.{agree-keys_ti
 use Rattle.table_access.proofs.Values.{cast-Null, cast_row-kept}
 use Rattle.broker_tables.specs.{Schema.{broker_schema}, Holds.{IsBroker}, ChangeRefusals.{AreShort}, Room.{LeavesAbove, LeaveNumbers}, Rows.{value_at}}
 use Rattle.broker_tables.proofs.{Frames.{Means-over_broker_schema}, Keyed.{Keyed, IsAscending-keys_of_table}, Inserted.{apart, storable, EndsOnly}}
-use Rattle.broker_tables.proofs.Placed.{Placed, calm, Placed-IsNumbered, slice_get-Placed_plainly, plainly}
+use Rattle.broker_tables.proofs.Placed.{Placed, no_actions, Placed-IsNumbered, slice_get-Placed_plainly, plainly}
 use Rattle.broker_tables.proofs.RoomLemmas.{Grows, Grows-added, Grows-changed, fits_i64-next_rowid}
 
 -- The text, with these parameters, puts one row into the table, or sets columns of the one that has its key.
@@ -74,7 +74,7 @@ module _ {t : Table} {at : Placed t} {sql : List ℕ} {params : Row} {target : L
     pub upserted : (count : ℕ) → Executes sql params old new (Ok count) → ChangesOnly t.tree old new × IsPutOver
     upserted count h =
         let done = Executes-upsert t.name t.tree t.columns t.key t.primary t.uniques t.orders t.checks t.references sql params old new at.place target n project puts.terms puts.width (Null ∷ rest) found puts.one puts.placed
-        (Means-over_broker_schema old.now broker sql puts.means) (calm old.now broker) numbered count h in
+        (Means-over_broker_schema old.now broker sql puts.means) (no_actions old.now broker) numbered count h in
         let made : with_rowid Chosen rows (cast_row (plainly t) (Null ∷ rest)) ≡ it = λ i. with_rowid Chosen rows (cast-Null i ∷ puts.stored i) in (
           done.0,
           elim (subst (Upserted t.name t.tree t.columns t.key t.primary t.uniques t.orders t.checks t.references sql params old new at.place target n project) made done.1) [
@@ -98,7 +98,7 @@ module _ {t : Table} {at : Placed t} {sql : List ℕ} {params : Row} {target : L
           found = found;
           listed = Has-upsert_table;
           apart = here (λ s. IsAscending (λ a b. a.tree ≡ b.tree → ⊥) s.tables) apart;
-          calm = calm old.now broker;
+          no_actions = no_actions old.now broker;
           rules = broker.kept.sound.obeys.rules;
           numbered = numbered;
           alone = here (λ s. IsAlone s t.tree) puts.alone;

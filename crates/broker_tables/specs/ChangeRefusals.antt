@@ -25,9 +25,9 @@ HaveNumbers tables db = AllByRecursion (λ name. LeaveNumbers 1 (rows_of db name
 
 -- If such a state is shown, which allows the change, and these tables have a number for its rows, only the store
 -- failed, or a row was too big for it: TooBig is what is so then.
-abbrev pub IsCalmUnlessBetween : {A : Type 0} → State → State → Result A StoreFault → List (List ℕ) → Type 0
+abbrev pub FailsByStoreUnlessBetween : {A : Type 0} → State → State → Result A StoreFault → List (List ℕ) → Type 0
     → (Broker → Type 0) → Type 0
-IsCalmUnlessBetween old new r tables TooBig Allows = HasCleanDisk new → (s : Broker) → HoldsOpen old s → Allows s
+FailsByStoreUnlessBetween old new r tables TooBig Allows = HasCleanDisk new → (s : Broker) → HoldsOpen old s → Allows s
     → HaveNumbers tables old.now → IfErr r (EndsBy TooBig old new)
 
 -- each of these texts has ten million bytes at most, so that a row with a few of them can be stored
@@ -35,26 +35,26 @@ abbrev pub AreShort : List Text → Type 0
 AreShort = AllByRecursion (λ text. length text ≤ 10 ^ 7)
 
 -- of a change that stores these texts: the store failed, or one of them is longer
-abbrev pub IsCalmStoringBetween : {A : Type 0} → State → State → Result A StoreFault → List (List ℕ) → List Text
+abbrev pub FailsByStoreStoringBetween : {A : Type 0} → State → State → Result A StoreFault → List (List ℕ) → List Text
     → (Broker → Type 0) → Type 0
-IsCalmStoringBetween old new r tables texts Allows = IsCalmUnlessBetween old new r tables (¬ AreShort texts) Allows
+FailsByStoreStoringBetween old new r tables texts Allows = FailsByStoreUnlessBetween old new r tables (¬ AreShort texts) Allows
 
 -- of several changes, which take so many numbers of a table at most
-abbrev pub IsCalmTakingBetween : {A : Type 0} → ℕ → State → State → Result A StoreFault → Type 0
+abbrev pub FailsByStoreTakingBetween : {A : Type 0} → ℕ → State → State → Result A StoreFault → Type 0
     → (Broker → Type 0) → Type 0
-IsCalmTakingBetween taken old new r TooBig Allows = HasCleanDisk new → (s : Broker) → HoldsOpen old s → Allows s
+FailsByStoreTakingBetween taken old new r TooBig Allows = HasCleanDisk new → (s : Broker) → HoldsOpen old s → Allows s
     → HasRoomFor taken old.now → IfErr r (EndsBy TooBig old new)
 
 -- the same of a connection over this store; a change is allowed if it leads to another state
 module _ {X : Type 0} (store : Ghosts X) (old new : Held X) where
-  abbrev pub IsCalmStoring : {A : Type 0} → Result A StoreFault → List (List ℕ) → List Text → (Broker → Type 0) → Type 0
-  IsCalmStoring r tables texts Allows =
-      IsCalmStoringBetween (state store old) (state store new) r tables texts Allows
+  abbrev pub FailsByStoreStoring : {A : Type 0} → Result A StoreFault → List (List ℕ) → List Text → (Broker → Type 0) → Type 0
+  FailsByStoreStoring r tables texts Allows =
+      FailsByStoreStoringBetween (state store old) (state store new) r tables texts Allows
 
-  abbrev pub IsCalmChange : {A : Type 0} → Result A StoreFault → List (List ℕ) → List Text
+  abbrev pub FailsByStoreChange : {A : Type 0} → Result A StoreFault → List (List ℕ) → List Text
       → (Broker → Broker → Type 0) → Type 0
-  IsCalmChange r tables texts Next = IsCalmStoring r tables texts (λ s. (t : Broker) × Next s t)
+  FailsByStoreChange r tables texts Next = FailsByStoreStoring r tables texts (λ s. (t : Broker) × Next s t)
 
-  abbrev pub IsCalmTaking : {A : Type 0} → ℕ → Result A StoreFault → List Text → (Broker → Type 0) → Type 0
-  IsCalmTaking taken r texts Allows =
-      IsCalmTakingBetween taken (state store old) (state store new) r (¬ AreShort texts) Allows
+  abbrev pub FailsByStoreTaking : {A : Type 0} → ℕ → Result A StoreFault → List Text → (Broker → Type 0) → Type 0
+  FailsByStoreTaking taken r texts Allows =
+      FailsByStoreTakingBetween taken (state store old) (state store new) r (¬ AreShort texts) Allows

@@ -6,8 +6,8 @@ pub mod Names
 pub mod Numbers
 pub mod Readable
 pub mod Holds
-pub mod Calm
+pub mod Failures
 pub mod Laws
 pub mod Making
-pub mod Former
+pub mod Format1
 pub mod ChangeRefusals

@@ -96,13 +96,13 @@ MakesTexts texts old new =
 -- ---- why they aren't made
 
 -- On a database with P, in an open transaction with no limit of steps: an error means that the store failed.
-abbrev pub IsCalmOverBetween : {A : Type 0} → (Database → Type 0) → State → State → Result A StoreFault → Type 0
-IsCalmOverBetween P old new r =
+abbrev pub FailsByStoreOverBetween : {A : Type 0} → (Database → Type 0) → State → State → Result A StoreFault → Type 0
+FailsByStoreOverBetween P old new r =
     HasCleanDisk new → IsTrue old.in_transaction → old.step_limit ≡ None → P old.now → IfErr r (HasFailed old new)
 
 -- the same of a connection over this store
-abbrev pub IsCalmOver : {X A : Type 0} → Ghosts X → Held X → Held X → Result A StoreFault → (Database → Type 0) → Type 0
-IsCalmOver store old new r P = IsCalmOverBetween P (state store old) (state store new) r
+abbrev pub FailsByStoreOver : {X A : Type 0} → Ghosts X → Held X → Held X → Result A StoreFault → (Database → Type 0) → Type 0
+FailsByStoreOver store old new r P = FailsByStoreOverBetween P (state store old) (state store new) r
 
 -- what an index has of each row of its table, some columns and the row's number, is short
 abbrev pub AreShortKeys : Trees → Table × Index → Type 0

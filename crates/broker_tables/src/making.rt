@@ -4,7 +4,7 @@ ghost use Rattle.std.specs.List.{AllByRecursion};
 ghost use Rattle.sqlite_resolve.specs.Compile.{first};
 ghost use Rattle.table_access.specs.Calls.{CallsStore};
 ghost use Rattle.table_access.specs.Writes.{IsWriteText};
-ghost use Rattle.broker_tables.specs.Making.{MakesTexts, CanMake, IsCalmOver};
+ghost use Rattle.broker_tables.specs.Making.{MakesTexts, CanMake, FailsByStoreOver};
 
 use sqlite::{Alter, Connection};
 use table_access::{StoreFault, change};
@@ -19,7 +19,7 @@ pub fn make_each<S: Alter>(conn: &mut Connection<S>, texts: &[&str]) -> Result<(
     requires { AllByRecursion (λ text. IsWriteText (first text.now)) texts.now }
     ensures makes { CallsStore S.Store conn.old conn.new result
         (λ _ old new. MakesTexts (map (λ text. text.now) texts.now) old.now new.now) }
-    ensures calm { IsCalmOver S.Store conn.old conn.new result (CanMake (map (λ text. text.now) texts.now)) }
+    ensures failure { FailsByStoreOver S.Store conn.old conn.new result (CanMake (map (λ text. text.now) texts.now)) }
 {
     for text in texts {
         match change(conn, text, &[]) {

@@ -3,7 +3,7 @@
 ghost use Rattle.std.specs.Prelude.{◌≡◌, ◌↔◌, IfErr, ℕ, List, Some, None, Ok, false, IsTrue, MatchOption, IfOk, string_bytes};
 ghost use Rattle.broker_core.specs.Machine.{IsCallerOfDigest};
 ghost use Rattle.broker_names.specs.Name.{IsName};
-ghost use Rattle.broker_tables.specs.Calm.{CalmQueries};
+ghost use Rattle.broker_tables.specs.Failures.{LooksUp};
 ghost use Rattle.caller_facts.specs.Callers.{token_of, token_digest, IsSender};
 
 use broker_core::policy::Caller;
@@ -51,7 +51,7 @@ fn team_with<S: Alter>(
     conn: &mut Connection<S>,
     digest: &str,
 ) -> Result<Option<Name>, StoreFault>
-    ensures { CalmQueries S.Store conn.old conn.new result
+    ensures { LooksUp S.Store conn.old conn.new result
         (λ team s. MatchOption team ((t : List ℕ) → ¬ (s.teams t ≡ Some digest.now))
         (λ name. s.teams name ≡ Some digest.now)) }
 {
@@ -67,7 +67,7 @@ pub fn holder_of<S: Alter>(
     conn: &mut Connection<S>,
     digest: &str,
 ) -> Result<Option<Caller>, StoreFault>
-    ensures { CalmQueries S.Store conn.old conn.new result (λ who s. IsCallerOfDigest s digest.now who) }
+    ensures { LooksUp S.Store conn.old conn.new result (λ who s. IsCallerOfDigest s digest.now who) }
 {
     let office = done!(office_digest(conn));
     if is_same(office.as_str(), digest) {
@@ -85,7 +85,7 @@ pub fn caller_of<S: Alter>(
     conn: &mut Connection<S>,
     token: Option<&str>,
 ) -> Result<Option<Caller>, StoreFault>
-    ensures answers { CalmQueries S.Store conn.old conn.new result
+    ensures answers { LooksUp S.Store conn.old conn.new result
         (λ who s. IsSender s (token_of token.entry) who) }
     ensures none { token_of token.entry ≡ None → (result ≡ Ok None) × (conn.new ≡ conn.old) }
 {

@@ -3,7 +3,7 @@ ghost use Rattle.std.specs.Prelude.{◌≡◌, [], option_map, string_bytes, is_
 ghost use Rattle.std.specs.List.{cons_option};
 ghost use Rattle.broker_core.specs.Policy.{allows};
 ghost use Rattle.broker_core.specs.Request.{has_grant};
-ghost use Rattle.broker_tables.specs.Calm.{CalmQueries, CalmQueriesInPlace};
+ghost use Rattle.broker_tables.specs.Failures.{LooksUp, LooksUpInPlace};
 ghost use Rattle.caller_facts.specs.Owners.{IsOwnerRead};
 
 use broker_core::policy::{Ask, Caller, Rule, allowed};
@@ -47,7 +47,7 @@ pub fn read_owner<S: Alter>(
     pacticipant: &Name,
     granted: bool,
 ) -> Result<OwnerFacts, StoreFault>
-    ensures { CalmQueries S.Store conn.old conn.new result
+    ensures { LooksUp S.Store conn.old conn.new result
         (λ found s. IsOwnerRead s caller.now rule pacticipant.now granted found) }
 {
     let owner = done!(owner_of(conn, pacticipant.as_str()));
@@ -66,7 +66,7 @@ pub fn has_pacticipant<S: Alter>(
     conn: &mut Connection<S>,
     pacticipant: &Name,
 ) -> Result<bool, StoreFault>
-    ensures { CalmQueries S.Store conn.old conn.new result (λ has s. is_some (s.pacticipants pacticipant.now) ≡ has) }
+    ensures { LooksUp S.Store conn.old conn.new result (λ has s. is_some (s.pacticipants pacticipant.now) ≡ has) }
 {
     let owner = done!(owner_of(conn, pacticipant.as_str()));
     Ok(owner.is_some())
@@ -81,7 +81,7 @@ pub fn read_grant<S: Alter>(
     caller: &Caller,
     environment: &Name,
 ) -> Result<bool, StoreFault>
-    ensures { CalmQueriesInPlace S.Store conn.old conn.new result
+    ensures { LooksUpInPlace S.Store conn.old conn.new result
         (λ has s. has ≡ has_grant s caller.now (Some environment.now)) }
 {
     match caller {

@@ -212,7 +212,7 @@ fn play<S: Alter>(
     }
 }
 
-fn bring_up<S: Alter>(conn: Connection<S>, course: &mut Course) -> Opened<S> {
+fn upgrade<S: Alter>(conn: Connection<S>, course: &mut Course) -> Opened<S> {
     let mut conn = conn;
     match migrate(&mut conn) {
         Ok(()) => {
@@ -224,9 +224,9 @@ fn bring_up<S: Alter>(conn: Connection<S>, course: &mut Course) -> Opened<S> {
 }
 
 /// The broker, whose tables are migrated if that isn't done.
-fn find_or_bring_up<S: Alter>(conn: Connection<S>, course: &mut Course) -> Opened<S> {
+fn find_or_upgrade<S: Alter>(conn: Connection<S>, course: &mut Course) -> Opened<S> {
     match find(conn) {
-        Err((OpenFault::Format(1), conn)) if course.done == 0 => bring_up(conn, course),
+        Err((OpenFault::Format(1), conn)) if course.done == 0 => upgrade(conn, course),
         found => found,
     }
 }
@@ -243,7 +243,7 @@ fn act_on<S: Alter>(
         Act::Play(script, office) => {
             play(alloc, find_or_make(alloc, conn, office), script, course)
         },
-        Act::Renew(script) => play(alloc, find_or_bring_up(conn, course), script, course),
+        Act::Renew(script) => play(alloc, find_or_upgrade(conn, course), script, course),
     }
 }
 

@@ -17,7 +17,7 @@ use Rattle.broker_core.specs.declared.policy.Caller.{Caller}
 use Rattle.broker_core.specs.Machine.{StepOfCaller, Step}
 use Rattle.broker_core.specs.SoundNames.{AreNames}
 use Rattle.broker_core.specs.Text.{Text}
-use Rattle.broker_tables.specs.Calm.{FailsFromBetween, IsCalmFromBetween}
+use Rattle.broker_tables.specs.Failures.{FailsFromBetween, FailsByStoreFromBetween}
 use Rattle.broker_tables.specs.Holds.{Holds, HoldsAfter}
 use Rattle.broker_tables.specs.Room.{enough}
 use Rattle.command_facts.specs.Primitives.{broker_primitives}
@@ -73,7 +73,7 @@ IsMisnamed command = ¬ AreNames command
 abbrev pub FailsBetween : Bool → State → State → Result Answer StoreFault → Type 0 → (Broker → Type 0)
     → (Broker → Transition → Type 0) → Type 0
 FailsBetween true old new r TooBig Allows P = FailsFromBetween old new r TooBig Allows (IsToChange P)
-FailsBetween false old new r TooBig Allows P = IsCalmFromBetween old new r Allows
+FailsBetween false old new r TooBig Allows P = FailsByStoreFromBetween old new r Allows
 
 -- a command; `changes` is true if its change may be refused
 pub record CarriesBetween (changes : Bool) (old new : State) (Allows Open : Broker → Type 0) (TooBig : Type 0)
@@ -81,7 +81,7 @@ pub record CarriesBetween (changes : Bool) (old new : State) (Allows Open : Brok
   -- what it answers from a state that allows it, and what the database holds afterwards
   pub answers : PerformsWhereBetween old new Allows P r
   -- why it fails from a state that is open to it
-  pub calm : FailsBetween changes old new r TooBig Open P
+  pub failure : FailsBetween changes old new r TooBig Open P
 
 -- what a command answers by its change
 abbrev pub returned_done : Result (Unit {0}) StoreFault → Result Answer StoreFault
@@ -129,7 +129,7 @@ module _ {X : Type 0} (store : Ghosts X) (old new : Held X) where
   Carries r caller command = CarriesTo r (IsMisnamed command) (IsStepOf caller command)
 
   -- and one whose change is never refused
-  abbrev pub CarriesCalmly : Result Answer StoreFault → Caller → Command → Type 0
-  CarriesCalmly r caller command =
+  abbrev pub CarriesUnrefused : Result Answer StoreFault → Caller → Command → Type 0
+  CarriesUnrefused r caller command =
       CarriesBetween false (state store old) (state store new) (λ _. ⊤) (λ _. ⊤) (IsMisnamed command)
       (IsStepOf caller command) r

@@ -7,5 +7,5 @@ pub mod laws;
 mod reading;
 
 pub use checking::{Comparison, compare};
-pub use reading::{ReadFault, ReadPact, read_pact_file, read_replies_body};
+pub use reading::{FileReadFault, ReadPact, read_pact_file, read_replies_body};
 pub use reply_check::Replies;

@@ -4,7 +4,7 @@ ghost use Rattle.broker_core.specs.Machine.Reading.{IsPact, IsRefused};
 ghost use Rattle.broker_core.specs.declared.command.FormFault.{FormFault as FormFaultModel};
 ghost use Rattle.reply_check.specs.Replies.{RepliesRead};
 ghost use Rattle.command_facts.specs.Readings.{reading_of, replies_fault, Reads, ReadsReplies};
-ghost use Rattle.command_facts.specs.declared.reading.ReadFault.TheVariants.{Form};
+ghost use Rattle.command_facts.specs.declared.reading.FileReadFault.TheVariants.{Form};
 
 use broker_core::command::FormFault;
 use broker_names::name::Text;
@@ -26,7 +26,7 @@ pub struct ReadPact {
 
 /// Why a pact file or replies weren't read.
 #[derive(Debug, Drop, Error)]
-pub enum ReadFault {
+pub enum FileReadFault {
     /// The first fault of the file or of the replies, with its number and its place.
     #[error("{0}")]
     Form(FormFault),
@@ -54,15 +54,15 @@ fn parts_of(alloc: Global, pact: &Pact) -> Result<ReadPact, AllocError>
 }
 
 /// The fault of a pact file as a fault of form.
-fn pact_fault(alloc: Global, fault: PactFault) -> ReadFault
+fn pact_fault(alloc: Global, fault: PactFault) -> FileReadFault
     ensures { (f : FormFaultModel) → result ≡ Form f → (¬ (fault ≡ PactFault.Memory))
         × (IsRefused f ≡ reading_of (Err fault)) }
 {
     match fault {
-        PactFault::Memory => ReadFault::Memory,
+        PactFault::Memory => FileReadFault::Memory,
         fault => match fault.number(alloc) {
-            Ok(number) => ReadFault::Form(FormFault::Pact(Text::new(number))),
-            Err(_) => ReadFault::Memory,
+            Ok(number) => FileReadFault::Form(FormFault::Pact(Text::new(number))),
+            Err(_) => FileReadFault::Memory,
         },
     }
 }
@@ -72,29 +72,29 @@ fn pact_fault(alloc: Global, fault: PactFault) -> ReadFault
 /// # Errors
 /// `Form` gives the first fault of the file, by its number and, if it helps, its place; a pattern under `regex` in
 /// matching rules may be refused too. Memory may run out in its place, and for the text of the fault.
-pub fn read_pact_file(alloc: Global, file: &[u8]) -> Result<ReadPact, ReadFault>
+pub fn read_pact_file(alloc: Global, file: &[u8]) -> Result<ReadPact, FileReadFault>
     ensures pact { IfOk result (λ p. Reads file.now (IsPact p.consumer p.provider p.text)) }
     ensures fault { IfErr result (λ e. (f : FormFaultModel) → e ≡ Form f → Reads file.now (IsRefused f)) }
 {
     match read_pact(alloc, file) {
         Ok(pact) => match parts_of(alloc, &pact) {
             Ok(parts) => Ok(parts),
-            Err(_) => Err(ReadFault::Memory),
+            Err(_) => Err(FileReadFault::Memory),
         },
         Err(fault) => Err(pact_fault(alloc, fault)),
     }
 }
 
 /// The fault of replies as a fault of form.
-fn replies_fault_of(alloc: Global, fault: RepliesFault) -> ReadFault
+fn replies_fault_of(alloc: Global, fault: RepliesFault) -> FileReadFault
     ensures { (f : FormFaultModel) → result ≡ Form f → (¬ (fault ≡ RepliesFault.Memory))
         × (Some f ≡ replies_fault (Err fault)) }
 {
     match fault {
-        RepliesFault::Memory => ReadFault::Memory,
+        RepliesFault::Memory => FileReadFault::Memory,
         fault => match fault.number(alloc) {
-            Ok(number) => ReadFault::Form(FormFault::Replies(Text::new(number))),
-            Err(_) => ReadFault::Memory,
+            Ok(number) => FileReadFault::Form(FormFault::Replies(Text::new(number))),
+            Err(_) => FileReadFault::Memory,
         },
     }
 }
@@ -104,7 +104,7 @@ fn replies_fault_of(alloc: Global, fault: RepliesFault) -> ReadFault
 /// # Errors
 /// `Form` gives the first fault of the replies, by its number and, if it helps, its place. Memory may run out in its
 /// place, and for the text of the fault.
-pub fn read_replies_body(alloc: Global, body: &[u8]) -> Result<Replies, ReadFault>
+pub fn read_replies_body(alloc: Global, body: &[u8]) -> Result<Replies, FileReadFault>
     ensures replies { IfOk result (λ replies. RepliesRead body.now (Ok replies)) }
     ensures fault { IfErr result (λ e. (f : FormFaultModel) → e ≡ Form f → ReadsReplies body.now (Some f)) }
 {

@@ -18,7 +18,7 @@ use Rattle.table_access.proofs.{Keys.{keeps-one_key, IsNumbered-whole_at_unique,
 use Rattle.table_access.proofs.ReadLemmas.{option_map-compose}
 use Rattle.broker_tables.specs.{Schema.{in_contents, broker_schema}, Numbers.{numbered}, Holds.{IsBroker, with_digest}, Rows.{rows_of}}
 use Rattle.broker_tables.proofs.Inserted.{EndsFrom, Puts, Executes-insert_adds, EndsOnly-insert, is_taken-next_number}
-use Rattle.broker_tables.proofs.{Newest.{unwrap_or-newest as newest_count}, Asked.{Asked, IsShown}}
+use Rattle.broker_tables.proofs.{Newest.{unwrap_or-newest as newest_count}, TableQuery.{TableQuery, IsShown}}
 use Rattle.broker_tables.proofs.Frames.{Means-over_broker_schema, ChangesOnly-Frame, Frame, is_other, Frame-IsBroker}
 use Rattle.broker_tables.proofs.{Placed.{contents, at_contents, Placed-IsNumbered, column-texts}, NextRow.{IsAdded-numbered}, ByNumber.{find-numbered}}
 use Rattle.broker_core.specs.{Limit.{has_room}, Text.{same_text}}
@@ -31,7 +31,7 @@ column-content_number db broker r has = int_is (rowid r) (at_has _ (db.trees in_
 -- ---- the text with a number
 
 pub stored : (z : ℤ)
-    → Asked (codes "SELECT body FROM contents WHERE number = ?1")
+    → TableQuery (codes "SELECT body FROM contents WHERE number = ?1")
     (Int z ∷ []) (from_table in_contents.tree (op2 (Compare Eq Binary) (col 1 in_contents.number) (col 0 0) ∷ []) (col 1 in_contents.body ∷ []) [])
 unfolding understood everything
 stored z = record { names = _; means = record { is = refl; plain = (refl, refl); unlisted = refl }; runs = record { whole = refl; typed = refl; sumless = refl } }
@@ -41,7 +41,7 @@ stored z = record { names = _; means = record { is = refl; plain = (refl, refl);
 abbrev count_sql : List ℕ
 count_sql = codes "SELECT number FROM contents ORDER BY number DESC LIMIT 1"
 
-pub highest : Asked count_sql [] (up_to 1 (from_table in_contents.tree [] (col 1 in_contents.number ∷ []) newest))
+pub highest : TableQuery count_sql [] (up_to 1 (from_table in_contents.tree [] (col 1 in_contents.number ∷ []) newest))
 unfolding understood everything
 highest = record { names = _; means = record { is = refl; plain = (refl, refl); unlisted = refl }; runs = record { whole = refl; typed = refl; sumless = refl } }
 
@@ -90,7 +90,7 @@ abbrev pub project : List Term
 project = col 1 in_contents.number ∷ col 1 in_contents.body ∷ []
 
 pub sharing : (dg : List ℕ)
-    → Asked (codes "SELECT number, body FROM contents WHERE digest = ?1 ORDER BY number")
+    → TableQuery (codes "SELECT number, body FROM contents WHERE digest = ?1 ORDER BY number")
     (Text dg ∷ []) (from_table in_contents.tree of_digest project rising)
 unfolding understood everything
 sharing dg = record { names = _; means = record { is = refl; plain = (refl, refl); unlisted = refl }; runs = record { whole = refl; typed = refl; sumless = refl } }

@@ -6,9 +6,9 @@ use Rattle.sqlite.specs.{Table.{Table}, Effect.{Database}, State.{State, HasClea
 use Rattle.sha2.specs.Sha256.{sha256}
 use Rattle.table_access.specs.{declared.StoreFault.{StoreFault}, Calls.{CallsTablesBetween, CallsStoreBetween}}
 use Rattle.table_access.proofs.CallLemmas.{CallsBetween-weaken, EndsBy-later_call}
-use Rattle.broker_core.specs.{Text.{Text, same_text}, State.{State as Broker}, Change.{is_stored, content_number, stored}}
+use Rattle.broker_core.specs.{Text.{Text, same_text}, State.{State as Broker}, Change.{is_stored, content_number, with_content}}
 use Rattle.broker_tables.specs.{Schema.{broker_schema}, Rows.{rows_of}, Holds.{Holds, HoldsAfter, QueriesBetween, ChangesAndAnswersBetween}}
-use Rattle.broker_tables.{specs.ChangeRefusals.{HoldsOpen, IsCalmUnlessBetween}, proofs.Frames.{Frame, is_other, Holds-contents}}
+use Rattle.broker_tables.{specs.ChangeRefusals.{HoldsOpen, FailsByStoreUnlessBetween}, proofs.Frames.{Frame, is_other, Holds-contents}}
 use Rattle.broker_tables.proofs.{QueryLemmas.{Holds-same_database}, RoomLemmas.{TakesRoom-same, HoldsAfter-one_table}}
 use Rattle.content_store.specs.Contents.{hex_of, ContentsBy, IsReadByAny, IsPut, IsPutIfRoom, StoresIfRoom}
 
@@ -39,7 +39,7 @@ IsPut-Frame digest body texts number old new held put = record {
 }
 
 -- what is held afterwards, by the machine's own words; the text's row brings its number
-pub IsPut-HoldsAfter : (old new : State) (s : Broker) (body : Text) (number : ℕ) → Holds old.now s → IsPut (hex_of sha256) body s.contents number old.now new.now → (number ≡ content_number s body) × HoldsAfter 2 old new (stored s body)
+pub IsPut-HoldsAfter : (old new : State) (s : Broker) (body : Text) (number : ℕ) → Holds old.now s → IsPut (hex_of sha256) body s.contents number old.now new.now → (number ≡ content_number s body) × HoldsAfter 2 old new (with_content s body)
 IsPut-HoldsAfter old new s body number held put = (put.number_is, HoldsAfter-one_table 2 (omega arith) (codes "contents") old new _ frame (λ no. absurd cc) (go (is_stored s body) refl put.contents))
   where
     frame : Frame (codes "contents" ∷ []) old.now new.now
@@ -57,18 +57,18 @@ IsPutIfRoom-StoresIfRoom old new r body = CallsBetween-weaken old new r _ _ by_f
     by_found (Some number) puts s held free =
         let it = puts s.contents (Holds-ContentsBy old.now s held) in
         let made = IsPut-HoldsAfter old new s body number held it.1 in
-        (stored s body, (made.0, refl, it.0), made.1)
+        (with_content s body, (made.0, refl, it.0), made.1)
     by_found None puts s held free =
         let it = puts s.contents (Holds-ContentsBy old.now s held) in
         (s, (refl, it.0), (Holds-same_database old new s it.1 held, TakesRoom-same 2 old.now new.now it.1))
 
 -- ---- a text is put after a look-up: it fails only as the store fails, if both do
 
-pub IsCalmUnlessBetween-then : {A B : Type 0} (old mid new : State) (a : A) (r : Result B StoreFault) (P : A → Type 0) (Q : B → Type 0) (TooBig : Type 0) (Allows Then : Broker → Type 0) → CallsStoreBetween old mid (Ok a) P → CallsStoreBetween mid new r Q
-    → (P a → (s : Broker) → Holds old.now s → Allows s → Then s × (mid.now ≡ old.now)) → IsCalmUnlessBetween mid new r [] TooBig Then → IsCalmUnlessBetween old new r [] TooBig Allows
-IsCalmUnlessBetween-then old mid new a r P Q TooBig Allows Then one two more calm clean s here allowed room =
+pub FailsByStoreUnlessBetween-then : {A B : Type 0} (old mid new : State) (a : A) (r : Result B StoreFault) (P : A → Type 0) (Q : B → Type 0) (TooBig : Type 0) (Allows Then : Broker → Type 0) → CallsStoreBetween old mid (Ok a) P → CallsStoreBetween mid new r Q
+    → (P a → (s : Broker) → Holds old.now s → Allows s → Then s × (mid.now ≡ old.now)) → FailsByStoreUnlessBetween mid new r [] TooBig Then → FailsByStoreUnlessBetween old new r [] TooBig Allows
+FailsByStoreUnlessBetween-then old mid new a r P Q TooBig Allows Then one two more failure clean s here allowed room =
     let mid_clean : HasCleanDisk mid = omega (arith, two.survives.clean, clean) in
     let on = one.goes_on mid_clean here.inside in
     let returned = more (one.ok mid_clean) s here.held allowed in
     let now : HoldsOpen mid s = record { inside = on.0; unlimited = one.survives.limit ∙ here.unlimited; held = subst (λ d. Holds d s) (sym returned.1) here.held } in
-    IfErr-weaker r _ _ (λ e why. EndsBy-later_call old mid new e on one.survives.counts why) (calm clean s now returned.0 room)
+    IfErr-weaker r _ _ (λ e why. EndsBy-later_call old mid new e on one.survives.counts why) (failure clean s now returned.0 room)

@@ -2,7 +2,7 @@
 use Rattle.std.proofs.Common.{refl, ℕ, ℤ, List, [], ◌∷◌, arith}
 use Rattle.sqlite.specs.{Term.{col}, Effect.{Database}}
 use Rattle.table_access.specs.{Columns.{text, whole_at}, Reading.{IsTextAt, IsNumberRow}, Statements.{shows}}
-use Rattle.broker_tables.{specs.Schema.{in_contents}, proofs.Asked.{EachReads, EachShown-of_table, EachShown-up_to}}
+use Rattle.broker_tables.{specs.Schema.{in_contents}, proofs.TableQuery.{EachReads, EachShown-of_table, EachShown-up_to}}
 use Rattle.broker_tables.proofs.{ReadableRows.{IsLow-content, IsUtf8-body, IsNumberAt-of_column}, Placed.{at_contents, column-texts}}
 use Rattle.content_store.proofs.ContentRows.{column-content_number, project, stored, highest, sharing}
 

@@ -16,12 +16,12 @@ use Rattle.table_access.specs.Reading.{IsNumberRow, IsTextAt}
 use Rattle.broker_core.specs.Text.{Text, same_text}
 use Rattle.broker_core.specs.State.{State as Broker}
 use Rattle.broker_core.specs.Limit.{has_room}
-use Rattle.broker_core.specs.Change.{content_number, stored}
+use Rattle.broker_core.specs.Change.{content_number, with_content}
 use Rattle.broker_tables.specs.Schema.{broker_schema, in_contents}
 use Rattle.broker_tables.specs.Rows.{rows_of}
 use Rattle.broker_tables.specs.Numbers.{numbered}
 use Rattle.broker_tables.specs.Holds.{IsBroker}
-use Rattle.broker_tables.specs.Calm.{Serves}
+use Rattle.broker_tables.specs.Failures.{ShowsState}
 
 -- a function from bytes to bytes, as the table has what it answers: 2 digits for each byte
 abbrev pub hex_of : (List ℕ → List ℕ) → Text → Text
@@ -155,7 +155,7 @@ IsPutIfRoom digest body old new found =
 -- the same of a state: the text is one of its contents and has this number, or there is no place for it
 abbrev pub StoresIfRoom : Text → Option ℕ → Broker → Broker → Type 0
 StoresIfRoom body (Some number) s t =
-    (number ≡ content_number s body) × (t ≡ stored s body) × (has_place s.contents body ≡ true)
+    (number ≡ content_number s body) × (t ≡ with_content s body) × (has_place s.contents body ≡ true)
 StoresIfRoom body None s t = (t ≡ s) × (has_place s.contents body ≡ false)
 
 -- the text isn't one of them, and there is room for it
@@ -167,7 +167,7 @@ CanBeAdded body texts = (is_among texts body ≡ false) × (has_room texts ≡ t
 abbrev pub FailsToAddBetween : {A : Type 0} → State → State → (Text → Text) → Result A StoreFault → (List Text → Type 0)
     → Type 0
 FailsToAddBetween old new digest r Adds =
-    HasCleanDisk new → (s : Broker) → Serves old s → ContentsBy digest old.now s.contents
+    HasCleanDisk new → (s : Broker) → ShowsState old s → ContentsBy digest old.now s.contents
     → IfErr r (λ fault. HasFailed old new fault ⊎ Adds s.contents)
 
 -- the same of a connection over this store

@@ -9,9 +9,9 @@ ghost use Rattle.table_access.specs.Columns.{text};
 ghost use Rattle.table_access.specs.Reading.{IsTextAt};
 ghost use Rattle.broker_core.specs.Limit.{has_room};
 ghost use Rattle.broker_core.specs.Text.{Text, same_text};
-ghost use Rattle.broker_tables.specs.Calm.{IsCalm, IsCalmInPlace, NeedsNoRoom};
+ghost use Rattle.broker_tables.specs.Failures.{FailsByStore, FailsByStoreInPlace, TakesNoMemoryIf};
 ghost use Rattle.broker_tables.specs.Readable.{IsReadable};
-ghost use Rattle.broker_tables.specs.ChangeRefusals.{IsCalmStoring};
+ghost use Rattle.broker_tables.specs.ChangeRefusals.{FailsByStoreStoring};
 ghost use Rattle.content_store.specs.Contents.{StaysBroker, IsNextContent, hex_of, is_among, found_in, text_in, IsTextOf, ReportsUnreadable, IsReadBy, IsReadByAny, IsPutBy, IsPutUnder, IsNewBy, IsNewAfter, IsNewIfRoom, IsPutIfRoom, CanBeAdded, FailsToAdd};
 
 use crate::digester::{Digester, digest_digits};
@@ -29,8 +29,8 @@ use table_access::{StoreFault, change, find_number, find_text, number_in, select
 pub fn get<S: Alter>(conn: &mut Connection<S>, number: u64) -> Result<Option<String>, StoreFault>
     ensures call { CallsTables S.Store conn.old conn.new result
         (λ found old new. IsReadByAny old new (λ found texts. IsTextOf texts number (option_map string_bytes found)) found) }
-    ensures calm { IsCalm S.Store conn.old conn.new result }
-    ensures missing { NeedsNoRoom S.Store conn.old conn.new result (λ s. text_in s.contents number ≡ None) }
+    ensures failure { FailsByStore S.Store conn.old conn.new result }
+    ensures missing { TakesNoMemoryIf S.Store conn.old conn.new result (λ s. text_in s.contents number ≡ None) }
 {
     match i64::try_from(number) {
         Ok(number) => find_text(
@@ -50,7 +50,7 @@ pub fn get<S: Alter>(conn: &mut Connection<S>, number: u64) -> Result<Option<Str
 pub fn content_count<S: Alter>(conn: &mut Connection<S>) -> Result<u64, StoreFault>
     ensures call { CallsStore S.Store conn.old conn.new result
         (λ count old new. IsReadByAny old new (λ count texts. count ≡ length texts) count) }
-    ensures calm { IsCalmInPlace S.Store conn.old conn.new result }
+    ensures failure { FailsByStoreInPlace S.Store conn.old conn.new result }
 {
     let newest = done!(find_number(
         conn,
@@ -98,7 +98,7 @@ fn find_beside<S: Alter>(
         (λ found old new. (StaysBroker old new) × ((by : Text → Text) → by body.now ≡ digest.now →
         IsReadBy by old new
         (λ found texts. found ≡ found_in texts body.now) found)) }
-    ensures calm { IsCalmInPlace S.Store conn.old conn.new result }
+    ensures failure { FailsByStoreInPlace S.Store conn.old conn.new result }
 {
     let rows = done!(select(
         conn,
@@ -120,7 +120,7 @@ pub fn find<S: Alter, D: Digester>(
 ) -> Result<Option<u64>, StoreFault>
     ensures call { CallsStore S.Store conn.old conn.new result
         (λ found old new. IsReadBy (hex_of D.digest_of) old new (λ found texts. found ≡ found_in texts body.now) found) }
-    ensures calm { IsCalmInPlace S.Store conn.old conn.new result }
+    ensures failure { FailsByStoreInPlace S.Store conn.old conn.new result }
 {
     let digest = digest_digits(digester, body.as_bytes());
     match done!(find_beside(conn, &digest, body)) {
@@ -140,7 +140,7 @@ fn put_under<'a, S: Alter>(
     ensures call { CallsStore S.Store conn.old conn.new result
         (λ _ old new. (by : Text → Text) → by body.now ≡ digest.now →
         IsPutUnder by body.now old new number) }
-    ensures calm { IsCalmStoring S.Store conn.old conn.new result [] (digest.now ∷ body.now ∷ []) (IsNextContent number) }
+    ensures failure { FailsByStoreStoring S.Store conn.old conn.new result [] (digest.now ∷ body.now ∷ []) (IsNextContent number) }
 {
     change(
         conn,
@@ -159,7 +159,7 @@ fn add_after<S: Alter>(
     ensures call { CallsStore S.Store conn.old conn.new result
         (λ number old new. (by : Text → Text) → by body.now ≡ digest.now →
         IsNewAfter by body.now count old new number) }
-    ensures calm { IsCalmStoring S.Store conn.old conn.new result [] (digest.now ∷ body.now ∷ [])
+    ensures failure { FailsByStoreStoring S.Store conn.old conn.new result [] (digest.now ∷ body.now ∷ [])
         (λ s. (count ≡ length s.contents) × (has_room s.contents ≡ true)) }
 {
     let Some(number) = next_number(count) else {
@@ -174,7 +174,7 @@ fn add<S: Alter>(conn: &mut Connection<S>, digest: &[u8], body: &str) -> Result<
     ensures call { CallsStore S.Store conn.old conn.new result
         (λ number old new. (by : Text → Text) → by body.now ≡ digest.now →
         IsNewBy by body.now old new number) }
-    ensures calm { IsCalmStoring S.Store conn.old conn.new result [] (digest.now ∷ body.now ∷ [])
+    ensures failure { FailsByStoreStoring S.Store conn.old conn.new result [] (digest.now ∷ body.now ∷ [])
         (λ s. IsReadable s × (has_room s.contents ≡ true)) }
 {
     let count = done!(content_count(conn));
@@ -190,7 +190,7 @@ fn add_if_room<S: Alter>(
     ensures call { CallsStore S.Store conn.old conn.new result
         (λ found old new. (by : Text → Text) → by body.now ≡ digest.now →
         IsNewIfRoom by body.now old new found) }
-    ensures calm { IsCalmStoring S.Store conn.old conn.new result [] (digest.now ∷ body.now ∷ []) IsReadable }
+    ensures failure { FailsByStoreStoring S.Store conn.old conn.new result [] (digest.now ∷ body.now ∷ []) IsReadable }
     ensures rowless { (by : Text → Text) → FailsToAdd S.Store conn.old conn.new by result
         (λ texts. has_room texts ≡ true) }
 {
@@ -215,7 +215,7 @@ pub fn put<S: Alter, D: Digester>(
 ) -> Result<u64, StoreFault>
     ensures call { CallsStore S.Store conn.old conn.new result
         (λ number old new. IsPutBy (hex_of D.digest_of) body.now old new number) }
-    ensures calm { IsCalmStoring S.Store conn.old conn.new result [] (body.now ∷ [])
+    ensures failure { FailsByStoreStoring S.Store conn.old conn.new result [] (body.now ∷ [])
         (λ s. IsReadable s × (has_room s.contents ≡ true)) }
     ensures rowless { FailsToAdd S.Store conn.old conn.new (hex_of D.digest_of) result
         (λ texts. is_among texts body.now ≡ false) }
@@ -242,7 +242,7 @@ pub fn put_if_room<S: Alter, D: Digester>(
 ) -> Result<Option<u32>, StoreFault>
     ensures call { CallsStore S.Store conn.old conn.new result
         (λ found old new. IsPutIfRoom (hex_of D.digest_of) body.now old new found) }
-    ensures calm { IsCalmStoring S.Store conn.old conn.new result [] (body.now ∷ []) IsReadable }
+    ensures failure { FailsByStoreStoring S.Store conn.old conn.new result [] (body.now ∷ []) IsReadable }
     ensures rowless { FailsToAdd S.Store conn.old conn.new (hex_of D.digest_of) result (CanBeAdded body.now) }
 {
     let digest = digest_digits(digester, body.as_bytes());

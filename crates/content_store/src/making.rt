@@ -4,7 +4,7 @@
 ghost use Rattle.std.specs.Prelude.{◌≡◌, ◌∷◌, []};
 ghost use Rattle.table_access.specs.Calls.{CallsStore};
 ghost use Rattle.table_access.specs.Statements.{Makes, Indexes};
-ghost use Rattle.broker_tables.specs.Making.{HasShortKeys, IsCalmOver};
+ghost use Rattle.broker_tables.specs.Making.{HasShortKeys, FailsByStoreOver};
 ghost use Rattle.broker_tables.specs.Schema.{registry_part, contents, schema_of, all_tables, contents_by_digest};
 
 use broker_tables::create::{CONTENTS, CONTENTS_BY_DIGEST};
@@ -20,7 +20,7 @@ pub fn make_tables<S: Alter>(conn: &mut Connection<S>) -> Result<(), StoreFault>
     ensures makes { CallsStore S.Store conn.old conn.new result
         (λ _ old new. old.now.schema ≡ schema_of registry_part →
         Makes (contents ∷ []) old.now new.now) }
-    ensures calm { IsCalmOver S.Store conn.old conn.new result
+    ensures failure { FailsByStoreOver S.Store conn.old conn.new result
         (λ db. db.schema ≡ schema_of registry_part) }
 {
     make_each(conn, &[CONTENTS])
@@ -35,7 +35,7 @@ pub fn make_index<S: Alter>(conn: &mut Connection<S>) -> Result<(), StoreFault>
         (λ _ old new. old.now.schema ≡ schema_of all_tables →
         Indexes old.now new.now
         contents_by_digest.0 contents_by_digest.1) }
-    ensures calm { IsCalmOver S.Store conn.old conn.new result
+    ensures failure { FailsByStoreOver S.Store conn.old conn.new result
         (λ db. (db.schema ≡ schema_of all_tables) × HasShortKeys db) }
 {
     make_each(conn, &[CONTENTS_BY_DIGEST])

@@ -7,7 +7,7 @@ use Rattle.table_access.{specs.Columns.{text, whole_at}, proofs.SoundLemmas.{all
 use Rattle.broker_core.specs.{Text.{Text, same_text, version}, State.{State}, Change.{text_of, unchanged_with}, Machine.{StepOfCaller}}
 use Rattle.broker_core.specs.{Request.{branch_version, refusal, refused, unless, has_grant}, declared.answer.Answer.{Answer}}
 use Rattle.broker_core.specs.{declared.command.Command.TheVariants.{GetBranchPact}, declared.command.Version.{Version}, declared.policy.Caller.{Caller}}
-use Rattle.broker_core.specs.declared.policy.Rule.TheVariants.{A5}
+use Rattle.broker_core.specs.declared.policy.Rule.TheVariants.{OwnerOrOfficeToRead}
 use Rattle.broker_tables.{specs.{Schema.{in_versions}, Numbers.{number_of}, Holds.{Holds}}, proofs.NumberLemmas.{number_of-bounds, number_of-injective}}
 use Rattle.broker_tables.proofs.VersionRows.{number_of-version_row, false_if}
 use Rattle.content_store.proofs.TextNumbers.{same_is, same_itself}
@@ -152,7 +152,7 @@ module _ (s : State) (caller : Caller) (provider consumer branch : Text) where
   IsBranchContent-is_some None it = ap is_some it
   IsBranchContent-is_some (Some n) it = ap is_some it.1
 
-  module _ (found : Sides) (content : Option ℕ) (sides : AreSidesRead s caller A5 (provider ∷ consumer ∷ []) provider consumer found) (is : IsBranchContent s provider consumer branch content) where
+  module _ (found : Sides) (content : Option ℕ) (sides : AreSidesRead s caller OwnerOrOfficeToRead (provider ∷ consumer ∷ []) provider consumer found) (is : IsBranchContent s provider consumer branch content) where
     -- the command is refused as its sides and its contract say
     branch_refused : refusal s caller (GetBranchPact provider consumer branch)
         ≡ refused (GetBranchPact provider consumer branch) (missing_of_branch found content) found.is_allowed
@@ -161,7 +161,7 @@ module _ (s : State) (caller : Caller) (provider consumer branch : Text) where
         let shown = IsBranchContent-is_some content is in
         λ i. refused (GetBranchPact provider consumer branch) (unless (sides.provider_is i) missing.Pacticipant (unless (sides.consumer_is i) missing.Pacticipant (unless (shown i) missing.Contract None))) (may i)
 
-    pub reaches_branch : (r : Result ℕ Answer) → Admits A5 content (missing_of_branch found content) found.is_allowed r → ReachesBranch s caller provider consumer branch r
+    pub reaches_branch : (r : Result ℕ Answer) → Admits OwnerOrOfficeToRead content (missing_of_branch found content) found.is_allowed r → ReachesBranch s caller provider consumer branch r
     reaches_branch (Ok n) it = (subst (IsBranchContent s provider consumer branch) it.0 is, branch_refused ∙ it.1 (GetBranchPact provider consumer branch) refl)
     reaches_branch (Err answer) it = branch_refused ∙ it (GetBranchPact provider consumer branch) refl
 

@@ -3,20 +3,20 @@ use Rattle.std.specs.{Prelude.{option_map, if◌then◌else◌}, Option.{option_
 use Rattle.std.proofs.Common.{◌≡◌, ℕ, ◌+◌, ◌==◌, List, [], ◌∷◌, ◌++◌, length, Bool, true, false, ◌&&◌, is_some, Option, Some, None, refl, sym, ap, subst, ◌∙◌, ◌≤◌, Ok, Result}
 use Rattle.sqlite.specs.State.{State as Connection}
 use Rattle.table_access.{specs.declared.StoreFault.{StoreFault}, proofs.CallLemmas.{CallsBetween-then_Ok, CallsBetween-then_call}}
-use Rattle.broker_tables.{specs.{Calm.{CalmQueriesBetween}, Holds.{AnswersTakingBetween}, Numbers.{number_of}}, proofs.QueryLemmas.{Holds-same_database}}
+use Rattle.broker_tables.{specs.{Failures.{LooksUpBetween}, Holds.{AnswersTakingBetween}, Numbers.{number_of}}, proofs.QueryLemmas.{Holds-same_database}}
 use Rattle.broker_tables.proofs.{RoomLemmas.{TakesRoom-same}, NumberLemmas.{number_of-same_version}, Ties.{eqb-int_cmp}}
 use Rattle.command_facts.proofs.PerformLemmas.{HoldsAfter-after_query}
 use Rattle.broker_core.specs.{Text.{Text, same_bool, same_version, version}, State.{State, Verification}, Limit.{has_room}}
 use Rattle.broker_core.specs.Change.{Transition, unchanged_with, can_name, report, result_of_run, says_same}
-use Rattle.broker_core.specs.{Request.{is_known, Asked, contract_of, first_absent, unless, is_allowed, refused, refusal}, declared.policy.Caller.{Caller}}
-use Rattle.broker_core.specs.{declared.policy.Rule.TheVariants.{A4}, declared.command.Command.{Command}, declared.command.PactPath.{PactPath}}
+use Rattle.broker_core.specs.{Request.{is_known, Access, contract_of, first_absent, unless, is_allowed, refused, refusal}, declared.policy.Caller.{Caller}}
+use Rattle.broker_core.specs.{declared.policy.Rule.TheVariants.{OwnerToVerify}, declared.command.Command.{Command}, declared.command.PactPath.{PactPath}}
 use Rattle.broker_core.specs.{declared.command.Report.{Report}, declared.answer.Detail.{Detail}, declared.answer.Missing.{Missing}}
 use Rattle.contract_tables.specs.{Verified.{Returned, returned_of, RecordsResult, AllowsResult}, declared.lookups.ResultRow.{ResultRow}}
 use Rattle.contract_commands.specs.{Numbering.{NamesAs}, Pacts.{AsksContract}}
 use Rattle.contract_commands.specs.Results.{HasPacticipant, reported_version, reported_result, Reports, returned_row, IsRowOf, IsNumbered, AllowsReport, recorded}
 use Rattle.contract_commands.specs.{declared.results.Finding.{Finding}, declared.results.Reported.TheVariants.{Recorded, Full}}
 use Rattle.contract_commands.{specs.declared.numbers.VersionNumber.{VersionNumber}, proofs.ContentThere.{HasContent-bounds}}
-use Rattle.contract_commands.proofs.PactLemmas.{named-contents, named-results}
+use Rattle.contract_commands.proofs.PactLemmas.{with_version-contents, with_version-results}
 use Rattle.broker_core.specs.declared.answer.Answer.TheVariants as answer
 use Rattle.broker_core.specs.declared.answer.Clash.TheVariants as clash
 use Rattle.broker_core.specs.declared.answer.Missing.TheVariants as missing
@@ -28,9 +28,9 @@ refused-first_present command true may what rest h = refl
 refused-first_present command false may what rest h = absurd cc
 
 -- the provider is there
-pub HasPacticipant-of_allowed : (s : State) (caller : Caller) (path : PactPath) (command : Command) → AsksContract path A4 (path.provider ∷ []) command → refusal s caller command ≡ None → HasPacticipant s path.provider
+pub HasPacticipant-of_allowed : (s : State) (caller : Caller) (path : PactPath) (command : Command) → AsksContract path OwnerToVerify (path.provider ∷ []) command → refusal s caller command ≡ None → HasPacticipant s path.provider
 HasPacticipant-of_allowed s caller path command is none =
-    let returned : refused command (first_absent s (contract_of path)) (is_allowed s caller command) ≡ None = sym (ap (λ (a : Asked). refused command (first_absent s a.wanted) (is_allowed s caller command)) is) ∙ none in
+    let returned : refused command (first_absent s (contract_of path)) (is_allowed s caller command) ≡ None = sym (ap (λ (a : Access). refused command (first_absent s a.required) (is_allowed s caller command)) is) ∙ none in
     refused-first_present command (is_some (s.pacticipants path.provider)) (is_allowed s caller command) missing.Pacticipant _ returned
 
 -- ---- a run that was used
@@ -94,7 +94,7 @@ module _ (s : State) (provider : Text) (r : Report) (found : Finding) (row : Res
 
 module _ (s t : State) (provider : Text) (r : Report) (found : Finding) (p : Text) (next number : ℕ) (of : p ≡ provider) (names : NamesAs (reported_version provider r) number s t) where
   results-unchanged : t.results ≡ s.results
-  results-unchanged = ap (λ (u : State). u.results) names.0 ∙ named-results s (reported_version provider r)
+  results-unchanged = ap (λ (u : State). u.results) names.0 ∙ with_version-results s (reported_version provider r)
 
   results-next_number : next ≡ length s.results + 1 → next ≡ length t.results + 1
   results-next_number is = is ∙ ap (λ (rows : List Verification). length rows + 1) (sym results-unchanged)
@@ -115,20 +115,20 @@ module _ (s t : State) (provider : Text) (r : Report) (found : Finding) (p : Tex
         sym of,
         results-next_number can.1,
         there.0,
-        subst (λ (texts : List Text). found.content ≤ length texts) (sym (ap (λ (u : State). u.contents) names.0 ∙ named-contents s (reported_version provider r))) there.1,
+        subst (λ (texts : List Text). found.content ≤ length texts) (sym (ap (λ (u : State). u.contents) names.0 ∙ with_version-contents s (reported_version provider r))) there.1,
         (λ i. result_of_run (record t { results = results-unchanged i }) (of i) r.run) ∙ can.0.1,
       )
 
 -- ---- calls that a report makes
 
 -- the answer is what was read, and nothing changes
-pub AnswersTakingBetween-query : {A B : Type 0} (old new : Connection) (a : A) (b : B) (P : A → State → Type 0) (Allows : State → Type 0) (Next : B → State → State → Type 0) → ((s : State) → Allows s → P a s → Next b s s) → CalmQueriesBetween false old new (Ok a) P → AnswersTakingBetween 4 old new (Ok b) Allows Next
+pub AnswersTakingBetween-query : {A B : Type 0} (old new : Connection) (a : A) (b : B) (P : A → State → Type 0) (Allows : State → Type 0) (Next : B → State → State → Type 0) → ((s : State) → Allows s → P a s → Next b s s) → LooksUpBetween false old new (Ok a) P → AnswersTakingBetween 4 old new (Ok b) Allows Next
 AnswersTakingBetween-query old new a b P Allows Next f it =
     CallsBetween-then_Ok old new a b _ _ (λ read s held may. let first = read s held in (s, f s may first.0, (Holds-same_database old new s first.1 held, TakesRoom-same 4 old.now new.now first.1))) it.call
 
 -- what was read AllowsResult-of_report changes
 pub AnswersTakingBetween-query_then : {A B : Type 0} (old mid new : Connection) (a : A) (r : Result B StoreFault) (P : A → State → Type 0) (Allows Then : State → Type 0) (Next Last : B → State → State → Type 0)
-    → ((s : State) → Allows s → P a s → Then s × ((b : B) (t : State) → Next b s t → Last b s t)) → CalmQueriesBetween false old mid (Ok a) P → AnswersTakingBetween 4 mid new r Then Next → AnswersTakingBetween 4 old new r Allows Last
+    → ((s : State) → Allows s → P a s → Then s × ((b : B) (t : State) → Next b s t → Last b s t)) → LooksUpBetween false old mid (Ok a) P → AnswersTakingBetween 4 mid new r Then Next → AnswersTakingBetween 4 old new r Allows Last
 AnswersTakingBetween-query_then old mid new a r P Allows Then Next Last f one two =
     CallsBetween-then_call old mid new a r _ _ _ (λ read b puts s held may.
     let first = read s held in

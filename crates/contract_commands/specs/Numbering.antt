@@ -1,7 +1,7 @@
 -- the numbers that versions and results have or get, for the clauses of private functions: no public clause cites it
 use Rattle.std.specs.Prelude.{◌≡◌, ◌+◌, ℕ, List, Option, Some, None, false, true, is_some, IsTrue, length}
 use Rattle.broker_core.specs.Limit.{HasRoom, has_room}
-use Rattle.broker_core.specs.Change.{named}
+use Rattle.broker_core.specs.Change.{with_version}
 use Rattle.broker_core.specs.Request.{is_known}
 use Rattle.broker_core.specs.State.{State as Broker}
 use Rattle.broker_core.specs.declared.command.Version.{Version}
@@ -33,4 +33,4 @@ pub record CanName (s : Broker) (v : Version) (number : VersionNumber) : Type 0 
 
 -- the version is named, and this is its number
 abbrev pub NamesAs : Version → ℕ → Broker → Broker → Type 0
-NamesAs v number s t = (t ≡ named s v) × (number_of t.versions v ≡ Some number)
+NamesAs v number s t = (t ≡ with_version s v) × (number_of t.versions v ≡ Some number)

@@ -3,17 +3,17 @@ use Rattle.std.specs.Prelude.{◌≡◌, ◌≤◌, ⊤, ℕ, Option, Some, None
 use Rattle.broker_core.specs.Text.{Text, same_pair, same_version, same_text, put_at}
 use Rattle.broker_core.specs.State.{State as Broker}
 use Rattle.broker_core.specs.Policy.{allows}
-use Rattle.broker_core.specs.Change.{Transition, named, text_of, put_pact}
+use Rattle.broker_core.specs.Change.{Transition, with_version, text_of, put_pact}
 use Rattle.broker_core.specs.Machine.{StepOfCaller}
 use Rattle.broker_core.specs.Machine.Reading.{IsPact}
-use Rattle.broker_core.specs.Request.{consumer_version, is_known, contract_of, asks, asked, unless, refused, refusal}
+use Rattle.broker_core.specs.Request.{consumer_version, is_known, contract_of, asks, access, unless, refused, refusal}
 use Rattle.broker_core.specs.declared.answer.Answer.{Answer}
 use Rattle.broker_core.specs.declared.answer.Answer.TheVariants.{BadForm, Shown}
 use Rattle.broker_core.specs.declared.answer.Missing.{Missing}
 use Rattle.broker_core.specs.declared.answer.Missing.TheVariants as missing
 use Rattle.broker_core.specs.declared.answer.Shown.TheVariants as shown
-use Rattle.command_facts.specs.declared.reading.ReadFault.{ReadFault}
-use Rattle.command_facts.specs.declared.reading.ReadFault.TheVariants.{Form, Memory}
+use Rattle.command_facts.specs.declared.reading.FileReadFault.{FileReadFault}
+use Rattle.command_facts.specs.declared.reading.FileReadFault.TheVariants.{Form, Memory}
 use Rattle.table_access.specs.declared.StoreFault.{StoreFault}
 use Rattle.table_access.specs.declared.StoreFault.TheVariants as store
 use Rattle.broker_core.specs.declared.command.Command.{Command}
@@ -96,15 +96,15 @@ abbrev pub CanRecord : PactPath → VersionNumber → ℕ → Broker → Type 0
 CanRecord path version content s = CanPublish path version s × (1 ≤ content) × (content ≤ length s.contents)
 
 -- the content of this number is that of the contract of v with the provider
-abbrev pub contracted : Broker → Version → Text → ℕ → Broker
-contracted s v provider content = record s {
+abbrev pub with_contract : Broker → Version → Text → ℕ → Broker
+with_contract s v provider content = record s {
   contracts = put_at (same_pair same_version same_text) s.contracts (v, provider) (Some content);
 }
 
 -- the consumer's version is named, and the content of this number is that of its contract with the provider
 abbrev pub RecordsContract : PactPath → ℕ → Broker → Broker → Type 0
 RecordsContract path content s t =
-    t ≡ contracted (named s (consumer_version path)) (consumer_version path) path.provider content
+    t ≡ with_contract (with_version s (consumer_version path)) (consumer_version path) path.provider content
 
 -- both sides of a contract are there, its version has this number, if it has one, and there is no contract
 abbrev pub HasNoContract : PactPath → Option ℕ → Broker → Type 0
@@ -123,7 +123,7 @@ Publishes s caller path text out =
 
 -- a command that asks for the contract of a path, by this rule for these owners
 abbrev pub AsksContract : PactPath → Rule → List Text → Command → Type 0
-AsksContract path rule owned command = asks command ≡ asked (contract_of path) rule owned None
+AsksContract path rule owned command = asks command ≡ access (contract_of path) rule owned None
 
 -- the content of the contract, if nothing refuses such a command, or the refusal
 abbrev pub Reaches : Broker → Caller → PactPath → Rule → List Text → Result ℕ Answer → Type 0
@@ -145,6 +145,6 @@ HasReachedContent s (Ok content) = HasContent s content
 HasReachedContent s (Err refusal) = ⊤
 
 -- what is answered for a file that wasn't read
-abbrev pub answer_to : ReadFault → Result Answer StoreFault
+abbrev pub answer_to : FileReadFault → Result Answer StoreFault
 answer_to (Form found) = Ok (BadForm found)
 answer_to Memory = Err store.Memory

@@ -4,7 +4,7 @@ use Rattle.std.specs.Prelude.{◌≡◌, ◌+◌, ◌++◌, ◌∷◌, [], ℕ, 
 use Rattle.broker_core.specs.Text.{Text, version}
 use Rattle.broker_core.specs.State.{State as Broker, Verification, claimed_result}
 use Rattle.broker_core.specs.Request.{is_known}
-use Rattle.broker_core.specs.Change.{Transition, named, report, result_of_run, says_same}
+use Rattle.broker_core.specs.Change.{Transition, with_version, report, result_of_run, says_same}
 use Rattle.broker_core.specs.declared.command.Report.{Report}
 use Rattle.broker_core.specs.declared.command.Version.{Version}
 use Rattle.broker_core.specs.declared.answer.Answer.{Answer}
@@ -107,7 +107,7 @@ pub record IsUnused (s : Broker) (provider : Text) (report : Report) (number : O
 
 -- the result is added as the last, and its version is named
 abbrev pub recorded : Broker → Verification → Broker
-recorded s r = record (named s r.version) { results = s.results ++ r ∷ [] }
+recorded s r = record (with_version s r.version) { results = s.results ++ r ∷ [] }
 
 -- a report may come in: its version has this number or gets it, and the provider has used no such run
 abbrev pub CanReport : Text → Report → VersionNumber → Broker → Type 0

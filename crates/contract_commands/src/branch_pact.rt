@@ -1,11 +1,11 @@
 //! The contract that a branch shows: that of its newest version with one.
 ghost use Rattle.std.specs.Prelude.{◌≡◌, ◌+◌, ◌<◌, IfOk, IfSome, length};
 ghost use Rattle.broker_core.specs.declared.command.Command.TheVariants.{GetBranchPact};
-ghost use Rattle.broker_core.specs.declared.policy.Rule.TheVariants.{A5};
-ghost use Rattle.broker_tables.specs.Calm.{CalmQueries, CalmQueriesInPlace};
+ghost use Rattle.broker_core.specs.declared.policy.Rule.TheVariants.{OwnerOrOfficeToRead};
+ghost use Rattle.broker_tables.specs.Failures.{LooksUp, LooksUpInPlace};
 ghost use Rattle.contract_commands.specs.BranchPact.{IsNextBelow, IsBranchContent, IsContentBelow, ReachesBranch};
 ghost use Rattle.contract_commands.specs.Pacts.{missing_of_branch, Admits};
-ghost use Rattle.command_facts.specs.Performs.{CarriesCalmly};
+ghost use Rattle.command_facts.specs.Performs.{CarriesUnrefused};
 
 use crate::pacts::show_pact;
 use crate::sides::{Sides, read_sides_to_show};
@@ -28,7 +28,7 @@ struct BranchVersion {
 
 /// The number that the next version gets: those of all others are below.
 fn read_bound<S: Alter>(conn: &mut Connection<S>) -> Result<u32, StoreFault>
-    ensures { CalmQueriesInPlace S.Store conn.old conn.new result (λ bound s. bound ≡ length s.versions + 1) }
+    ensures { LooksUpInPlace S.Store conn.old conn.new result (λ bound s. bound ≡ length s.versions + 1) }
 {
     let count = done!(version_count(conn));
     match next_number(count) {
@@ -45,7 +45,7 @@ fn next_below<S: Alter>(
     branch: &Name,
     bound: u32,
 ) -> Result<Option<BranchVersion>, StoreFault>
-    ensures read { CalmQueriesInPlace S.Store conn.old conn.new result
+    ensures read { LooksUpInPlace S.Store conn.old conn.new result
         (λ found s. IsNextBelow s provider.now consumer.now branch.now bound found) }
     ensures lower { IfOk result (λ found. IfSome found (λ next. next.number < bound)) }
 {
@@ -69,7 +69,7 @@ fn content_below<S: Alter>(
     branch: &Name,
     mut bound: u32,
 ) -> Result<Option<u32>, StoreFault>
-    ensures { CalmQueriesInPlace S.Store conn.old conn.new result
+    ensures { LooksUpInPlace S.Store conn.old conn.new result
         (λ content s. IsContentBelow s provider.now consumer.now branch.now bound content) }
 {
     loop {
@@ -90,7 +90,7 @@ fn read_branch<S: Alter>(
     consumer: &Name,
     branch: &Name,
 ) -> Result<Option<u32>, StoreFault>
-    ensures { CalmQueriesInPlace S.Store conn.old conn.new result
+    ensures { LooksUpInPlace S.Store conn.old conn.new result
         (λ content s. IsBranchContent s provider.now consumer.now branch.now content) }
 {
     let bound = done!(read_bound(conn));
@@ -100,7 +100,7 @@ fn read_branch<S: Alter>(
 /// The content of the contract that the branch shows, or the refusal: which of its two sides and the contract is
 /// missing first, or the rule that doesn't let the caller.
 fn admit_branch_pact(sides: Sides, content: Option<u32>) -> Result<u32, Answer>
-    ensures { Admits A5 content (missing_of_branch sides content) sides.is_allowed result }
+    ensures { Admits OwnerOrOfficeToRead content (missing_of_branch sides content) sides.is_allowed result }
 {
     if !sides.has_provider || !sides.has_consumer {
         return Err(Answer::Unknown(Missing::Pacticipant));
@@ -109,7 +109,7 @@ fn admit_branch_pact(sides: Sides, content: Option<u32>) -> Result<u32, Answer>
         return Err(Answer::Unknown(Missing::Contract));
     };
     if !sides.is_allowed {
-        return Err(Answer::Denied(Rule::A5));
+        return Err(Answer::Denied(Rule::OwnerOrOfficeToRead));
     }
     Ok(content)
 }
@@ -122,7 +122,7 @@ fn read_branch_to_show<S: Alter>(
     consumer: &Name,
     branch: &Name,
 ) -> Result<Result<u32, Answer>, StoreFault>
-    ensures { CalmQueries S.Store conn.old conn.new result
+    ensures { LooksUp S.Store conn.old conn.new result
         (λ place s. ReachesBranch s caller.now provider.now consumer.now branch.now place) }
 {
     let sides = done!(read_sides_to_show(conn, caller, provider, consumer));
@@ -138,7 +138,7 @@ pub fn get_branch_pact<S: Alter>(
     consumer: &Name,
     branch: &Name,
 ) -> Result<Answer, StoreFault>
-    ensures { CarriesCalmly S.Store conn.old conn.new result caller.now
+    ensures { CarriesUnrefused S.Store conn.old conn.new result caller.now
         (GetBranchPact provider.now consumer.now branch.now) }
 {
     let place = done!(read_branch_to_show(conn, caller, provider, consumer, branch));

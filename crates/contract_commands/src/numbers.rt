@@ -2,8 +2,8 @@
 ghost use Rattle.std.specs.Prelude.{Some, [], ◌∷◌};
 ghost use Rattle.broker_core.specs.Text.{version as version_named};
 ghost use Rattle.broker_tables.specs.Holds.{ChangesAndAnswers};
-ghost use Rattle.broker_tables.specs.Calm.{CalmQueriesInPlace};
-ghost use Rattle.broker_tables.specs.ChangeRefusals.{IsCalmStoring};
+ghost use Rattle.broker_tables.specs.Failures.{LooksUpInPlace};
+ghost use Rattle.broker_tables.specs.ChangeRefusals.{FailsByStoreStoring};
 ghost use Rattle.contract_commands.specs.Numbering.{IsNextNumber, IsNextOf, IsNumberFor, CanName, NamesAs};
 
 use broker_core::limit::room;
@@ -36,7 +36,7 @@ fn number_with_room(count: u64) -> Option<u32>
 
 /// The number that the next version gets, if there is room for one more.
 fn next_version<S: Alter>(conn: &mut Connection<S>) -> Result<Option<u32>, StoreFault>
-    ensures { CalmQueriesInPlace S.Store conn.old conn.new result (λ next s. IsNextOf s.versions next) }
+    ensures { LooksUpInPlace S.Store conn.old conn.new result (λ next s. IsNextOf s.versions next) }
 {
     let count = done!(version_count(conn));
     Ok(number_with_room(count))
@@ -44,7 +44,7 @@ fn next_version<S: Alter>(conn: &mut Connection<S>) -> Result<Option<u32>, Store
 
 /// The number that the next result gets, if there is room for one more.
 pub(crate) fn next_result<S: Alter>(conn: &mut Connection<S>) -> Result<Option<u32>, StoreFault>
-    ensures { CalmQueriesInPlace S.Store conn.old conn.new result (λ next s. IsNextOf s.results next) }
+    ensures { LooksUpInPlace S.Store conn.old conn.new result (λ next s. IsNextOf s.results next) }
 {
     let count = done!(result_count(conn));
     Ok(number_with_room(count))
@@ -56,7 +56,7 @@ pub(crate) fn number_for<S: Alter>(
     conn: &mut Connection<S>,
     number: Option<u32>,
 ) -> Result<Option<VersionNumber>, StoreFault>
-    ensures { CalmQueriesInPlace S.Store conn.old conn.new result (λ found s. IsNumberFor s.versions number found) }
+    ensures { LooksUpInPlace S.Store conn.old conn.new result (λ found s. IsNumberFor s.versions number found) }
 {
     match number {
         Some(number) => Ok(Some(VersionNumber::Old(number))),
@@ -77,7 +77,7 @@ pub(crate) fn ensure_named<S: Alter>(
     ensures answers { ChangesAndAnswers S.Store conn.old conn.new result
         (λ s. CanName s (version_named pacticipant.now name.now) number)
         (NamesAs (version_named pacticipant.now name.now)) }
-    ensures calm { IsCalmStoring S.Store conn.old conn.new result [] (pacticipant.now ∷ name.now ∷ [])
+    ensures failure { FailsByStoreStoring S.Store conn.old conn.new result [] (pacticipant.now ∷ name.now ∷ [])
         (λ s. CanName s (version_named pacticipant.now name.now) number) }
 {
     match number {

@@ -6,8 +6,8 @@ ghost use Rattle.broker_core.specs.declared.command.Command.TheVariants.{GetPact
 ghost use Rattle.broker_core.specs.declared.answer.Answer.TheVariants as returned;
 ghost use Rattle.broker_core.specs.declared.answer.Shown.TheVariants as shown;
 ghost use Rattle.broker_tables.specs.Holds.{Queries};
-ghost use Rattle.broker_tables.specs.Calm.{IsCalmFrom};
-ghost use Rattle.command_facts.specs.Performs.{CarriesCalmly};
+ghost use Rattle.broker_tables.specs.Failures.{FailsByStoreFrom};
+ghost use Rattle.command_facts.specs.Performs.{CarriesUnrefused};
 
 use crate::sides::{read_contract_to_show, read_text};
 use broker_core::answer::{Answer, Shown};
@@ -21,7 +21,7 @@ fn show_pact_text<S: Alter>(conn: &mut Connection<S>, content: u32) -> Result<An
     ensures answers { Queries S.Store conn.old conn.new result
         (λ answer s. (text : List ℕ) × (text_of s content ≡ Some text)
         × (answer ≡ returned.Shown (shown.Pact text))) }
-    ensures calm { IsCalmFrom S.Store conn.old conn.new result (λ s. HasContent s content) }
+    ensures failure { FailsByStoreFrom S.Store conn.old conn.new result (λ s. HasContent s content) }
 {
     let text = done!(read_text(conn, content));
     Ok(Answer::Shown(Shown::Pact(text)))
@@ -33,7 +33,7 @@ pub(crate) fn show_pact<S: Alter>(
     place: Result<u32, Answer>,
 ) -> Result<Answer, StoreFault>
     ensures answers { Queries S.Store conn.old conn.new result (λ answer s. ShowsReached s place answer) }
-    ensures calm { IsCalmFrom S.Store conn.old conn.new result (λ s. HasReachedContent s place) }
+    ensures failure { FailsByStoreFrom S.Store conn.old conn.new result (λ s. HasReachedContent s place) }
     ensures refused { IfErr place (λ answer. (result ≡ Ok answer) × (conn.new ≡ conn.old)) }
 {
     match place {
@@ -48,7 +48,7 @@ pub fn get_pact<S: Alter>(
     caller: &Caller,
     path: &PactPath,
 ) -> Result<Answer, StoreFault>
-    ensures { CarriesCalmly S.Store conn.old conn.new result caller.now (GetPact path.now) }
+    ensures { CarriesUnrefused S.Store conn.old conn.new result caller.now (GetPact path.now) }
 {
     let place = done!(read_contract_to_show(conn, caller, path));
     show_pact(conn, place)

@@ -8,9 +8,9 @@ ghost use Rattle.broker_core.specs.Machine.Reading.{IsPact};
 ghost use Rattle.broker_core.specs.declared.command.Command.TheVariants.{PutPact};
 ghost use Rattle.broker_core.specs.declared.command.FormFault.{FormFault as FormFaultModel};
 ghost use Rattle.broker_tables.specs.Holds.{Queries, ChangesAndAnswers, AnswersTaking};
-ghost use Rattle.broker_tables.specs.Calm.{IsCalmFrom};
-ghost use Rattle.broker_tables.specs.ChangeRefusals.{AreShort, IsCalmTaking};
-ghost use Rattle.command_facts.specs.declared.reading.ReadFault.TheVariants.{Form};
+ghost use Rattle.broker_tables.specs.Failures.{FailsByStoreFrom};
+ghost use Rattle.broker_tables.specs.ChangeRefusals.{AreShort, FailsByStoreTaking};
+ghost use Rattle.command_facts.specs.declared.reading.FileReadFault.TheVariants.{Form};
 ghost use Rattle.command_facts.specs.Primitives.{broker_primitives};
 ghost use Rattle.command_facts.specs.Performs.{Carries, CarriesTo, CarriesWhere, PerformsWhere, FailsOnlyAt, FailsToChangeFrom};
 ghost use Rattle.content_store.specs.Contents.{CanBeAdded, StoresIfRoom};
@@ -22,7 +22,7 @@ use broker_core::answer::{Answer, Clash, Detail};
 use broker_core::command::{FormFault, PactPath};
 use broker_core::policy::{Caller, Rule};
 use broker_names::name::{Body, Text};
-use command_facts::{ReadFault, ReadPact, read_pact_file};
+use command_facts::{FileReadFault, ReadPact, read_pact_file};
 use content_store::{Sha256Digester, put_if_room};
 use contract_tables::add_contract;
 use sqlite::{Alter, Connection};
@@ -39,7 +39,7 @@ fn has_names(pact: &ReadPact, path: &PactPath) -> bool
 }
 
 /// A file that is a pact of the path's two names.
-fn read_form(alloc: Global, path: &PactPath, file: &Body) -> Result<ReadPact, ReadFault>
+fn read_form(alloc: Global, path: &PactPath, file: &Body) -> Result<ReadPact, FileReadFault>
     ensures pact { IfOk result (λ p. broker_primitives.Reads file.now
         (IsPact path.now.consumer path.now.provider p.text)) }
     ensures fault { IfErr result (λ e. (f : FormFaultModel) → e ≡ Form f
@@ -49,7 +49,7 @@ fn read_form(alloc: Global, path: &PactPath, file: &Body) -> Result<ReadPact, Re
     if has_names(&pact, path) {
         Ok(pact)
     } else {
-        Err(ReadFault::Form(FormFault::Names))
+        Err(FileReadFault::Form(FormFault::Names))
     }
 }
 
@@ -72,7 +72,7 @@ fn publish_again<S: Alter>(
 ) -> Result<Answer, StoreFault>
     ensures answers { Queries S.Store conn.old conn.new result
         (λ answer s. answer ≡ republished s text.now content) }
-    ensures calm { IsCalmFrom S.Store conn.old conn.new result (λ s. HasContent s content) }
+    ensures failure { FailsByStoreFrom S.Store conn.old conn.new result (λ s. HasContent s content) }
 {
     let old = done!(read_text(conn, content));
     Ok(returned_again(&old, text, content))
@@ -82,7 +82,7 @@ fn publish_again<S: Alter>(
 /// and then nothing changes.
 fn put_text<S: Alter>(conn: &mut Connection<S>, text: &Text) -> Result<Option<u32>, StoreFault>
     ensures answers { ChangesAndAnswers S.Store conn.old conn.new result (λ s. ⊤) (StoresIfRoom text.now) }
-    ensures calm { FailsOnlyAt S.Store conn.old conn.new result (¬ AreShort (text.now ∷ []))
+    ensures failure { FailsOnlyAt S.Store conn.old conn.new result (¬ AreShort (text.now ∷ []))
         (λ s. CanBeAdded text.now s.contents) }
 {
     put_if_room(conn, &Sha256Digester, text.as_str())
@@ -97,7 +97,7 @@ fn record_contract<S: Alter>(
 ) -> Result<(), StoreFault>
     ensures answers { AnswersTaking S.Store conn.old conn.new 4 result
         (CanRecord path.now version content) (λ _. RecordsContract path.now content) }
-    ensures calm { IsCalmTaking S.Store conn.old conn.new 3 result (names_in path.now) (CanRecord path.now version content) }
+    ensures failure { FailsByStoreTaking S.Store conn.old conn.new 3 result (names_in path.now) (CanRecord path.now version content) }
 {
     let number = done!(ensure_named(conn, &path.consumer, &path.version, version));
     add_contract(conn, number, path.provider.as_str(), content)
@@ -112,7 +112,7 @@ fn publish_numbered<S: Alter>(
 ) -> Result<Answer, StoreFault>
     ensures answers { PerformsWhere S.Store conn.old conn.new result
         (CanPublish path.now version) (PutsPact path.now text.now) }
-    ensures calm { FailsToChangeFrom S.Store conn.old conn.new result (¬ AreShort (text.now ∷ names_in path.now))
+    ensures failure { FailsToChangeFrom S.Store conn.old conn.new result (¬ AreShort (text.now ∷ names_in path.now))
         (CanPublish path.now version) (PutsPact path.now text.now) }
 {
     match done!(put_text(conn, text)) {
@@ -168,19 +168,19 @@ fn publish<S: Alter>(
         (λ s out. Publishes s caller.now path.now text.now out) }
 {
     let sides = done!(read_sides_to_publish(conn, caller, &path.provider, &path.consumer));
-    match refuse_sides(Rule::A3, sides) {
+    match refuse_sides(Rule::OwnerToPublish, sides) {
         Some(answer) => Ok(answer),
         None => publish_between(conn, path, text),
     }
 }
 
 /// What is reported of a file or of replies that weren't read.
-pub(crate) fn report_unread(fault: ReadFault) -> Result<Answer, StoreFault>
+pub(crate) fn report_unread(fault: FileReadFault) -> Result<Answer, StoreFault>
     ensures { result ≡ answer_to fault }
 {
     match fault {
-        ReadFault::Form(fault) => Ok(Answer::BadForm(fault)),
-        ReadFault::Memory => Err(StoreFault::Memory),
+        FileReadFault::Form(fault) => Ok(Answer::BadForm(fault)),
+        FileReadFault::Memory => Err(StoreFault::Memory),
     }
 }
 

@@ -52,7 +52,7 @@ fn report_failing<S: Alter>(
 ) -> Result<Answer, StoreFault>
     ensures answers { PerformsWhere S.Store conn.old conn.new result (λ s. HasPacticipant s provider.now)
         (λ s out. Leads s provider.now report.now content (Failing failing) out) }
-    ensures calm { FailsToChangeFrom S.Store conn.old conn.new result
+    ensures failure { FailsToChangeFrom S.Store conn.old conn.new result
         (AreLong provider.now report.now) (CanReceive provider.now content)
         (λ s out. Leads s provider.now report.now content (Failing failing) out) }
 {
@@ -76,7 +76,7 @@ fn answer_compared<S: Alter>(
 ) -> Result<Answer, StoreFault>
     ensures answers { PerformsWhere S.Store conn.old conn.new result (λ s. HasPacticipant s provider.now)
         (λ s out. Leads s provider.now report.now content returned out) }
-    ensures calm { FailsToChangeFrom S.Store conn.old conn.new result
+    ensures failure { FailsToChangeFrom S.Store conn.old conn.new result
         (AreLong provider.now report.now) (CanLead provider.now content returned)
         (λ s out. Leads s provider.now report.now content returned out) }
 {
@@ -99,7 +99,7 @@ fn check_content<S: Alter>(
 ) -> Result<Answer, StoreFault>
     ensures answers { PerformsWhere S.Store conn.old conn.new result (λ s. HasPacticipant s provider.now)
         (λ s out. Checks s provider.now report.now content replies.now out) }
-    ensures calm { FailsToChangeFrom S.Store conn.old conn.new result
+    ensures failure { FailsToChangeFrom S.Store conn.old conn.new result
         (AreLong provider.now report.now) (CanCheck provider.now content)
         (λ s out. Checks s provider.now report.now content replies.now out) }
 {
@@ -121,7 +121,7 @@ fn check_replies<S: Alter>(
 ) -> Result<Answer, StoreFault>
     ensures answers { (body : List ℕ) → RepliesRead body (Ok replies.now)
         → Performs S.Store conn.old conn.new result (CallersStep caller.now (PostReplies path.now report.now body)) }
-    ensures calm { (body : List ℕ) → RepliesRead body (Ok replies.now)
+    ensures failure { (body : List ℕ) → RepliesRead body (Ok replies.now)
         → FailsToDoFrom S.Store conn.old conn.new result (HasSoundContents broker_primitives) caller.now
         (PostReplies path.now report.now body) }
 {
@@ -142,7 +142,7 @@ pub fn post_replies<S: Alter>(
 ) -> Result<Answer, StoreFault>
     ensures answers { Performs S.Store conn.old conn.new result
         (CallersStep caller.now (PostReplies path.now report.now body.now)) }
-    ensures calm { FailsToDoFrom S.Store conn.old conn.new result (HasSoundContents broker_primitives) caller.now
+    ensures failure { FailsToDoFrom S.Store conn.old conn.new result (HasSoundContents broker_primitives) caller.now
         (PostReplies path.now report.now body.now) }
 {
     match read_replies_body(alloc, body.as_slice()) {

@@ -8,8 +8,8 @@ ghost use Rattle.broker_core.specs.Change.{result_of_run as run_result};
 ghost use Rattle.broker_core.specs.declared.answer.Detail.TheVariants as detail;
 ghost use Rattle.broker_core.specs.declared.command.Command.TheVariants.{PostResult};
 ghost use Rattle.broker_tables.specs.Holds.{AnswersTaking};
-ghost use Rattle.broker_tables.specs.Calm.{CalmQueriesInPlace, FailsFrom};
-ghost use Rattle.broker_tables.specs.ChangeRefusals.{IsCalmTaking};
+ghost use Rattle.broker_tables.specs.Failures.{LooksUpInPlace, FailsFrom};
+ghost use Rattle.broker_tables.specs.ChangeRefusals.{FailsByStoreTaking};
 ghost use Rattle.contract_tables.specs.Verified.{returned_of};
 ghost use Rattle.command_facts.specs.Performs.{Carries, PerformsWhere, FailsToChangeFrom};
 ghost use Rattle.contract_commands.specs.Pacts.{HasContent};
@@ -53,7 +53,7 @@ fn read_run<S: Alter>(
     provider: &Name,
     run: &Option<Name>,
 ) -> Result<Option<ResultRow>, StoreFault>
-    ensures { CalmQueriesInPlace S.Store conn.old conn.new result
+    ensures { LooksUpInPlace S.Store conn.old conn.new result
         (λ found s. option_map returned_row found ≡ option_map (returned_of s.versions) (run_result s provider.now run.now)) }
 {
     match run {
@@ -105,7 +105,7 @@ fn record_report<S: Alter>(
 ) -> Result<(), StoreFault>
     ensures answers { AnswersTaking S.Store conn.old conn.new 4 result
         (CanRecordReport provider.now report.now version next) (λ _. RecordsReport provider.now report.now found) }
-    ensures calm { IsCalmTaking S.Store conn.old conn.new 3 result (names_of provider.now report.now)
+    ensures failure { FailsByStoreTaking S.Store conn.old conn.new 3 result (names_of provider.now report.now)
         (AllowsReport provider.now report.now found version next) }
 {
     let number = done!(ensure_named(conn, provider, &report.provider_version, version));
@@ -131,7 +131,7 @@ fn receive_numbered<S: Alter>(
 ) -> Result<Reported, StoreFault>
     ensures answers { AnswersTaking S.Store conn.old conn.new 4 result
         (CanReport provider.now report.now version) (Receives provider.now report.now found) }
-    ensures calm { FailsFrom S.Store conn.old conn.new result (AreLong provider.now report.now)
+    ensures failure { FailsFrom S.Store conn.old conn.new result (AreLong provider.now report.now)
         (λ s. CanReport provider.now report.now version s × HasContent s found.content)
         (IsToReport provider.now report.now found) }
 {
@@ -154,7 +154,7 @@ fn receive_new<S: Alter>(
 ) -> Result<Reported, StoreFault>
     ensures answers { AnswersTaking S.Store conn.old conn.new 4 result
         (λ s. IsUnused s provider.now report.now number) (Receives provider.now report.now found) }
-    ensures calm { FailsFrom S.Store conn.old conn.new result (AreLong provider.now report.now)
+    ensures failure { FailsFrom S.Store conn.old conn.new result (AreLong provider.now report.now)
         (λ s. IsUnused s provider.now report.now number × HasContent s found.content)
         (IsToReport provider.now report.now found) }
 {
@@ -173,7 +173,7 @@ pub(crate) fn receive<S: Alter>(
 ) -> Result<Reported, StoreFault>
     ensures answers { AnswersTaking S.Store conn.old conn.new 4 result
         (λ s. HasPacticipant s provider.now) (Receives provider.now report.now found) }
-    ensures calm { FailsFrom S.Store conn.old conn.new result (AreLong provider.now report.now)
+    ensures failure { FailsFrom S.Store conn.old conn.new result (AreLong provider.now report.now)
         (CanReceive provider.now found.content) (IsToReport provider.now report.now found) }
 {
     let number = done!(version_of(conn, provider.as_str(), report.provider_version.as_str()));
@@ -205,7 +205,7 @@ fn claim<S: Alter>(
 ) -> Result<Answer, StoreFault>
     ensures answers { PerformsWhere S.Store conn.old conn.new result (λ s. HasPacticipant s provider.now)
         (Claims provider.now report.now content success) }
-    ensures calm { FailsToChangeFrom S.Store conn.old conn.new result
+    ensures failure { FailsToChangeFrom S.Store conn.old conn.new result
         (AreLong provider.now report.now) (CanReceive provider.now content)
         (Claims provider.now report.now content success) }
     ensures memory { ReportsMemory (state S.Store conn.old) (state S.Store conn.new) result }

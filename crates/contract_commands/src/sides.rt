@@ -3,10 +3,10 @@ ghost use Rattle.std.specs.Prelude.{◌≡◌, ◌∷◌, [], Some, None};
 ghost use Rattle.broker_core.specs.Text.{version as version_named};
 ghost use Rattle.broker_core.specs.Change.{text_of};
 ghost use Rattle.broker_core.specs.Request.{asks, refused};
-ghost use Rattle.broker_core.specs.declared.policy.Rule.TheVariants.{A3, A4, A5};
+ghost use Rattle.broker_core.specs.declared.policy.Rule.TheVariants.{OwnerToPublish, OwnerToVerify, OwnerOrOfficeToRead};
 ghost use Rattle.broker_core.specs.declared.command.Command.{Command as CommandModel};
 ghost use Rattle.broker_tables.specs.Holds.{Queries};
-ghost use Rattle.broker_tables.specs.Calm.{CalmQueries, CalmQueriesInPlace, IsCalmFrom};
+ghost use Rattle.broker_tables.specs.Failures.{LooksUp, LooksUpInPlace, FailsByStoreFrom};
 ghost use Rattle.contract_commands.specs.Pacts.{AreSidesRead, HasContent, IsContractRead, missing_side, missing_part, Admits, Reaches};
 
 use broker_core::answer::{Answer, Missing};
@@ -54,11 +54,11 @@ pub(crate) fn read_sides_to_publish<S: Alter>(
     provider: &Name,
     consumer: &Name,
 ) -> Result<Sides, StoreFault>
-    ensures { CalmQueries S.Store conn.old conn.new result
-        (λ sides s. AreSidesRead s caller.now A3 (consumer.now ∷ []) provider.now consumer.now sides) }
+    ensures { LooksUp S.Store conn.old conn.new result
+        (λ sides s. AreSidesRead s caller.now OwnerToPublish (consumer.now ∷ []) provider.now consumer.now sides) }
 {
     let has_provider = done!(has_pacticipant(conn, provider));
-    let consumer = done!(read_owner(conn, caller, Rule::A3, consumer, false));
+    let consumer = done!(read_owner(conn, caller, Rule::OwnerToPublish, consumer, false));
     Ok(Sides {
         has_provider,
         has_consumer: consumer.has_pacticipant,
@@ -74,10 +74,10 @@ fn read_sides_to_verify<S: Alter>(
     provider: &Name,
     consumer: &Name,
 ) -> Result<Sides, StoreFault>
-    ensures { CalmQueries S.Store conn.old conn.new result
-        (λ sides s. AreSidesRead s caller.now A4 (provider.now ∷ []) provider.now consumer.now sides) }
+    ensures { LooksUp S.Store conn.old conn.new result
+        (λ sides s. AreSidesRead s caller.now OwnerToVerify (provider.now ∷ []) provider.now consumer.now sides) }
 {
-    let provider = done!(read_owner(conn, caller, Rule::A4, provider, false));
+    let provider = done!(read_owner(conn, caller, Rule::OwnerToVerify, provider, false));
     let has_consumer = done!(has_pacticipant(conn, consumer));
     Ok(Sides {
         has_provider: provider.has_pacticipant,
@@ -94,11 +94,11 @@ pub(crate) fn read_sides_to_show<S: Alter>(
     provider: &Name,
     consumer: &Name,
 ) -> Result<Sides, StoreFault>
-    ensures { CalmQueries S.Store conn.old conn.new result
-        (λ sides s. AreSidesRead s caller.now A5 (provider.now ∷ consumer.now ∷ []) provider.now consumer.now sides) }
+    ensures { LooksUp S.Store conn.old conn.new result
+        (λ sides s. AreSidesRead s caller.now OwnerOrOfficeToRead (provider.now ∷ consumer.now ∷ []) provider.now consumer.now sides) }
 {
-    let provider = done!(read_owner(conn, caller, Rule::A5, provider, false));
-    let consumer = done!(read_owner(conn, caller, Rule::A5, consumer, false));
+    let provider = done!(read_owner(conn, caller, Rule::OwnerOrOfficeToRead, provider, false));
+    let consumer = done!(read_owner(conn, caller, Rule::OwnerOrOfficeToRead, consumer, false));
     Ok(Sides {
         has_provider: provider.has_pacticipant,
         has_consumer: consumer.has_pacticipant,
@@ -114,7 +114,7 @@ pub(crate) fn read_contract<S: Alter>(
     consumer: &Name,
     version: &Name,
 ) -> Result<ContractNumbers, StoreFault>
-    ensures { CalmQueriesInPlace S.Store conn.old conn.new result
+    ensures { LooksUpInPlace S.Store conn.old conn.new result
         (λ found s. IsContractRead s (version_named consumer.now version.now) provider.now
         found.version found.content) }
 {
@@ -136,7 +136,7 @@ pub(crate) fn read_text<S: Alter>(
     content: u32,
 ) -> Result<Text, StoreFault>
     ensures answers { Queries S.Store conn.old conn.new result (λ text s. text_of s content ≡ Some text) }
-    ensures calm { IsCalmFrom S.Store conn.old conn.new result (λ s. HasContent s content) }
+    ensures failure { FailsByStoreFrom S.Store conn.old conn.new result (λ s. HasContent s content) }
 {
     match done!(get(conn, content as u64)) {
         Some(text) => Ok(Text::new(text)),
@@ -184,12 +184,12 @@ pub(crate) fn read_contract_to_show<S: Alter>(
     caller: &Caller,
     path: &PactPath,
 ) -> Result<Result<u32, Answer>, StoreFault>
-    ensures { CalmQueries S.Store conn.old conn.new result
-        (λ found s. Reaches s caller.now path.now A5 (path.now.provider ∷ path.now.consumer ∷ []) found) }
+    ensures { LooksUp S.Store conn.old conn.new result
+        (λ found s. Reaches s caller.now path.now OwnerOrOfficeToRead (path.now.provider ∷ path.now.consumer ∷ []) found) }
 {
     let sides = done!(read_sides_to_show(conn, caller, &path.provider, &path.consumer));
     let contract = done!(read_contract(conn, &path.provider, &path.consumer, &path.version));
-    Ok(admit_contract(Rule::A5, ContractPlace { sides, contract }))
+    Ok(admit_contract(Rule::OwnerOrOfficeToRead, ContractPlace { sides, contract }))
 }
 
 /// The content of a contract of which the caller may report how its verification went, or the refusal.
@@ -198,10 +198,10 @@ pub(crate) fn read_contract_to_verify<S: Alter>(
     caller: &Caller,
     path: &PactPath,
 ) -> Result<Result<u32, Answer>, StoreFault>
-    ensures { CalmQueries S.Store conn.old conn.new result
-        (λ found s. Reaches s caller.now path.now A4 (path.now.provider ∷ []) found) }
+    ensures { LooksUp S.Store conn.old conn.new result
+        (λ found s. Reaches s caller.now path.now OwnerToVerify (path.now.provider ∷ []) found) }
 {
     let sides = done!(read_sides_to_verify(conn, caller, &path.provider, &path.consumer));
     let contract = done!(read_contract(conn, &path.provider, &path.consumer, &path.version));
-    Ok(admit_contract(Rule::A4, ContractPlace { sides, contract }))
+    Ok(admit_contract(Rule::OwnerToVerify, ContractPlace { sides, contract }))
 }

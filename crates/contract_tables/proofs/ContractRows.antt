@@ -20,7 +20,7 @@ use Rattle.broker_tables.proofs.{Keyed.{contracts_by_key, finds, IsFree-of_has_r
 use Rattle.broker_tables.proofs.Orders.{by_both-total_int_text, by_both-exact_int_text, text_cmp-antisymmetric, pair_cmp-IsAntisymmetric}
 use Rattle.broker_tables.proofs.{Ties.{both_eq, and-same}, Present.{value_at-is_some}, NumberLemmas.{number_of-same_version, same_version-unknown}}
 use Rattle.broker_tables.proofs.{Placed.{at_contracts, Placed-IsNumbered, column-texts, column-whole_numbers}, References.{LeadsTo-each}}
-use Rattle.broker_tables.proofs.Asked.{Asked, IsShown}
+use Rattle.broker_tables.proofs.TableQuery.{TableQuery, IsShown}
 use Rattle.broker_tables.proofs.Inserted.{EndsFrom, Adds, HoldsAfter-added, EndsOnly-added, added, IsThere-version, IsThere-pacticipant}
 use Rattle.contract_tables.specs.{Verified.{AddsContract}, declared.listings.Contract.{Contract}, Listings.{contract_cmp, IsContractRow, IsConsumerRow}}
 use Rattle.contract_tables.proofs.ReferredRows.{has_parent-number, HasRowWith-content}
@@ -48,7 +48,7 @@ module _ (db : Database) (broker : IsBroker db) where
 
 -- ---- the content of a contract
 
-pub content : (n : ℕ) (p : List ℕ) → Asked (codes "SELECT content FROM contracts WHERE version_number = ?1 AND provider = ?2")
+pub content : (n : ℕ) (p : List ℕ) → TableQuery (codes "SELECT content FROM contracts WHERE version_number = ?1 AND provider = ?2")
     (Int (pos n) ∷ Text p ∷ []) (from_table in_contracts.tree (by_two in_contracts.version_number in_contracts.provider) (col 1 in_contracts.content ∷ []) [])
 unfolding understood everything
 content n p = record { names = _; means = record { is = refl; plain = (refl, refl); unlisted = refl }; runs = record { whole = refl; typed = refl; sumless = refl } }
@@ -96,7 +96,7 @@ terms = is_param 1 0 ∷ []
 abbrev pub project : List Term
 project = col 1 in_contracts.content ∷ col 1 in_contracts.provider ∷ []
 
-pub own : (n : ℕ) → Asked (codes "SELECT content, provider FROM contracts WHERE version_number = ?1 ORDER BY provider")
+pub own : (n : ℕ) → TableQuery (codes "SELECT content, provider FROM contracts WHERE version_number = ?1 ORDER BY provider")
     (Int (pos n) ∷ []) (from_table in_contracts.tree terms project ((col 1 in_contracts.provider, ascending Binary) ∷ []))
 unfolding understood everything
 own n = record { names = _; means = record { is = refl; plain = (refl, refl); unlisted = refl }; runs = record { whole = refl; typed = refl; sumless = refl } }
@@ -130,7 +130,7 @@ abbrev pub users_project : List Term
 users_project = col 2 in_versions.pacticipant ∷ col 2 in_versions.version ∷ []
 
 pub users : (n : ℕ) (p : Words)
-    → Asked (codes "SELECT v.pacticipant, v.version FROM contracts c JOIN versions v ON v.number = c.version_number WHERE c.content = ?1 AND c.provider = ?2 ORDER BY v.pacticipant, v.version")
+    → TableQuery (codes "SELECT v.pacticipant, v.version FROM contracts c JOIN versions v ON v.number = c.version_number WHERE c.content = ?1 AND c.provider = ?2 ORDER BY v.pacticipant, v.version")
     (Int (pos n) ∷ Text p ∷ []) (from_both in_contracts.tree in_versions.tree users_terms users_project
     ((col 2 in_versions.pacticipant, ascending Binary) ∷ (col 2 in_versions.version, ascending Binary) ∷ []))
 unfolding understood everything

@@ -13,7 +13,7 @@ use Rattle.table_access.specs.Statements.{from_table, from_both, keeps, keeps_bo
 use Rattle.table_access.proofs.Members.{IsAscending-map_on, pairs, pairs-IsAscending, pairs-complete, pairs-sound, has_filter, filter_has}
 use Rattle.table_access.proofs.Keys.{IsNumbered-whole_at_unique}
 use Rattle.broker_core.specs.Listing.{Lists}
-use Rattle.broker_tables.proofs.{Listed.{sorts, Lists-of_table, Lists-of_join}, Asked.{Asked, IsShown}}
+use Rattle.broker_tables.proofs.{Listed.{sorts, Lists-of_table, Lists-of_join}, TableQuery.{TableQuery, IsShown}}
 
 -- ---- tests that AND joins
 
@@ -77,14 +77,14 @@ module _ {M Y K : Type 0} {project : List Term} {order : List (Term × Key)} {re
   sorts-kept_Less R rises a b x y ha hb ra rb h = rises x y (sym (λ i. S (by.read a x ra i) (by.read b y rb i)) ∙ sym (by.sorted a b (is a ha) (is b hb)) ∙ h)
 
 -- what is shown of a text is the answer of its query
-pub IsShown-Answers : {sql : List ℕ} {params : Row} {query : Query} (asked : Asked sql params query) (db : Database) (rows : List Row) → IsShown asked db rows → Answers db (record { lets = []; body = query }) params rows
+pub IsShown-Answers : {sql : List ℕ} {params : Row} {query : Query} (asked : TableQuery sql params query) (db : Database) (rows : List Row) → IsShown asked db rows → Answers db (record { lets = []; body = query }) params rows
 IsShown-Answers asked db rows h = h
 
 module _ {Y K : Type 0} {params : Row} {terms project : List Term} {order : List (Term × Key)} (db : Database) (reads : Row → Y → Type 0)
     (R : Y → Y → Ordering) (Q : Y → Type 0) {S : K → K → Ordering} (exact : IsAntisymmetric S) (key_of : Y → K)
     (rises : (x y : Y) → S (key_of x) (key_of y) ≡ Less → R x y ≡ Less) where
   -- of one table: WHERE keeps the rows that meet P
-  pub Lists-of_rows : {t : ℕ} {sql : List ℕ} (asked : Asked sql params (from_table t terms project order)) (P : Row → Type 0) → IsNumbered (db.trees t)
+  pub Lists-of_rows : {t : ℕ} {sql : List ℕ} (asked : TableQuery sql params (from_table t terms project order)) (P : Row → Type 0) → IsNumbered (db.trees t)
       → ((r : Row) → Has (db.trees t) r → (keeps terms params r ≡ true) ↔ P r)
       → ByKey project order reads Q S key_of (λ r. params ∷ r ∷ []) (λ r. Has (db.trees t) r × P r)
       → (rows : List Row) (items : List Y) → IsShown asked db rows → AreRead reads rows items → Lists R Q items

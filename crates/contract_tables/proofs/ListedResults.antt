@@ -8,7 +8,7 @@ use Rattle.sqlite_tied.specs.Compute.{everything}
 use Rattle.table_access.specs.{Columns.{whole_at}, Sound.{IsNumbered, whole}, Statements.{from_both, keeps_both}, Reading.{AreRead}}
 use Rattle.table_access.proofs.{SoundLemmas.{any_of, at_has}, Members.{pairs-complete, pairs-sound, any_has, contains_has, has_contains}}
 use Rattle.broker_tables.specs.{Schema.{in_results, in_latest, in_checked_results}, Numbers.{number_of}, Holds.{Holds, ResultRow}}
-use Rattle.broker_tables.proofs.{VersionRows.{binary-Eq_same_Int, option_and_then-Some}, Asked.{Asked, IsShown}, Listed.{Lists-AreRead}}
+use Rattle.broker_tables.proofs.{VersionRows.{binary-Eq_same_Int, option_and_then-Some}, TableQuery.{TableQuery, IsShown}, Listed.{Lists-AreRead}}
 use Rattle.contract_tables.specs.{declared.version_results.ContentPass.{ContentPass}, declared.listings.NumberedName.{NumberedName}}
 use Rattle.contract_tables.specs.{Verified.{result_with, latest_at}, VersionResults.{is_among, IsPassRow}}
 use Rattle.contract_tables.specs.ResultsByVersion.{verified_cmp, named_cmp, AgreeWith, AgreeOnPasses, AgreeOnChecked, IsUnlisted, IsSaidBy, IsVerifiedAs}
@@ -32,13 +32,13 @@ abbrev pub returned_marks_project : List Term
 returned_marks_project = col 1 in_latest.result ∷ []
 
 pub returned_passes : (n : ℕ)
-    → Asked (codes "SELECT r.number, r.pass, l.content, r.content, l.provider_version, r.provider_version FROM latest l JOIN results r ON r.number = l.result WHERE l.content = ?1")
+    → TableQuery (codes "SELECT r.number, r.pass, l.content, r.content, l.provider_version, r.provider_version FROM latest l JOIN results r ON r.number = l.result WHERE l.content = ?1")
     (Int (pos n) ∷ []) (from_both in_latest.tree in_results.tree terms passes_project [])
 unfolding understood everything
 returned_passes n = record { names = _; means = record { is = refl; plain = (refl, refl); unlisted = refl }; runs = record { whole = refl; typed = refl; sumless = refl } }
 
 pub returned_marks : (n : ℕ)
-    → Asked (codes "SELECT l.result FROM latest l JOIN checked_results c ON c.result = l.result WHERE l.content = ?1")
+    → TableQuery (codes "SELECT l.result FROM latest l JOIN checked_results c ON c.result = l.result WHERE l.content = ?1")
     (Int (pos n) ∷ []) (from_both in_latest.tree in_checked_results.tree terms returned_marks_project [])
 unfolding understood everything
 returned_marks n = record { names = _; means = record { is = refl; plain = (refl, refl); unlisted = refl }; runs = record { whole = refl; typed = refl; sumless = refl } }

@@ -14,7 +14,7 @@ use Rattle.broker_tables.specs.{Schema.{in_versions, in_contracts, in_results, i
 use Rattle.broker_tables.proofs.ReadableRows.{IsLow, IsNumberAt-of_column, IsNameAt-of_column, IsTruthAt-of_column, IsLow-result, to_version_low, to_content_low, to_result_low, IsNamed-version, IsNamed-reference, whole_at-pass_low}
 use Rattle.broker_tables.proofs.Placed.{contracts, at_contracts, results, at_results, latest, at_latest, listed, column-whole_numbers}
 use Rattle.broker_tables.proofs.{NoVersion.{references-not_unknown_version}, VersionRows.{column-version_pacticipant, names, binary-Eq_same_Int}}
-use Rattle.broker_tables.proofs.Asked.{Asked, EachReads, NoneFor, EachShown-of_table, EachShown-of_both, EachShown-up_to, EachShown-IsNumberRow}
+use Rattle.broker_tables.proofs.TableQuery.{TableQuery, EachReads, NoneFor, EachShown-of_table, EachShown-of_both, EachShown-up_to, EachShown-IsNumberRow}
 use Rattle.contract_tables.specs.{Listings.{ReadsAsMarked, ReadsAsNames}, VersionResults.{ReadsAsLatest}, Verified.{ReadsAsResult}}
 use Rattle.contract_tables.proofs.ContractRows.{column-contract_version_number, contents, column-contract_provider, content, project, own, users_project, users}
 use Rattle.contract_tables.proofs.ResultRows.{contents as latest_contents, versions, numbers as latest_numbers}
@@ -105,7 +105,7 @@ module _ (db : Database) (s : Broker) (held : Holds db s) (readable : IsReadable
       )
 
 pub EachReads-pairs : {sql : List ℕ} {params : Row} {more : List Term} {by : List (Term × Key)}
-    (asked : Asked sql params (from_both in_latest.tree in_results.tree (op2 (Compare Eq Binary) (col 2 0) (col 1 in_latest.result) ∷ more) passes_project by))
+    (asked : TableQuery sql params (from_both in_latest.tree in_results.tree (op2 (Compare Eq Binary) (col 2 0) (col 1 in_latest.result) ∷ more) passes_project by))
     (db : Database) → EachReads asked db ReadsAsLatest
 EachReads-pairs asked db s held readable = EachShown-of_both asked db _ (λ l r hl hr kept. ReadsAsLatest-pair db s held readable l r hl hr (first_of_both _ _ kept))
 
@@ -154,14 +154,14 @@ module _ (db : Database) (s : Broker) (held : Holds db s) (n : ℕ) (none : (v :
   of_latest r has = references-not_unknown_version db s held n none latest (listed at_latest db held.broker) in_latest.provider_version (inr (inl refl)) r has (versions db held.broker r has)
 
 pub NoneFor-contracts : {sql : List ℕ} {params : Row} {n : ℕ} {more project : List Term} {by : List (Term × Key)}
-    (asked : Asked sql (Int (pos n) ∷ params) (from_table in_contracts.tree (is_param in_contracts.version_number 0 ∷ more) project by)) (db : Database) → NoneFor asked db n
+    (asked : TableQuery sql (Int (pos n) ∷ params) (from_table in_contracts.tree (is_param in_contracts.version_number 0 ∷ more) project by)) (db : Database) → NoneFor asked db n
 NoneFor-contracts {n = n} asked db s held none = EachShown-of_table asked db _ (λ r has kept. of_version db s held n none r has (first_of_both _ _ kept))
 
 pub NoneFor-join : (c n : ℕ) (db : Database) → NoneFor (join c n) db n
 NoneFor-join c n db s held none =
     EachShown-of_both (join c n) db _ (λ l r hl hr kept. of_latest db s held n none l hl (first_of_both _ _ (second_of_both _ _ (second_of_both _ _ kept))))
 
-pub NoneFor-version_results : {sql : List ℕ} {u n : ℕ} {project : List Term} (asked : Asked sql (Int (pos n) ∷ []) (from_both in_latest.tree u terms project order))
+pub NoneFor-version_results : {sql : List ℕ} {u n : ℕ} {project : List Term} (asked : TableQuery sql (Int (pos n) ∷ []) (from_both in_latest.tree u terms project order))
     (db : Database) → NoneFor asked db n
 NoneFor-version_results {n = n} asked db s held none =
     EachShown-of_both asked db _ (λ l r hl hr kept. of_latest db s held n none l hl (first_of_both _ _ (second_of_both _ _ kept)))

@@ -22,7 +22,7 @@ use Rattle.broker_core.specs.{Text.{same_text}, Change.{result_of_run}, State.{S
 use Rattle.broker_tables.specs.{Schema.{in_results, in_checked_results}, Rows.{value_at, has_row_at, no_run, run_in}, Numbers.{number_of}}
 use Rattle.broker_tables.{specs.Holds.{Holds, IsBroker, ResultRow, result_in, result_of}, proofs.Frames.{Means-over_broker_schema}}
 use Rattle.broker_tables.proofs.{Present.{value_at-is_some}, Placed.{uniques-keys_apart, at_results, at_checked_results, Placed-IsNumbered, column-texts}}
-use Rattle.broker_tables.proofs.{ByNumber.{find-numbered}, Newest.{unwrap_or-newest_result}, Asked.{Asked, IsShown}, Keyed.{IsFree}, Ties.{and-same}}
+use Rattle.broker_tables.proofs.{ByNumber.{find-numbered}, Newest.{unwrap_or-newest_result}, TableQuery.{TableQuery, IsShown}, Keyed.{IsFree}, Ties.{and-same}}
 use Rattle.broker_tables.proofs.References.{enumerate_from-row_number}
 use Rattle.contract_tables.specs.Verified.{Cells, cells, cells_of, ByNumbers, by_numbers, numbers_are, result_with, run_text}
 use Rattle.contract_tables.proofs.RunTexts.{has_run, run_in-Eq_Text, run_in-no_run_of_another}
@@ -52,7 +52,7 @@ value_at-result_with db s n held = ap (find int_cmp (pos n)) held.results ∙ fi
 abbrev pub count_sql : List ℕ
 count_sql = codes "SELECT number FROM results ORDER BY number DESC LIMIT 1"
 
-pub count : Asked count_sql [] (up_to 1 (from_table in_results.tree [] (col 1 0 ∷ []) newest))
+pub count : TableQuery count_sql [] (up_to 1 (from_table in_results.tree [] (col 1 0 ∷ []) newest))
 unfolding understood everything
 count = record { names = _; means = record { is = refl; plain = (refl, refl); unlisted = refl }; runs = record { whole = refl; typed = refl; sumless = refl } }
 
@@ -64,7 +64,7 @@ Shown-result_count old new rows s found held h read =
 
 -- ---- whether the broker checked it
 
-pub checked : (n : ℕ) → Asked (codes "SELECT result FROM checked_results WHERE result = ?1")
+pub checked : (n : ℕ) → TableQuery (codes "SELECT result FROM checked_results WHERE result = ?1")
     (Int (pos n) ∷ []) (from_table in_checked_results.tree (is_param 0 0 ∷ []) (col 1 0 ∷ []) [])
 unfolding understood everything
 checked n = record { names = _; means = record { is = refl; plain = (refl, refl); unlisted = refl }; runs = record { whole = refl; typed = refl; sumless = refl } }
@@ -84,7 +84,7 @@ IsShown-checked n db rows s r held is h =
 abbrev pub run_project : List Term
 run_project = col 1 0 ∷ col 1 in_results.content ∷ col 1 in_results.provider_version ∷ col 1 in_results.pass ∷ []
 
-pub run : (p u : List ℕ) → Asked (codes "SELECT number, content, provider_version, pass FROM results WHERE provider = ?1 AND run = ?2")
+pub run : (p u : List ℕ) → TableQuery (codes "SELECT number, content, provider_version, pass FROM results WHERE provider = ?1 AND run = ?2")
     (Text p ∷ Text u ∷ []) (from_table in_results.tree (by_two in_results.provider in_results.run) run_project [])
 unfolding understood everything
 run p u = record { names = _; means = record { is = refl; plain = (refl, refl); unlisted = refl }; runs = record { whole = refl; typed = refl; sumless = refl } }

@@ -11,7 +11,7 @@ use Rattle.table_access.specs.{Columns.{text, whole_at, by_both}, Sound.{text_in
 use Rattle.table_access.proofs.Maps.{find-has_row, find-of_row}
 use Rattle.broker_core.specs.{declared.command.Version.{Version}, Listing.{Lists}, Text.{Text as Words, version}}
 use Rattle.broker_core.specs.State.{State as Broker, Verification, latest_result}
-use Rattle.broker_tables.{specs.{Schema.{in_versions, in_latest}, Rows.{value_at}, Numbers.{number_of}, Holds.{Holds}}, proofs.Asked.{Asked, IsShown}}
+use Rattle.broker_tables.{specs.{Schema.{in_versions, in_latest}, Rows.{value_at}, Numbers.{number_of}, Holds.{Holds}}, proofs.TableQuery.{TableQuery, IsShown}}
 use Rattle.broker_tables.proofs.VersionRows.{binary-Eq_same_Int, binary-Eq_same_Text, option_and_then-Some, version_number, IsNumbered-versions, column-version_pacticipant, names, versions-unique_names, number_of-version_row, number_of-has_row, IsAscending-one_row}
 use Rattle.broker_tables.proofs.Orders.{text_cmp-antisymmetric, by_both-total_int_int, by_both-exact_int_int}
 use Rattle.broker_tables.proofs.Keyed.{IsAscending-keys_of_table, latest_by_key}
@@ -57,7 +57,7 @@ abbrev pub project : List Term
 project = col 1 in_latest.result ∷ col 2 in_versions.version ∷ []
 
 pub verifiers : (c : ℕ) (p : List ℕ)
-    → Asked (codes "SELECT l.result, v.version FROM latest l JOIN versions v ON v.number = l.provider_version WHERE l.content = ?1 AND v.pacticipant = ?2 ORDER BY v.version")
+    → TableQuery (codes "SELECT l.result, v.version FROM latest l JOIN versions v ON v.number = l.provider_version WHERE l.content = ?1 AND v.pacticipant = ?2 ORDER BY v.version")
     (Int (pos c) ∷ Text p ∷ []) (from_both in_latest.tree in_versions.tree terms project ((col 2 in_versions.version, ascending Binary) ∷ []))
 unfolding understood everything
 verifiers c p = record { names = _; means = record { is = refl; plain = (refl, refl); unlisted = refl }; runs = record { whole = refl; typed = refl; sumless = refl } }

@@ -16,7 +16,7 @@ use Rattle.broker_core.specs.{declared.command.Version.{Version}, Text.{version}
 use Rattle.broker_core.specs.{State.{State as Broker, Verification, latest_result, latest, said_by}, declared.need.Latest.{Latest}}
 use Rattle.broker_core.proofs.Lists.{Some-injective}
 use Rattle.broker_tables.specs.{Schema.{in_results, in_latest, in_checked_results, in_versions}, Rows.{truth}, Numbers.{number_of}}
-use Rattle.broker_tables.{specs.Holds.{Holds, ResultRow, result_in, result_of}, proofs.Asked.{Asked, IsShown, EachShown, EachShown-of_both}}
+use Rattle.broker_tables.{specs.Holds.{Holds, ResultRow, result_in, result_of}, proofs.TableQuery.{TableQuery, IsShown, EachShown, EachShown-of_both}}
 use Rattle.broker_tables.proofs.{Listed.{Lists-AreRead}, Orders.{by_both-total_int_int}, Placed.{latest as latest_table, at_latest, listed}}
 use Rattle.broker_tables.proofs.{References.{references-version}, VersionRows.{binary-Eq_same_Int, IsAscending-one_row, number_of-version_row}}
 use Rattle.broker_tables.proofs.Keyed.{IsAscending-keys_of_table, latest_by_key}
@@ -44,7 +44,7 @@ passes_project = col 2 0 ∷ col 2 in_results.pass ∷ col 1 in_latest.content �
     ∷ col 1 in_latest.provider_version ∷ col 2 in_results.provider_version ∷ []
 
 pub passes : (n : ℕ)
-    → Asked (codes "SELECT r.number, r.pass, l.content, r.content, l.provider_version, r.provider_version FROM latest l JOIN results r ON r.number = l.result WHERE l.provider_version = ?1 ORDER BY l.content")
+    → TableQuery (codes "SELECT r.number, r.pass, l.content, r.content, l.provider_version, r.provider_version FROM latest l JOIN results r ON r.number = l.result WHERE l.provider_version = ?1 ORDER BY l.content")
     (Int (pos n) ∷ []) (from_both in_latest.tree in_results.tree terms passes_project order)
 unfolding understood everything
 passes n = record { names = _; means = record { is = refl; plain = (refl, refl); unlisted = refl }; runs = record { whole = refl; typed = refl; sumless = refl } }
@@ -53,7 +53,7 @@ abbrev pub marks_project : List Term
 marks_project = col 1 in_latest.content ∷ []
 
 pub marks : (n : ℕ)
-    → Asked (codes "SELECT l.content FROM latest l JOIN checked_results c ON c.result = l.result WHERE l.provider_version = ?1 ORDER BY l.content")
+    → TableQuery (codes "SELECT l.content FROM latest l JOIN checked_results c ON c.result = l.result WHERE l.provider_version = ?1 ORDER BY l.content")
     (Int (pos n) ∷ []) (from_both in_latest.tree in_checked_results.tree terms marks_project order)
 unfolding understood everything
 marks n = record { names = _; means = record { is = refl; plain = (refl, refl); unlisted = refl }; runs = record { whole = refl; typed = refl; sumless = refl } }
@@ -130,7 +130,7 @@ module _ (db : Database) (s : Broker) (held : Holds db s) (v : Version) (n : ℕ
         (and-true_test (binary-Eq_same_Int (column l in_latest.provider_version) (Int (pos n)) (whole_at in_latest.provider_version l) (pos n) (versions db held.broker l hl) refl))
 
     -- one item per content, each read of the row of its latest result and of a row with that result's number
-    list_results : {sql : List ℕ} {project : List Term} {Y : Type 0} (asked : Asked sql params (from_both in_latest.tree u terms project order)) (reads : Row → Y → Type 0)
+    list_results : {sql : List ℕ} {project : List Term} {Y : Type 0} (asked : TableQuery sql params (from_both in_latest.tree u terms project order)) (reads : Row → Y → Type 0)
         (Q : Y → Type 0) (content : Y → ℕ) → ((l r : Row) (x : Y) → reads (eval_all project (params ∷ l ∷ r ∷ [])) x → column l in_latest.content ≡ Int (pos (content x)))
         → ((l r : Row) (x : Y) (e : ℕ × Verification) → latest_result s (content x) v ≡ Some e → Has (db.trees u) r → whole_at 0 r ≡ pos e.0
         → reads (eval_all project (params ∷ l ∷ r ∷ [])) x → Q x)
@@ -256,7 +256,7 @@ one_terms = op2 (Compare Eq Binary) (col 2 0) (col 1 in_latest.result) ∷ op2 (
     ∷ op2 (Compare Eq Binary) (col 1 in_latest.provider_version) (col 0 1) ∷ []
 
 pub join : (c n : ℕ)
-    → Asked (codes "SELECT r.number, r.pass, l.content, r.content, l.provider_version, r.provider_version FROM latest l JOIN results r ON r.number = l.result WHERE l.content = ?1 AND l.provider_version = ?2")
+    → TableQuery (codes "SELECT r.number, r.pass, l.content, r.content, l.provider_version, r.provider_version FROM latest l JOIN results r ON r.number = l.result WHERE l.content = ?1 AND l.provider_version = ?2")
     (Int (pos c) ∷ Int (pos n) ∷ []) (from_both in_latest.tree in_results.tree one_terms passes_project [])
 unfolding understood everything
 join c n = record { names = _; means = record { is = refl; plain = (refl, refl); unlisted = refl }; runs = record { whole = refl; typed = refl; sumless = refl } }

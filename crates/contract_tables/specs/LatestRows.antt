@@ -19,7 +19,7 @@ use Rattle.table_access.specs.Reading.{IsNumberAt}
 use Rattle.broker_core.specs.declared.need.Latest.{Latest}
 use Rattle.broker_tables.specs.Schema.{in_results, in_latest, in_checked_results}
 use Rattle.broker_tables.specs.Rows.{rows_of, mark_of, IsTruthAt}
-use Rattle.broker_tables.specs.Calm.{HasFailedOrMemory}
+use Rattle.broker_tables.specs.Failures.{HasFailedOrMemory}
 use Rattle.contract_tables.specs.VersionResults.{marked}
 use Rattle.contract_tables.specs.declared.version_results.ContentPass.{ContentPass}
 use Rattle.contract_tables.specs.declared.version_results.LatestResult.{LatestResult}

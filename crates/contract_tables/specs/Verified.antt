@@ -173,8 +173,8 @@ Marks checked number old new =
     ≡ ((checked && eq_by_cmp int_cmp k (pos number)) || has_row_at int_cmp (whole_at 0) (old.now.trees in_checked_results.tree) k))
 
 -- such a statement fails in a database of the broker that allows it only as the store fails
-abbrev pub IsCalmOn : {A : Type 0} → State → State → Result A StoreFault → (Database → Type 0) → Type 0
-IsCalmOn old new r Allows =
+abbrev pub FailsByStoreOn : {A : Type 0} → State → State → Result A StoreFault → (Database → Type 0) → Type 0
+FailsByStoreOn old new r Allows =
     HasCleanDisk new → old.step_limit ≡ None → IsBroker old.now → Allows old.now → IfErr r (HasFailed old new)
 
 -- a row of the table at this tree has this number

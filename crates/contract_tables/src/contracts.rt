@@ -3,8 +3,8 @@ ghost use Rattle.std.specs.Prelude.{◌≡◌, Some, None, codes, [], ◌∷◌}
 ghost use Rattle.broker_core.specs.declared.command.Version.{Version as VersionModel};
 ghost use Rattle.broker_tables.specs.Numbers.{number_of};
 ghost use Rattle.broker_tables.specs.Holds.{Changes};
-ghost use Rattle.broker_tables.specs.Calm.{CalmQueriesInPlace, IfNoVersion};
-ghost use Rattle.broker_tables.specs.ChangeRefusals.{IsCalmChange};
+ghost use Rattle.broker_tables.specs.Failures.{LooksUpInPlace, IfNoVersion};
+ghost use Rattle.broker_tables.specs.ChangeRefusals.{FailsByStoreChange};
 ghost use Rattle.contract_tables.specs.Verified.{AddsContract};
 
 use sqlite::{Alter, Connection, params};
@@ -21,7 +21,7 @@ pub fn contract_of<S: Alter>(
     version_number: u32,
     provider: &str,
 ) -> Result<Option<u32>, StoreFault>
-    ensures answers { CalmQueriesInPlace S.Store conn.old conn.new result
+    ensures answers { LooksUpInPlace S.Store conn.old conn.new result
         (λ found s. (v : VersionModel) → number_of s.versions v ≡ Some version_number →
         found ≡ s.contracts (v, provider.now)) }
     ensures unknown { IfNoVersion S.Store conn.old conn.new result version_number (λ found. found ≡ None) }
@@ -45,7 +45,7 @@ pub fn add_contract<S: Alter>(
     content: u32,
 ) -> Result<(), StoreFault>
     ensures changes { Changes S.Store conn.old conn.new result (AddsContract version_number provider.now content) }
-    ensures calm { IsCalmChange S.Store conn.old conn.new result (codes "contracts" ∷ []) (provider.now ∷ [])
+    ensures failure { FailsByStoreChange S.Store conn.old conn.new result (codes "contracts" ∷ []) (provider.now ∷ [])
         (AddsContract version_number provider.now content) }
 {
     change(

@@ -4,7 +4,7 @@ ghost use Rattle.broker_core.specs.declared.command.Version.{Version as VersionM
 ghost use Rattle.broker_core.specs.Listing.{Lists};
 ghost use Rattle.broker_core.specs.Machine.{version_cmp};
 ghost use Rattle.broker_tables.specs.Numbers.{number_of};
-ghost use Rattle.broker_tables.specs.Calm.{CalmQueries, IfNoVersion, NeedsNoRoom};
+ghost use Rattle.broker_tables.specs.Failures.{LooksUp, IfNoVersion, TakesNoMemoryIf};
 ghost use Rattle.contract_tables.specs.Listings.{contract_cmp, IsContractRow, IsNumberedName, IsConsumerRow, FailsAsMarked, FailsAsNames};
 
 use broker_core::command::Version;
@@ -92,11 +92,11 @@ pub fn contracts_of<S: Alter>(
     conn: &mut Connection<S>,
     version_number: u32,
 ) -> Result<Vec<Contract>, StoreFault>
-    ensures answers { CalmQueries S.Store conn.old conn.new result
+    ensures answers { LooksUp S.Store conn.old conn.new result
         (λ found s. (v : VersionModel) → number_of s.versions v ≡ Some version_number →
         Lists contract_cmp (λ c. s.contracts (v, c.provider) ≡ Some c.content) found.items) }
     ensures unknown { IfNoVersion S.Store conn.old conn.new result version_number (λ found. found.items ≡ []) }
-    ensures missing { NeedsNoRoom S.Store conn.old conn.new result
+    ensures missing { TakesNoMemoryIf S.Store conn.old conn.new result
         (λ s. (v : VersionModel) × (number_of s.versions v ≡ Some version_number) × ((p : List ℕ) → s.contracts (v, p) ≡ None)) }
 {
     list_of::<ContractRow, S>(
@@ -119,9 +119,9 @@ pub fn consumers_of<S: Alter>(
     provider: &str,
     content: u32,
 ) -> Result<Vec<Version>, StoreFault>
-    ensures answers { CalmQueries S.Store conn.old conn.new result
+    ensures answers { LooksUp S.Store conn.old conn.new result
         (λ found s. Lists version_cmp (λ w. s.contracts (w, provider.now) ≡ Some content) found.items) }
-    ensures missing { NeedsNoRoom S.Store conn.old conn.new result
+    ensures missing { TakesNoMemoryIf S.Store conn.old conn.new result
         (λ s. (w : VersionModel) → ¬ (s.contracts (w, provider.now) ≡ Some content)) }
 {
     list_of::<ConsumerRow, S>(

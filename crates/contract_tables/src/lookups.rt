@@ -7,7 +7,7 @@ ghost use Rattle.broker_core.specs.declared.command.Version.{Version as VersionM
 ghost use Rattle.broker_core.specs.State.{Verification, latest_result, latest};
 ghost use Rattle.broker_core.specs.Change.{result_of_run as run_result};
 ghost use Rattle.broker_tables.specs.Numbers.{number_of};
-ghost use Rattle.broker_tables.specs.Calm.{CalmQueriesInPlace, IfNoVersion};
+ghost use Rattle.broker_tables.specs.Failures.{LooksUpInPlace, IfNoVersion};
 ghost use Rattle.broker_tables.specs.Asking.{ReportsOfAny, CanBeAsked};
 ghost use Rattle.broker_tables.specs.Rows.{IsTruthAt};
 ghost use Rattle.sqlite.specs.Order.{Row as SqlRow};
@@ -28,7 +28,7 @@ use table_access::{StoreFault, find_number, has_row, number_at, select};
 /// `StoreFault::Memory` if the database is out of memory; `StoreFault::Store` if it refused the query or holds no
 /// number there.
 pub fn result_count<S: Alter>(conn: &mut Connection<S>) -> Result<u64, StoreFault>
-    ensures { CalmQueriesInPlace S.Store conn.old conn.new result (λ count s. count ≡ length s.results) }
+    ensures { LooksUpInPlace S.Store conn.old conn.new result (λ count s. count ≡ length s.results) }
 {
     let newest = done!(find_number(
         conn,
@@ -40,7 +40,7 @@ pub fn result_count<S: Alter>(conn: &mut Connection<S>) -> Result<u64, StoreFaul
 
 /// Whether the broker checked the result with this number, which is there.
 fn is_checked<S: Alter>(conn: &mut Connection<S>, number: u32) -> Result<bool, StoreFault>
-    ensures answers { CalmQueriesInPlace S.Store conn.old conn.new result
+    ensures answers { LooksUpInPlace S.Store conn.old conn.new result
         (λ checked s. (r : Verification) → result_with s number ≡ Some r → checked ≡ r.checked) }
     ensures mark { ReportsOfAny S.Store conn.old conn.new result
         (λ checked db. IsTrue checked ↔ IsMarkedChecked number db) HasFailed }
@@ -75,7 +75,7 @@ fn latest_pass<S: Alter>(
     content: u32,
     provider_version: u32,
 ) -> Result<Option<ContentPass>, StoreFault>
-    ensures answers { CalmQueriesInPlace S.Store conn.old conn.new result
+    ensures answers { LooksUpInPlace S.Store conn.old conn.new result
         (λ found s. (v : VersionModel) → number_of s.versions v ≡ Some provider_version →
         option_map (λ r. passed_as r.result r.pass) found ≡ option_map passed_of (latest_result s content v)) }
     ensures unknown { IfNoVersion S.Store conn.old conn.new result provider_version (λ found. found ≡ None) }
@@ -104,7 +104,7 @@ pub fn latest_of<S: Alter>(
     content: u32,
     version_number: u32,
 ) -> Result<Option<Latest>, StoreFault>
-    ensures answers { CalmQueriesInPlace S.Store conn.old conn.new result
+    ensures answers { LooksUpInPlace S.Store conn.old conn.new result
         (λ found s. (v : VersionModel) → number_of s.versions v ≡ Some version_number →
         found ≡ latest s content v) }
     ensures unknown { IfNoVersion S.Store conn.old conn.new result version_number (λ found. found ≡ None) }
@@ -184,7 +184,7 @@ fn stored_of_run<S: Alter>(
     provider: &str,
     run: &Name,
 ) -> Result<Option<StoredResult>, StoreFault>
-    ensures { CalmQueriesInPlace S.Store conn.old conn.new result
+    ensures { LooksUpInPlace S.Store conn.old conn.new result
         (λ found s. option_map (λ r. numbers_are r.number r.content r.provider_version r.pass) found
         ≡ option_map (by_numbers s.versions) (run_result s provider.now (Some run.now))) }
 {
@@ -207,7 +207,7 @@ pub fn result_of_run<S: Alter>(
     provider: &str,
     run: &Name,
 ) -> Result<Option<ResultRow>, StoreFault>
-    ensures { CalmQueriesInPlace S.Store conn.old conn.new result
+    ensures { LooksUpInPlace S.Store conn.old conn.new result
         (λ found s. option_map (λ r. returned r.number r.content r.provider_version r.pass r.checked) found
         ≡ option_map (returned_of s.versions) (run_result s provider.now (Some run.now))) }
 {

@@ -4,7 +4,7 @@
 ghost use Rattle.std.specs.Prelude.{◌≡◌, ◌++◌, ◌∷◌, []};
 ghost use Rattle.table_access.specs.Calls.{CallsStore};
 ghost use Rattle.table_access.specs.Statements.{Creates, Makes, MakesIndexes, indexed_by};
-ghost use Rattle.broker_tables.specs.Making.{HasShortKeys, IsCalmOver};
+ghost use Rattle.broker_tables.specs.Making.{HasShortKeys, FailsByStoreOver};
 ghost use Rattle.broker_tables.specs.Schema.{registry_part, contents, contract_part, deploy_part, checked_results, schema_of, all_tables, contents_by_digest, contract_indexes};
 
 use broker_tables::create::{
@@ -23,7 +23,7 @@ pub fn make_tables<S: Alter>(conn: &mut Connection<S>) -> Result<(), StoreFault>
     ensures makes { CallsStore S.Store conn.old conn.new result
         (λ _ old new. old.now.schema ≡ schema_of (registry_part ++ contents ∷ []) →
         Makes contract_part old.now new.now) }
-    ensures calm { IsCalmOver S.Store conn.old conn.new result
+    ensures failure { FailsByStoreOver S.Store conn.old conn.new result
         (λ db. db.schema ≡ schema_of (registry_part ++ contents ∷ [])) }
 {
     make_each(conn, &[CONTRACTS, RESULTS, LATEST])
@@ -39,7 +39,7 @@ pub fn make_checked_results<S: Alter>(conn: &mut Connection<S>) -> Result<(), St
         (λ _ old new. old.now.schema
         ≡ schema_of (registry_part ++ contents ∷ contract_part ++ deploy_part) →
         Creates old.now new.now checked_results) }
-    ensures calm { IsCalmOver S.Store conn.old conn.new result
+    ensures failure { FailsByStoreOver S.Store conn.old conn.new result
         (λ db. db.schema ≡ schema_of (registry_part ++ contents ∷ contract_part ++ deploy_part)) }
 {
     make_each(conn, &[CHECKED_RESULTS])
@@ -54,7 +54,7 @@ pub fn make_indexes<S: Alter>(conn: &mut Connection<S>) -> Result<(), StoreFault
     ensures makes { CallsStore S.Store conn.old conn.new result
         (λ _ old new. old.now.schema ≡ indexed_by (schema_of all_tables) (contents_by_digest ∷ []) →
         MakesIndexes contract_indexes old.now new.now) }
-    ensures calm { IsCalmOver S.Store conn.old conn.new result
+    ensures failure { FailsByStoreOver S.Store conn.old conn.new result
         (λ db. (db.schema ≡ indexed_by (schema_of all_tables) (contents_by_digest ∷ [])) × HasShortKeys db) }
 {
     make_each(conn, &[CONTRACTS_BY_CONTENT, LATEST_BY_PROVIDER_VERSION])

@@ -1,8 +1,8 @@
 //! The tables of a broker of format 1, as they become today's.
 ghost use Rattle.table_access.specs.Calls.{CallsStore};
 ghost use Rattle.broker_core.specs.State.{State as Broker};
-ghost use Rattle.broker_tables.specs.Making.{IsCalmOver};
-ghost use Rattle.broker_tables.specs.Former.{HoldsFormer};
+ghost use Rattle.broker_tables.specs.Making.{FailsByStoreOver};
+ghost use Rattle.broker_tables.specs.Format1.{HoldsFormat1};
 ghost use Rattle.contract_tables.specs.CheckedTable.{GetsCheckedTable};
 
 use crate::making::make_checked_results;
@@ -18,7 +18,7 @@ use table_access::StoreFault;
 pub fn to_format_2<S: Alter>(conn: &mut Connection<S>) -> Result<(), StoreFault>
     ensures makes { CallsStore S.Store conn.old conn.new result
         (λ _ old new. GetsCheckedTable old.now new.now) }
-    ensures calm { IsCalmOver S.Store conn.old conn.new result (λ db. (s : Broker) × HoldsFormer db s) }
+    ensures failure { FailsByStoreOver S.Store conn.old conn.new result (λ db. (s : Broker) × HoldsFormat1 db s) }
 {
     make_checked_results(conn)
 }

@@ -4,10 +4,10 @@ ghost use Rattle.std.specs.Prelude.{◌≡◌, IfSome, unwrap_or};
 ghost use Rattle.sqlite.specs.Held.{state};
 ghost use Rattle.table_access.specs.Calls.{CallsStore};
 ghost use Rattle.broker_tables.specs.Holds.{IsBroker, Changes, ChangesAndAnswers};
-ghost use Rattle.broker_tables.specs.ChangeRefusals.{IsCalmStoring};
+ghost use Rattle.broker_tables.specs.ChangeRefusals.{FailsByStoreStoring};
 ghost use Rattle.broker_tables.specs.Rows.{no_run};
 ghost use Rattle.broker_names.specs.Name.{IsName};
-ghost use Rattle.contract_tables.specs.Verified.{RecordsResult, texts_of, AllowsResult, AllowsNextResult, CanAddResult, PutsRow, result_row, Marks, Points, IsCalmOn, AllowsMark, AllowsPoint};
+ghost use Rattle.contract_tables.specs.Verified.{RecordsResult, texts_of, AllowsResult, AllowsNextResult, CanAddResult, PutsRow, result_row, Marks, Points, FailsByStoreOn, AllowsMark, AllowsPoint};
 ghost use Rattle.std.specs.Prelude.{pos, ◌∷◌, [], codes};
 ghost use Rattle.sqlite.specs.declared.types.Value.TheVariants.{Int, Null};
 
@@ -61,7 +61,7 @@ fn put_result<'a, S: Alter>(
     ensures puts { CallsStore S.Store conn.old conn.new result
         (λ _ old new. IsBroker old.now →
         PutsRow 17 (result_row number content provider.now version_number pass run.now) old new) }
-    ensures calm { IsCalmStoring S.Store conn.old conn.new result [] (texts_of provider.now run.now)
+    ensures failure { FailsByStoreStoring S.Store conn.old conn.new result [] (texts_of provider.now run.now)
         (AllowsResult number content provider.now version_number run.now) }
     ensures name { IfSome run.now IsName }
 {
@@ -86,7 +86,7 @@ fn mark_checked<S: Alter>(conn: &mut Connection<S>, number: u32) -> Result<(), S
     ensures puts { CallsStore S.Store conn.old conn.new result
         (λ _ old new. IsBroker old.now →
         PutsRow 25 (Int (pos number) ∷ Null ∷ []) old new) }
-    ensures calm { IsCalmOn (state S.Store conn.old) (state S.Store conn.new) result (AllowsMark number) }
+    ensures failure { FailsByStoreOn (state S.Store conn.old) (state S.Store conn.new) result (AllowsMark number) }
 {
     change(
         conn,
@@ -100,7 +100,7 @@ fn mark<S: Alter>(conn: &mut Connection<S>, number: u32, checked: bool) -> Resul
     ensures marks { CallsStore S.Store conn.old conn.new result
         (λ _ old new. IsBroker old.now →
         Marks checked number old new) }
-    ensures calm { IsCalmOn (state S.Store conn.old) (state S.Store conn.new) result (AllowsMark number) }
+    ensures failure { FailsByStoreOn (state S.Store conn.old) (state S.Store conn.new) result (AllowsMark number) }
 {
     if checked {
         mark_checked(conn, number)
@@ -120,7 +120,7 @@ fn point_latest<S: Alter>(
     ensures points { CallsStore S.Store conn.old conn.new result
         (λ _ old new. IsBroker old.now →
         Points content version_number number old new) }
-    ensures calm { IsCalmOn (state S.Store conn.old) (state S.Store conn.new) result
+    ensures failure { FailsByStoreOn (state S.Store conn.old) (state S.Store conn.new) result
         (AllowsPoint content version_number number) }
 {
     change(
@@ -147,7 +147,7 @@ pub fn record_result<S: Alter>(
 ) -> Result<(), StoreFault>
     ensures changes { Changes S.Store conn.old conn.new result
         (RecordsResult number content provider.now version_number pass checked run.now) }
-    ensures calm { IsCalmStoring S.Store conn.old conn.new result (codes "latest" ∷ [])
+    ensures failure { FailsByStoreStoring S.Store conn.old conn.new result (codes "latest" ∷ [])
         (texts_of provider.now run.now) (AllowsResult number content provider.now version_number run.now) }
 {
     done!(put_result(conn, number, content, provider, version_number, pass, run));
@@ -173,7 +173,7 @@ pub fn add_result<S: Alter>(
     ensures changes { ChangesAndAnswers S.Store conn.old conn.new result
         (AllowsNextResult content provider.now version_number run.now)
         (λ number. RecordsResult number content provider.now version_number pass checked run.now) }
-    ensures calm { IsCalmStoring S.Store conn.old conn.new result (codes "latest" ∷ [])
+    ensures failure { FailsByStoreStoring S.Store conn.old conn.new result (codes "latest" ∷ [])
         (texts_of provider.now run.now) (CanAddResult content provider.now version_number run.now) }
 {
     let count = done!(result_count(conn));

@@ -6,7 +6,7 @@ ghost use Rattle.broker_core.specs.Listing.{Lists};
 ghost use Rattle.broker_core.specs.Machine.{IsLatest};
 ghost use Rattle.broker_core.specs.State.{latest_result};
 ghost use Rattle.broker_core.specs.Text.{version as version_named};
-ghost use Rattle.broker_tables.specs.Calm.{CalmQueries};
+ghost use Rattle.broker_tables.specs.Failures.{LooksUp};
 ghost use Rattle.contract_tables.specs.declared.listings.NumberedName.{NumberedName as NamedModel};
 ghost use Rattle.contract_tables.specs.ResultsByVersion.{verified_cmp, named_cmp, AgreeOnPasses, SaysPass, AgreeOnChecked, ArePassesByNumber, IsUnlisted, FailsIfNamed, IsSaidBy, IsVerifiedAs};
 
@@ -26,7 +26,7 @@ fn named_results<S: Alter>(
     provider: &str,
     content: u32,
 ) -> Result<Vec<NumberedName>, StoreFault>
-    ensures { CalmQueries S.Store conn.old conn.new result
+    ensures { LooksUp S.Store conn.old conn.new result
         (λ found s. Lists named_cmp
         (λ x. option_map (λ e. e.0) (latest_result s content (version_named provider.now x.name)) ≡ Some x.number)
         found.items) }
@@ -46,7 +46,7 @@ fn passes_for<S: Alter>(
     conn: &mut Connection<S>,
     content: u32,
 ) -> Result<Vec<ContentPass>, StoreFault>
-    ensures { CalmQueries S.Store conn.old conn.new result
+    ensures { LooksUp S.Store conn.old conn.new result
         (λ found s. ArePassesByNumber found.items × AgreeOnPasses s content found.items) }
 {
     let mut found = done!(list_of::<PassRow, S>(
@@ -65,7 +65,7 @@ fn checked_for<S: Alter>(
     conn: &mut Connection<S>,
     content: u32,
 ) -> Result<Vec<u32>, StoreFault>
-    ensures { CalmQueries S.Store conn.old conn.new result
+    ensures { LooksUp S.Store conn.old conn.new result
         (λ found s. IsSorted nat_cmp found.items × AgreeOnChecked s content found.items) }
 {
     let mut found = done!(list_of::<NumberRow, S>(
@@ -155,7 +155,7 @@ pub fn verified_versions<S: Alter>(
     provider: &str,
     content: u32,
 ) -> Result<Vec<Verified>, StoreFault>
-    ensures { CalmQueries S.Store conn.old conn.new result
+    ensures { LooksUp S.Store conn.old conn.new result
         (λ found s. Lists verified_cmp (λ x. IsLatest s content (version_named provider.now x.provider_version) x)
         found.items) }
 {

@@ -10,7 +10,7 @@ ghost use Rattle.broker_core.specs.declared.command.Version.{Version as VersionM
 ghost use Rattle.broker_core.specs.Listing.{Lists};
 ghost use Rattle.broker_core.specs.State.{State as Broker, latest_result, latest};
 ghost use Rattle.broker_tables.specs.Numbers.{number_of};
-ghost use Rattle.broker_tables.specs.Calm.{CalmQueries, IfNoVersion};
+ghost use Rattle.broker_tables.specs.Failures.{LooksUp, IfNoVersion};
 ghost use Rattle.broker_tables.specs.Asking.{ReportsOfAny, CanBeAsked};
 ghost use Rattle.contract_tables.specs.VersionResults.{pass_cmp, latest_cmp, IsPassOf, IsLatestOf, IsPassRow, AreSame, FailsAsLatest, is_among};
 ghost use Rattle.contract_tables.specs.LatestRows.{ArePassesIn, IsCheckedFor, AreLatestIn, IsMarkedOf, FailsAsListed};
@@ -90,7 +90,7 @@ fn passes_of<S: Alter>(
     conn: &mut Connection<S>,
     version_number: u32,
 ) -> Result<Vec<ContentPass>, StoreFault>
-    ensures answers { CalmQueries S.Store conn.old conn.new result
+    ensures answers { LooksUp S.Store conn.old conn.new result
         (λ found s. (v : VersionModel) → number_of s.versions v ≡ Some version_number →
         Lists pass_cmp (IsPassOf s v) found.items) }
     ensures unknown { IfNoVersion S.Store conn.old conn.new result version_number (λ found. found.items ≡ []) }
@@ -114,7 +114,7 @@ fn checked_of<S: Alter>(
     conn: &mut Connection<S>,
     version_number: u32,
 ) -> Result<Vec<u32>, StoreFault>
-    ensures answers { CalmQueries S.Store conn.old conn.new result
+    ensures answers { LooksUp S.Store conn.old conn.new result
         (λ found s. (v : VersionModel) → number_of s.versions v ≡ Some version_number →
         Lists nat_cmp
         (λ content. option_map (λ e. e.1.checked) (latest_result s content v) ≡ Some true) found.items) }
@@ -181,7 +181,7 @@ pub fn latest_results<S: Alter>(
     conn: &mut Connection<S>,
     version_number: u32,
 ) -> Result<Vec<LatestResult>, StoreFault>
-    ensures answers { CalmQueries S.Store conn.old conn.new result
+    ensures answers { LooksUp S.Store conn.old conn.new result
         (λ found s. (v : VersionModel) → number_of s.versions v ≡ Some version_number →
         Lists latest_cmp (IsLatestOf s v) found.items) }
     ensures unknown { IfNoVersion S.Store conn.old conn.new result version_number (λ found. found.items ≡ []) }

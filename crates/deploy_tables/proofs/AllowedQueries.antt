@@ -5,20 +5,20 @@ use Rattle.sqlite.specs.State.{State}
 use Rattle.table_access.specs.declared.StoreFault.{StoreFault}
 use Rattle.table_access.proofs.CallLemmas.{CallsBetween-may_take_memory, CallsBetween-then_call, CallsBetween-pass_Err}
 use Rattle.broker_core.specs.State.{State as Broker}
-use Rattle.broker_tables.specs.{Calm.{CalmQueriesBetween, IsCalmFromBetween}, Holds.{IsRead, QueriesBetween}}
-use Rattle.broker_tables.proofs.FailLemmas.{IsCalmFromBetween-after_query}
-use Rattle.broker_tables.proofs.QueryLemmas.{IsRead-both, CalmQueriesBetween-other_answer, CalmQueriesBetween-from_both, CalmQueriesBetween-Ok}
+use Rattle.broker_tables.specs.{Failures.{LooksUpBetween, FailsByStoreFromBetween}, Holds.{IsRead, QueriesBetween}}
+use Rattle.broker_tables.proofs.FailLemmas.{FailsByStoreFromBetween-after_query}
+use Rattle.broker_tables.proofs.QueryLemmas.{IsRead-both, LooksUpBetween-other_answer, LooksUpBetween-from_both, LooksUpBetween-Ok}
 
 -- another answer
 pub QueriesBetween-answers_more : {A B : Type 0} {any takes : Bool} (old new : State) (x : A) (y : B) (P : A → Broker → Type 0) (Q : B → Broker → Type 0)
     → ((s : Broker) → P x s → Q y s) → QueriesBetween any old new (Ok x) P → QueriesBetween takes old new (Ok y) Q
-QueriesBetween-answers_more {any} {takes} old new x y P Q f one = (CalmQueriesBetween-other_answer {takes = takes} old new x y P Q f (CalmQueriesBetween-Ok old new x P one)).call
+QueriesBetween-answers_more {any} {takes} old new x y P Q f one = (LooksUpBetween-other_answer {takes = takes} old new x y P Q f (LooksUpBetween-Ok old new x P one)).call
 
 -- an answer from two
 pub QueriesBetween-answers_both : {A B C : Type 0} {any also takes : Bool} (old mid new : State) (x : A) (y : B) (z : C) (P : A → Broker → Type 0) (Q : B → Broker → Type 0) (R : C → Broker → Type 0)
     → ((s : Broker) → P x s → Q y s → R z s) → QueriesBetween any old mid (Ok x) P → QueriesBetween also mid new (Ok y) Q → QueriesBetween takes old new (Ok z) R
 QueriesBetween-answers_both {takes} old mid new x y z P Q R f one two =
-    (CalmQueriesBetween-from_both {takes = takes} old mid new x y z P Q R f (CalmQueriesBetween-Ok old mid x P one) (CalmQueriesBetween-Ok mid new y Q two)).call
+    (LooksUpBetween-from_both {takes = takes} old mid new x y z P Q R f (LooksUpBetween-Ok old mid x P one) (LooksUpBetween-Ok mid new y Q two)).call
 
 -- the failure of one after another
 pub QueriesBetween-failed_after : {A B C : Type 0} {any takes : Bool} (old mid new : State) (a : A) (e : StoreFault) (P : A → Broker → Type 0) (Q : B → Broker → Type 0) (R : C → Broker → Type 0)
@@ -33,10 +33,10 @@ QueriesBetween-answers_then old mid new x r P Q R f one two =
     CallsBetween-then_call old mid new x r (IsRead old mid P) (IsRead mid new Q) (IsRead old new R) (λ p b. IsRead-both old mid new x b b P Q R (λ s one two. f s one b two) p) one two
 
 -- a query after another, whose answer shows that the state allows it
-pub CalmQueriesBetween-allowed : {A B : Type 0} {any takes : Bool} (old mid new : State) (x : A) (r : Result B StoreFault) (P : A → Broker → Type 0) (Q R : B → Broker → Type 0) (Allows : Broker → Type 0)
+pub LooksUpBetween-allowed : {A B : Type 0} {any takes : Bool} (old mid new : State) (x : A) (r : Result B StoreFault) (P : A → Broker → Type 0) (Q R : B → Broker → Type 0) (Allows : Broker → Type 0)
     → ((s : Broker) → P x s → Allows s) → ((s : Broker) → P x s → (b : B) → Q b s → R b s)
-    → CalmQueriesBetween any old mid (Ok x) P → QueriesBetween takes mid new r Q → IsCalmFromBetween mid new r Allows → CalmQueriesBetween true old new r R
-CalmQueriesBetween-allowed old mid new x r P Q R Allows allow f one two calm = record {
+    → LooksUpBetween any old mid (Ok x) P → QueriesBetween takes mid new r Q → FailsByStoreFromBetween mid new r Allows → LooksUpBetween true old new r R
+LooksUpBetween-allowed old mid new x r P Q R Allows allow f one two failure = record {
   call = CallsBetween-may_take_memory old new r _ (QueriesBetween-answers_then old mid new x r P Q R f one.call two);
-  calm = λ clean s here. IsCalmFromBetween-after_query old mid new x r P (IsRead mid new Q) (λ s. ⊤) Allows (λ s held free read. allow s read) one.call two calm clean s here tt;
+  failure = λ clean s here. FailsByStoreFromBetween-after_query old mid new x r P (IsRead mid new Q) (λ s. ⊤) Allows (λ s held free read. allow s read) one.call two failure clean s here tt;
 }

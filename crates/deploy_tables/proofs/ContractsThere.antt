@@ -5,7 +5,7 @@ use Rattle.std.proofs.Common.{◌≡◌, ◌++◌, inl, inr, ℕ, ℤ, pos, code
 use Rattle.sqlite_rules.specs.Lists.{Has}
 use Rattle.sqlite_tied.specs.Compute.{everything}
 use Rattle.broker_tables.specs.{Schema.{in_versions, in_contracts, in_deployed, in_released}, Numbers.{number_of}, Holds.{Holds}}
-use Rattle.broker_tables.proofs.{Asked.{Asked, IsShown}, VersionRows.{binary-Eq_same_Int, binary-Eq_same_Text, number_of-version_row}}
+use Rattle.broker_tables.proofs.{TableQuery.{TableQuery, IsShown}, VersionRows.{binary-Eq_same_Int, binary-Eq_same_Text, number_of-version_row}}
 use Rattle.broker_tables.proofs.{References.{references-version}, Listed.{AreRead-sound, AreRead-complete}, Placed.{contracts, at_contracts, listed}}
 use Rattle.deploy_tables.specs.declared.contracts_there.NumberedContract.{NumberedContract}
 use Rattle.deploy_tables.specs.ContractsThere.{IsDeployedIn, IsReleasedIn, IsContractThere, ReportsContracts, ReportsContractsIfAny, IsNumberedRow, IsContractIfAny}
@@ -48,12 +48,12 @@ if_any_sql = codes "SELECT d.version_number, c.version_number, c.content FROM de
 abbrev pub if_any_query : Query
 if_any_query = from_left_by in_deployed.tree in_contracts.tree ons in_environment if_any []
 
-pub of_deployed : (e p : Words) → Asked if_any_sql (Text e ∷ Text p ∷ []) if_any_query
+pub of_deployed : (e p : Words) → TableQuery if_any_sql (Text e ∷ Text p ∷ []) if_any_query
 unfolding understood everything
 of_deployed e p = record { names = _; means = record { is = refl; plain = (refl, refl); unlisted = refl }; runs = record { whole = refl; typed = refl; sumless = refl } }
 
 pub of_released : (e p : Words)
-    → Asked (codes "SELECT c.version_number, c.content FROM released r JOIN contracts c ON c.version_number = r.version_number WHERE r.environment = ?1 AND c.provider = ?2")
+    → TableQuery (codes "SELECT c.version_number, c.content FROM released r JOIN contracts c ON c.version_number = r.version_number WHERE r.environment = ?1 AND c.provider = ?2")
     (Text e ∷ Text p ∷ []) (from_both in_released.tree in_contracts.tree terms project [])
 unfolding understood everything
 of_released e p = record { names = _; means = record { is = refl; plain = (refl, refl); unlisted = refl }; runs = record { whole = refl; typed = refl; sumless = refl } }

@@ -9,9 +9,9 @@ use Rattle.table_access.specs.{Columns.{text, text_cmp, whole_at, by_both}, Stat
 use Rattle.table_access.proofs.{Keys.{is_param, keeps-one_key, whole_key}, CountLemmas.{length-filter-list_any, list_any-same_tests, list_any-false}}
 use Rattle.table_access.proofs.{Maps.{find-of_row}, SoundLemmas.{all_of}, Values.{cast-Int}}
 use Rattle.broker_tables.{specs.{Schema.{in_deployed}, Rows.{value_at}, Holds.{IsBroker}}, proofs.Keyed.{deployed_by_place, finds, IsAscending-keys_of_table}}
-use Rattle.broker_tables.proofs.{Asked.{Asked, IsShown}, Orders.{by_both-total_texts, by_both-exact_texts}, Present.{value_at-is_some, value_at-removed}}
-use Rattle.broker_tables.proofs.{Placed.{at_deployed, column-texts, column-whole_numbers}, RoomLemmas.{Grows, Grows-filter}, Upserted.{PutsOver, PutsAt}}
-use Rattle.broker_tables.proofs.Removed.{TakesFrom, Executes-delete_rows}
+use Rattle.broker_tables.proofs.{TableQuery.{TableQuery, IsShown}, Orders.{by_both-total_texts, by_both-exact_texts}}
+use Rattle.broker_tables.proofs.{Present.{value_at-is_some, value_at-removed}, Placed.{at_deployed, column-texts, column-whole_numbers}}
+use Rattle.broker_tables.proofs.{RoomLemmas.{Grows, Grows-filter}, Upserted.{PutsOver, PutsAt}, Removed.{TakesFrom, Executes-delete_rows}}
 use Rattle.sqlite.specs.{declared.types.Value.TheVariants.{Null, Int, Text}, Order.{Row, column}, Term.{Term, col, lit, holds}, Effect.{Database}}
 use Rattle.sqlite.specs.{State.{State, Executes}, Listing.{understood}}
 use Rattle.sqlite_rules.specs.Lists.{Has}
@@ -49,7 +49,7 @@ abbrev by_place : List Term
 by_place = is_param 1 0 ∷ is_param 2 1 ∷ is_param 3 2 ∷ []
 
 pub number_at : (e p i : List ℕ)
-    → Asked (codes "SELECT version_number FROM deployed WHERE environment = ?1 AND pacticipant = ?2 AND instance = ?3")
+    → TableQuery (codes "SELECT version_number FROM deployed WHERE environment = ?1 AND pacticipant = ?2 AND instance = ?3")
     (Text e ∷ Text p ∷ Text i ∷ []) (from_table in_deployed.tree by_place (col 1 in_deployed.version_number ∷ []) [])
 unfolding understood everything
 number_at e p i = record { names = _; means = record { is = refl; plain = (refl, refl); unlisted = refl }; runs = record { whole = refl; typed = refl; sumless = refl } }

@@ -21,7 +21,7 @@ use Rattle.broker_tables.proofs.Inserted.{EndsFrom, IsThere-environment, IsThere
 use Rattle.broker_tables.proofs.{Placed.{deployed, at_deployed, listed, Placed-IsNumbered}, RoomLemmas.{Grows, HoldsAfter-one_table}}
 use Rattle.broker_tables.proofs.Upserted.{Executes-upsert_value, shows-set_row, upsert_ends}
 use Rattle.broker_tables.proofs.{Orders.{pair_cmp-IsAntisymmetric, by_both-exact_texts, by_both-total_texts}, Ties.{and-same, both_eq, eqb-int_cmp}}
-use Rattle.broker_tables.proofs.Asked.{Asked, IsShown}
+use Rattle.broker_tables.proofs.TableQuery.{TableQuery, IsShown}
 use Rattle.sqlite_rules.specs.Lists.{Has}
 use Rattle.sqlite_tied.specs.Compute.{everything}
 use Rattle.table_access.specs.{Columns.{text, text_cmp, whole_at, by_both}, Sound.{text_in}, Statements.{from_both, ChangesOnly}, Reading.{AreRead}}
@@ -153,7 +153,7 @@ abbrev pub list_project : List Term
 list_project = col 1 in_deployed.pacticipant ∷ col 1 in_deployed.instance ∷ col 2 in_versions.version ∷ []
 
 pub deployments : (e : List ℕ)
-    → Asked (codes "SELECT d.pacticipant, d.instance, v.version FROM deployed d LEFT JOIN versions v ON v.number = d.version_number WHERE d.environment = ?1 ORDER BY d.pacticipant, d.instance")
+    → TableQuery (codes "SELECT d.pacticipant, d.instance, v.version FROM deployed d LEFT JOIN versions v ON v.number = d.version_number WHERE d.environment = ?1 ORDER BY d.pacticipant, d.instance")
     (Text e ∷ []) (from_left in_deployed.tree in_versions.tree (on_number in_deployed.version_number) in_environment list_project list_order)
 unfolding understood everything
 deployments e = record { names = _; means = record { is = refl; plain = (refl, refl); unlisted = refl }; runs = record { whole = refl; typed = refl; sumless = refl } }

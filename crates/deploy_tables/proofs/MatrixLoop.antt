@@ -4,7 +4,7 @@ use Rattle.std.proofs.lemmas.List.{get_or_default, take_more, take_all}
 use Rattle.std.proofs.lemmas.List.Elements.{Contains-append_cases, Contains-append_left, Contains-append_right}
 use Rattle.broker_core.proofs.Lists.{Contains-empty, Contains-cons_cases, Contains-here}
 use Rattle.deploy_tables.specs.Matrix.{IsOfSome}
-pub use Rattle.broker_tables.proofs.QueryLemmas.{CalmQueriesBetween-then_failed, CalmQueriesBetween-then, CalmQueriesBetween-both, CalmQueriesBetween-other_answer, CalmQueriesBetween-from_both}
+pub use Rattle.broker_tables.proofs.QueryLemmas.{LooksUpBetween-then_failed, LooksUpBetween-then, LooksUpBetween-both, LooksUpBetween-other_answer, LooksUpBetween-from_both}
 
 -- ---- lists that are put together
 

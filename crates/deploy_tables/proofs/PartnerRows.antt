@@ -4,7 +4,8 @@ use Rattle.std.proofs.Common.{◌≡◌, ◌∙◌, inl, inr, ℕ, pos, codes, L
 use Rattle.sqlite_rules.specs.Lists.{Has}
 use Rattle.sqlite_tied.specs.Compute.{everything}
 use Rattle.table_access.{specs.{Columns.{text}, Statements.{from_table, keeps}, Reading.{AreRead}}, proofs.Keys.{is_param}}
-use Rattle.broker_tables.{specs.{Schema.{in_deployed}, Numbers.{number_of}, Holds.{Holds}}, proofs.{Asked.{Asked, IsShown}, VersionRows.{binary-Eq_same_Text}}}
+use Rattle.broker_tables.{specs.{Schema.{in_deployed}, Numbers.{number_of}, Holds.{Holds}}, proofs.TableQuery.{TableQuery, IsShown}}
+use Rattle.broker_tables.proofs.VersionRows.{binary-Eq_same_Text}
 use Rattle.contract_tables.{specs.declared.listings.NumberedName.{NumberedName}, proofs.ItemLists.{and-two_tests, and-true_test}}
 use Rattle.deploy_tables.specs.{ContractsThere.{IsDeployedIn}, Partners.{ArePartners, AreReleasedNumbers, AreNumbered, number_if}}
 use Rattle.deploy_tables.proofs.{DeployedRows.{environments, pacticipants}, VersionRows.{pos-injective, rows_returned}}
@@ -22,7 +23,7 @@ abbrev number_project : List Term
 number_project = col 1 in_deployed.version_number ∷ []
 
 pub numbers_of : (e p : Words)
-    → Asked (codes "SELECT version_number FROM deployed WHERE environment = ?1 AND pacticipant = ?2") (Text e ∷ Text p ∷ []) (from_table in_deployed.tree by_owner number_project [])
+    → TableQuery (codes "SELECT version_number FROM deployed WHERE environment = ?1 AND pacticipant = ?2") (Text e ∷ Text p ∷ []) (from_table in_deployed.tree by_owner number_project [])
 unfolding understood everything
 numbers_of e p = record { names = _; means = record { is = refl; plain = (refl, refl); unlisted = refl }; runs = record { whole = refl; typed = refl; sumless = refl } }
 

@@ -5,7 +5,7 @@ use Rattle.table_access.specs.{Columns.{text, whole_at}, Reading.{IsNumberRow}, 
 use Rattle.table_access.proofs.Answered.{pair_shown}
 use Rattle.broker_core.specs.State.{State as Broker}
 use Rattle.broker_tables.specs.{Schema.{in_versions, in_contracts, in_deployed, in_released}, Holds.{Holds}, Readable.{IsReadable, IsNamed}}
-use Rattle.broker_tables.proofs.Asked.{Asked, IsShown, EachShown, EachReads, EachShown-of_both, EachShown-of_table, EachShown-IsNumberRow}
+use Rattle.broker_tables.proofs.TableQuery.{TableQuery, IsShown, EachShown, EachReads, EachShown-of_both, EachShown-of_table, EachShown-IsNumberRow}
 use Rattle.broker_tables.proofs.Placed.{contracts, at_contracts, deployed, at_deployed, released, at_released, listed, column-whole_numbers}
 use Rattle.broker_tables.proofs.ReadableRows.{IsNumberAt-of_column, IsNameAt-of_column, to_version_low, IsNamed-version, IsNamed-reference}
 use Rattle.broker_tables.proofs.VersionRows.{column-version_pacticipant, names}
@@ -48,7 +48,7 @@ module _ (db : Database) (s : Broker) (held : Holds db s) (readable : IsReadable
 
 -- ---- of a LEFT JOIN that shows what the JOIN shows
 
-EachShown-of_joined : {sql : List ℕ} {params : Row} {query : Query} {terms project : List Term} {order : List (Term × Key)} {t u : ℕ} (asked : Asked sql params query) (db : Database) (Is : Row → Type 0)
+EachShown-of_joined : {sql : List ℕ} {params : Row} {query : Query} {terms project : List Term} {order : List (Term × Key)} {t u : ℕ} (asked : TableQuery sql params query) (db : Database) (Is : Row → Type 0)
     → ((rows : List Row) → IsShown asked db rows → Answers db (record { lets = []; body = from_both t u terms project order }) params rows)
     → ((r q : Row) → Has (db.trees t) r → Has (db.trees u) q → keeps_both terms params r q ≡ true → Is (eval_all project (params ∷ r ∷ q ∷ []))) → EachShown asked db Is
 EachShown-of_joined {params = params} {terms = terms} {project = project} {order = order} {t = t} {u = u} asked db Is joined is rows h row has =
@@ -58,7 +58,7 @@ EachShown-of_joined {params = params} {terms = terms} {project = project} {order
 -- ---- what is deployed
 
 pub EachReads-deployed_numbers : {sql : List ℕ} {params : Row} {terms : List Term}
-    (asked : Asked sql params (from_table in_deployed.tree terms (col 1 in_deployed.version_number ∷ []) [])) (db : Database) → EachReads asked db IsNumberRow
+    (asked : TableQuery sql params (from_table in_deployed.tree terms (col 1 in_deployed.version_number ∷ []) [])) (db : Database) → EachReads asked db IsNumberRow
 EachReads-deployed_numbers asked db s held readable = EachShown-IsNumberRow asked db (IsLowAt-deployed_number db s held readable)
 
 pub EachReads-deployments : (e : List ℕ) (db : Database) → EachReads (deployed_list.deployments e) db ReadsAsDeployed
@@ -118,7 +118,7 @@ module _ (e p : List ℕ) (db : Database) (s : Broker) (held : Holds db s) (read
       subst ReadsAsContractIfAny (sym it.5) (ReadsAsContractIfAny-row it.0 it.1 it.2 it.3)
 
 -- each row that a JOIN with contracts shows
-pub EachReads-contracts : {sql : List ℕ} {params : Row} {terms : List Term} {t : ℕ} (asked : Asked sql params (from_both t in_contracts.tree terms project []))
+pub EachReads-contracts : {sql : List ℕ} {params : Row} {terms : List Term} {t : ℕ} (asked : TableQuery sql params (from_both t in_contracts.tree terms project []))
     (db : Database) → EachReads asked db ReadsAsNumbers
 EachReads-contracts asked db s held readable = EachShown-of_both asked db _ (λ r c hr hc kept.
     let number = IsLowAt-contract_version db s held readable c hc in

@@ -11,7 +11,7 @@ use Rattle.table_access.proofs.Keys.{is_param, keeps-one_key}
 use Rattle.broker_core.specs.{State.{State as Broker}, declared.command.Version.{Version}}
 use Rattle.broker_core.specs.{Text.{Text as Words, version, put_at, same_text, same_pair, same_version}, Listing.{Lists}, Machine.{version_cmp}}
 use Rattle.broker_tables.specs.{Schema.{in_versions, in_released, broker_schema}, Rows.{has_row_at}, Numbers.{number_of}, Holds.{Holds, IsBroker, HoldsAfter}}
-use Rattle.broker_tables.proofs.Asked.{Asked, IsShown, EachShown-of_table}
+use Rattle.broker_tables.proofs.TableQuery.{TableQuery, IsShown, EachShown-of_table}
 use Rattle.broker_tables.proofs.Inserted.{EndsFrom, Adds, HoldsAfter-added, EndsOnly-added, added, IsThere-environment, IsThere-version}
 use Rattle.broker_tables.proofs.Keyed.{finds_row, IsFree-of_has_row_at, kept_by, IsAscending-keys_of_table, released_by_key}
 use Rattle.broker_tables.proofs.VersionRows.{column-version_pacticipant, names, IsAscending-one_row, IsNumbered-versions, versions-unique_names as same_row}
@@ -39,7 +39,7 @@ abbrev pub list_project : List Term
 list_project = col 2 in_versions.pacticipant ∷ col 2 in_versions.version ∷ []
 
 pub releases : (e : List ℕ)
-    → Asked (codes "SELECT v.pacticipant, v.version FROM released r LEFT JOIN versions v ON v.number = r.version_number WHERE r.environment = ?1 ORDER BY v.pacticipant, v.version")
+    → TableQuery (codes "SELECT v.pacticipant, v.version FROM released r LEFT JOIN versions v ON v.number = r.version_number WHERE r.environment = ?1 ORDER BY v.pacticipant, v.version")
     (Text e ∷ []) (from_left in_released.tree in_versions.tree (on_number in_released.version_number) in_environment list_project list_order)
 unfolding understood everything
 releases e = record { names = _; means = record { is = refl; plain = (refl, refl); unlisted = refl }; runs = record { whole = refl; typed = refl; sumless = refl } }
@@ -50,7 +50,7 @@ abbrev pub number_project : List Term
 number_project = col 1 in_released.version_number ∷ col 2 in_versions.pacticipant ∷ []
 
 pub release_numbers : (e : List ℕ)
-    → Asked (codes "SELECT r.version_number, v.pacticipant FROM released r LEFT JOIN versions v ON v.number = r.version_number WHERE r.environment = ?1")
+    → TableQuery (codes "SELECT r.version_number, v.pacticipant FROM released r LEFT JOIN versions v ON v.number = r.version_number WHERE r.environment = ?1")
     (Text e ∷ []) (from_left in_released.tree in_versions.tree (on_number in_released.version_number) in_environment number_project [])
 unfolding understood everything
 release_numbers e = record { names = _; means = record { is = refl; plain = (refl, refl); unlisted = refl }; runs = record { whole = refl; typed = refl; sumless = refl } }
@@ -174,7 +174,7 @@ by_place = is_param 1 0 ∷ is_param 2 1 ∷ []
 -- ---- whether a version is released
 
 pub release : (e : Words) (n : ℕ)
-    → Asked (codes "SELECT environment FROM released WHERE environment = ?1 AND version_number = ?2")
+    → TableQuery (codes "SELECT environment FROM released WHERE environment = ?1 AND version_number = ?2")
     (Text e ∷ Int (pos n) ∷ []) (from_table in_released.tree by_place (col 1 in_released.environment ∷ []) [])
 unfolding understood everything
 release e n = record { names = _; means = record { is = refl; plain = (refl, refl); unlisted = refl }; runs = record { whole = refl; typed = refl; sumless = refl } }

@@ -3,8 +3,8 @@ use Rattle.std.{specs.Prelude.{Contains, ◌↔◌}, proofs.Common.{◌≡◌, �
 use Rattle.sqlite_rules.specs.Lists.{Has}
 use Rattle.sqlite_tied.specs.Compute.{everything}
 use Rattle.broker_core.specs.{declared.command.Version.{Version}, Text.{version}, State.{State as Broker}}
-use Rattle.broker_tables.{specs.{Schema.{in_versions}, Numbers.{number_of}, Holds.{Holds}}, proofs.{Asked.{Asked, IsShown}, NumberLemmas.{number_of-injective}}}
-use Rattle.broker_tables.proofs.VersionRows.{binary-Eq_same_Int, version_number, number_of-version_row, number_of-has_row}
+use Rattle.broker_tables.{specs.{Schema.{in_versions}, Numbers.{number_of}, Holds.{Holds}}, proofs.TableQuery.{TableQuery, IsShown}}
+use Rattle.broker_tables.proofs.{NumberLemmas.{number_of-injective}, VersionRows.{binary-Eq_same_Int, version_number, number_of-version_row, number_of-has_row}}
 use Rattle.contract_tables.proofs.ItemLists.{and-true_test}
 use Rattle.deploy_tables.{specs.{Listings.{IsReleasedRow}, Releases.{IsOfNumber}}, proofs.VersionRows.{pos-injective, rows_returned}}
 use Rattle.sqlite.specs.{declared.types.Value.TheVariants.{Int}, Order.{Row, column}, Term.{Term, col, op2}, Collation.TheVariants.{Binary}, Effect.{Database}}
@@ -19,7 +19,7 @@ abbrev pub name_project : List Term
 name_project = col 1 in_versions.pacticipant ∷ col 1 in_versions.version ∷ []
 
 pub names_of : (n : ℕ)
-    → Asked (codes "SELECT pacticipant, version FROM versions WHERE number = ?1") (Int (pos n) ∷ []) (from_table in_versions.tree by_number name_project [])
+    → TableQuery (codes "SELECT pacticipant, version FROM versions WHERE number = ?1") (Int (pos n) ∷ []) (from_table in_versions.tree by_number name_project [])
 unfolding understood everything
 names_of n = record { names = _; means = record { is = refl; plain = (refl, refl); unlisted = refl }; runs = record { whole = refl; typed = refl; sumless = refl } }
 

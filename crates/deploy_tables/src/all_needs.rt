@@ -8,7 +8,7 @@ ghost use Rattle.broker_core.specs.Listing.{Lists};
 ghost use Rattle.broker_core.specs.State.{State as Broker};
 ghost use Rattle.broker_core.specs.Text.{Text};
 ghost use Rattle.broker_tables.specs.Numbers.{number_of};
-ghost use Rattle.broker_tables.specs.Calm.{CalmQueries};
+ghost use Rattle.broker_tables.specs.Failures.{LooksUp};
 ghost use Rattle.deploy_tables.specs.AnyThere.{AnswersOnlyIf, IsOfAVersion, EachReleasedIsThere};
 ghost use Rattle.deploy_tables.specs.Needs.{need_cmp, ListsNeeds};
 
@@ -55,7 +55,7 @@ fn needs_numbered<S: Alter>(
     version: &Version,
     environment: &str,
 ) -> Result<Vec<Need>, StoreFault>
-    ensures answers { CalmQueries S.Store conn.old conn.new result
+    ensures answers { LooksUp S.Store conn.old conn.new result
         (λ found s. number_of s.versions version.now ≡ Some number →
         Lists need_cmp (IsNeed s version.now environment.now) found.items) }
     ensures named { AnswersOnlyIf S.Store conn.old conn.new result (EachReleasedIsThere environment.now) }
@@ -79,7 +79,7 @@ pub fn needs<S: Alter>(
     number: u32,
     environment: &str,
 ) -> Result<Vec<Need>, StoreFault>
-    ensures answers { CalmQueries S.Store conn.old conn.new result
+    ensures answers { LooksUp S.Store conn.old conn.new result
         (λ found s. ListsNeeds s number environment.now found.items) }
     ensures named { AnswersOnlyIf S.Store conn.old conn.new result
         (λ db. IsOfAVersion db (Int (pos number)) → EachReleasedIsThere environment.now db) }

@@ -4,7 +4,7 @@ ghost use Rattle.sqlite.specs.Order.{column};
 ghost use Rattle.sqlite.specs.declared.types.Value.TheVariants.{Null};
 ghost use Rattle.deploy_tables.specs.AnyThere.{AnswersOnlyIf, HasNull};
 ghost use Rattle.broker_core.specs.Gate.{IsPresent};
-ghost use Rattle.broker_tables.specs.Calm.{CalmQueries};
+ghost use Rattle.broker_tables.specs.Failures.{LooksUp};
 ghost use Rattle.contract_tables.specs.Listings.{FailsAsNumbers};
 ghost use Rattle.deploy_tables.specs.ContractsThere.{IsDeployedIn, IsReleasedIn, ReportsContracts, ReportsContractsIfAny, IsNumberedRow, IsContractIfAny, FailsAsContractIfAny};
 
@@ -81,7 +81,7 @@ fn contracts_if_any<S: Alter>(
     environment: &str,
     provider: &str,
 ) -> Result<Vec<Option<NumberedContract>>, StoreFault>
-    ensures answers { CalmQueries S.Store conn.old conn.new result
+    ensures answers { LooksUp S.Store conn.old conn.new result
         (λ found s. ReportsContractsIfAny s provider.now (IsDeployedIn s environment.now) found.items) }
     ensures null { AnswersOnlyIf S.Store conn.old conn.new result (λ db. ¬ (HasNull environment.now db)) }
 {
@@ -117,7 +117,7 @@ fn deployed_contracts<S: Alter>(
     environment: &str,
     provider: &str,
 ) -> Result<Vec<NumberedContract>, StoreFault>
-    ensures answers { CalmQueries S.Store conn.old conn.new result
+    ensures answers { LooksUp S.Store conn.old conn.new result
         (λ found s. ReportsContracts s provider.now (IsDeployedIn s environment.now) found.items) }
     ensures null { AnswersOnlyIf S.Store conn.old conn.new result (λ db. ¬ (HasNull environment.now db)) }
 {
@@ -135,7 +135,7 @@ fn released_contracts<S: Alter>(
     environment: &str,
     provider: &str,
 ) -> Result<Vec<NumberedContract>, StoreFault>
-    ensures { CalmQueries S.Store conn.old conn.new result
+    ensures { LooksUp S.Store conn.old conn.new result
         (λ found s. ReportsContracts s provider.now (IsReleasedIn s environment.now) found.items) }
 {
     list_of::<NumberedRow, S>(
@@ -158,7 +158,7 @@ pub(crate) fn contracts_there<S: Alter>(
     environment: &str,
     provider: &str,
 ) -> Result<Vec<NumberedContract>, StoreFault>
-    ensures answers { CalmQueries S.Store conn.old conn.new result
+    ensures answers { LooksUp S.Store conn.old conn.new result
         (λ found s. ReportsContracts s provider.now (IsPresent s environment.now) found.items) }
     ensures null { AnswersOnlyIf S.Store conn.old conn.new result (λ db. ¬ (HasNull environment.now db)) }
 {

@@ -2,8 +2,8 @@
 ghost use Rattle.std.specs.Prelude.{◌≡◌, ◌==◌, false, codes, [], ◌∷◌};
 ghost use Rattle.std.specs.Option.{option_map_or};
 ghost use Rattle.broker_tables.specs.Holds.{Changes, ChangesAndAnswers};
-ghost use Rattle.broker_tables.specs.Calm.{CalmQueriesInPlace, IsCalmInPlace};
-ghost use Rattle.broker_tables.specs.ChangeRefusals.{IsCalmStoring};
+ghost use Rattle.broker_tables.specs.Failures.{LooksUpInPlace, FailsByStoreInPlace};
+ghost use Rattle.broker_tables.specs.ChangeRefusals.{FailsByStoreStoring};
 ghost use Rattle.deploy_tables.specs.Deployments.{RecordsDeployed, MayBeDeployed, IsVersionOf, FindsDeployed, TakesOutAndReports, FindsNothing};
 
 use sqlite::{Alter, Connection, params};
@@ -22,7 +22,7 @@ pub fn is_deployed<S: Alter>(
     instance: &str,
     number: u32,
 ) -> Result<bool, StoreFault>
-    ensures { CalmQueriesInPlace S.Store conn.old conn.new result
+    ensures { LooksUpInPlace S.Store conn.old conn.new result
         (FindsDeployed environment.now pacticipant.now instance.now number) }
 {
     let found = done!(find_number(
@@ -58,7 +58,7 @@ pub fn record_deployed<S: Alter>(
 ) -> Result<(), StoreFault>
     ensures changes { Changes S.Store conn.old conn.new result
         (RecordsDeployed environment.now pacticipant.now instance.now number) }
-    ensures calm { IsCalmStoring S.Store conn.old conn.new result (codes "deployed" ∷ [])
+    ensures failure { FailsByStoreStoring S.Store conn.old conn.new result (codes "deployed" ∷ [])
         (environment.now ∷ pacticipant.now ∷ instance.now ∷ []) (MayBeDeployed environment.now pacticipant.now number) }
 {
     change(
@@ -87,7 +87,7 @@ pub fn take_out<S: Alter>(
         (TakesOutAndReports environment.now pacticipant.now instance.now number) }
     ensures unknown { ChangesAndAnswers S.Store conn.old conn.new result
         (λ s. ¬ (IsVersionOf pacticipant.now number s)) FindsNothing }
-    ensures calm { IsCalmInPlace S.Store conn.old conn.new result }
+    ensures failure { FailsByStoreInPlace S.Store conn.old conn.new result }
 {
     let taken = done!(change_counted(
         conn,

@@ -1,5 +1,5 @@
 //! What the gate lacks of a version in an environment.
-ghost use Rattle.broker_tables.specs.Calm.{CalmQueries};
+ghost use Rattle.broker_tables.specs.Failures.{LooksUp};
 ghost use Rattle.deploy_tables.specs.AnyThere.{AnswersOnlyIf, EachReleasedIsThere};
 ghost use Rattle.deploy_tables.specs.Needs.{ListsFaults};
 
@@ -29,7 +29,7 @@ pub fn faults<S: Alter>(
     environment: &str,
     strict: bool,
 ) -> Result<Vec<PairFault>, StoreFault>
-    ensures answers { CalmQueries S.Store conn.old conn.new result
+    ensures answers { LooksUp S.Store conn.old conn.new result
         (λ found s. ListsFaults s number version.now environment.now strict found.items) }
     ensures named { AnswersOnlyIf S.Store conn.old conn.new result (EachReleasedIsThere environment.now) }
 {

@@ -3,7 +3,7 @@ ghost use Rattle.std.specs.Prelude.{◌≡◌, ◌↔◌, ℕ, List, IsTrue, Som
 ghost use Rattle.broker_core.specs.Listing.{Lists};
 ghost use Rattle.broker_core.specs.Machine.{deployed_cmp, version_cmp};
 ghost use Rattle.broker_core.specs.declared.command.Version.{Version as VersionModel};
-ghost use Rattle.broker_tables.specs.Calm.{CalmQueries, NeedsNoRoom};
+ghost use Rattle.broker_tables.specs.Failures.{LooksUp, TakesNoMemoryIf};
 ghost use Rattle.deploy_tables.specs.AnyThere.{AnswersOnlyIf, EachDeployedIsThere, EachReleasedIsThere};
 ghost use Rattle.deploy_tables.specs.Listings.{IsDeployedRow, IsReleasedRow, ReadsAsDeployed, ReadsAsReleased, FailsAsDeployed, FailsAsReleased};
 
@@ -85,11 +85,11 @@ pub fn deployed<S: Alter>(
     conn: &mut Connection<S>,
     environment: &str,
 ) -> Result<Vec<DeployedItem>, StoreFault>
-    ensures answers { CalmQueries S.Store conn.old conn.new result
+    ensures answers { LooksUp S.Store conn.old conn.new result
         (λ items s. Lists deployed_cmp
         (λ x. s.deployed (environment.now, x.pacticipant, x.instance) ≡ Some x.version) items.items) }
     ensures named { AnswersOnlyIf S.Store conn.old conn.new result (EachDeployedIsThere environment.now) }
-    ensures missing { NeedsNoRoom S.Store conn.old conn.new result
+    ensures missing { TakesNoMemoryIf S.Store conn.old conn.new result
         (λ s. (p i : List ℕ) → s.deployed (environment.now, p, i) ≡ None) }
 {
     list_of::<DeployedRow, S>(
@@ -111,10 +111,10 @@ pub fn released<S: Alter>(
     conn: &mut Connection<S>,
     environment: &str,
 ) -> Result<Vec<Version>, StoreFault>
-    ensures answers { CalmQueries S.Store conn.old conn.new result
+    ensures answers { LooksUp S.Store conn.old conn.new result
         (λ items s. Lists version_cmp (λ v. IsTrue (s.released (environment.now, v))) items.items) }
     ensures named { AnswersOnlyIf S.Store conn.old conn.new result (EachReleasedIsThere environment.now) }
-    ensures missing { NeedsNoRoom S.Store conn.old conn.new result
+    ensures missing { TakesNoMemoryIf S.Store conn.old conn.new result
         (λ s. (v : VersionModel) → s.released (environment.now, v) ≡ false) }
 {
     list_of::<VersionRow, S>(

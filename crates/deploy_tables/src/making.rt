@@ -4,7 +4,7 @@
 ghost use Rattle.std.specs.Prelude.{◌≡◌, ◌++◌, ◌∷◌};
 ghost use Rattle.table_access.specs.Calls.{CallsStore};
 ghost use Rattle.table_access.specs.Statements.{Makes};
-ghost use Rattle.broker_tables.specs.Making.{IsCalmOver};
+ghost use Rattle.broker_tables.specs.Making.{FailsByStoreOver};
 ghost use Rattle.broker_tables.specs.Schema.{registry_part, contents, contract_part, deploy_part, schema_of};
 
 use broker_tables::create::{DEPLOYED, RELEASED};
@@ -21,7 +21,7 @@ pub fn make_tables<S: Alter>(conn: &mut Connection<S>) -> Result<(), StoreFault>
     ensures makes { CallsStore S.Store conn.old conn.new result
         (λ _ old new. old.now.schema ≡ schema_of (registry_part ++ contents ∷ contract_part) →
         Makes deploy_part old.now new.now) }
-    ensures calm { IsCalmOver S.Store conn.old conn.new result
+    ensures failure { FailsByStoreOver S.Store conn.old conn.new result
         (λ db. db.schema ≡ schema_of (registry_part ++ contents ∷ contract_part)) }
 {
     make_each(conn, &[DEPLOYED, RELEASED])

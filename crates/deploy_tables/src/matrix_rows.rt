@@ -5,7 +5,7 @@ ghost use Rattle.broker_core.specs.declared.answer.MatrixRow.{MatrixRow as RowMo
 ghost use Rattle.broker_core.specs.Listing.{Lists};
 ghost use Rattle.broker_core.specs.Machine.{IsMatrixRow, matrix_cmp};
 ghost use Rattle.broker_tables.specs.Numbers.{number_of};
-ghost use Rattle.broker_tables.specs.Calm.{CalmQueries};
+ghost use Rattle.broker_tables.specs.Failures.{LooksUp};
 ghost use Rattle.deploy_tables.specs.Matrix.{IsOfContract, IsOfContent, IsOfSome, IsProvided, ListsMatrix};
 
 use crate::lists::add;
@@ -27,7 +27,7 @@ fn of_contract<S: Alter>(
     version: &Version,
     contract: &Contract,
 ) -> Result<Vec<MatrixRow>, StoreFault>
-    ensures { CalmQueries S.Store conn.old conn.new result
+    ensures { LooksUp S.Store conn.old conn.new result
         (λ found s. (x : RowModel) → Contains found.items x ↔ IsOfContract s version.now contract.now x) }
 {
     let verified = done!(verified_versions(
@@ -49,7 +49,7 @@ fn of_contracts<S: Alter>(
     version: &Version,
     contracts: &[Contract],
 ) -> Result<Vec<MatrixRow>, StoreFault>
-    ensures { CalmQueries S.Store conn.old conn.new result
+    ensures { LooksUp S.Store conn.old conn.new result
         (λ found s. (x : RowModel) → Contains found.items x
         ↔ IsOfSome (λ c. IsOfContract s version.now c x) contracts.now) }
 {
@@ -68,7 +68,7 @@ fn of_content<S: Alter>(
     version: &Version,
     latest: &LatestResult,
 ) -> Result<Vec<MatrixRow>, StoreFault>
-    ensures { CalmQueries S.Store conn.old conn.new result
+    ensures { LooksUp S.Store conn.old conn.new result
         (λ found s. (x : RowModel) → Contains found.items x ↔ IsOfContent s version.now latest.now x) }
 {
     let consumers = done!(consumers_of(alloc, conn, version.pacticipant.as_str(), latest.content));
@@ -85,7 +85,7 @@ fn of_contents<S: Alter>(
     version: &Version,
     results: &[LatestResult],
 ) -> Result<Vec<MatrixRow>, StoreFault>
-    ensures { CalmQueries S.Store conn.old conn.new result
+    ensures { LooksUp S.Store conn.old conn.new result
         (λ found s. (x : RowModel) → Contains found.items x
         ↔ IsOfSome (λ c. IsOfContent s version.now c x) results.now) }
 {
@@ -104,7 +104,7 @@ fn provided<S: Alter>(
     number: u32,
     version: &Version,
 ) -> Result<Vec<MatrixRow>, StoreFault>
-    ensures { CalmQueries S.Store conn.old conn.new result
+    ensures { LooksUp S.Store conn.old conn.new result
         (λ found s. number_of s.versions version.now ≡ Some number →
         (x : RowModel) → Contains found.items x ↔ IsProvided s version.now x) }
 {
@@ -119,7 +119,7 @@ fn matrix_numbered<S: Alter>(
     number: u32,
     version: &Version,
 ) -> Result<Vec<MatrixRow>, StoreFault>
-    ensures { CalmQueries S.Store conn.old conn.new result
+    ensures { LooksUp S.Store conn.old conn.new result
         (λ rows s. number_of s.versions version.now ≡ Some number →
         Lists matrix_cmp (IsMatrixRow s version.now) rows.items) }
 {
@@ -142,7 +142,7 @@ pub fn matrix<S: Alter>(
     conn: &mut Connection<S>,
     number: u32,
 ) -> Result<Vec<MatrixRow>, StoreFault>
-    ensures { CalmQueries S.Store conn.old conn.new result (λ rows s. ListsMatrix s number rows.items) }
+    ensures { LooksUp S.Store conn.old conn.new result (λ rows s. ListsMatrix s number rows.items) }
 {
     match done!(find_version(alloc, conn, number)) {
         Some(version) => matrix_numbered(alloc, conn, number, &version),

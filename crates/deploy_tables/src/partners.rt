@@ -1,7 +1,7 @@
 //! The versions of a provider that are in an environment, by their numbers.
 ghost use Rattle.std.specs.Prelude.{◌≡◌, ◌++◌, ◌↔◌, IfOk, filter_map};
 ghost use Rattle.broker_core.specs.Gate.{IsPresent};
-ghost use Rattle.broker_tables.specs.Calm.{CalmQueries};
+ghost use Rattle.broker_tables.specs.Failures.{LooksUp};
 ghost use Rattle.deploy_tables.specs.AnyThere.{AnswersOnlyIf, EachReleasedIsThere};
 ghost use Rattle.deploy_tables.specs.ContractsThere.{IsDeployedIn};
 ghost use Rattle.deploy_tables.specs.Partners.{ArePartners, AreReleasedThere, number_if};
@@ -21,7 +21,7 @@ fn deployed_partners<S: Alter>(
     environment: &str,
     provider: &str,
 ) -> Result<Vec<u32>, StoreFault>
-    ensures { CalmQueries S.Store conn.old conn.new result
+    ensures { LooksUp S.Store conn.old conn.new result
         (λ found s. ArePartners s provider.now (IsDeployedIn s environment.now) found.items) }
 {
     list_of::<NumberRow, S>(
@@ -39,7 +39,7 @@ pub(crate) fn released_numbers<S: Alter>(
     conn: &mut Connection<S>,
     environment: &str,
 ) -> Result<Vec<NumberedName>, StoreFault>
-    ensures answers { CalmQueries S.Store conn.old conn.new result
+    ensures answers { LooksUp S.Store conn.old conn.new result
         (λ found s. AreReleasedThere s environment.now found.items) }
     ensures named { AnswersOnlyIf S.Store conn.old conn.new result (EachReleasedIsThere environment.now) }
 {
@@ -88,7 +88,7 @@ pub(crate) fn partners<S: Alter>(
     released: &[NumberedName],
     provider: &Name,
 ) -> Result<Vec<u32>, StoreFault>
-    ensures { CalmQueries S.Store conn.old conn.new result
+    ensures { LooksUp S.Store conn.old conn.new result
         (λ found s. AreReleasedThere s environment.now released.now →
         ArePartners s provider.now (IsPresent s environment.now) found.items) }
 {

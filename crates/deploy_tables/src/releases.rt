@@ -2,8 +2,8 @@
 ghost use Rattle.std.specs.Prelude.{◌≡◌, Some, codes, [], ◌∷◌};
 ghost use Rattle.broker_core.specs.declared.command.Version.{Version as VersionModel};
 ghost use Rattle.broker_tables.specs.Holds.{Changes, ChangesAndAnswers};
-ghost use Rattle.broker_tables.specs.Calm.{CalmQueriesInPlace, IsCalmInPlace};
-ghost use Rattle.broker_tables.specs.ChangeRefusals.{IsCalmStoring};
+ghost use Rattle.broker_tables.specs.Failures.{LooksUpInPlace, FailsByStoreInPlace};
+ghost use Rattle.broker_tables.specs.ChangeRefusals.{FailsByStoreStoring};
 ghost use Rattle.broker_tables.specs.Numbers.{number_of};
 ghost use Rattle.deploy_tables.specs.Releases.{IsVersion, FindsReleased, RecordsReleased, MayBeReleased, EndsSupport};
 
@@ -19,7 +19,7 @@ pub fn is_released<S: Alter>(
     environment: &str,
     number: u32,
 ) -> Result<bool, StoreFault>
-    ensures { CalmQueriesInPlace S.Store conn.old conn.new result (FindsReleased environment.now number) }
+    ensures { LooksUpInPlace S.Store conn.old conn.new result (FindsReleased environment.now number) }
 {
     has_row(
         conn,
@@ -39,7 +39,7 @@ pub fn record_released<S: Alter>(
     number: u32,
 ) -> Result<(), StoreFault>
     ensures changes { Changes S.Store conn.old conn.new result (RecordsReleased environment.now number) }
-    ensures calm { IsCalmStoring S.Store conn.old conn.new result (codes "released" ∷ []) (environment.now ∷ [])
+    ensures failure { FailsByStoreStoring S.Store conn.old conn.new result (codes "released" ∷ []) (environment.now ∷ [])
         (MayBeReleased environment.now number) }
 {
     change(
@@ -64,7 +64,7 @@ pub fn end_support<S: Alter>(
         (IsVersion number) (λ stood s t. EndsSupport environment.now number s t
         × ((v : VersionModel) → number_of s.versions v ≡ Some number →
         stood ≡ s.released (environment.now, v))) }
-    ensures calm { IsCalmInPlace S.Store conn.old conn.new result }
+    ensures failure { FailsByStoreInPlace S.Store conn.old conn.new result }
 {
     let ended = done!(change_counted(
         conn,

@@ -4,7 +4,7 @@ ghost use Rattle.std.specs.Prelude.{◌≡◌, ◌∷◌, [], ◌↔◌, IfOk, I
 ghost use Rattle.broker_core.specs.declared.need.Need.{Need as NeedModel};
 ghost use Rattle.broker_core.specs.Gate.{IsNeed};
 ghost use Rattle.broker_tables.specs.Numbers.{number_of};
-ghost use Rattle.broker_tables.specs.Calm.{CalmQueries, IsCalmFrom};
+ghost use Rattle.broker_tables.specs.Failures.{LooksUp, FailsByStoreFrom};
 ghost use Rattle.broker_tables.specs.Holds.{Queries};
 ghost use Rattle.deploy_tables.specs.AnyThere.{AnswersOnlyIf, EachReleasedIsThere, IsOfAVersionUnless};
 ghost use Rattle.deploy_tables.specs.Matrix.{IsOfSome};
@@ -133,7 +133,7 @@ fn with_latest<S: Alter>(
     ensures answers { Queries S.Store conn.old conn.new result
         (λ found s. IsSaidOf s contract.now partner latest → (x : NeedModel) → Contains found.items x
         ↔ IsWithPartner s version.now contract.now selection partner x) }
-    ensures calm { IsCalmFrom S.Store conn.old conn.new result (IsVersion partner) }
+    ensures failure { FailsByStoreFrom S.Store conn.old conn.new result (IsVersion partner) }
     ensures named { AnswersOnlyIf S.Store conn.old conn.new result
         (IsOfAVersionUnless (IsTrue (is_left_out selection latest)) partner) }
 {
@@ -160,7 +160,7 @@ fn with_partner<S: Alter>(
     ensures answers { Queries S.Store conn.old conn.new result
         (λ found s. (x : NeedModel) → Contains found.items x
         ↔ IsWithPartner s version.now contract.now selection partner x) }
-    ensures calm { IsCalmFrom S.Store conn.old conn.new result (IsVersion partner) }
+    ensures failure { FailsByStoreFrom S.Store conn.old conn.new result (IsVersion partner) }
 {
     let latest = done!(latest_of(conn, contract.content, partner));
     with_latest(alloc, conn, version, contract, partner, latest, selection)
@@ -178,7 +178,7 @@ fn with_partners<S: Alter>(
     ensures answers { Queries S.Store conn.old conn.new result
         (λ found s. (x : NeedModel) → Contains found.items x
         ↔ IsOfSome (λ n. IsWithPartner s version.now contract.now selection n x) there.now) }
-    ensures calm { IsCalmFrom S.Store conn.old conn.new result (λ s. AreNumbersOfVersions s there.now) }
+    ensures failure { FailsByStoreFrom S.Store conn.old conn.new result (λ s. AreNumbersOfVersions s there.now) }
 {
     let mut found = Vec::new(alloc);
     for partner in there {
@@ -201,7 +201,7 @@ fn needs_of_contract<S: Alter>(
     ensures answers { Queries S.Store conn.old conn.new result
         (λ found s. AreReleasedThere s environment.now released.now → (x : NeedModel) →
         Contains found.items x ↔ IsNeedOfContract s version.now environment.now selection contract.now x) }
-    ensures calm { IsCalmFrom S.Store conn.old conn.new result
+    ensures failure { FailsByStoreFrom S.Store conn.old conn.new result
         (λ s. AreReleasedThere s environment.now released.now) }
 {
     let there = done!(partners(alloc, conn, environment, released, &contract.provider));
@@ -224,7 +224,7 @@ fn needs_of_contracts<S: Alter>(
     ensures answers { Queries S.Store conn.old conn.new result
         (λ found s. AreReleasedThere s environment.now released.now → (x : NeedModel) →
         Contains found.items x ↔ IsOfSome (λ c. IsNeedOfContract s version.now environment.now selection c x) contracts.now) }
-    ensures calm { IsCalmFrom S.Store conn.old conn.new result
+    ensures failure { FailsByStoreFrom S.Store conn.old conn.new result
         (λ s. AreReleasedThere s environment.now released.now) }
 {
     let mut found = Vec::new(alloc);
@@ -253,7 +253,7 @@ fn own_needs<S: Alter>(
     environment: &str,
     selection: Selection,
 ) -> Result<Vec<Need>, StoreFault>
-    ensures answers { CalmQueries S.Store conn.old conn.new result
+    ensures answers { LooksUp S.Store conn.old conn.new result
         (λ found s. AreNumbered s environment.now × (number_of s.versions version.now ≡ Some number →
         (x : NeedModel) → Contains found.items x ↔ IsOwnNeed s version.now environment.now selection x)) }
     ensures named { AnswersOnlyIf S.Store conn.old conn.new result (EachReleasedIsThere environment.now) }
@@ -306,7 +306,7 @@ fn used_by<S: Alter>(
     ensures answers { Queries S.Store conn.old conn.new result
         (λ found s. AreLatestOf s version.now results.now → (x : NeedModel) →
         Contains found.items x ↔ IsUsed s version.now selection contract x) }
-    ensures calm { IsCalmFrom S.Store conn.old conn.new result (IsVersion contract.number) }
+    ensures failure { FailsByStoreFrom S.Store conn.old conn.new result (IsVersion contract.number) }
     ensures named { AnswersOnlyIf S.Store conn.old conn.new result
         (IsOfAVersionUnless (IsLeftOutBy results.now selection contract.content) contract.number) }
 {
@@ -334,7 +334,7 @@ fn used_by_each<S: Alter>(
     ensures answers { Queries S.Store conn.old conn.new result
         (λ found s. AreLatestOf s version.now results.now → (x : NeedModel) →
         Contains found.items x ↔ IsOfSome (λ c. IsUsed s version.now selection c x) contracts.now) }
-    ensures calm { IsCalmFrom S.Store conn.old conn.new result (λ s. AreOfVersions s contracts.now) }
+    ensures failure { FailsByStoreFrom S.Store conn.old conn.new result (λ s. AreOfVersions s contracts.now) }
 {
     let mut found = Vec::new(alloc);
     for contract in contracts {
@@ -353,7 +353,7 @@ fn needs_of_others<S: Alter>(
     environment: &str,
     selection: Selection,
 ) -> Result<Vec<Need>, StoreFault>
-    ensures { CalmQueries S.Store conn.old conn.new result
+    ensures { LooksUp S.Store conn.old conn.new result
         (λ found s. number_of s.versions version.now ≡ Some number → (x : NeedModel) →
         Contains found.items x ↔ IsNeedOfOthers s version.now environment.now selection x) }
 {
@@ -372,7 +372,7 @@ pub(crate) fn selected_needs<S: Alter>(
     environment: &str,
     selection: Selection,
 ) -> Result<Vec<Need>, StoreFault>
-    ensures answers { CalmQueries S.Store conn.old conn.new result
+    ensures answers { LooksUp S.Store conn.old conn.new result
         (λ found s. number_of s.versions version.now ≡ Some number → (x : NeedModel) →
         Contains found.items x ↔ (IsNeed s version.now environment.now x × IsSelected selection x)) }
     ensures named { AnswersOnlyIf S.Store conn.old conn.new result (EachReleasedIsThere environment.now) }

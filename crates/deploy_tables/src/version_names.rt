@@ -6,7 +6,7 @@ ghost use Rattle.sqlite.specs.declared.types.Value.TheVariants.{Int};
 ghost use Rattle.broker_tables.specs.Asking.{CanBeAsked};
 ghost use Rattle.broker_core.specs.declared.command.Version.{Version as VersionModel};
 ghost use Rattle.broker_tables.specs.Numbers.{number_of};
-ghost use Rattle.broker_tables.specs.Calm.{CalmQueries, IsCalmFrom};
+ghost use Rattle.broker_tables.specs.Failures.{LooksUp, FailsByStoreFrom};
 ghost use Rattle.broker_tables.specs.Holds.{Queries};
 ghost use Rattle.deploy_tables.specs.AnyThere.{AnswersAsIn, AnswersOnlyIf, IsOfAVersion};
 ghost use Rattle.deploy_tables.specs.Releases.{IsVersion, FindsVersion};
@@ -23,7 +23,7 @@ fn versions_numbered<S: Alter>(
     conn: &mut Connection<S>,
     number: u32,
 ) -> Result<Vec<Version>, StoreFault>
-    ensures answers { CalmQueries S.Store conn.old conn.new result
+    ensures answers { LooksUp S.Store conn.old conn.new result
         (λ found s. (w : VersionModel) → Contains found.items w ↔ (number_of s.versions w ≡ Some number)) }
     ensures named { AnswersAsIn S.Store conn.old conn.new result
         (λ found db. (0 < length found.items) ↔ IsOfAVersion db (Int (pos number))) }
@@ -49,7 +49,7 @@ pub(crate) fn find_version<S: Alter>(
     conn: &mut Connection<S>,
     number: u32,
 ) -> Result<Option<Version>, StoreFault>
-    ensures answers { CalmQueries S.Store conn.old conn.new result (FindsVersion number) }
+    ensures answers { LooksUp S.Store conn.old conn.new result (FindsVersion number) }
     ensures named { AnswersAsIn S.Store conn.old conn.new result
         (λ found db. IsSome found ↔ IsOfAVersion db (Int (pos number))) }
     ensures stays { HasCleanDisk (state S.Store conn.new) → CanBeAsked (state S.Store conn.old) →
@@ -69,7 +69,7 @@ pub(crate) fn version_numbered<S: Alter>(
     number: u32,
 ) -> Result<Version, StoreFault>
     ensures answers { Queries S.Store conn.old conn.new result (λ found s. number_of s.versions found ≡ Some number) }
-    ensures calm { IsCalmFrom S.Store conn.old conn.new result (IsVersion number) }
+    ensures failure { FailsByStoreFrom S.Store conn.old conn.new result (IsVersion number) }
     ensures named { AnswersOnlyIf S.Store conn.old conn.new result (λ db. IsOfAVersion db (Int (pos number))) }
 {
     match done!(find_version(alloc, conn, number)) {

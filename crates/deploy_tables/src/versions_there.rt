@@ -3,7 +3,7 @@ ghost use Rattle.std.specs.Prelude.{◌≡◌, IfOk, Contains, map};
 ghost use Rattle.broker_core.specs.Gate.{IsPresent};
 ghost use Rattle.broker_core.specs.Listing.{Lists};
 ghost use Rattle.broker_core.specs.Machine.{version_cmp};
-ghost use Rattle.broker_tables.specs.Calm.{CalmQueries};
+ghost use Rattle.broker_tables.specs.Failures.{LooksUp};
 ghost use Rattle.deploy_tables.specs.Listings.{deployed_version};
 
 use crate::listings::{deployed, released};
@@ -66,7 +66,7 @@ pub fn standing<S: Alter>(
     conn: &mut Connection<S>,
     environment: &str,
 ) -> Result<Vec<Version>, StoreFault>
-    ensures { CalmQueries S.Store conn.old conn.new result
+    ensures { LooksUp S.Store conn.old conn.new result
         (λ found s. Lists version_cmp (IsPresent s environment.now) found.items) }
 {
     let deployed = done!(deployed(alloc, conn, environment));

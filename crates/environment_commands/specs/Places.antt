@@ -12,7 +12,7 @@ use Rattle.broker_core.specs.declared.command.Marks.{Marks}
 use Rattle.broker_core.specs.declared.command.Version.{Version}
 use Rattle.broker_core.specs.declared.policy.Caller.{Caller}
 use Rattle.broker_core.specs.declared.policy.Rule.{Rule}
-use Rattle.broker_core.specs.declared.policy.Rule.TheVariants.{A6, A7}
+use Rattle.broker_core.specs.declared.policy.Rule.TheVariants.{OwnerOrOfficeToAsk, OwnerWithGrant}
 use Rattle.broker_tables.specs.Numbers.{number_of}
 use Rattle.broker_tables.specs.ChangeRefusals.{AreShort}
 use Rattle.caller_facts.specs.Owners.{IsOwnerRead}
@@ -32,7 +32,7 @@ pub record IsVersionRead (s : Broker) (caller : Caller) (rule : Rule) (v : Versi
 
 -- what is read of a version for a caller who would change where it is deployed or released, and the environment's marks
 pub record IsPlaceRead (s : Broker) (caller : Caller) (e : Text) (v : Version) (found : PlaceFacts) : Type 0 where
-  pub version : IsVersionRead s caller A7 v (has_grant s caller (Some e)) found.version
+  pub version : IsVersionRead s caller OwnerWithGrant v (has_grant s caller (Some e)) found.version
   pub marks_is : s.environments e ≡ found.marks
 
 -- the version has this number
@@ -93,10 +93,10 @@ Admits place admission = (s : Broker) (caller : Caller) (e : Text) (v : Version)
 -- if this was read of a version and an environment, the question to the gate has this refusal, or none
 abbrev pub GateHasRefusal : VersionFacts → Option Marks → Option Answer → Type 0
 GateHasRefusal version marks answer = (s : Broker) (caller : Caller) (v : Version) (e : Text)
-    → IsVersionRead s caller A6 v false version → s.environments e ≡ marks
+    → IsVersionRead s caller OwnerOrOfficeToAsk v false version → s.environments e ≡ marks
     → refusal s caller (CanIDeploy v e) ≡ answer
 
 -- if this was read of a version, the question for its matrix has this refusal, or none
 abbrev pub MatrixHasRefusal : VersionFacts → Option Answer → Type 0
 MatrixHasRefusal version answer = (s : Broker) (caller : Caller) (v : Version)
-    → IsVersionRead s caller A6 v false version → refusal s caller (GetMatrix v) ≡ answer
+    → IsVersionRead s caller OwnerOrOfficeToAsk v false version → refusal s caller (GetMatrix v) ≡ answer

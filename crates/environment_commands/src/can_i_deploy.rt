@@ -1,9 +1,9 @@
 //! What the gate would say of a version.
 ghost use Rattle.std.specs.Prelude.{◌≡◌, Some, None, false, IfOk, IfErr};
 ghost use Rattle.broker_core.specs.declared.command.Command.TheVariants.{CanIDeploy};
-ghost use Rattle.broker_core.specs.declared.policy.Rule.TheVariants.{A6};
-ghost use Rattle.broker_tables.specs.Calm.{CalmQueries};
-ghost use Rattle.command_facts.specs.Performs.{CarriesCalmly};
+ghost use Rattle.broker_core.specs.declared.policy.Rule.TheVariants.{OwnerOrOfficeToAsk};
+ghost use Rattle.broker_tables.specs.Failures.{LooksUp};
+ghost use Rattle.command_facts.specs.Performs.{CarriesUnrefused};
 ghost use Rattle.environment_commands.specs.Effects.{IsGateShown, shows_gate};
 ghost use Rattle.environment_commands.specs.Places.{IsVersionRead, GateHasRefusal};
 
@@ -30,7 +30,7 @@ fn admitted_to_ask(version: VersionFacts, marks: Option<Marks>) -> Result<Admitt
             Some(marks) => if version.owner.is_allowed {
                 Ok(Admitted { number, marks })
             } else {
-                Err(Answer::Denied(Rule::A6))
+                Err(Answer::Denied(Rule::OwnerOrOfficeToAsk))
             },
             None => Err(Answer::Unknown(Missing::Environment)),
         },
@@ -45,11 +45,11 @@ fn read_gate_facts<S: Alter>(
     version: &Version,
     environment: &Name,
 ) -> Result<(VersionFacts, Option<Marks>), StoreFault>
-    ensures { CalmQueries S.Store conn.old conn.new result
-        (λ found s. IsVersionRead s caller.now A6 version.now false found.0
+    ensures { LooksUp S.Store conn.old conn.new result
+        (λ found s. IsVersionRead s caller.now OwnerOrOfficeToAsk version.now false found.0
         × (s.environments environment.now ≡ found.1)) }
 {
-    let facts = done!(read_version(conn, caller, Rule::A6, version, false));
+    let facts = done!(read_version(conn, caller, Rule::OwnerOrOfficeToAsk, version, false));
     let marks = done!(marks_of(conn, environment.as_str()));
     Ok((facts, marks))
 }
@@ -83,7 +83,7 @@ fn show_gate<S: Alter>(
     environment: &Name,
     place: Admitted,
 ) -> Result<Answer, StoreFault>
-    ensures { CalmQueries S.Store conn.old conn.new result
+    ensures { LooksUp S.Store conn.old conn.new result
         (IsGateShown environment.now version.now place) }
 {
     let (permitted, faults) = done!(gate_verdict(alloc, conn, environment, version, place));
@@ -98,7 +98,7 @@ pub fn can_i_deploy<S: Alter>(
     version: &Version,
     environment: &Name,
 ) -> Result<Answer, StoreFault>
-    ensures { CarriesCalmly S.Store conn.old conn.new result caller.now (CanIDeploy version.now environment.now) }
+    ensures { CarriesUnrefused S.Store conn.old conn.new result caller.now (CanIDeploy version.now environment.now) }
 {
     let (facts, marks) = done!(read_gate_facts(conn, caller, version, environment));
     match admitted_to_ask(facts, marks) {

@@ -2,8 +2,8 @@
 ghost use Rattle.std.specs.Prelude.{◌≡◌};
 ghost use Rattle.broker_core.specs.Change.{end_support as unsupported};
 ghost use Rattle.broker_core.specs.declared.command.Command.TheVariants.{EndSupport};
-ghost use Rattle.broker_tables.specs.Calm.{IsCalmInPlace};
-ghost use Rattle.command_facts.specs.Performs.{CarriesCalmly, PerformsWhere};
+ghost use Rattle.broker_tables.specs.Failures.{FailsByStoreInPlace};
+ghost use Rattle.command_facts.specs.Performs.{CarriesUnrefused, PerformsWhere};
 ghost use Rattle.environment_commands.specs.Places.{HasNumber};
 
 use crate::places::read_admitted;
@@ -23,7 +23,7 @@ fn remove_release<S: Alter>(
 ) -> Result<Answer, StoreFault>
     ensures answers { PerformsWhere S.Store conn.old conn.new result
         (HasNumber version.now number) (λ s out. out ≡ unsupported s environment.now version.now) }
-    ensures calm { IsCalmInPlace S.Store conn.old conn.new result }
+    ensures failure { FailsByStoreInPlace S.Store conn.old conn.new result }
 {
     if done!(deploy_tables::end_support(conn, environment.as_str(), number)) {
         Ok(Answer::Done(Detail::Plain))
@@ -39,7 +39,7 @@ pub fn end_support<S: Alter>(
     environment: &Name,
     version: &Version,
 ) -> Result<Answer, StoreFault>
-    ensures { CarriesCalmly S.Store conn.old conn.new result caller.now (EndSupport environment.now version.now) }
+    ensures { CarriesUnrefused S.Store conn.old conn.new result caller.now (EndSupport environment.now version.now) }
 {
     match done!(read_admitted(conn, caller, environment, version)) {
         Ok(place) => remove_release(conn, environment, version, place.number),

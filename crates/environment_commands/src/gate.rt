@@ -1,6 +1,6 @@
 //! The gate.
 ghost use Rattle.std.specs.Prelude.{◌≡◌, ◌==◌, ◌||◌, length, not};
-ghost use Rattle.broker_tables.specs.Calm.{CalmQueries};
+ghost use Rattle.broker_tables.specs.Failures.{LooksUp};
 ghost use Rattle.environment_commands.specs.Effects.{GateSays};
 
 use crate::places::Admitted;
@@ -29,7 +29,7 @@ pub(crate) fn gate_verdict<S: Alter>(
     version: &Version,
     place: Admitted,
 ) -> Result<(bool, Vec<PairFault>), StoreFault>
-    ensures { CalmQueries S.Store conn.old conn.new result
+    ensures { LooksUp S.Store conn.old conn.new result
         (λ judged s. GateSays environment.now version.now place judged.0 judged.1.items s) }
 {
     let strict = place.marks.strict;

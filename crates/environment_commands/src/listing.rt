@@ -1,8 +1,8 @@
 //! The listing of an environment.
 ghost use Rattle.std.specs.Prelude.{◌≡◌, IfOk, IfErr};
 ghost use Rattle.broker_core.specs.declared.command.Command.TheVariants.{GetEnvironment};
-ghost use Rattle.broker_tables.specs.Calm.{CalmQueries};
-ghost use Rattle.command_facts.specs.Performs.{CarriesCalmly};
+ghost use Rattle.broker_tables.specs.Failures.{LooksUp};
+ghost use Rattle.command_facts.specs.Performs.{CarriesUnrefused};
 ghost use Rattle.environment_commands.specs.Effects.{ListsAll, IsEnvironmentShown, shows};
 
 use broker_core::answer::{Answer, DeployedItem, DeployedItems, Missing, Shown, Versions};
@@ -21,7 +21,7 @@ fn read_lists<S: Alter>(
     conn: &mut Connection<S>,
     environment: &Name,
 ) -> Result<(Vec<DeployedItem>, Vec<Version>), StoreFault>
-    ensures { CalmQueries S.Store conn.old conn.new result
+    ensures { LooksUp S.Store conn.old conn.new result
         (λ found s. ListsAll environment.now found.0.items found.1.items s) }
 {
     let items = done!(deployed(alloc, conn, environment.as_str()));
@@ -57,7 +57,7 @@ fn list_environment<S: Alter>(
     environment: &Name,
     marks: Marks,
 ) -> Result<Answer, StoreFault>
-    ensures { CalmQueries S.Store conn.old conn.new result (IsEnvironmentShown environment.now marks) }
+    ensures { LooksUp S.Store conn.old conn.new result (IsEnvironmentShown environment.now marks) }
 {
     let (deployed, released) = done!(read_lists(alloc, conn, environment));
     Ok(done!(environment_answer(environment, marks, deployed, released)))
@@ -70,7 +70,7 @@ pub fn get_environment<S: Alter>(
     caller: &Caller,
     environment: &Name,
 ) -> Result<Answer, StoreFault>
-    ensures { CarriesCalmly S.Store conn.old conn.new result caller.now (GetEnvironment environment.now) }
+    ensures { CarriesUnrefused S.Store conn.old conn.new result caller.now (GetEnvironment environment.now) }
 {
     match done!(marks_of(conn, environment.as_str())) {
         Some(marks) => list_environment(alloc, conn, environment, marks),

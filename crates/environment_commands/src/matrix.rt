@@ -1,8 +1,8 @@
 //! The matrix of a version.
 ghost use Rattle.std.specs.Prelude.{◌≡◌, Some, None, IfOk, IfErr};
 ghost use Rattle.broker_core.specs.declared.command.Command.TheVariants.{GetMatrix};
-ghost use Rattle.broker_tables.specs.Calm.{CalmQueries};
-ghost use Rattle.command_facts.specs.Performs.{CarriesCalmly};
+ghost use Rattle.broker_tables.specs.Failures.{LooksUp};
+ghost use Rattle.command_facts.specs.Performs.{CarriesUnrefused};
 ghost use Rattle.environment_commands.specs.Effects.{IsMatrixShown};
 ghost use Rattle.environment_commands.specs.Places.{MatrixHasRefusal};
 
@@ -25,7 +25,7 @@ fn admitted_to_matrix(version: VersionFacts) -> Result<u32, Answer>
         Ok(number) => if version.owner.is_allowed {
             Ok(number)
         } else {
-            Err(Answer::Denied(Rule::A6))
+            Err(Answer::Denied(Rule::OwnerOrOfficeToAsk))
         },
         Err(missing) => Err(Answer::Unknown(missing)),
     }
@@ -37,7 +37,7 @@ fn show_matrix<S: Alter>(
     conn: &mut Connection<S>,
     number: u32,
 ) -> Result<Answer, StoreFault>
-    ensures { CalmQueries S.Store conn.old conn.new result (IsMatrixShown number) }
+    ensures { LooksUp S.Store conn.old conn.new result (IsMatrixShown number) }
 {
     let rows = done!(matrix(alloc, conn, number));
     Ok(Answer::Shown(Shown::Matrix(MatrixRows::new(rows))))
@@ -50,9 +50,9 @@ pub fn get_matrix<S: Alter>(
     caller: &Caller,
     version: &Version,
 ) -> Result<Answer, StoreFault>
-    ensures { CarriesCalmly S.Store conn.old conn.new result caller.now (GetMatrix version.now) }
+    ensures { CarriesUnrefused S.Store conn.old conn.new result caller.now (GetMatrix version.now) }
 {
-    let facts = done!(read_version(conn, caller, Rule::A6, version, false));
+    let facts = done!(read_version(conn, caller, Rule::OwnerOrOfficeToAsk, version, false));
     match admitted_to_matrix(facts) {
         Ok(number) => show_matrix(alloc, conn, number),
         Err(answer) => Ok(answer),

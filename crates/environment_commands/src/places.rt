@@ -3,8 +3,8 @@
 ghost use Rattle.std.specs.Prelude.{◌≡◌, Some, IfOk, IfErr};
 ghost use Rattle.broker_core.specs.Change.{instance_of};
 ghost use Rattle.broker_core.specs.Request.{has_grant};
-ghost use Rattle.broker_core.specs.declared.policy.Rule.TheVariants.{A7};
-ghost use Rattle.broker_tables.specs.Calm.{CalmQueries};
+ghost use Rattle.broker_core.specs.declared.policy.Rule.TheVariants.{OwnerWithGrant};
+ghost use Rattle.broker_tables.specs.Failures.{LooksUp};
 ghost use Rattle.environment_commands.specs.Places.{IsVersionRead, IsPlaceRead, IsAdmission, MissesFirst, Admits};
 
 use broker_core::answer::{Answer, Missing};
@@ -73,7 +73,7 @@ fn admitted_to_change(place: PlaceFacts) -> Result<Admitted, Answer>
             Ok(number) => if place.version.owner.is_allowed {
                 Ok(Admitted { number, marks })
             } else {
-                Err(Answer::Denied(Rule::A7))
+                Err(Answer::Denied(Rule::OwnerWithGrant))
             },
             Err(missing) => Err(Answer::Unknown(missing)),
         },
@@ -89,7 +89,7 @@ pub(crate) fn read_version<S: Alter>(
     version: &Version,
     granted: bool,
 ) -> Result<VersionFacts, StoreFault>
-    ensures { CalmQueries S.Store conn.old conn.new result
+    ensures { LooksUp S.Store conn.old conn.new result
         (λ found s. IsVersionRead s caller.now rule version.now granted found) }
 {
     let owner = done!(read_owner(conn, caller, rule, &version.pacticipant, granted));
@@ -105,11 +105,11 @@ fn read_granted<S: Alter>(
     environment: &Name,
     version: &Version,
 ) -> Result<VersionFacts, StoreFault>
-    ensures { CalmQueries S.Store conn.old conn.new result
-        (λ found s. IsVersionRead s caller.now A7 version.now (has_grant s caller.now (Some environment.now)) found) }
+    ensures { LooksUp S.Store conn.old conn.new result
+        (λ found s. IsVersionRead s caller.now OwnerWithGrant version.now (has_grant s caller.now (Some environment.now)) found) }
 {
     let granted = done!(read_grant(conn, caller, environment));
-    read_version(conn, caller, Rule::A7, version, granted)
+    read_version(conn, caller, Rule::OwnerWithGrant, version, granted)
 }
 
 /// What is asked of a version and an environment before anything changes there.
@@ -119,7 +119,7 @@ fn read_place<S: Alter>(
     environment: &Name,
     version: &Version,
 ) -> Result<PlaceFacts, StoreFault>
-    ensures { CalmQueries S.Store conn.old conn.new result
+    ensures { LooksUp S.Store conn.old conn.new result
         (λ found s. IsPlaceRead s caller.now environment.now version.now found) }
 {
     let version = done!(read_granted(conn, caller, environment, version));
@@ -135,7 +135,7 @@ pub(crate) fn read_admitted<S: Alter>(
     environment: &Name,
     version: &Version,
 ) -> Result<Result<Admitted, Answer>, StoreFault>
-    ensures { CalmQueries S.Store conn.old conn.new result (IsAdmission caller.now environment.now version.now) }
+    ensures { LooksUp S.Store conn.old conn.new result (IsAdmission caller.now environment.now version.now) }
 {
     let place = done!(read_place(conn, caller, environment, version));
     Ok(admitted_to_change(place))

@@ -2,8 +2,8 @@
 ghost use Rattle.std.specs.Prelude.{◌≡◌};
 ghost use Rattle.broker_core.specs.Change.{undeploy as undeployment};
 ghost use Rattle.broker_core.specs.declared.command.Command.TheVariants.{Undeploy};
-ghost use Rattle.broker_tables.specs.Calm.{IsCalmInPlace};
-ghost use Rattle.command_facts.specs.Performs.{CarriesCalmly, PerformsWhere};
+ghost use Rattle.broker_tables.specs.Failures.{FailsByStoreInPlace};
+ghost use Rattle.command_facts.specs.Performs.{CarriesUnrefused, PerformsWhere};
 ghost use Rattle.environment_commands.specs.Places.{HasNumber};
 
 use crate::places::{instance_text, read_admitted};
@@ -25,7 +25,7 @@ fn remove_deployment<S: Alter>(
 ) -> Result<Answer, StoreFault>
     ensures answers { PerformsWhere S.Store conn.old conn.new result
         (HasNumber version.now number) (λ s out. out ≡ undeployment s environment.now version.now instance.now) }
-    ensures calm { IsCalmInPlace S.Store conn.old conn.new result }
+    ensures failure { FailsByStoreInPlace S.Store conn.old conn.new result }
 {
     if done!(take_out(
         conn,
@@ -48,7 +48,7 @@ pub fn undeploy<S: Alter>(
     version: &Version,
     instance: &Option<Name>,
 ) -> Result<Answer, StoreFault>
-    ensures { CarriesCalmly S.Store conn.old conn.new result caller.now
+    ensures { CarriesUnrefused S.Store conn.old conn.new result caller.now
         (Undeploy environment.now version.now instance.now) }
 {
     match done!(read_admitted(conn, caller, environment, version)) {

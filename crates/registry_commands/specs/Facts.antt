@@ -4,7 +4,7 @@ use Rattle.std.specs.Prelude.{◌≡◌, ℕ, List, [], ◌∷◌, unwrap_or, Op
 use Rattle.broker_core.specs.Text.{Text, put_at, same_text, same_pair}
 use Rattle.broker_core.specs.State.{State as Broker}
 use Rattle.broker_core.specs.Machine.{IsCallerOfDigest, StepOfCaller, fault_of_marks}
-use Rattle.broker_core.specs.Change.{Transition, unchanged_with, done, named, joined, on_branch}
+use Rattle.broker_core.specs.Change.{Transition, unchanged_with, done, with_version, with_branch, on_branch}
 use Rattle.broker_core.specs.Limit.{has_room}
 use Rattle.broker_core.specs.Request.{is_known}
 use Rattle.broker_core.specs.declared.answer.Answer.{Answer}
@@ -12,7 +12,7 @@ use Rattle.broker_core.specs.declared.command.Command.TheVariants.{PutTeam, PutP
 use Rattle.broker_core.specs.declared.command.Marks.{Marks}
 use Rattle.broker_core.specs.declared.command.Version.{Version}
 use Rattle.broker_core.specs.declared.policy.Caller.{Caller}
-use Rattle.broker_core.specs.declared.policy.Rule.TheVariants.{A3}
+use Rattle.broker_core.specs.declared.policy.Rule.TheVariants.{OwnerToPublish}
 use Rattle.broker_tables.specs.Numbers.{number_of}
 use Rattle.command_facts.specs.Primitives.{broker_primitives}
 use Rattle.caller_facts.specs.Owners.{IsOwnerRead}
@@ -143,7 +143,7 @@ pub record IsRoomRead (s : Broker) (found : RoomFacts) : Type 0 where
 -- what naming a version asks of a state
 pub record IsNamingRead (s : Broker) (caller : Caller) (v : Version) (branch : Option Text) (found : NamingFacts)
     : Type 0 where
-  pub owner : IsOwnerRead s caller A3 v.pacticipant false found.owner
+  pub owner : IsOwnerRead s caller OwnerToPublish v.pacticipant false found.owner
   pub number : IsNumberRead s v branch found.number
   pub versions : IsRoomRead s found.versions
 
@@ -168,7 +168,7 @@ abbrev pub NamesOrJoins : NamingFacts → Type 0
 NamesOrJoins found =
     (s : Broker) (caller : Caller) (v : Version) (branch : Option Text) → IsNamingRead s caller v branch found
     → CanJoin s v branch found.number.number found.versions.count
-    × StepOfCaller broker_primitives s caller (PutVersion v branch) (done (joined (named s v) v branch))
+    × StepOfCaller broker_primitives s caller (PutVersion v branch) (done (with_branch (with_version s v) v branch))
 
 -- the texts that are stored of a version and its branch
 abbrev pub texts_of : Version → Option Text → List Text
@@ -177,15 +177,15 @@ texts_of v branch = v.pacticipant ∷ v.name ∷ unwrap_or branch [] ∷ []
 -- the version is named, has this number, and is not on the branch
 abbrev pub IsNamedApart : Version → Option Text → ℕ → Broker → Broker → Type 0
 IsNamedApart v branch number s t =
-    (t ≡ named s v) × (number_of t.versions v ≡ Some number)
+    (t ≡ with_version s v) × (number_of t.versions v ≡ Some number)
     × ((b : Text) → branch ≡ Some b → t.branches (v, b) ≡ false)
 
 -- the version of this number joins the branch, on which it isn't
 abbrev pub JoinsBranch : ℕ → Option Text → Broker → Broker → Type 0
 JoinsBranch number branch s t =
     (v : Version) × (number_of s.versions v ≡ Some number)
-    × ((b : Text) → branch ≡ Some b → s.branches (v, b) ≡ false) × (t ≡ joined s v branch)
+    × ((b : Text) → branch ≡ Some b → s.branches (v, b) ≡ false) × (t ≡ with_branch s v branch)
 
 -- the version is named, and on the branch
 abbrev pub RecordsVersion : Version → Option Text → Option ℕ → ℕ → Broker → Broker → Type 0
-RecordsVersion v branch number count s t = CanJoin s v branch number count × (t ≡ joined (named s v) v branch)
+RecordsVersion v branch number count s t = CanJoin s v branch number count × (t ≡ with_branch (with_version s v) v branch)

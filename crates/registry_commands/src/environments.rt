@@ -36,7 +36,7 @@ fn decide_put_environment(caller: &Caller, old: Option<Marks>, marks: Marks) -> 
     ensures changes { IfNone result (AddsNewEnvironment caller.now old marks) }
 {
     if !caller.is_office() {
-        return Some(Answer::Denied(Rule::A2));
+        return Some(Answer::Denied(Rule::OfficeOnly));
     }
     match old {
         Some(old) => if old.gated == marks.gated && old.strict == marks.strict {

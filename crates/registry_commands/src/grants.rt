@@ -3,8 +3,8 @@ ghost use Rattle.std.specs.Prelude.{IfSome, IfNone};
 ghost use Rattle.sqlite.specs.Held.{state};
 ghost use Rattle.table_access.specs.Calls.{ReportsMemory};
 ghost use Rattle.broker_core.specs.declared.command.Command.TheVariants.{PutGrant, DeleteGrant};
-ghost use Rattle.broker_tables.specs.Calm.{CalmQueriesInPlace};
-ghost use Rattle.command_facts.specs.Performs.{Carries, CarriesCalmly};
+ghost use Rattle.broker_tables.specs.Failures.{LooksUpInPlace};
+ghost use Rattle.command_facts.specs.Performs.{Carries, CarriesUnrefused};
 ghost use Rattle.registry_commands.specs.Facts.{IsGrantRead, AnswersPutGrant, AddsNewGrant, AnswersDeleteGrant, TakesGrant};
 
 use broker_core::answer::{Answer, Detail, Missing};
@@ -32,7 +32,7 @@ fn read_grant_facts<S: Alter>(
     team: &Name,
     environment: &Name,
 ) -> Result<GrantFacts, StoreFault>
-    ensures { CalmQueriesInPlace S.Store conn.old conn.new result
+    ensures { LooksUpInPlace S.Store conn.old conn.new result
         (λ found s. IsGrantRead s team.now environment.now found) }
 {
     let has_team = done!(has_team(conn, team.as_str()));
@@ -57,7 +57,7 @@ fn decide_put_grant(caller: &Caller, facts: GrantFacts) -> Option<Answer>
         return Some(Answer::Unknown(Missing::Environment));
     }
     if !caller.is_office() {
-        return Some(Answer::Denied(Rule::A2));
+        return Some(Answer::Denied(Rule::OfficeOnly));
     }
     if facts.has_grant {
         return Some(Answer::Already(Detail::Plain));
@@ -77,7 +77,7 @@ fn decide_delete_grant(caller: &Caller, facts: GrantFacts) -> Option<Answer>
         return Some(Answer::Unknown(Missing::Environment));
     }
     if !caller.is_office() {
-        return Some(Answer::Denied(Rule::A2));
+        return Some(Answer::Denied(Rule::OfficeOnly));
     }
     if !facts.has_grant {
         return Some(Answer::Unknown(Missing::Grant));
@@ -118,7 +118,7 @@ pub fn delete_grant<S: Alter>(
     team: &Name,
     environment: &Name,
 ) -> Result<Answer, StoreFault>
-    ensures carries { CarriesCalmly S.Store conn.old conn.new result caller.now (DeleteGrant team.now environment.now) }
+    ensures carries { CarriesUnrefused S.Store conn.old conn.new result caller.now (DeleteGrant team.now environment.now) }
     ensures memory { ReportsMemory (state S.Store conn.old) (state S.Store conn.new) result }
 {
     let facts = done!(read_grant_facts(conn, team, environment));

@@ -1,7 +1,7 @@
 //! PUT of a pacticipant.
 
 ghost use Rattle.std.specs.Prelude.{IfSome, IfNone};
-ghost use Rattle.broker_tables.specs.Calm.{CalmQueries};
+ghost use Rattle.broker_tables.specs.Failures.{LooksUp};
 ghost use Rattle.command_facts.specs.Performs.{Carries};
 ghost use Rattle.registry_commands.specs.Facts.{IsPacticipantRead, AnswersPutPacticipant, AddsNewPacticipant};
 ghost use Rattle.broker_core.specs.declared.command.Command.TheVariants.{PutPacticipant};
@@ -29,7 +29,7 @@ fn read_pacticipant_facts<S: Alter>(
     pacticipant: &Name,
     team: &Name,
 ) -> Result<PacticipantFacts, StoreFault>
-    ensures { CalmQueries S.Store conn.old conn.new result
+    ensures { LooksUp S.Store conn.old conn.new result
         (λ found s. IsPacticipantRead s pacticipant.now team.now found) }
 {
     let has_team = done!(has_team(conn, team.as_str()));
@@ -46,7 +46,7 @@ fn decide_put_pacticipant(caller: &Caller, facts: &PacticipantFacts, team: &Name
         return Some(Answer::Unknown(Missing::Team));
     }
     if !caller.is_office() {
-        return Some(Answer::Denied(Rule::A2));
+        return Some(Answer::Denied(Rule::OfficeOnly));
     }
     match &facts.owner {
         Some(owner) => if owner.as_str() == team.as_str() {

@@ -3,7 +3,7 @@
 ghost use Rattle.std.specs.Prelude.{◌≡◌, ℕ, List, [], ◌∷◌, Some, IfSome, IfNone};
 ghost use Rattle.broker_core.specs.State.{State as BrokerState};
 ghost use Rattle.broker_core.specs.Machine.{IsCallerOfDigest};
-ghost use Rattle.broker_tables.specs.Calm.{CalmQueries};
+ghost use Rattle.broker_tables.specs.Failures.{LooksUp};
 ghost use Rattle.broker_tables.specs.ChangeRefusals.{AreShort};
 ghost use Rattle.command_facts.specs.Performs.{Carries, CarriesTo};
 ghost use Rattle.registry_commands.specs.Facts.{IsTeamRead, PutsTeam, AnswersPutTeam, AddsNewTeam};
@@ -35,7 +35,7 @@ fn read_team_facts<S: Alter>(
     team: &Name,
     digest: &str,
 ) -> Result<TeamFacts, StoreFault>
-    ensures { CalmQueries S.Store conn.old conn.new result (λ found s. IsTeamRead s team.now digest.now found) }
+    ensures { LooksUp S.Store conn.old conn.new result (λ found s. IsTeamRead s team.now digest.now found) }
 {
     let old = done!(registry_tables::digest_of(conn, team.as_str()));
     let holder = done!(holder_of(alloc, conn, digest));
@@ -53,7 +53,7 @@ fn decide_put_team(caller: &Caller, facts: &TeamFacts, digest: &str) -> Option<A
         → (team : List ℕ) → ¬ (s.teams team ≡ Some digest.now)) }
 {
     if !caller.is_office() {
-        return Some(Answer::Denied(Rule::A2));
+        return Some(Answer::Denied(Rule::OfficeOnly));
     }
     match &facts.digest {
         Some(old) => if old.as_str() == digest {

@@ -1,11 +1,11 @@
 //! Naming of a version, and putting it on a branch.
 ghost use Rattle.std.specs.Prelude.{◌≡◌, ℕ, List, [], ◌∷◌, codes, Some, None, unwrap_or, IfSome, IfNone, length};
-ghost use Rattle.broker_core.specs.Change.{named, on_branch};
+ghost use Rattle.broker_core.specs.Change.{with_version, on_branch};
 ghost use Rattle.broker_core.specs.declared.command.Command.TheVariants.{PutVersion};
 ghost use Rattle.broker_core.specs.declared.command.Version.{Version as VersionModel};
-ghost use Rattle.broker_tables.specs.Calm.{CalmQueries, CalmQueriesInPlace};
+ghost use Rattle.broker_tables.specs.Failures.{LooksUp, LooksUpInPlace};
 ghost use Rattle.broker_tables.specs.Holds.{Changes, ChangesTaking, ChangesAndAnswers};
-ghost use Rattle.broker_tables.specs.ChangeRefusals.{IsCalmStoring, IsCalmChange, IsCalmTaking};
+ghost use Rattle.broker_tables.specs.ChangeRefusals.{FailsByStoreStoring, FailsByStoreChange, FailsByStoreTaking};
 ghost use Rattle.broker_tables.specs.Numbers.{number_of};
 ghost use Rattle.registry_tables.specs.Registry.{AllowsVersion, AddsVersion};
 ghost use Rattle.command_facts.specs.Performs.{Carries};
@@ -55,7 +55,7 @@ fn read_branch<S: Alter>(
     number: u32,
     branch: &Option<Name>,
 ) -> Result<bool, StoreFault>
-    ensures { CalmQueriesInPlace S.Store conn.old conn.new result
+    ensures { LooksUpInPlace S.Store conn.old conn.new result
         (λ on s. (v : VersionModel) → number_of s.versions v ≡ Some number
         → on_branch s v branch.now ≡ on) }
 {
@@ -71,7 +71,7 @@ fn read_number<S: Alter>(
     version: &Version,
     branch: &Option<Name>,
 ) -> Result<NumberFacts, StoreFault>
-    ensures { CalmQueriesInPlace S.Store conn.old conn.new result
+    ensures { LooksUpInPlace S.Store conn.old conn.new result
         (λ found s. IsNumberRead s version.now branch.now found) }
 {
     match done!(version_of(conn, version.pacticipant.as_str(), version.name.as_str())) {
@@ -88,7 +88,7 @@ fn read_number<S: Alter>(
 
 /// How many versions there are, and whether there is room for one more.
 fn read_room<S: Alter>(conn: &mut Connection<S>) -> Result<RoomFacts, StoreFault>
-    ensures { CalmQueriesInPlace S.Store conn.old conn.new result (λ found s. IsRoomRead s found) }
+    ensures { LooksUpInPlace S.Store conn.old conn.new result (λ found s. IsRoomRead s found) }
 {
     let count = done!(version_count(conn));
     Ok(RoomFacts {
@@ -104,10 +104,16 @@ fn read_naming_facts<S: Alter>(
     version: &Version,
     branch: &Option<Name>,
 ) -> Result<NamingFacts, StoreFault>
-    ensures { CalmQueries S.Store conn.old conn.new result
+    ensures { LooksUp S.Store conn.old conn.new result
         (λ found s. IsNamingRead s caller.now version.now branch.now found) }
 {
-    let owner = done!(read_owner(conn, caller, Rule::A3, &version.pacticipant, false));
+    let owner = done!(read_owner(
+        conn,
+        caller,
+        Rule::OwnerToPublish,
+        &version.pacticipant,
+        false
+    ));
     let number = done!(read_number(conn, version, branch));
     let versions = done!(read_room(conn));
     Ok(NamingFacts {
@@ -126,7 +132,7 @@ fn decide_put_version(facts: NamingFacts) -> Option<Answer>
         return Some(Answer::Unknown(Missing::Pacticipant));
     }
     if !facts.owner.is_allowed {
-        return Some(Answer::Denied(Rule::A3));
+        return Some(Answer::Denied(Rule::OwnerToPublish));
     }
     if facts.number.number.is_some() {
         if facts.number.is_on_branch {
@@ -148,7 +154,7 @@ fn add_after<S: Alter>(
 ) -> Result<u32, StoreFault>
     ensures changes { ChangesAndAnswers S.Store conn.old conn.new result
         (λ s. AllowsVersion version.now s × (count ≡ length s.versions)) (AddsVersion version.now) }
-    ensures calm { IsCalmStoring S.Store conn.old conn.new result [] (texts_of version.now None)
+    ensures failure { FailsByStoreStoring S.Store conn.old conn.new result [] (texts_of version.now None)
         (λ s. AllowsVersion version.now s × (count ≡ length s.versions)) }
 {
     let Some(number) = next_number(count) else {
@@ -174,7 +180,7 @@ fn ensure_version<S: Alter>(
     ensures changes { ChangesAndAnswers S.Store conn.old conn.new result
         (λ s. CanJoin s version.now branch.now number count)
         (IsNamedApart version.now branch.now) }
-    ensures calm { IsCalmStoring S.Store conn.old conn.new result [] (texts_of version.now None)
+    ensures failure { FailsByStoreStoring S.Store conn.old conn.new result [] (texts_of version.now None)
         (λ s. CanJoin s version.now branch.now number count) }
 {
     match number {
@@ -190,7 +196,7 @@ fn put_on_branch<S: Alter>(
     branch: &Option<Name>,
 ) -> Result<(), StoreFault>
     ensures changes { Changes S.Store conn.old conn.new result (JoinsBranch number branch.now) }
-    ensures calm { IsCalmChange S.Store conn.old conn.new result (codes "branches" ∷ []) (unwrap_or branch.now [] ∷ [])
+    ensures failure { FailsByStoreChange S.Store conn.old conn.new result (codes "branches" ∷ []) (unwrap_or branch.now [] ∷ [])
         (JoinsBranch number branch.now) }
 {
     match branch {
@@ -209,7 +215,7 @@ fn record_version<S: Alter>(
 ) -> Result<(), StoreFault>
     ensures changes { ChangesTaking S.Store conn.old conn.new 4 result
         (RecordsVersion version.now branch.now old_number count) }
-    ensures calm { IsCalmTaking S.Store conn.old conn.new 3 result (texts_of version.now branch.now)
+    ensures failure { FailsByStoreTaking S.Store conn.old conn.new 3 result (texts_of version.now branch.now)
         (λ s. CanJoin s version.now branch.now old_number count) }
 {
     let number = done!(ensure_version(conn, version, branch, old_number, count));

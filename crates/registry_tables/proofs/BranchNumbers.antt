@@ -16,9 +16,10 @@ use Rattle.table_access.proofs.{Keys.{IsNumbered-whole_at_unique}, SoundLemmas.{
 use Rattle.table_access.proofs.{Members.{any_has, IsAscending-map_on, contains_has, pairs-sound, pairs-complete, pairs-IsAscending}, Values.{binary-Lt_Int}}
 use Rattle.broker_core.{specs.{Listing.{Lists}, State.{State as Broker}, Text.{version}}, proofs.Lists.{Contains-empty, Contains-cons_cases, Contains-here}}
 use Rattle.broker_tables.specs.{Schema.{in_versions, in_branches}, Holds.{Holds}}
-use Rattle.broker_tables.proofs.{Asked.{Asked, IsShown, EachReads, EachShown-of_both, EachShown-up_to_both}, Keyed.{branches_by_key, IsAscending-keys_of_table}}
-use Rattle.broker_tables.proofs.{Placed.{at_branches, column-texts, column-whole_numbers}, Listed.{sorts, Lists-of_join}}
-use Rattle.broker_tables.proofs.{Orders.{by_both-total_int_text, by_both-exact_int_text}, ReadableRows.{IsNumberAt-of_column, IsLow-version}}
+use Rattle.broker_tables.proofs.TableQuery.{TableQuery, IsShown, EachReads, EachShown-of_both, EachShown-up_to_both}
+use Rattle.broker_tables.proofs.{Keyed.{branches_by_key, IsAscending-keys_of_table}, Placed.{at_branches, column-texts, column-whole_numbers}}
+use Rattle.broker_tables.proofs.{Listed.{sorts, Lists-of_join}, Orders.{by_both-total_int_text, by_both-exact_int_text}}
+use Rattle.broker_tables.proofs.ReadableRows.{IsNumberAt-of_column, IsLow-version}
 use Rattle.broker_tables.proofs.VersionRows.{IsNumbered-versions, version_number, column-version_pacticipant, number_of-version_row, number_of-has_row, binary-Eq_same_Int, binary-Eq_same_Text, and-three}
 use Rattle.registry_tables.{specs.Registry.{IsBranchNumber, IsNewestBelow}, proofs.BranchRows.{key, is_on}}
 
@@ -35,13 +36,13 @@ abbrev order : List (Term × Key)
 order = (col 1 in_versions.number, record { collation = Binary; descending = true }) ∷ []
 
 pub numbers : (p b : List ℕ)
-    → Asked (codes "SELECT v.number FROM versions v JOIN branches b ON b.version_number = v.number WHERE v.pacticipant = ?1 AND b.branch = ?2 ORDER BY v.number DESC")
+    → TableQuery (codes "SELECT v.number FROM versions v JOIN branches b ON b.version_number = v.number WHERE v.pacticipant = ?1 AND b.branch = ?2 ORDER BY v.number DESC")
     (Text p ∷ Text b ∷ []) (from_both in_versions.tree in_branches.tree terms (col 1 in_versions.number ∷ []) order)
 unfolding understood everything
 numbers p b = record { names = _; means = record { is = refl; plain = (refl, refl); unlisted = refl }; runs = record { whole = refl; typed = refl; sumless = refl } }
 
 pub below : (p b : List ℕ) (k : ℕ)
-    → Asked (codes "SELECT v.number FROM versions v JOIN branches b ON b.version_number = v.number WHERE v.pacticipant = ?1 AND b.branch = ?2 AND v.number < ?3 ORDER BY v.number DESC LIMIT 1")
+    → TableQuery (codes "SELECT v.number FROM versions v JOIN branches b ON b.version_number = v.number WHERE v.pacticipant = ?1 AND b.branch = ?2 AND v.number < ?3 ORDER BY v.number DESC LIMIT 1")
     (Text p ∷ Text b ∷ Int (pos k) ∷ []) (up_to 1 (from_both in_versions.tree in_branches.tree below_terms (col 1 in_versions.number ∷ []) order))
 unfolding understood everything
 below p b k = record { names = _; means = record { is = refl; plain = (refl, refl); unlisted = refl }; runs = record { whole = refl; typed = refl; sumless = refl } }

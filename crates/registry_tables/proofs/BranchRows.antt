@@ -7,7 +7,7 @@ use Rattle.sqlite_tied.specs.Compute.{everything}
 use Rattle.table_access.{specs.{Columns.{text, text_cmp, whole_at, by_both}, Statements.{from_table, by_two}}, proofs.Values.{cast-Int}}
 use Rattle.broker_core.specs.{declared.command.Version.{Version}, Text.{same_text, same_version}, State.{State as Broker}}
 use Rattle.broker_tables.specs.{Schema.{in_branches}, Rows.{has_row_at}, Numbers.{number_of}, Holds.{Holds, HoldsAfter}}
-use Rattle.broker_tables.proofs.{Asked.{Asked, IsShown, NoneFor, EachShown-of_table}, Frames.{Holds-branches}}
+use Rattle.broker_tables.proofs.{TableQuery.{TableQuery, IsShown, NoneFor, EachShown-of_table}, Frames.{Holds-branches}}
 use Rattle.broker_tables.proofs.{Keyed.{branches_by_key, finds_row, IsFree-of_has_row_at}, Ties.{both_eq, and-same}}
 use Rattle.broker_tables.proofs.{NumberLemmas.{number_of-same_version, same_version-unknown}, NoVersion.{references-not_unknown_version}}
 use Rattle.broker_tables.proofs.{Present.{has_row_at-set}, Placed.{branches, at_branches, listed, column-whole_numbers}}
@@ -25,7 +25,7 @@ is_on rows b number = option_map_or (λ n. has_row_at (by_both int_cmp text_cmp)
 -- ---- whether a version is on a branch
 
 pub on : (n : ℕ) (b : List ℕ)
-    → Asked (codes "SELECT branch FROM branches WHERE version_number = ?1 AND branch = ?2")
+    → TableQuery (codes "SELECT branch FROM branches WHERE version_number = ?1 AND branch = ?2")
     (Int (pos n) ∷ Text b ∷ []) (from_table in_branches.tree (by_two in_branches.version_number in_branches.branch) (col 1 in_branches.branch ∷ []) [])
 unfolding understood everything
 on n b = record { names = _; means = record { is = refl; plain = (refl, refl); unlisted = refl }; runs = record { whole = refl; typed = refl; sumless = refl } }

@@ -17,7 +17,7 @@ use Rattle.broker_tables.specs.Schema.{in_environments, broker_schema, in_strict
 use Rattle.broker_tables.specs.{Rows.{mark_of, IsTruthAt, truth, truth_in, value_at, has_row_at}, Asking.{HasColumns, HasBrokerTables}}
 use Rattle.broker_tables.specs.Holds.{Holds, HoldsAfter, marks_in}
 use Rattle.broker_tables.proofs.AnyTables.{laid_out, laid_out-of_HasColumns, set_out-of_IsColumnLike, AsksOf, Shown-first_kept, Shown-none_kept}
-use Rattle.broker_tables.proofs.{Asked.{Asked, IsShown, EachReads, EachShown-of_table}, Frames.{ChangesOnly-Frame, Holds-environments}}
+use Rattle.broker_tables.proofs.{TableQuery.{TableQuery, IsShown, EachReads, EachShown-of_table}, Frames.{ChangesOnly-Frame, Holds-environments}}
 use Rattle.broker_tables.proofs.{Orders.{text_cmp-antisymmetric}, TruthLemmas.{is_truth-bounds}, Growth.{has_row_at-none}, References.{references-environment}}
 use Rattle.broker_tables.proofs.Present.{value_at-is_some, has_row_at-IsAdded, value_at-option_map}
 use Rattle.broker_tables.proofs.Keyed.{environments_by_name, finds, finds_row, IsFree-of_has_row_at, strict_by_name}
@@ -110,7 +110,7 @@ module _ (e : List ℕ) (old new : State) (h : HasBrokerTables old.now.schema) (
 
 -- ---- the mark gated
 
-pub gated : (e : List ℕ) → Asked gated_sql (Text e ∷ []) gated_query
+pub gated : (e : List ℕ) → TableQuery gated_sql (Text e ∷ []) gated_query
 unfolding understood everything
 gated e = record { names = _; means = record { is = refl; plain = (refl, refl); unlisted = refl }; runs = record { whole = refl; typed = refl; sumless = refl } }
 
@@ -168,7 +168,7 @@ has_row_at-strict_mark db s e m held is = marks-strict _ _ m
     (sym (value_at-marks_in (db.trees in_strict_environments.tree) (db.trees in_environments.tree) e) ∙ held.environments e ∙ is)
 
 pub strict : (e : List ℕ)
-    → Asked (codes "SELECT environment FROM strict_environments WHERE environment = ?1")
+    → TableQuery (codes "SELECT environment FROM strict_environments WHERE environment = ?1")
     (Text e ∷ []) (from_table in_strict_environments.tree (op2 (Compare Eq Binary) (col 1 in_strict_environments.environment) (col 0 0) ∷ [])
     (col 1 in_strict_environments.environment ∷ []) [])
 unfolding understood everything

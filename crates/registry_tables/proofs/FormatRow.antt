@@ -1,7 +1,7 @@
 -- The statement that shows-made_row the format in meta's row: what it makes of the row, and why it fails.
 use Rattle.broker_tables.specs.Schema.{in_meta, in_checked_results, in_strict_environments, checked_results, strict_environments, schema_of, all_tables}
-use Rattle.broker_tables.specs.{Holds.{IsMeta, format}, Former.{HoldsUnmarked, former_format, former_tables, added_tables}}
-use Rattle.broker_tables.proofs.{Former.{KeepsOthers, HoldsUnmarked-set_format}, Placed.{meta, broker_schema-IsCalm}}
+use Rattle.broker_tables.specs.{Holds.{IsMeta, format}, Format1.{HoldsUnmarked, format_1, format_1_tables, added_tables}}
+use Rattle.broker_tables.proofs.{Format1.{KeepsOthers, HoldsUnmarked-set_format}, Placed.{meta, broker_schema-HasNoActions}}
 use Rattle.std.specs.List.{AllByRecursion}
 use Rattle.std.proofs.Common.{◌≡◌, ◌≤◌, ◌^◌, ℕ, ℤ, pos, codes, List, [], ◌∷◌, length, map, not, inl, inr, filter, refl, sym, ap, subst, ◌∙◌, slice_get, Option, Some, None, Ok, Err}
 use Rattle.sqlite.specs.{Tree.{rowid}, Cast.{cast_row}, declared.types.Value.TheVariants.{Null, Int, Text}, Order.{Row, column}}
@@ -13,12 +13,12 @@ use Rattle.sqlite_schema.specs.Rules.{Refers}
 use Rattle.sqlite_rules.{specs.{Lists.{Has}, Calls.{ids_of}}, proofs.TableLemmas.{int_is}}
 use Rattle.sqlite_keyed.proofs.ListLemmas.{IsPermutation-same}
 use Rattle.sqlite_tied.specs.Compute.{everything}
-use Rattle.table_access.{specs.{Sound.{IsNumbered}, Statements.{from_table, keeps, shows, IsCalm}}, proofs.Creation.{AllByRecursion-front}}
+use Rattle.table_access.{specs.{Sound.{IsNumbered}, Statements.{from_table, keeps, shows, HasNoActions}}, proofs.Creation.{AllByRecursion-front}}
 use Rattle.table_access.proofs.{Steps.{Means, updates, Ok-not_stopped, Ok-injective, shows-one_row}, SoundLemmas.{at_has, column-Text, has_place}}
 use Rattle.table_access.proofs.{Removal.{without_all-ids_of}, Answered.{Runs, Queried-never_stops}, Edits.{Suits, goes, refers}}
 use Rattle.table_access.proofs.Refused.{EndsAs-stopped, OnTable-stops, IsMisplaced-never_anywhere, Executes-change_fails, Fails-weaken}
 use Rattle.broker_core.specs.State.{State as Broker}
-use Rattle.registry_tables.{specs.Format.{KeepsFormerRows}, proofs.MetaRow.{alone, IsMeta-one_row, row_of, cast_row-row_of, TakesMeta, Suits-meta_row}}
+use Rattle.registry_tables.{specs.Format.{KeepsFormat1Rows}, proofs.MetaRow.{alone, IsMeta-one_row, row_of, cast_row-row_of, TakesMeta, Suits-meta_row}}
 
 abbrev pub set_sql : List ℕ
 set_sql = codes "UPDATE meta SET format = 2"
@@ -42,10 +42,10 @@ unfolding understood everything
 IsSet-all_tables = (
   record { is = refl; plain = (refl, refl); unlisted = refl },
   record { whole = refl; typed = refl; sumless = refl },
-  λ id. record { apart = refl; calm = broker_schema-IsCalm; listed = inl refl; narrow = refl; referred = λ r. refl; alone = inr refl },
+  λ id. record { apart = refl; no_actions = broker_schema-HasNoActions; listed = inl refl; narrow = refl; referred = λ r. refl; alone = inr refl },
 )
 
-module _ (old new : State) (s : Broker) (held : HoldsUnmarked former_format added_tables old.now s) where
+module _ (old new : State) (s : Broker) (held : HoldsUnmarked format_1 added_tables old.now s) where
   abbrev rows : List Row
   rows = old.now.trees in_meta.tree
 
@@ -65,22 +65,22 @@ module _ (old new : State) (s : Broker) (held : HoldsUnmarked former_format adde
   -- SET makes it of the one row
   shows-made_row : (r : Row) × (rows ≡ r ∷ []) × (shows project [] r ≡ made)
   shows-made_row =
-      let one = IsMeta-one_row former_format s.office rows held.meta in
+      let one = IsMeta-one_row format_1 s.office rows held.meta in
       let r = one.0 in
       let has : Has rows r = subst (λ xs. Has xs r) (sym one.1) (inl refl) in
       let number : column r 0 ≡ Int (pos 1) = int_is (rowid r) (at_has _ rows r numbered.1 has) ∙ ap Int one.2 in
       let digest : column r in_meta.office_digest ≡ Text s.office = column-Text old.now held.kept.sound meta (has_place _ 0 meta slice_get-meta) r has 2 _ refl refl refl refl refl ∙ ap Text one.3 in
       (r, one.1, λ i. number i ∷ Null ∷ Int (pos format) ∷ digest i ∷ [])
 
-  pub Executes-set_format : (count : ℕ) → Executes set_sql [] old new (Ok count) → HoldsUnmarked format added_tables new.now s × KeepsFormerRows old.now new.now
+  pub Executes-set_format : (count : ℕ) → Executes set_sql [] old new (Ok count) → HoldsUnmarked format added_tables new.now s × KeepsFormat1Rows old.now new.now
   Executes-set_format count h =
-      let calm : IsCalm old.now.schema.tables = subst (λ (c : Schema). IsCalm c.tables) (sym held.schema) broker_schema-IsCalm in
-      let it = updates (codes "meta") 0 meta.columns (Some 0) (0 ∷ []) meta.uniques meta.orders meta.checks [] set_sql [] old new 0 slice_get-meta [] project is.0 calm numbered shows-made_row.0 made
+      let no_actions : HasNoActions old.now.schema.tables = subst (λ (c : Schema). HasNoActions c.tables) (sym held.schema) broker_schema-HasNoActions in
+      let it = updates (codes "meta") 0 meta.columns (Some 0) (0 ∷ []) meta.uniques meta.orders meta.checks [] set_sql [] old new 0 slice_get-meta [] project is.0 no_actions numbered shows-made_row.0 made
       (ap (filter (keeps [] [])) shows-made_row.1) (ap (cast_row meta) shows-made_row.2 ∙ cast_row-row_of format s.office) count h in
       let row : new.now.trees in_meta.tree ≡ made ∷ [] = alone (filter (λ x. not (keeps [] [] x)) rows) (new.now.trees in_meta.tree) made it.1 (ap (filter (λ x. not (keeps [] [] x))) shows-made_row.1) in
       let others = subst (λ (c : Schema). AllByRecursion (KeepsOthers old.now.trees new.now.trees) c.tables) held.schema it.0.others in (
-        HoldsUnmarked-set_format former_format old.now new.now s format held it.0.schema (it.0.kept held.kept) others (subst (IsMeta format s.office) (sym row) refl),
-        AllByRecursion-front (KeepsOthers old.now.trees new.now.trees) (schema_of former_tables).tables (record checked_results { tree = in_checked_results.tree } ∷ record strict_environments { tree = in_strict_environments.tree } ∷ []) others,
+        HoldsUnmarked-set_format format_1 old.now new.now s format held it.0.schema (it.0.kept held.kept) others (subst (IsMeta format s.office) (sym row) refl),
+        AllByRecursion-front (KeepsOthers old.now.trees new.now.trees) (schema_of format_1_tables).tables (record checked_results { tree = in_checked_results.tree } ∷ record strict_environments { tree = in_strict_environments.tree } ∷ []) others,
       )
 
   -- ---- why it fails

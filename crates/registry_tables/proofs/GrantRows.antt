@@ -6,7 +6,7 @@ use Rattle.sqlite.specs.Listing.{understood}
 use Rattle.sqlite_tied.specs.Compute.{everything}
 use Rattle.table_access.specs.{Columns.{text, pair_cmp}, Statements.{from_table, by_two, keeps}}
 use Rattle.broker_core.specs.State.{State as Broker}
-use Rattle.broker_tables.{specs.{Schema.{in_grants}, Holds.{Holds, HoldsAfter}}, proofs.{Asked.{Asked, IsShown}, Frames.{Holds-grants}}}
+use Rattle.broker_tables.{specs.{Schema.{in_grants}, Holds.{Holds, HoldsAfter}}, proofs.{TableQuery.{TableQuery, IsShown}, Frames.{Holds-grants}}}
 use Rattle.broker_tables.proofs.{Keyed.{finds_row, grants_by_key, IsFree-of_has_row_at, kept_by}, Orders.{pair_cmp-IsTotalOrder, pair_cmp-IsAntisymmetric}}
 use Rattle.broker_tables.proofs.{Ties.{same_pair-text_cmp}, Present.{has_row_at-set, has_row_at-removed}, Placed.{at_grants}}
 use Rattle.broker_tables.proofs.Removed.{TakesFrom, HoldsAfter-deleted}
@@ -19,7 +19,7 @@ key r = (text in_grants.team r, text in_grants.environment r)
 -- ---- whether there is a grant
 
 pub granted : (team e : List ℕ)
-    → Asked (codes "SELECT team FROM grants WHERE team = ?1 AND environment = ?2")
+    → TableQuery (codes "SELECT team FROM grants WHERE team = ?1 AND environment = ?2")
     (Text team ∷ Text e ∷ []) (from_table in_grants.tree (by_two in_grants.team in_grants.environment) (col 1 in_grants.team ∷ []) [])
 unfolding understood everything
 granted team e = record { names = _; means = record { is = refl; plain = (refl, refl); unlisted = refl }; runs = record { whole = refl; typed = refl; sumless = refl } }

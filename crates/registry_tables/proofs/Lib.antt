@@ -8,4 +8,4 @@ pub mod FormatText
 pub mod FoundFormat
 pub mod BranchNumbers
 pub mod FormatRow
-pub mod FormerRows
+pub mod Format1Rows

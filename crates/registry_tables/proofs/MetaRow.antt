@@ -2,7 +2,7 @@
 use Rattle.broker_tables.specs.{Schema.{in_meta, schema_of, registry_part}, Making.{IsBlank, HasTables}, Holds.{IsMeta, Holds, IsBroker, format}}
 use Rattle.broker_tables.proofs.{Opening.{IsBlank-IsKept}, Placed.{meta, at_meta, column-texts}}
 use Rattle.broker_tables.proofs.Inserted.{rising, rising-trees_apart, PutsInto, Executes-insert_fails}
-use Rattle.broker_tables.proofs.Asked.{Asked, IsShown, FirstReads, Shown-IsShown, FirstShown-IsTextAt}
+use Rattle.broker_tables.proofs.TableQuery.{TableQuery, IsShown, FirstReads, Shown-IsShown, FirstShown-IsTextAt}
 use Rattle.std.specs.{List.{AllByRecursion, list_all}, Prelude.{option_map, IsUtf8}, List.Sorted.{IsPermutation}}
 use Rattle.std.proofs.Common.{◌≡◌, ◌≢◌, ℕ, pos, codes, List, [], ◌∷◌, ◌++◌, fold, map, false, refl, sym, ap, subst, ◌∙◌, slice_get, Some, Ok, arith, ◌⊎◌, inl, inr, ◌≤◌, ◌^◌, ℤ, length, nat_lt, not, ◌&&◌, true, None, Err, IsTrue, filter}
 use Rattle.sqlite.specs.{Edit.{with_rowid, is_taken, without_all}, Rowids.TheVariants.{Chosen}, Cast.{cast_row}, Change.{created}}
@@ -10,7 +10,7 @@ use Rattle.sqlite.specs.{declared.types.Value.TheVariants.{Null, Int, Text}, Ord
 use Rattle.sqlite.specs.{Command.{Command}, Command.TheVariants.{Insert}, Schema.{Schema}, Effect.{Database}, State.{State, Executes, Fails}}
 use Rattle.sqlite.{specs.{Listing.{understood}, declared.error.Error.{Error}}, proofs.Callers.{one_permutation}}
 use Rattle.sqlite_tied.specs.Compute.{everything}
-use Rattle.table_access.specs.{Statements.{Makes, IsAdded, new_trees, IsCalm, from_table, keeps, shows}, Sound.{IsKept}, declared.StoreFault.{StoreFault}}
+use Rattle.table_access.specs.{Statements.{Makes, IsAdded, new_trees, HasNoActions, from_table, keeps, shows}, Sound.{IsKept}, declared.StoreFault.{StoreFault}}
 use Rattle.table_access.specs.{declared.StoreFault.TheVariants.{Memory}, Calls.{IsEnded}, Reading.{FailsToTake, ReportsText, IsTextAt}}
 use Rattle.table_access.{specs.Columns.{text, whole_at}, proofs.Creation.{Makes-schema, Makes-new_tables_empty, Makes-IsKept}}
 use Rattle.table_access.proofs.{Values.{cast-Null, cast-Int, cast_row-kept}, Steps.{Means, inserts, IsPermutation-kept_rows}}
@@ -103,18 +103,18 @@ registry = schema_of registry_part
 -- out of it, no reference leads to it.
 pub record TakesMeta (schema : Schema) (gone : List ℤ) : Type 0 where
   pub apart : rising schema.tables ≡ true
-  pub calm : IsCalm schema.tables
+  pub no_actions : HasNoActions schema.tables
   pub listed : Has schema.tables meta
   pub narrow : list_all (λ i. nat_lt (length i.columns) 12) schema.indexes ≡ true
   pub referred : (row : Row) → is_referred schema Enforced (record { table = meta; gone = gone; news = row ∷ [] }) ≡ true
   pub alone : (gone ≡ []) ⊎ IsAlone schema meta.tree
 
-calm : IsCalm registry.tables
-calm = (tt, (tt, (((refl, refl), tt), (((refl, refl), tt), (((refl, refl), tt), (tt, (((refl, refl), ((refl, refl), tt)), tt)))))))
+no_actions : HasNoActions registry.tables
+no_actions = (tt, (tt, (((refl, refl), tt), (((refl, refl), tt), (((refl, refl), tt), (tt, (((refl, refl), ((refl, refl), tt)), tt)))))))
 
 TakesMeta-registry : TakesMeta registry []
 unfolding everything
-TakesMeta-registry = record { apart = refl; calm = calm; listed = inl refl; narrow = refl; referred = λ r. refl; alone = inl refl }
+TakesMeta-registry = record { apart = refl; no_actions = no_actions; listed = inl refl; narrow = refl; referred = λ r. refl; alone = inl refl }
 
 module _ (n : ℕ) (digest : List ℕ) where
   abbrev row : Row
@@ -134,7 +134,7 @@ module _ (n : ℕ) (digest : List ℕ) where
   unfolding everything binary value_cmp Ieee.is_nan Ieee.lt
   Suits-meta_row db gone takes kept none short = record {
     apart = rising-trees_apart db.schema.tables takes.apart;
-    calm = takes.calm;
+    no_actions = takes.no_actions;
     listed = takes.listed;
     ordered = (at_has _ db.schema.tables meta kept.numbered takes.listed).0;
     rules = kept.sound.obeys.rules;
@@ -164,7 +164,7 @@ module _ (n : ℕ) (digest : List ℕ) where
 abbrev office_sql : List ℕ
 office_sql = codes "SELECT office_digest FROM meta"
 
-pub office : Asked office_sql [] (from_table in_meta.tree [] (col 1 in_meta.office_digest ∷ []) [])
+pub office : TableQuery office_sql [] (from_table in_meta.tree [] (col 1 in_meta.office_digest ∷ []) [])
 unfolding understood everything
 office = record { names = _; means = record { is = refl; plain = (refl, refl); unlisted = refl }; runs = record { whole = refl; typed = refl; sumless = refl } }
 

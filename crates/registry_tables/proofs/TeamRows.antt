@@ -9,7 +9,7 @@ use Rattle.table_access.specs.{Columns.{text, text_cmp}, Statements.{from_table}
 use Rattle.table_access.proofs.Maps.{find-IsAdded, find-inverse, find-inverse_None}
 use Rattle.broker_core.specs.{State.{State as Broker}, Laws.{TeamsDiffer}}
 use Rattle.broker_tables.specs.{Schema.{in_teams, in_pacticipants}, Rows.{value_at}, Holds.{Holds, HoldsAfter}}
-use Rattle.broker_tables.proofs.{Asked.{Asked, IsShown, FirstShown, FirstReads, FirstShown-IsTextAt}, Frames.{Holds-teams, Holds-pacticipants}}
+use Rattle.broker_tables.proofs.{TableQuery.{TableQuery, IsShown, FirstShown, FirstReads, FirstShown-IsTextAt}, Frames.{Holds-teams, Holds-pacticipants}}
 use Rattle.broker_tables.proofs.Orders.{text_cmp-antisymmetric}
 use Rattle.broker_tables.proofs.Keyed.{finds, IsFree-of_has_row_at, IsAscending-keys_of_table, teams_by_digest, teams_by_name, pacticipants_by_name}
 use Rattle.broker_tables.proofs.{Placed.{at_teams, column-texts, at_pacticipants}, Present.{value_at-is_some}}
@@ -19,7 +19,7 @@ use Rattle.registry_tables.specs.Registry.{AddsTeam, AddsPacticipant}
 -- ---- the digest of a team
 
 pub token : (team : List ℕ)
-    → Asked (codes "SELECT token_digest FROM teams WHERE name = ?1")
+    → TableQuery (codes "SELECT token_digest FROM teams WHERE name = ?1")
     (Text team ∷ []) (from_table in_teams.tree (op2 (Compare Eq Binary) (col 1 in_teams.name) (col 0 0) ∷ []) (col 1 in_teams.token_digest ∷ []) [])
 unfolding understood everything
 token team = record { names = _; means = record { is = refl; plain = (refl, refl); unlisted = refl }; runs = record { whole = refl; typed = refl; sumless = refl } }
@@ -34,14 +34,14 @@ FirstReads-token team db s held readable =
     FirstShown-IsTextAt (token team) db (column-texts at_teams db held.broker in_teams.token_digest refl) (λ rows h row head. (readable.teams team (text 0 row) (sym (IsShown-token team db rows s held h) ∙ ap (option_map (text 0)) head)).1)
 
 -- if the first row of no answer has a text, no row is shown
-pub FirstShown-no_text : {sql : List ℕ} {params : Row} {query : Query} (asked : Asked sql params query) (db : Database)
+pub FirstShown-no_text : {sql : List ℕ} {params : Row} {query : Query} (asked : TableQuery sql params query) (db : Database)
     → ((rows : List Row) → IsShown asked db rows → option_map (text 0) (slice_get rows 0) ≡ None) → FirstShown asked db (λ row. ⊥)
 FirstShown-no_text asked db none rows h row head = let clash : Some (text 0 row) ≡ None = ap (option_map (text 0)) (sym head) ∙ none rows h in cc
 
 -- ---- the team of a digest
 
 pub holder : (digest : List ℕ)
-    → Asked (codes "SELECT name FROM teams WHERE token_digest = ?1")
+    → TableQuery (codes "SELECT name FROM teams WHERE token_digest = ?1")
     (Text digest ∷ []) (from_table in_teams.tree (op2 (Compare Eq Binary) (col 1 in_teams.token_digest) (col 0 0) ∷ []) (col 1 in_teams.name ∷ []) [])
 unfolding understood everything
 holder digest = record { names = _; means = record { is = refl; plain = (refl, refl); unlisted = refl }; runs = record { whole = refl; typed = refl; sumless = refl } }
@@ -115,7 +115,7 @@ module _ (team digest : List ℕ) (old new : State) where
 -- ---- the owner of a pacticipant
 
 pub owner : (p : List ℕ)
-    → Asked (codes "SELECT team FROM pacticipants WHERE name = ?1")
+    → TableQuery (codes "SELECT team FROM pacticipants WHERE name = ?1")
     (Text p ∷ []) (from_table in_pacticipants.tree (op2 (Compare Eq Binary) (col 1 in_pacticipants.name) (col 0 0) ∷ []) (col 1 in_pacticipants.team ∷ []) [])
 unfolding understood everything
 owner p = record { names = _; means = record { is = refl; plain = (refl, refl); unlisted = refl }; runs = record { whole = refl; typed = refl; sumless = refl } }

@@ -10,7 +10,8 @@ use Rattle.table_access.specs.{Columns.{text, pair_cmp, whole_at}, Statements.{f
 use Rattle.table_access.proofs.{Values.{cast-Null, cast-Int}, Newest.{Shown-newest_number}, ReadLemmas.{number_found, option_map-pos_injective}}
 use Rattle.broker_core.specs.{declared.command.Version.{Version}, Text.{version}, State.{State as Broker}, Request.{is_known}}
 use Rattle.broker_tables.specs.{Schema.{in_versions, in_branches}, Numbers.{number_of}, Holds.{Holds, HoldsAfter}}
-use Rattle.broker_tables.proofs.{Asked.{Asked, IsShown, EachReads, EachShown-up_to, EachShown-IsNumberRow}, ReadableRows.{IsNumberAt-of_column, IsLow-version}}
+use Rattle.broker_tables.proofs.TableQuery.{TableQuery, IsShown, EachReads, EachShown-up_to, EachShown-IsNumberRow}
+use Rattle.broker_tables.proofs.ReadableRows.{IsNumberAt-of_column, IsLow-version}
 use Rattle.broker_tables.proofs.{Frames.{Means-over_broker_schema, ChangesOnly-Frame, Frame, Frame-IsBroker}, Growth.{Holds-append_version}}
 use Rattle.broker_tables.proofs.{Newest.{unwrap_or-newest as newest_count}, NextRow.{IsAdded-numbered}, RoomLemmas.{HoldsAfter-one_table}}
 use Rattle.broker_tables.proofs.{VersionRows.{IsNumbered-versions, version_number}, NumberLemmas.{value_at-version_row, number_of-is_some, number_of-None}}
@@ -21,7 +22,7 @@ use Rattle.registry_tables.{specs.Registry.{AllowsVersionAs, PutsVersion}, proof
 -- ---- the number of a version
 
 pub known : (p name : List ℕ)
-    → Asked (codes "SELECT number FROM versions WHERE pacticipant = ?1 AND version = ?2")
+    → TableQuery (codes "SELECT number FROM versions WHERE pacticipant = ?1 AND version = ?2")
     (Text p ∷ Text name ∷ []) (from_table in_versions.tree (by_two in_versions.pacticipant in_versions.version) (col 1 in_versions.number ∷ []) [])
 unfolding understood everything
 known p name = record { names = _; means = record { is = refl; plain = (refl, refl); unlisted = refl }; runs = record { whole = refl; typed = refl; sumless = refl } }
@@ -43,7 +44,7 @@ EachReads-version_number p name db s held readable = EachShown-IsNumberRow (know
 abbrev count_sql : List ℕ
 count_sql = codes "SELECT number FROM versions ORDER BY number DESC LIMIT 1"
 
-pub highest : Asked count_sql [] (up_to 1 (from_table in_versions.tree [] (col 1 in_versions.number ∷ []) newest))
+pub highest : TableQuery count_sql [] (up_to 1 (from_table in_versions.tree [] (col 1 in_versions.number ∷ []) newest))
 unfolding understood everything
 highest = record { names = _; means = record { is = refl; plain = (refl, refl); unlisted = refl }; runs = record { whole = refl; typed = refl; sumless = refl } }
 

@@ -17,7 +17,7 @@ use Rattle.table_access.specs.Calls.{HasFailed}
 use Rattle.broker_tables.specs.Schema.{meta, in_meta, schema_of}
 use Rattle.broker_core.specs.State.{State as Broker}
 use Rattle.broker_tables.specs.Holds.{format}
-use Rattle.broker_tables.specs.Former.{HoldsUnmarked, former_format, former_tables, added_tables}
+use Rattle.broker_tables.specs.Format1.{HoldsUnmarked, format_1, format_1_tables, added_tables}
 use Rattle.broker_tables.specs.ChangeRefusals.{AreShort}
 
 -- a column has this name and this kind: with STRICT, NOT NULL, a default and a collation, or without
@@ -106,27 +106,27 @@ HasTable schema wanted = IsSomeAnd (table_of wanted.name schema) (HasForm wanted
 
 -- Each table of format 1 is there, with its columns, which compare bytes, and its keys, wherever it is: with STRICT,
 -- NOT NULL, CHECKs and defaults, or without.
-abbrev pub HasFormerTables : Schema → Type 0
-HasFormerTables schema = AllByRecursion (HasTable schema) former_tables
+abbrev pub HasFormat1Tables : Schema → Type 0
+HasFormat1Tables schema = AllByRecursion (HasTable schema) format_1_tables
 
 -- What is found in a database that is to be migrated: a format, and if that is 1, its tables too; or none of both.
-abbrev pub FindsFormer : Database → Option ℕ → Type 0
-FindsFormer db found = MatchOption found
-    (IsForeign db ⊎ (IsOfFormat former_format db × (¬ (HasFormerTables db.schema))))
-    (λ n. IsOfFormat n db × (n ≡ former_format → HasFormerTables db.schema))
+abbrev pub FindsFormat1 : Database → Option ℕ → Type 0
+FindsFormat1 db found = MatchOption found
+    (IsForeign db ⊎ (IsOfFormat format_1 db × (¬ (HasFormat1Tables db.schema))))
+    (λ n. IsOfFormat n db × (n ≡ format_1 → HasFormat1Tables db.schema))
 
 -- A database has the tables of format 1, and after them these, and holds a state. The digest of its office's token,
 -- which is in the row of meta, has ten million bytes at most; that of any token has 64.
 abbrev pub CanBecomeFormat2 : List Table → Database → Type 0
-CanBecomeFormat2 more db = (s : Broker) × HoldsUnmarked former_format more db s × AreShort (s.office ∷ [])
+CanBecomeFormat2 more db = (s : Broker) × HoldsUnmarked format_1 more db s × AreShort (s.office ∷ [])
 
 -- each table of format 1 has the rows that it had, but for the one row of meta, which has the format
-abbrev pub KeepsFormerRows : Database → Database → Type 0
-KeepsFormerRows old new =
-    AllByRecursion (λ t. t.tree ≢ in_meta.tree → new.trees t.tree ≡ old.trees t.tree) (schema_of former_tables).tables
+abbrev pub KeepsFormat1Rows : Database → Database → Type 0
+KeepsFormat1Rows old new =
+    AllByRecursion (λ t. t.tree ≢ in_meta.tree → new.trees t.tree ≡ old.trees t.tree) (schema_of format_1_tables).tables
 
 -- the state of such a database is held in format 2, and the rows are kept, with their numbers
 abbrev pub BecomesFormat2 : List Table → Database → Database → Type 0
 BecomesFormat2 more old new =
-    (s : Broker) → HoldsUnmarked former_format more old s
-    → HoldsUnmarked format added_tables new s × KeepsFormerRows old new
+    (s : Broker) → HoldsUnmarked format_1 more old s
+    → HoldsUnmarked format added_tables new s × KeepsFormat1Rows old new

@@ -5,8 +5,8 @@ ghost use Rattle.broker_core.specs.Listing.{Lists};
 ghost use Rattle.broker_core.specs.declared.command.Version.{Version as VersionModel};
 ghost use Rattle.broker_tables.specs.Numbers.{number_of};
 ghost use Rattle.broker_tables.specs.Holds.{Changes};
-ghost use Rattle.broker_tables.specs.Calm.{CalmQueries, CalmQueriesInPlace, IfNoVersion, NeedsNoRoom};
-ghost use Rattle.broker_tables.specs.ChangeRefusals.{IsCalmChange};
+ghost use Rattle.broker_tables.specs.Failures.{LooksUp, LooksUpInPlace, IfNoVersion, TakesNoMemoryIf};
+ghost use Rattle.broker_tables.specs.ChangeRefusals.{FailsByStoreChange};
 ghost use Rattle.registry_tables.specs.Registry.{AddsBranch, IsBranchNumber, IsNewestBelow};
 
 use sqlite::{Alter, Connection, params};
@@ -22,7 +22,7 @@ pub fn on_branch<S: Alter>(
     number: u32,
     branch: &str,
 ) -> Result<bool, StoreFault>
-    ensures answers { CalmQueriesInPlace S.Store conn.old conn.new result
+    ensures answers { LooksUpInPlace S.Store conn.old conn.new result
         (λ has s. (v : VersionModel) → number_of s.versions v ≡ Some number →
         has ≡ s.branches (v, branch.now)) }
     ensures unknown { IfNoVersion S.Store conn.old conn.new result number (λ has. has ≡ false) }
@@ -45,7 +45,7 @@ pub fn add_branch<S: Alter>(
     branch: &str,
 ) -> Result<(), StoreFault>
     ensures changes { Changes S.Store conn.old conn.new result (AddsBranch number branch.now) }
-    ensures calm { IsCalmChange S.Store conn.old conn.new result (codes "branches" ∷ []) (branch.now ∷ [])
+    ensures failure { FailsByStoreChange S.Store conn.old conn.new result (codes "branches" ∷ []) (branch.now ∷ [])
         (AddsBranch number branch.now) }
 {
     change(
@@ -66,10 +66,10 @@ pub fn branch_numbers<S: Alter>(
     pacticipant: &str,
     branch: &str,
 ) -> Result<Vec<u32>, StoreFault>
-    ensures answers { CalmQueries S.Store conn.old conn.new result
+    ensures answers { LooksUp S.Store conn.old conn.new result
         (λ numbers s. Lists (flip_args nat_cmp)
         (IsBranchNumber s pacticipant.now branch.now) numbers.items) }
-    ensures missing { NeedsNoRoom S.Store conn.old conn.new result
+    ensures missing { TakesNoMemoryIf S.Store conn.old conn.new result
         (λ s. (n : ℕ) → ¬ (IsBranchNumber s pacticipant.now branch.now n)) }
 {
     list_of::<NumberRow, S>(
@@ -92,7 +92,7 @@ pub fn branch_number_below<S: Alter>(
     branch: &str,
     below: u32,
 ) -> Result<Option<u32>, StoreFault>
-    ensures { CalmQueriesInPlace S.Store conn.old conn.new result
+    ensures { LooksUpInPlace S.Store conn.old conn.new result
         (λ found s. IsNewestBelow s pacticipant.now branch.now below found) }
 {
     find_number(

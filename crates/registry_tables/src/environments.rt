@@ -5,9 +5,9 @@ ghost use Rattle.sqlite.specs.State.{HasCleanDisk};
 ghost use Rattle.broker_core.specs.declared.command.Marks.{Marks as MarksModel};
 ghost use Rattle.broker_tables.specs.Holds.{Changes, ChangesTaking};
 ghost use Rattle.broker_tables.specs.Rows.{mark_of};
-ghost use Rattle.broker_tables.specs.Calm.{CalmQueriesInPlace};
+ghost use Rattle.broker_tables.specs.Failures.{LooksUpInPlace};
 ghost use Rattle.registry_tables.specs.Marks.{ReportsMark, FitsMark};
-ghost use Rattle.broker_tables.specs.ChangeRefusals.{IsCalmStoring, IsCalmChange};
+ghost use Rattle.broker_tables.specs.ChangeRefusals.{FailsByStoreStoring, FailsByStoreChange};
 ghost use Rattle.registry_tables.specs.Registry.{AddsEnvironment, IsLenient, KeepsStrict, marks, MakesStrict};
 
 use broker_core::command::Marks;
@@ -25,7 +25,7 @@ pub fn gated<S: Alter>(
     conn: &mut Connection<S>,
     environment: &str,
 ) -> Result<Option<bool>, StoreFault>
-    ensures answers { CalmQueriesInPlace S.Store conn.old conn.new result
+    ensures answers { LooksUpInPlace S.Store conn.old conn.new result
         (λ found s. found ≡ option_map (λ m. m.gated) (s.environments environment.now)) }
     ensures mark { ReportsMark environment.now (state S.Store conn.old) (state S.Store conn.new) result }
 {
@@ -39,7 +39,7 @@ pub fn gated<S: Alter>(
 
 /// Whether an environment that is there is strict.
 fn is_strict<S: Alter>(conn: &mut Connection<S>, environment: &str) -> Result<bool, StoreFault>
-    ensures { CalmQueriesInPlace S.Store conn.old conn.new result
+    ensures { LooksUpInPlace S.Store conn.old conn.new result
         (λ strict s. (m : MarksModel) → s.environments environment.now ≡ Some m → strict ≡ m.strict) }
 {
     has_row(
@@ -59,7 +59,7 @@ pub fn marks_of<S: Alter>(
     conn: &mut Connection<S>,
     environment: &str,
 ) -> Result<Option<Marks>, StoreFault>
-    ensures answers { CalmQueriesInPlace S.Store conn.old conn.new result
+    ensures answers { LooksUpInPlace S.Store conn.old conn.new result
         (λ found s. found ≡ s.environments environment.now) }
     ensures mark { FitsMark environment.now (state S.Store conn.old) (state S.Store conn.new) result
         (λ found gated. gated ≡ option_map (λ m. m.gated) found) }
@@ -83,7 +83,7 @@ pub fn strict_of<S: Alter>(
     conn: &mut Connection<S>,
     environment: &str,
 ) -> Result<Option<bool>, StoreFault>
-    ensures answers { CalmQueriesInPlace S.Store conn.old conn.new result
+    ensures answers { LooksUpInPlace S.Store conn.old conn.new result
         (λ found s. found ≡ option_map (λ m. m.strict) (s.environments environment.now)) }
     ensures mark { FitsMark environment.now (state S.Store conn.old) (state S.Store conn.new) result
         (λ found gated. is_some gated ≡ is_some found) }
@@ -112,7 +112,7 @@ fn put_environment<S: Alter>(
         (AddsEnvironment environment.now (marks gated false)) }
     ensures strict { HasCleanDisk (state S.Store conn.new) → IfOk result
         (λ _. KeepsStrict environment.now (state S.Store conn.old).now (state S.Store conn.new).now) }
-    ensures calm { IsCalmChange S.Store conn.old conn.new result (codes "environments" ∷ []) (environment.now ∷ [])
+    ensures failure { FailsByStoreChange S.Store conn.old conn.new result (codes "environments" ∷ []) (environment.now ∷ [])
         (AddsEnvironment environment.now (marks gated false)) }
 {
     let mark = number_for(gated);
@@ -127,7 +127,7 @@ fn put_environment<S: Alter>(
 #[tactic(auto, unfolding(sqlite_tied::specs::Compute::everything))]
 fn put_strict<S: Alter>(conn: &mut Connection<S>, environment: &str) -> Result<(), StoreFault>
     ensures changes { ChangesTaking S.Store conn.old conn.new 1 result (MakesStrict environment.now) }
-    ensures calm { IsCalmStoring S.Store conn.old conn.new result (codes "strict_environments" ∷ []) (environment.now ∷ [])
+    ensures failure { FailsByStoreStoring S.Store conn.old conn.new result (codes "strict_environments" ∷ []) (environment.now ∷ [])
         (IsLenient environment.now) }
 {
     change(
@@ -148,7 +148,7 @@ pub fn add_environment<S: Alter>(
     strict: bool,
 ) -> Result<(), StoreFault>
     ensures changes { Changes S.Store conn.old conn.new result (AddsEnvironment environment.now (marks gated strict)) }
-    ensures calm { IsCalmChange S.Store conn.old conn.new result (codes "environments" ∷ codes "strict_environments" ∷ [])
+    ensures failure { FailsByStoreChange S.Store conn.old conn.new result (codes "environments" ∷ codes "strict_environments" ∷ [])
         (environment.now ∷ []) (AddsEnvironment environment.now (marks gated strict)) }
 {
     done!(put_environment(conn, environment, gated));

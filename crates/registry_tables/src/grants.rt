@@ -1,8 +1,8 @@
 //! Grants: the teams that may change what is in an environment.
 ghost use Rattle.std.specs.Prelude.{◌≡◌, codes, [], ◌∷◌};
 ghost use Rattle.broker_tables.specs.Holds.{Changes};
-ghost use Rattle.broker_tables.specs.Calm.{CalmQueriesInPlace, IsCalmInPlace};
-ghost use Rattle.broker_tables.specs.ChangeRefusals.{IsCalmChange};
+ghost use Rattle.broker_tables.specs.Failures.{LooksUpInPlace, FailsByStoreInPlace};
+ghost use Rattle.broker_tables.specs.ChangeRefusals.{FailsByStoreChange};
 ghost use Rattle.registry_tables.specs.Registry.{AddsGrant, RemovesGrant};
 
 use sqlite::{Alter, Connection, params};
@@ -17,7 +17,7 @@ pub fn granted<S: Alter>(
     team: &str,
     environment: &str,
 ) -> Result<bool, StoreFault>
-    ensures { CalmQueriesInPlace S.Store conn.old conn.new result
+    ensures { LooksUpInPlace S.Store conn.old conn.new result
         (λ has s. has ≡ s.grants (team.now, environment.now)) }
 {
     has_row(
@@ -38,7 +38,7 @@ pub fn add_grant<S: Alter>(
     environment: &str,
 ) -> Result<(), StoreFault>
     ensures changes { Changes S.Store conn.old conn.new result (AddsGrant team.now environment.now) }
-    ensures calm { IsCalmChange S.Store conn.old conn.new result (codes "grants" ∷ []) (team.now ∷ environment.now ∷ [])
+    ensures failure { FailsByStoreChange S.Store conn.old conn.new result (codes "grants" ∷ []) (team.now ∷ environment.now ∷ [])
         (AddsGrant team.now environment.now) }
 {
     change(
@@ -60,7 +60,7 @@ pub fn remove_grant<S: Alter>(
     environment: &str,
 ) -> Result<(), StoreFault>
     ensures changes { Changes S.Store conn.old conn.new result (RemovesGrant team.now environment.now) }
-    ensures calm { IsCalmInPlace S.Store conn.old conn.new result }
+    ensures failure { FailsByStoreInPlace S.Store conn.old conn.new result }
 {
     change(
         conn,

@@ -21,7 +21,7 @@ macro_rules! done {
 mod branches;
 mod environments;
 mod format;
-mod former;
+mod format_1;
 mod grants;
 mod making;
 mod migration;

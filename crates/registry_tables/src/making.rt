@@ -4,7 +4,7 @@
 ghost use Rattle.std.specs.Prelude.{◌≡◌, ◌++◌, ◌∷◌, []};
 ghost use Rattle.table_access.specs.Calls.{CallsStore};
 ghost use Rattle.table_access.specs.Statements.{Creates, Makes, Indexes, indexed_by};
-ghost use Rattle.broker_tables.specs.Making.{IsBlank, HasTables, HasShortKeys, IsCalmOver};
+ghost use Rattle.broker_tables.specs.Making.{IsBlank, HasTables, HasShortKeys, FailsByStoreOver};
 ghost use Rattle.broker_tables.specs.ChangeRefusals.{AreShort};
 ghost use Rattle.broker_tables.specs.Schema.{registry_part, contract_part, deploy_part, schema_of, contents, checked_results, strict_environments, all_tables, contents_by_digest, contract_indexes, versions_by_pacticipant};
 ghost use Rattle.registry_tables.specs.Registry.{HasEmptyRegistry, PutsMeta};
@@ -31,7 +31,7 @@ pub fn make_tables<S: Alter>(
     ensures makes { CallsStore S.Store conn.old conn.new result
         (λ _ old new. IsBlank old.now →
         HasTables registry_part format digest.now new.now) }
-    ensures calm { IsCalmOver S.Store conn.old conn.new result (λ db. IsBlank db × AreShort (digest.now ∷ [])) }
+    ensures failure { FailsByStoreOver S.Store conn.old conn.new result (λ db. IsBlank db × AreShort (digest.now ∷ [])) }
 {
     done!(make_registry(conn));
     put_meta(conn, format, digest)
@@ -42,7 +42,7 @@ fn make_registry<S: Alter>(conn: &mut Connection<S>) -> Result<(), StoreFault>
     ensures makes { CallsStore S.Store conn.old conn.new result
         (λ _ old new. old.now.schema ≡ schema_of [] →
         Makes registry_part old.now new.now) }
-    ensures calm { IsCalmOver S.Store conn.old conn.new result
+    ensures failure { FailsByStoreOver S.Store conn.old conn.new result
         (λ db. db.schema ≡ schema_of []) }
 {
     make_each(
@@ -68,7 +68,7 @@ pub fn make_strict_environments<S: Alter>(conn: &mut Connection<S>) -> Result<()
         (λ _ old new. old.now.schema
         ≡ schema_of (registry_part ++ contents ∷ contract_part ++ deploy_part ++ checked_results ∷ []) →
         Creates old.now new.now strict_environments) }
-    ensures calm { IsCalmOver S.Store conn.old conn.new result
+    ensures failure { FailsByStoreOver S.Store conn.old conn.new result
         (λ db. db.schema
         ≡ schema_of (registry_part ++ contents ∷ contract_part ++ deploy_part ++ checked_results ∷ [])) }
 {
@@ -86,7 +86,7 @@ pub fn make_index<S: Alter>(conn: &mut Connection<S>) -> Result<(), StoreFault>
         ≡ indexed_by (schema_of all_tables) (contents_by_digest ∷ contract_indexes) →
         Indexes old.now new.now
         versions_by_pacticipant.0 versions_by_pacticipant.1) }
-    ensures calm { IsCalmOver S.Store conn.old conn.new result
+    ensures failure { FailsByStoreOver S.Store conn.old conn.new result
         (λ db. (db.schema ≡ indexed_by (schema_of all_tables) (contents_by_digest ∷ contract_indexes))
         × HasShortKeys db) }
 {
@@ -96,7 +96,7 @@ pub fn make_index<S: Alter>(conn: &mut Connection<S>) -> Result<(), StoreFault>
 /// Puts in the one row of meta.
 fn put_meta<S: Alter>(conn: &mut Connection<S>, format: u32, digest: &str) -> Result<(), StoreFault>
     ensures puts { CallsStore S.Store conn.old conn.new result (λ _ old new. PutsMeta format digest.now old.now new.now) }
-    ensures calm { IsCalmOver S.Store conn.old conn.new result
+    ensures failure { FailsByStoreOver S.Store conn.old conn.new result
         (λ db. HasEmptyRegistry db × AreShort (digest.now ∷ [])) }
 {
     change(

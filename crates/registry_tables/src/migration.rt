@@ -3,12 +3,12 @@ ghost use Rattle.std.specs.Prelude.{◌≡◌, ◌∷◌, []};
 ghost use Rattle.sqlite.specs.Held.{state};
 ghost use Rattle.table_access.specs.Calls.{CallsStore};
 ghost use Rattle.broker_tables.specs.Schema.{checked_results};
-ghost use Rattle.broker_tables.specs.Making.{IsCalmOver};
-ghost use Rattle.broker_tables.specs.Former.{added_tables};
-ghost use Rattle.registry_tables.specs.Format.{FindsFormer, FailsToFind, FailsOnlyFor, CanBecomeFormat2, BecomesFormat2};
+ghost use Rattle.broker_tables.specs.Making.{FailsByStoreOver};
+ghost use Rattle.broker_tables.specs.Format1.{added_tables};
+ghost use Rattle.registry_tables.specs.Format.{FindsFormat1, FailsToFind, FailsOnlyFor, CanBecomeFormat2, BecomesFormat2};
 
 use crate::format::format_of;
-use crate::former::has_former_tables;
+use crate::format_1::has_format_1_tables;
 use crate::making::make_strict_environments;
 use sqlite::{Alter, Connection};
 use table_access::{StoreFault, change};
@@ -21,12 +21,12 @@ use table_access::{StoreFault, change};
 /// As `format_of`.
 pub fn format_to_migrate<S: Alter>(conn: &mut Connection<S>) -> Result<Option<u32>, StoreFault>
     ensures finds { CallsStore S.Store conn.old conn.new result
-        (λ found old new. FindsFormer old.now found
+        (λ found old new. FindsFormat1 old.now found
         × (new.now ≡ old.now)) }
     ensures cause { FailsOnlyFor (state S.Store conn.old) (state S.Store conn.new) result FailsToFind }
 {
     match done!(format_of(conn)) {
-        Some(1) => Ok(if has_former_tables(conn) {
+        Some(1) => Ok(if has_format_1_tables(conn) {
             Some(1)
         } else {
             None
@@ -44,7 +44,7 @@ pub fn format_to_migrate<S: Alter>(conn: &mut Connection<S>) -> Result<Option<u3
 pub fn to_format_2<S: Alter>(conn: &mut Connection<S>) -> Result<(), StoreFault>
     ensures makes { CallsStore S.Store conn.old conn.new result
         (λ _ old new. BecomesFormat2 (checked_results ∷ []) old.now new.now) }
-    ensures calm { IsCalmOver S.Store conn.old conn.new result (CanBecomeFormat2 (checked_results ∷ [])) }
+    ensures failure { FailsByStoreOver S.Store conn.old conn.new result (CanBecomeFormat2 (checked_results ∷ [])) }
 {
     done!(make_strict_environments(conn));
     set_format(conn)
@@ -55,7 +55,7 @@ pub fn to_format_2<S: Alter>(conn: &mut Connection<S>) -> Result<(), StoreFault>
 fn set_format<S: Alter>(conn: &mut Connection<S>) -> Result<(), StoreFault>
     ensures sets { CallsStore S.Store conn.old conn.new result
         (λ _ old new. BecomesFormat2 added_tables old.now new.now) }
-    ensures calm { IsCalmOver S.Store conn.old conn.new result (CanBecomeFormat2 added_tables) }
+    ensures failure { FailsByStoreOver S.Store conn.old conn.new result (CanBecomeFormat2 added_tables) }
 {
     change(conn, "UPDATE meta SET format = 2", &[])
 }

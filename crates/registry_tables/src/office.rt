@@ -4,7 +4,7 @@ ghost use Rattle.sqlite.specs.Held.{state};
 ghost use Rattle.broker_tables.specs.Schema.{no_schema};
 ghost use Rattle.table_access.specs.Calls.{ReportsMemory};
 ghost use Rattle.broker_tables.specs.Holds.{IsBroker};
-ghost use Rattle.broker_tables.specs.Calm.{CalmQueries};
+ghost use Rattle.broker_tables.specs.Failures.{LooksUp};
 ghost use Rattle.broker_tables.specs.Rows.{rows_of};
 
 use sqlite::{Alter, Connection};
@@ -16,7 +16,7 @@ use table_access::{StoreFault, find_text};
 /// `StoreFault::Memory` if the database is out of memory, or there is no room for the digest; `StoreFault::Store` if it
 /// refused the query or has no such row.
 pub fn office_digest<S: Alter>(conn: &mut Connection<S>) -> Result<String, StoreFault>
-    ensures reads { CalmQueries S.Store conn.old conn.new result (λ digest s. string_bytes digest ≡ s.office) }
+    ensures reads { LooksUp S.Store conn.old conn.new result (λ digest s. string_bytes digest ≡ s.office) }
     ensures memory { IsBroker (state S.Store conn.old).now →
         rows_of (state S.Store conn.old).now (codes "meta") ≡ [] →
         ReportsMemory (state S.Store conn.old) (state S.Store conn.new) result }

@@ -1,8 +1,8 @@
 //! Pacticipants, and the teams that own them.
 ghost use Rattle.std.specs.Prelude.{◌≡◌, [], ◌∷◌, codes, None, option_map, string_bytes};
 ghost use Rattle.broker_tables.specs.Holds.{Changes};
-ghost use Rattle.broker_tables.specs.Calm.{CalmQueries, NeedsNoRoom};
-ghost use Rattle.broker_tables.specs.ChangeRefusals.{IsCalmChange};
+ghost use Rattle.broker_tables.specs.Failures.{LooksUp, TakesNoMemoryIf};
+ghost use Rattle.broker_tables.specs.ChangeRefusals.{FailsByStoreChange};
 ghost use Rattle.registry_tables.specs.Registry.{AddsPacticipant};
 
 use sqlite::{Alter, Connection, params};
@@ -17,9 +17,9 @@ pub fn owner_of<S: Alter>(
     conn: &mut Connection<S>,
     pacticipant: &str,
 ) -> Result<Option<String>, StoreFault>
-    ensures answers { CalmQueries S.Store conn.old conn.new result
+    ensures answers { LooksUp S.Store conn.old conn.new result
         (λ owner s. option_map string_bytes owner ≡ s.pacticipants pacticipant.now) }
-    ensures missing { NeedsNoRoom S.Store conn.old conn.new result (λ s. s.pacticipants pacticipant.now ≡ None) }
+    ensures missing { TakesNoMemoryIf S.Store conn.old conn.new result (λ s. s.pacticipants pacticipant.now ≡ None) }
 {
     find_text(
         conn,
@@ -39,7 +39,7 @@ pub fn add_pacticipant<S: Alter>(
     team: &str,
 ) -> Result<(), StoreFault>
     ensures changes { Changes S.Store conn.old conn.new result (AddsPacticipant pacticipant.now team.now) }
-    ensures calm { IsCalmChange S.Store conn.old conn.new result (codes "pacticipants" ∷ []) (pacticipant.now ∷ team.now ∷ [])
+    ensures failure { FailsByStoreChange S.Store conn.old conn.new result (codes "pacticipants" ∷ []) (pacticipant.now ∷ team.now ∷ [])
         (AddsPacticipant pacticipant.now team.now) }
 {
     change(

@@ -1,8 +1,8 @@
 //! Teams, and the digests of their tokens.
 ghost use Rattle.std.specs.Prelude.{◌≡◌, ℕ, List, [], ◌∷◌, codes, Some, None, MatchOption, option_map, string_bytes, is_some};
 ghost use Rattle.broker_tables.specs.Holds.{Changes};
-ghost use Rattle.broker_tables.specs.Calm.{CalmQueries, CalmQueriesInPlace, NeedsNoRoom};
-ghost use Rattle.broker_tables.specs.ChangeRefusals.{IsCalmChange};
+ghost use Rattle.broker_tables.specs.Failures.{LooksUp, LooksUpInPlace, TakesNoMemoryIf};
+ghost use Rattle.broker_tables.specs.ChangeRefusals.{FailsByStoreChange};
 ghost use Rattle.registry_tables.specs.Registry.{AddsTeam};
 
 use sqlite::{Alter, Connection, params};
@@ -19,9 +19,9 @@ pub fn digest_of<S: Alter>(
     conn: &mut Connection<S>,
     team: &str,
 ) -> Result<Option<String>, StoreFault>
-    ensures answers { CalmQueries S.Store conn.old conn.new result
+    ensures answers { LooksUp S.Store conn.old conn.new result
         (λ digest s. option_map string_bytes digest ≡ s.teams team.now) }
-    ensures missing { NeedsNoRoom S.Store conn.old conn.new result (λ s. s.teams team.now ≡ None) }
+    ensures missing { TakesNoMemoryIf S.Store conn.old conn.new result (λ s. s.teams team.now ≡ None) }
 {
     find_text(conn, DIGEST_OF_TEAM, params![team])
 }
@@ -31,7 +31,7 @@ pub fn digest_of<S: Alter>(
 /// # Errors
 /// `StoreFault::Memory` if the database is out of memory; `StoreFault::Store` if it refused the query.
 pub fn has_team<S: Alter>(conn: &mut Connection<S>, team: &str) -> Result<bool, StoreFault>
-    ensures { CalmQueriesInPlace S.Store conn.old conn.new result (λ has s. has ≡ is_some (s.teams team.now)) }
+    ensures { LooksUpInPlace S.Store conn.old conn.new result (λ has s. has ≡ is_some (s.teams team.now)) }
 {
     has_row(conn, DIGEST_OF_TEAM, params![team])
 }
@@ -45,11 +45,11 @@ pub fn team_of_digest<S: Alter>(
     conn: &mut Connection<S>,
     digest: &str,
 ) -> Result<Option<String>, StoreFault>
-    ensures answers { CalmQueries S.Store conn.old conn.new result
+    ensures answers { LooksUp S.Store conn.old conn.new result
         (λ team s. MatchOption team
         ((t : List ℕ) → ¬ (s.teams t ≡ Some digest.now))
         (λ name. s.teams (string_bytes name) ≡ Some digest.now)) }
-    ensures missing { NeedsNoRoom S.Store conn.old conn.new result
+    ensures missing { TakesNoMemoryIf S.Store conn.old conn.new result
         (λ s. (t : List ℕ) → ¬ (s.teams t ≡ Some digest.now)) }
 {
     find_text(
@@ -70,7 +70,7 @@ pub fn add_team<S: Alter>(
     digest: &str,
 ) -> Result<(), StoreFault>
     ensures changes { Changes S.Store conn.old conn.new result (AddsTeam team.now digest.now) }
-    ensures calm { IsCalmChange S.Store conn.old conn.new result (codes "teams" ∷ []) (team.now ∷ digest.now ∷ [])
+    ensures failure { FailsByStoreChange S.Store conn.old conn.new result (codes "teams" ∷ []) (team.now ∷ digest.now ∷ [])
         (AddsTeam team.now digest.now) }
 {
     change(

@@ -4,8 +4,8 @@ ghost use Rattle.broker_core.specs.Text.{version as version_named};
 ghost use Rattle.broker_core.specs.Request.{is_known};
 ghost use Rattle.broker_tables.specs.Numbers.{number_of};
 ghost use Rattle.broker_tables.specs.Holds.{Changes, ChangesAndAnswers};
-ghost use Rattle.broker_tables.specs.Calm.{CalmQueriesInPlace};
-ghost use Rattle.broker_tables.specs.ChangeRefusals.{IsCalmStoring};
+ghost use Rattle.broker_tables.specs.Failures.{LooksUpInPlace};
+ghost use Rattle.broker_tables.specs.ChangeRefusals.{FailsByStoreStoring};
 ghost use Rattle.registry_tables.specs.Registry.{AllowsVersion, AllowsVersionAs, CanAddVersion, AddsVersion, PutsVersion};
 
 use broker_tables::next_number;
@@ -22,7 +22,7 @@ pub fn version_of<S: Alter>(
     pacticipant: &str,
     version: &str,
 ) -> Result<Option<u32>, StoreFault>
-    ensures { CalmQueriesInPlace S.Store conn.old conn.new result
+    ensures { LooksUpInPlace S.Store conn.old conn.new result
         (λ found s. (found ≡ number_of s.versions (version_named pacticipant.now version.now))
         × (is_some found ≡ is_known s (version_named pacticipant.now version.now))) }
 {
@@ -39,7 +39,7 @@ pub fn version_of<S: Alter>(
 /// `StoreFault::Memory` if the database is out of memory; `StoreFault::Store` if it refused the query or holds no
 /// number there.
 pub fn version_count<S: Alter>(conn: &mut Connection<S>) -> Result<u64, StoreFault>
-    ensures { CalmQueriesInPlace S.Store conn.old conn.new result (λ count s. count ≡ length s.versions) }
+    ensures { LooksUpInPlace S.Store conn.old conn.new result (λ count s. count ≡ length s.versions) }
 {
     let newest = done!(find_number(
         conn,
@@ -59,7 +59,7 @@ fn put_version<S: Alter>(
 ) -> Result<(), StoreFault>
     ensures changes { Changes S.Store conn.old conn.new result
         (PutsVersion number (version_named pacticipant.now version.now)) }
-    ensures calm { IsCalmStoring S.Store conn.old conn.new result [] (pacticipant.now ∷ version.now ∷ [])
+    ensures failure { FailsByStoreStoring S.Store conn.old conn.new result [] (pacticipant.now ∷ version.now ∷ [])
         (AllowsVersionAs number (version_named pacticipant.now version.now)) }
 {
     change(
@@ -83,7 +83,7 @@ pub fn insert_version<S: Alter>(
     ensures changes { ChangesAndAnswers S.Store conn.old conn.new result
         (AllowsVersionAs number (version_named pacticipant.now version.now))
         (λ _. AddsVersion (version_named pacticipant.now version.now) number) }
-    ensures calm { IsCalmStoring S.Store conn.old conn.new result [] (pacticipant.now ∷ version.now ∷ [])
+    ensures failure { FailsByStoreStoring S.Store conn.old conn.new result [] (pacticipant.now ∷ version.now ∷ [])
         (AllowsVersionAs number (version_named pacticipant.now version.now)) }
 {
     put_version(conn, number, pacticipant, version)
@@ -101,7 +101,7 @@ pub fn add_version<S: Alter>(
     ensures changes { ChangesAndAnswers S.Store conn.old conn.new result
         (AllowsVersion (version_named pacticipant.now version.now))
         (AddsVersion (version_named pacticipant.now version.now)) }
-    ensures calm { IsCalmStoring S.Store conn.old conn.new result [] (pacticipant.now ∷ version.now ∷ [])
+    ensures failure { FailsByStoreStoring S.Store conn.old conn.new result [] (pacticipant.now ∷ version.now ∷ [])
         (CanAddVersion (version_named pacticipant.now version.now)) }
 {
     let count = done!(version_count(conn));

@@ -9,7 +9,7 @@ use Rattle.sqlite_schema.specs.{declared.schema.Among.TheVariants.{All}, declare
 use Rattle.sqlite_schema.specs.Rules.{Refers, Keeps, references_fit, guards}
 use Rattle.sqlite_value.specs.declared.keys.Order.{Order}
 use Rattle.sqlite_rules.{specs.{Lists.{Has}, Calls.{ids_of}, Edit.{Edit, edit_of, is_off}}, proofs.ListLemmas.{test_from}}
-use Rattle.table_access.{specs.Statements.{plain_table, from_table, IsCalm}, proofs.Edits.{IsAlone, Suits, goes, refers}}
+use Rattle.table_access.{specs.Statements.{plain_table, from_table, HasNoActions}, proofs.Edits.{IsAlone, Suits, goes, refers}}
 use Rattle.table_access.proofs.Answered.{Runs, Queried-never_stops}
 use Rattle.table_access.proofs.Refused.{EndsAs-stopped, IsMisplaced-never_anywhere, OnTable-stops, Executes-change_fails, Fails-weaken}
 use Rattle.table_access.proofs.Steps.{Means, Ok-not_stopped, Ok-injective}
@@ -21,7 +21,7 @@ module _ (name : List ℕ) (tree : ℕ) (columns : List Column) (key : Option �
   -- the tables are apart, no foreign key acts, none leads to this table, and what refers at all finds its key
   pub record IsLeaf (schema : Schema) : Type 0 where
     pub apart : IsAscending (λ a b. a.tree ≡ b.tree → ⊥) schema.tables
-    pub calm : IsCalm schema.tables
+    pub no_actions : HasNoActions schema.tables
     pub alone : IsAlone schema tree
     pub fits : (removes : Bool) → references_fit schema here false removes ≡ true
 
@@ -33,7 +33,7 @@ module _ (name : List ℕ) (tree : ℕ) (columns : List Column) (key : Option �
   Suits-taking : (schema : Schema) → IsLeaf schema → Has schema.tables here → (keys : Keys) (db : Trees) (ids : List ℤ) → IsTable (db tree) → ((rule : Constraint) → Keeps rule schema db) → Suits ⊥ schema keys db (taking db ids)
   Suits-taking schema leaf listed keys db ids ordered rules = record {
     apart = leaf.apart;
-    calm = leaf.calm;
+    no_actions = leaf.no_actions;
     listed = listed;
     ordered = ordered;
     rules = rules;

@@ -17,7 +17,7 @@ use Rattle.sqlite_rules.proofs.ListLemmas.{some_has, some_from, test_has, test_f
 use Rattle.sqlite_rules.proofs.{RuleLemmas.{Turns, unique_kept, parent_is_table, keeps_at, refers_from, origin}, EditLemmas.{turns}}
 use Rattle.sqlite_rules.proofs.TableLemmas.{put_has, int_is}
 use Rattle.sqlite_value.proofs.OrderLemmas.{value_cmp_total}
-use Rattle.table_access.{specs.Statements.{IsCalm}, proofs.{Removal.{works-IsCalm}, SoundLemmas.{all_of}}}
+use Rattle.table_access.{specs.Statements.{HasNoActions}, proofs.{Removal.{works-HasNoActions}, SoundLemmas.{all_of}}}
 
 -- no reference leads to the table at this tree
 abbrev pub leads_elsewhere : ℕ → Option ParentKey → Bool
@@ -39,7 +39,7 @@ module _ (TooBig : Type 0) (schema : Schema) (keys : Keys) (db : Trees) (edit : 
   -- new row can't be stored.
   pub record Suits : Type 0 where
     pub apart : IsAscending (λ a b. a.tree ≡ b.tree → ⊥) schema.tables
-    pub calm : IsCalm schema.tables
+    pub no_actions : HasNoActions schema.tables
     pub listed : Has schema.tables edit.table
     pub ordered : IsTable (db edit.table.tree)
     pub rules : (rule : Constraint) → Keeps rule schema db
@@ -88,7 +88,7 @@ module _ (TooBig : Type 0) (schema : Schema) (keys : Keys) (db : Trees) (edit : 
     goes stop (why, inl refused, is) = absurd (no_rule refused.0 refused.1)
     goes stop (why, inr (inl big), is) = let same : why ≡ None = (let h = big.3 in cc) in (is ∙ ap (option_map edit_error) same, suits.storable big.0 big.1 big.2)
     goes stop (why, inr (inr went), is) =
-        absurd (settled went.2.0 went.0 why (subst (λ stack. Leads schema keys went.2.0 went.0 stack (Err why)) (works-IsCalm schema keys 0 edit.table.tree (taken_by db edit) edit.news suits.calm) went.2.1))
+        absurd (settled went.2.0 went.0 why (subst (λ stack. Leads schema keys went.2.0 went.0 stack (Err why)) (works-HasNoActions schema keys 0 edit.table.tree (taken_by db edit) edit.news suits.no_actions) went.2.1))
 
     -- ---- what it leaves refers to rows that are there
 
@@ -126,7 +126,7 @@ module _ (TooBig : Type 0) (schema : Schema) (keys : Keys) (db : Trees) (edit : 
 
     pub refers : (next : Trees) → Edited schema keys db edit (Ok next) → Refers All schema next
     refers next done =
-        let step = one_step schema keys db next edit (works-IsCalm schema keys 0 edit.table.tree (taken_by db edit) edit.news suits.calm) done in
+        let step = one_step schema keys db next edit (works-HasNoActions schema keys 0 edit.table.tree (taken_by db edit) edit.news suits.no_actions) done in
         all_refer next (turned next step.rows step.tables)
 
 -- ---- an edit with one new row

@@ -23,30 +23,30 @@ use Rattle.sqlite_catalog.specs.declared.error.Refusal.TheVariants as why
 use Rattle.sqlite.specs.declared.error.ErrorCode.TheVariants as code
 
 -- each refusal of this part has the fault Store
-record Calm {A : Type 0} (P : Part A) : Type 0 where
+record RefusesByStore {A : Type 0} (P : Part A) : Type 0 where
   returned : (e : Error) → P (Err (Some e)) → fault_of e ≡ Store
 
-Calm-Gives : {A : Type 0} (a : A) → Calm (Gives a)
-Calm-Gives a = record { returned = λ e h. absurd (let is = h in cc) }
+RefusesByStore-Gives : {A : Type 0} (a : A) → RefusesByStore (Gives a)
+RefusesByStore-Gives a = record { returned = λ e h. absurd (let is = h in cc) }
 
-Calm-Refuses : {A : Type 0} (reason : Error) → fault_of reason ≡ Store → Calm (Refuses {A = A} reason)
-Calm-Refuses reason is_returned = record { returned = λ e h. let same : e ≡ reason = (let is = h in cc) in ap fault_of same ∙ is_returned }
+RefusesByStore-Refuses : {A : Type 0} (reason : Error) → fault_of reason ≡ Store → RefusesByStore (Refuses {A = A} reason)
+RefusesByStore-Refuses reason is_returned = record { returned = λ e h. let same : e ≡ reason = (let is = h in cc) in ap fault_of same ∙ is_returned }
 
-Calm-Then : {A B : Type 0} (First : Part A) (Next : A → Part B) → Calm First → ((a : A) → Calm (Next a)) → Calm (Then First Next)
-Calm-Then First Next one two = record {
+RefusesByStore-Then : {A B : Type 0} (First : Part A) (Next : A → Part B) → RefusesByStore First → ((a : A) → RefusesByStore (Next a)) → RefusesByStore (Then First Next)
+RefusesByStore-Then First Next one two = record {
   returned = λ e h. elim h [
     | inl stops ↦ let same : stops.0 ≡ Some e = (let is = stops.2 in cc) in one.returned e (subst (λ stop. First (Err stop)) same stops.1)
     | inr goes ↦ (two goes.0).returned e goes.2
   ];
 }
 
-Calm-MatchBool : {A : Type 0} (b : Bool) (P Q : Part A) → Calm P → Calm Q → Calm (λ out. MatchBool b (P out) (Q out))
-Calm-MatchBool true P Q p q = record { returned = p.returned }
-Calm-MatchBool false P Q p q = record { returned = q.returned }
+RefusesByStore-MatchBool : {A : Type 0} (b : Bool) (P Q : Part A) → RefusesByStore P → RefusesByStore Q → RefusesByStore (λ out. MatchBool b (P out) (Q out))
+RefusesByStore-MatchBool true P Q p q = record { returned = p.returned }
+RefusesByStore-MatchBool false P Q p q = record { returned = q.returned }
 
-Calm-AtPlace : {X A : Type 0} (P : X → Part A) (place : Option X) → ((x : X) → Calm (P x)) → Calm (AtPlace P place)
-Calm-AtPlace P None each = Calm-Refuses InvalidQuery refl
-Calm-AtPlace P (Some x) each = each x
+RefusesByStore-AtPlace : {X A : Type 0} (P : X → Part A) (place : Option X) → ((x : X) → RefusesByStore (P x)) → RefusesByStore (AtPlace P place)
+RefusesByStore-AtPlace P None each = RefusesByStore-Refuses InvalidQuery refl
+RefusesByStore-AtPlace P (Some x) each = each x
 
 -- ---- queries
 
@@ -55,12 +55,12 @@ RefusesQuery-Store limit db p params e (inl h) = ap fault_of h.0
 RefusesQuery-Store limit db p params e (inr (inl h)) = ap fault_of h.0
 RefusesQuery-Store limit db p params e (inr (inr h)) = ap fault_of h.0
 
-Calm-Queried : (limit : Option ℕ) (db : Database) (p : Program) (params : Row) → Calm (Queried limit db p params)
-Calm-Queried limit db p params = record { returned = RefusesQuery-Store limit db p params }
+RefusesByStore-Queried : (limit : Option ℕ) (db : Database) (p : Program) (params : Row) → RefusesByStore (Queried limit db p params)
+RefusesByStore-Queried limit db p params = record { returned = RefusesQuery-Store limit db p params }
 
-Calm-Sourced : (limit : Option ℕ) (db : Database) (params : Row) (from : Source) → Calm (Sourced limit db params from)
-Calm-Sourced limit db params (source.Values terms width) = record { returned = λ e h. elim h [ inl kind ↦ ap fault_of kind.0 | inr stopped ↦ ap fault_of stopped.0 ] }
-Calm-Sourced limit db params (source.Query q) = record { returned = RefusesQuery-Store limit db q params }
+RefusesByStore-Sourced : (limit : Option ℕ) (db : Database) (params : Row) (from : Source) → RefusesByStore (Sourced limit db params from)
+RefusesByStore-Sourced limit db params (source.Values terms width) = record { returned = λ e h. elim h [ inl kind ↦ ap fault_of kind.0 | inr stopped ↦ ap fault_of stopped.0 ] }
+RefusesByStore-Sourced limit db params (source.Query q) = record { returned = RefusesQuery-Store limit db q params }
 
 -- a statement that shows rows
 pub RefusesToRead-Store : (limit : Option ℕ) (command : Command) (db : Database) (params : Row) (e : Error) → RefusesToRead limit command db params e → fault_of e ≡ Store
@@ -78,106 +78,106 @@ edit_error-stop_Store : (reason : Option Refusal) (e : Error) → Some e ≡ opt
 edit_error-stop_Store None e is = absurd (let h = is in cc)
 edit_error-stop_Store (Some reason) e is = let same : e ≡ edit_error reason = (let h = is in cc) in ap fault_of same ∙ edit_error-Store reason
 
-Calm-Edited : (schema : Schema) (keys : Keys) (db : Trees) (edit : Edit) → Calm (Edited schema keys db edit)
-Calm-Edited schema keys db edit = record { returned = λ e h. edit_error-stop_Store h.0 e h.2 }
+RefusesByStore-Edited : (schema : Schema) (keys : Keys) (db : Trees) (edit : Edit) → RefusesByStore (Edited schema keys db edit)
+RefusesByStore-Edited schema keys db edit = record { returned = λ e h. edit_error-stop_Store h.0 e h.2 }
 
 module _ (task : Task) where
   open task use {limit, keys, schema, table, params}
 
-  Calm-CounterIn : (db : Trees) (counters : Option Table) → Calm (CounterIn task db counters)
-  Calm-CounterIn db None = Calm-Refuses InvalidQuery refl
-  Calm-CounterIn db (Some counters) = Calm-Gives _
+  RefusesByStore-CounterIn : (db : Trees) (counters : Option Table) → RefusesByStore (CounterIn task db counters)
+  RefusesByStore-CounterIn db None = RefusesByStore-Refuses InvalidQuery refl
+  RefusesByStore-CounterIn db (Some counters) = RefusesByStore-Gives _
 
-  Calm-Counter : (db : Trees) → Calm (Counter task db)
-  Calm-Counter db = Calm-MatchBool table.is_counted _ _ (Calm-CounterIn db (sequence schema)) (Calm-Gives None)
+  RefusesByStore-Counter : (db : Trees) → RefusesByStore (Counter task db)
+  RefusesByStore-Counter db = RefusesByStore-MatchBool table.is_counted _ _ (RefusesByStore-CounterIn db (sequence schema)) (RefusesByStore-Gives None)
 
-  Calm-CountsIn : (db : Trees) (counter : Option Row) (top : ℤ) (counters : Option Table) → Calm (CountsIn task db counter top counters)
-  Calm-CountsIn db counter top None = Calm-Refuses InvalidQuery refl
-  Calm-CountsIn db counter top (Some counters) = Calm-Edited schema keys db (counting db table counters top counter)
+  RefusesByStore-CountsIn : (db : Trees) (counter : Option Row) (top : ℤ) (counters : Option Table) → RefusesByStore (CountsIn task db counter top counters)
+  RefusesByStore-CountsIn db counter top None = RefusesByStore-Refuses InvalidQuery refl
+  RefusesByStore-CountsIn db counter top (Some counters) = RefusesByStore-Edited schema keys db (counting db table counters top counter)
 
-  Calm-Counts : (db : Trees) (counter : Option Row) (top : ℤ) → Calm (Counts task db counter top)
-  Calm-Counts db counter top = Calm-MatchBool _ _ _ (Calm-CountsIn db counter top (sequence schema)) (Calm-Gives db)
+  RefusesByStore-Counts : (db : Trees) (counter : Option Row) (top : ℤ) → RefusesByStore (Counts task db counter top)
+  RefusesByStore-Counts db counter top = RefusesByStore-MatchBool _ _ _ (RefusesByStore-CountsIn db counter top (sequence schema)) (RefusesByStore-Gives db)
 
-  Calm-Updates : (q : Program) (given : Row) (db : Trees) → Calm (Updates task q given db)
-  Calm-Updates q given db = Calm-Then _ _ (Calm-Queried limit _ q given) (λ rows. Calm-Then _ _ (Calm-Edited schema keys db _) (λ next. Calm-Gives _))
+  RefusesByStore-Updates : (q : Program) (given : Row) (db : Trees) → RefusesByStore (Updates task q given db)
+  RefusesByStore-Updates q given db = RefusesByStore-Then _ _ (RefusesByStore-Queried limit _ q given) (λ rows. RefusesByStore-Then _ _ (RefusesByStore-Edited schema keys db _) (λ next. RefusesByStore-Gives _))
 
-  Calm-Deletes : (q : Program) (db : Trees) → Calm (Deletes task q db)
-  Calm-Deletes q db = Calm-Then _ _ (Calm-Queried limit _ q params) (λ rows. Calm-Then _ _ (Calm-Edited schema keys db _) (λ next. Calm-Gives _))
+  RefusesByStore-Deletes : (q : Program) (db : Trees) → RefusesByStore (Deletes task q db)
+  RefusesByStore-Deletes q db = RefusesByStore-Then _ _ (RefusesByStore-Queried limit _ q params) (λ rows. RefusesByStore-Then _ _ (RefusesByStore-Edited schema keys db _) (λ next. RefusesByStore-Gives _))
 
-  Calm-Inserts : (from : Source) (db : Trees) → Calm (Inserts task from db)
-  Calm-Inserts from db = Calm-Then _ _ (Calm-Sourced limit _ _ from) (λ rows. Calm-Then _ _ (Calm-Counter db) (λ counter.
-      Calm-Then _ _ (Calm-Edited schema keys db _) (λ mid. Calm-Then _ _ (Calm-Counts mid counter _) (λ next. Calm-Gives _))))
+  RefusesByStore-Inserts : (from : Source) (db : Trees) → RefusesByStore (Inserts task from db)
+  RefusesByStore-Inserts from db = RefusesByStore-Then _ _ (RefusesByStore-Sourced limit _ _ from) (λ rows. RefusesByStore-Then _ _ (RefusesByStore-Counter db) (λ counter.
+      RefusesByStore-Then _ _ (RefusesByStore-Edited schema keys db _) (λ mid. RefusesByStore-Then _ _ (RefusesByStore-Counts mid counter _) (λ next. RefusesByStore-Gives _))))
 
-  Calm-Puts : (new : Row) (db : Trees) → Calm (Puts task new db)
-  Calm-Puts new db = Calm-Then _ _ (Calm-Edited schema keys db _) (λ next. Calm-Gives _)
+  RefusesByStore-Puts : (new : Row) (db : Trees) → RefusesByStore (Puts task new db)
+  RefusesByStore-Puts new db = RefusesByStore-Then _ _ (RefusesByStore-Edited schema keys db _) (λ next. RefusesByStore-Gives _)
 
-  Calm-Clears : (way : Conflict) (new : Row) (db : Trees) (found : List Row) → Calm (Clears task way new db found)
-  Calm-Clears Ignore new db (x ∷ more) = Calm-Gives _
-  Calm-Clears Replace new db (x ∷ more) = Calm-Then _ _ (Calm-Edited schema keys db _) (λ next. Calm-Puts new next)
-  Calm-Clears Abort new db [] = Calm-Puts new db
-  Calm-Clears _ new db _ = Calm-Puts new db
+  RefusesByStore-Clears : (way : Conflict) (new : Row) (db : Trees) (found : List Row) → RefusesByStore (Clears task way new db found)
+  RefusesByStore-Clears Ignore new db (x ∷ more) = RefusesByStore-Gives _
+  RefusesByStore-Clears Replace new db (x ∷ more) = RefusesByStore-Then _ _ (RefusesByStore-Edited schema keys db _) (λ next. RefusesByStore-Puts new next)
+  RefusesByStore-Clears Abort new db [] = RefusesByStore-Puts new db
+  RefusesByStore-Clears _ new db _ = RefusesByStore-Puts new db
 
-  Calm-Resolves : (new : Row) (db : Trees) (there : Row) (update : Option Program) → Calm (Resolves task new db there update)
-  Calm-Resolves new db there None = Calm-Gives _
-  Calm-Resolves new db there (Some q) = Calm-Updates q _ db
+  RefusesByStore-Resolves : (new : Row) (db : Trees) (there : Row) (update : Option Program) → RefusesByStore (Resolves task new db there update)
+  RefusesByStore-Resolves new db there None = RefusesByStore-Gives _
+  RefusesByStore-Resolves new db there (Some q) = RefusesByStore-Updates q _ db
 
-  Calm-Meets : (Otherwise : Part Written) (new : Row) (db : Trees) (clause : Upsert) (found : List Row) → Calm Otherwise → Calm (Meets task Otherwise new db clause found)
-  Calm-Meets Otherwise new db clause [] other = other
-  Calm-Meets Otherwise new db clause (there ∷ more) other = Calm-Resolves new db there clause.update
+  RefusesByStore-Meets : (Otherwise : Part Written) (new : Row) (db : Trees) (clause : Upsert) (found : List Row) → RefusesByStore Otherwise → RefusesByStore (Meets task Otherwise new db clause found)
+  RefusesByStore-Meets Otherwise new db clause [] other = other
+  RefusesByStore-Meets Otherwise new db clause (there ∷ more) other = RefusesByStore-Resolves new db there clause.update
 
-  Calm-Upserts : (way : Conflict) (new : Row) (db : Trees) (clauses : List Upsert) → Calm (Upserts task way new db clauses)
-  Calm-Upserts way new db [] = record { returned = λ e h. (Calm-Clears way new db h.0).returned e h.2 }
-  Calm-Upserts way new db (clause ∷ more) = record { returned = λ e h. (Calm-Meets (Upserts task way new db more) new db clause h.0 (Calm-Upserts way new db more)).returned e h.2 }
+  RefusesByStore-Upserts : (way : Conflict) (new : Row) (db : Trees) (clauses : List Upsert) → RefusesByStore (Upserts task way new db clauses)
+  RefusesByStore-Upserts way new db [] = record { returned = λ e h. (RefusesByStore-Clears way new db h.0).returned e h.2 }
+  RefusesByStore-Upserts way new db (clause ∷ more) = record { returned = λ e h. (RefusesByStore-Meets (Upserts task way new db more) new db clause h.0 (RefusesByStore-Upserts way new db more)).returned e h.2 }
 
-  Calm-Judged : (way : Conflict) (clauses : List Upsert) (new : Row) (db : Trees) (verdict : Option Refusal) → Calm (Judged task way clauses new db verdict)
-  Calm-Judged way clauses new db None = Calm-Upserts way new db clauses
-  Calm-Judged way clauses new db (Some reason) = Calm-MatchBool _ _ _ (Calm-Gives _) (Calm-Refuses (edit_error reason) (edit_error-Store reason))
+  RefusesByStore-Judged : (way : Conflict) (clauses : List Upsert) (new : Row) (db : Trees) (verdict : Option Refusal) → RefusesByStore (Judged task way clauses new db verdict)
+  RefusesByStore-Judged way clauses new db None = RefusesByStore-Upserts way new db clauses
+  RefusesByStore-Judged way clauses new db (Some reason) = RefusesByStore-MatchBool _ _ _ (RefusesByStore-Gives _) (RefusesByStore-Refuses (edit_error reason) (edit_error-Store reason))
 
-  Calm-Tries : (way : Conflict) (clauses : List Upsert) (new : Row) (db : Trees) → Calm (Tries task way clauses new db)
-  Calm-Tries way clauses new db = record {
+  RefusesByStore-Tries : (way : Conflict) (clauses : List Upsert) (new : Row) (db : Trees) → RefusesByStore (Tries task way clauses new db)
+  RefusesByStore-Tries way clauses new db = record {
     returned = λ e h. elim h [
       | inl full ↦ let same : e ≡ SqliteFailure code.NoRowid = (let is = full.1 in cc) in ap fault_of same
-      | inr judged ↦ (Calm-Judged way clauses new db judged.0).returned e judged.2
+      | inr judged ↦ (RefusesByStore-Judged way clauses new db judged.0).returned e judged.2
     ];
   }
 
-  Calm-TriesEach : (way : Conflict) (clauses : List Upsert) (rows : List Row) (top : ℤ) (done : Written) → Calm (TriesEach task way clauses rows top done)
-  Calm-TriesEach way clauses [] top done = Calm-Gives _
-  Calm-TriesEach way clauses (source ∷ more) top done = Calm-Then _ _ (Calm-Tries way clauses _ done.trees) (λ one. Calm-TriesEach way clauses more _ _)
+  RefusesByStore-TriesEach : (way : Conflict) (clauses : List Upsert) (rows : List Row) (top : ℤ) (done : Written) → RefusesByStore (TriesEach task way clauses rows top done)
+  RefusesByStore-TriesEach way clauses [] top done = RefusesByStore-Gives _
+  RefusesByStore-TriesEach way clauses (source ∷ more) top done = RefusesByStore-Then _ _ (RefusesByStore-Tries way clauses _ done.trees) (λ one. RefusesByStore-TriesEach way clauses more _ _)
 
-  Calm-InsertsOr : (way : Conflict) (clauses : List Upsert) (from : Source) (db : Trees) → Calm (InsertsOr task way clauses from db)
-  Calm-InsertsOr way clauses from db = Calm-Then _ _ (Calm-Sourced limit _ _ from) (λ rows. Calm-Then _ _ (Calm-Counter db) (λ counter.
-      Calm-Then _ _ (Calm-TriesEach way clauses rows _ _) (λ done. Calm-Then _ _ (Calm-Counts done.0.trees counter done.1) (λ next. Calm-Gives _))))
+  RefusesByStore-InsertsOr : (way : Conflict) (clauses : List Upsert) (from : Source) (db : Trees) → RefusesByStore (InsertsOr task way clauses from db)
+  RefusesByStore-InsertsOr way clauses from db = RefusesByStore-Then _ _ (RefusesByStore-Sourced limit _ _ from) (λ rows. RefusesByStore-Then _ _ (RefusesByStore-Counter db) (λ counter.
+      RefusesByStore-Then _ _ (RefusesByStore-TriesEach way clauses rows _ _) (λ done. RefusesByStore-Then _ _ (RefusesByStore-Counts done.0.trees counter done.1) (λ next. RefusesByStore-Gives _))))
 
   -- ---- the end of a statement on rows
 
-  Calm-Tested : (mode : Mode) (Holds : Among → Type 0) → Calm (Tested mode Holds)
-  Calm-Tested mode Holds = record { returned = λ e h. let same : e ≡ SqliteFailure (code.ConstraintViolation ForeignKey) = (let is = h.1 in cc) in ap fault_of same }
+  RefusesByStore-Tested : (mode : Mode) (Holds : Among → Type 0) → RefusesByStore (Tested mode Holds)
+  RefusesByStore-Tested mode Holds = record { returned = λ e h. let same : e ≡ SqliteFailure (code.ConstraintViolation ForeignKey) = (let is = h.1 in cc) in ap fault_of same }
 
-  Calm-Counted : (rows : List Row) → Calm (Counted limit rows)
-  Calm-Counted rows = record { returned = λ e h. let same : e ≡ SqliteFailure code.OperationInterrupted = (let is = h.1 in cc) in ap fault_of same }
+  RefusesByStore-Counted : (rows : List Row) → RefusesByStore (Counted limit rows)
+  RefusesByStore-Counted rows = record { returned = λ e h. let same : e ≡ SqliteFailure code.OperationInterrupted = (let is = h.1 in cc) in ap fault_of same }
 
-  Calm-Shows : (what : Returning) (now : Trees) (rows : List Row) → Calm (Shows task what now rows)
-  Calm-Shows what now [] = Calm-Gives []
-  Calm-Shows what now (row ∷ more) = Calm-Then _ _ (Calm-Sourced limit _ _ what.row) (λ first. Calm-Then _ _ (Calm-Shows what now more) (λ others. Calm-Gives _))
+  RefusesByStore-Shows : (what : Returning) (now : Trees) (rows : List Row) → RefusesByStore (Shows task what now rows)
+  RefusesByStore-Shows what now [] = RefusesByStore-Gives []
+  RefusesByStore-Shows what now (row ∷ more) = RefusesByStore-Then _ _ (RefusesByStore-Sourced limit _ _ what.row) (λ first. RefusesByStore-Then _ _ (RefusesByStore-Shows what now more) (λ others. RefusesByStore-Gives _))
 
-  Calm-Returns : (w : Written) (returning : Option Returning) → Calm (Returns task w returning)
-  Calm-Returns w None = Calm-Gives []
-  Calm-Returns w (Some what) = Calm-Then _ _ (Calm-Shows what w.trees w.rows) (λ rows. Calm-Then _ _ (Calm-Counted rows) (λ u. Calm-Gives rows))
+  RefusesByStore-Returns : (w : Written) (returning : Option Returning) → RefusesByStore (Returns task w returning)
+  RefusesByStore-Returns w None = RefusesByStore-Gives []
+  RefusesByStore-Returns w (Some what) = RefusesByStore-Then _ _ (RefusesByStore-Shows what w.trees w.rows) (λ rows. RefusesByStore-Then _ _ (RefusesByStore-Counted rows) (λ u. RefusesByStore-Gives rows))
 
-  Calm-Concludes : (mode : Mode) (returning : Option Returning) (w : Written) → Calm (Concludes task mode returning w)
-  Calm-Concludes mode returning w = Calm-Then _ _ (Calm-Tested mode (λ among. Refers among schema w.trees)) (λ in_doubt. Calm-Then _ _ (Calm-Returns w returning) (λ rows. Calm-Gives _))
+  RefusesByStore-Concludes : (mode : Mode) (returning : Option Returning) (w : Written) → RefusesByStore (Concludes task mode returning w)
+  RefusesByStore-Concludes mode returning w = RefusesByStore-Then _ _ (RefusesByStore-Tested mode (λ among. Refers among schema w.trees)) (λ in_doubt. RefusesByStore-Then _ _ (RefusesByStore-Returns w returning) (λ rows. RefusesByStore-Gives _))
 
-  Calm-Empties : (db : Trees) → Calm (Empties task db)
-  Calm-Empties db = Calm-MatchBool _ _ _ (Calm-Edited schema keys db (edit_of db table (ids_of (db table.tree)) Given 0 [])) (Calm-Gives db)
+  RefusesByStore-Empties : (db : Trees) → RefusesByStore (Empties task db)
+  RefusesByStore-Empties db = RefusesByStore-MatchBool _ _ _ (RefusesByStore-Edited schema keys db (edit_of db table (ids_of (db table.tree)) Given 0 [])) (RefusesByStore-Gives db)
 
-  Calm-UncountsIn : (db : Trees) (counters : Option Table) → Calm (UncountsIn task db counters)
-  Calm-UncountsIn db None = Calm-Gives db
-  Calm-UncountsIn db (Some counters) = Calm-Then _ _ (Calm-Counter db) (λ counter. Calm-Edited schema keys db (edit_of db counters (ids_of (option_to_list counter)) Given 0 []))
+  RefusesByStore-UncountsIn : (db : Trees) (counters : Option Table) → RefusesByStore (UncountsIn task db counters)
+  RefusesByStore-UncountsIn db None = RefusesByStore-Gives db
+  RefusesByStore-UncountsIn db (Some counters) = RefusesByStore-Then _ _ (RefusesByStore-Counter db) (λ counter. RefusesByStore-Edited schema keys db (edit_of db counters (ids_of (option_to_list counter)) Given 0 []))
 
-  Calm-Drops : (mode : Mode) (db : Trees) → Calm (Drops task mode db)
-  Calm-Drops mode db = Calm-Then _ _ (Calm-Empties db) (λ emptied. Calm-Then _ _ (Calm-UncountsIn emptied _) (λ now. Calm-Then _ _ (Calm-Tested mode (HoldWithout task now)) (λ in_doubt.
-      Calm-Then (Leaves (without_table schema table.tree) now (λ _. ⊥)) _ (record { returned = λ e none. absurd none }) (λ after. Calm-Gives _))))
+  RefusesByStore-Drops : (mode : Mode) (db : Trees) → RefusesByStore (Drops task mode db)
+  RefusesByStore-Drops mode db = RefusesByStore-Then _ _ (RefusesByStore-Empties db) (λ emptied. RefusesByStore-Then _ _ (RefusesByStore-UncountsIn emptied _) (λ now. RefusesByStore-Then _ _ (RefusesByStore-Tested mode (HoldWithout task now)) (λ in_doubt.
+      RefusesByStore-Then (Leaves (without_table schema table.tree) now (λ _. ⊥)) _ (record { returned = λ e none. absurd none }) (λ after. RefusesByStore-Gives _))))
 
 -- ---- the schema
 
@@ -192,43 +192,43 @@ RefusesToAlter-Store_or_no_text : (text : List ℕ) (Refuses : alter.Refusal →
 RefusesToAlter-Store_or_no_text text Refuses e (inl h) = ap fault_of h.1
 RefusesToAlter-Store_or_no_text text Refuses e (inr h) = RefusesToAlter-Store Refuses e h
 
-Calm-MakesTable : (text : List ℕ) (db : Database) → Calm (MakesTable text db)
-Calm-MakesTable text db = record { returned = RefusesToAlter-Store_or_no_text text _ }
+RefusesByStore-MakesTable : (text : List ℕ) (db : Database) → RefusesByStore (MakesTable text db)
+RefusesByStore-MakesTable text db = record { returned = RefusesToAlter-Store_or_no_text text _ }
 
-Calm-MakesSequence : (db : Database) → Calm (MakesSequence db)
-Calm-MakesSequence db = Calm-MatchBool _ _ _ (Calm-MakesTable _ db) (Calm-Gives db)
+RefusesByStore-MakesSequence : (db : Database) → RefusesByStore (MakesSequence db)
+RefusesByStore-MakesSequence db = RefusesByStore-MatchBool _ _ _ (RefusesByStore-MakesTable _ db) (RefusesByStore-Gives db)
 
-Calm-Defines : (mode : Mode) (Makes : Part Database) → Calm Makes → Calm (Defines mode Makes)
-Calm-Defines mode Makes makes = Calm-Then Makes (λ after. Gives (no_rows mode.in_doubt, after)) makes (λ after. Calm-Gives (no_rows mode.in_doubt, after))
+RefusesByStore-Defines : (mode : Mode) (Makes : Part Database) → RefusesByStore Makes → RefusesByStore (Defines mode Makes)
+RefusesByStore-Defines mode Makes makes = RefusesByStore-Then Makes (λ after. Gives (no_rows mode.in_doubt, after)) makes (λ after. RefusesByStore-Gives (no_rows mode.in_doubt, after))
 
 -- ---- a whole command
 
-Calm-WritesRows : (task : Task) (db : Trees) (command : Command) → Calm (WritesRows task db command)
-Calm-WritesRows task db (Insert at from) = Calm-Inserts task from db
-Calm-WritesRows task db (InsertOr at way from clauses) = Calm-InsertsOr task way clauses from db
-Calm-WritesRows task db (Update at q) = Calm-Updates task q task.params db
-Calm-WritesRows task db (Delete at q) = Calm-Deletes task q db
-Calm-WritesRows task db _ = Calm-Refuses InvalidQuery refl
+RefusesByStore-WritesRows : (task : Task) (db : Trees) (command : Command) → RefusesByStore (WritesRows task db command)
+RefusesByStore-WritesRows task db (Insert at from) = RefusesByStore-Inserts task from db
+RefusesByStore-WritesRows task db (InsertOr at way from clauses) = RefusesByStore-InsertsOr task way clauses from db
+RefusesByStore-WritesRows task db (Update at q) = RefusesByStore-Updates task q task.params db
+RefusesByStore-WritesRows task db (Delete at q) = RefusesByStore-Deletes task q db
+RefusesByStore-WritesRows task db _ = RefusesByStore-Refuses InvalidQuery refl
 
 module _ (limit : Option ℕ) (mode : Mode) (params : Row) (db : Database) where
-  Calm-OnTable : (at : ℕ) (P : Task → Part (Tally × Database)) → ((task : Task) → Calm (P task)) → Calm (OnTable limit mode params db at P)
-  Calm-OnTable at P each = Calm-AtPlace _ (slice_get db.schema.tables at) (λ table. each _)
+  RefusesByStore-OnTable : (at : ℕ) (P : Task → Part (Tally × Database)) → ((task : Task) → RefusesByStore (P task)) → RefusesByStore (OnTable limit mode params db at P)
+  RefusesByStore-OnTable at P each = RefusesByStore-AtPlace _ (slice_get db.schema.tables at) (λ table. each _)
 
-  Calm-OnRows : (at : ℕ) (returning : Option Returning) (command : Command) → Calm (OnTable limit mode params db at (λ task. OnRows task mode returning command db.trees))
-  Calm-OnRows at returning command = Calm-OnTable at _ (λ task. Calm-Then _ _ (Calm-WritesRows task db.trees command) (Calm-Concludes task mode returning))
+  RefusesByStore-OnRows : (at : ℕ) (returning : Option Returning) (command : Command) → RefusesByStore (OnTable limit mode params db at (λ task. OnRows task mode returning command db.trees))
+  RefusesByStore-OnRows at returning command = RefusesByStore-OnTable at _ (λ task. RefusesByStore-Then _ _ (RefusesByStore-WritesRows task db.trees command) (RefusesByStore-Concludes task mode returning))
 
-  Calm-Redefines : (text : List ℕ) (command : Command) → Calm (Redefines limit mode params db text command)
-  Calm-Redefines text CreateTable = Calm-Defines mode _ (Calm-Then _ _ (Calm-MakesTable text db) Calm-MakesSequence)
-  Calm-Redefines text (CreateIndex at) = Calm-OnTable at _ (λ task. Calm-Defines mode (MakesIndex text db task.table) (record { returned = λ e h. RefusesToAlter-Store_or_no_text text _ e h }))
-  Calm-Redefines text CreateView = Calm-Defines mode (MakesView text db) (record { returned = λ e h. RefusesToAlter-Store_or_no_text text _ e h })
-  Calm-Redefines text (DropTable at) = Calm-OnTable at _ (λ task. Calm-Drops task mode db.trees)
-  Calm-Redefines text (DropIndex at) = Calm-AtPlace _ (slice_get db.schema.indexes at) (λ index. Calm-Defines mode (Leaves (without_index db.schema index.tree) db.trees (RefusesToAlter (RefusesToDropIndex index))) (record { returned = RefusesToAlter-Store (RefusesToDropIndex index) }))
-  Calm-Redefines text (DropView at) = Calm-AtPlace _ (slice_get db.schema.views at) (λ view. Calm-Defines mode (Leaves (without_view db.schema view.tree) db.trees (IsKeptAside view)) (record { returned = λ e h. ap fault_of h.1 }))
-  Calm-Redefines text _ = Calm-Refuses InvalidQuery refl
+  RefusesByStore-Redefines : (text : List ℕ) (command : Command) → RefusesByStore (Redefines limit mode params db text command)
+  RefusesByStore-Redefines text CreateTable = RefusesByStore-Defines mode _ (RefusesByStore-Then _ _ (RefusesByStore-MakesTable text db) RefusesByStore-MakesSequence)
+  RefusesByStore-Redefines text (CreateIndex at) = RefusesByStore-OnTable at _ (λ task. RefusesByStore-Defines mode (MakesIndex text db task.table) (record { returned = λ e h. RefusesToAlter-Store_or_no_text text _ e h }))
+  RefusesByStore-Redefines text CreateView = RefusesByStore-Defines mode (MakesView text db) (record { returned = λ e h. RefusesToAlter-Store_or_no_text text _ e h })
+  RefusesByStore-Redefines text (DropTable at) = RefusesByStore-OnTable at _ (λ task. RefusesByStore-Drops task mode db.trees)
+  RefusesByStore-Redefines text (DropIndex at) = RefusesByStore-AtPlace _ (slice_get db.schema.indexes at) (λ index. RefusesByStore-Defines mode (Leaves (without_index db.schema index.tree) db.trees (RefusesToAlter (RefusesToDropIndex index))) (record { returned = RefusesToAlter-Store (RefusesToDropIndex index) }))
+  RefusesByStore-Redefines text (DropView at) = RefusesByStore-AtPlace _ (slice_get db.schema.views at) (λ view. RefusesByStore-Defines mode (Leaves (without_view db.schema view.tree) db.trees (IsKeptAside view)) (record { returned = λ e h. ap fault_of h.1 }))
+  RefusesByStore-Redefines text _ = RefusesByStore-Refuses InvalidQuery refl
 
   pub Does-Store : (text : List ℕ) (returning : Option Returning) (command : Command) (e : Error) → Does limit mode params db text returning command (Err (Some e)) → fault_of e ≡ Store
-  Does-Store text returning (Insert at from) e h = (Calm-OnRows at returning (Insert at from)).returned e h
-  Does-Store text returning (InsertOr at way from clauses) e h = (Calm-OnRows at returning (InsertOr at way from clauses)).returned e h
-  Does-Store text returning (Update at q) e h = (Calm-OnRows at returning (Update at q)).returned e h
-  Does-Store text returning (Delete at q) e h = (Calm-OnRows at returning (Delete at q)).returned e h
-  Does-Store text returning command e h = (Calm-MatchBool (is_some returning) _ _ (Calm-Refuses InvalidQuery refl) (Calm-Redefines text command)).returned e h
+  Does-Store text returning (Insert at from) e h = (RefusesByStore-OnRows at returning (Insert at from)).returned e h
+  Does-Store text returning (InsertOr at way from clauses) e h = (RefusesByStore-OnRows at returning (InsertOr at way from clauses)).returned e h
+  Does-Store text returning (Update at q) e h = (RefusesByStore-OnRows at returning (Update at q)).returned e h
+  Does-Store text returning (Delete at q) e h = (RefusesByStore-OnRows at returning (Delete at q)).returned e h
+  Does-Store text returning command e h = (RefusesByStore-MatchBool (is_some returning) _ _ (RefusesByStore-Refuses InvalidQuery refl) (RefusesByStore-Redefines text command)).returned e h

@@ -11,8 +11,8 @@ use Rattle.sqlite.specs.{Edit.{is_taken, with_rowid, edit_of, without_all}, Cast
 use Rattle.sqlite.specs.{Does.{Tally, OnTable, OnRows, AtPlace, WritesRows, Concludes}, Rows.{Written, Task, Inserts, Updates, Edited}}
 use Rattle.sqlite.{specs.declared.run.Mode.{Mode}, proofs.Callers.{IsPlain, command_of, statement_of, runs_as, reads_as, one_step, through, one_permutation}}
 use Rattle.sqlite_value.specs.{declared.keys.Key.{Key}, declared.keys.Order.{Order}}
-use Rattle.table_access.specs.{Statements.{from_table, keeps, shows, IsAdded, ChangesOnly, plain_table, IsCalm}, Sound.{IsNumbered}}
-use Rattle.table_access.proofs.{Removal.{works-IsCalm, without_all-ids_of, IsNumbered-filter}, Values.{cond-same}}
+use Rattle.table_access.specs.{Statements.{from_table, keeps, shows, IsAdded, ChangesOnly, plain_table, HasNoActions}, Sound.{IsNumbered}}
+use Rattle.table_access.proofs.{Removal.{works-HasNoActions, without_all-ids_of, IsNumbered-filter}, Values.{cond-same}}
 use Rattle.sqlite_schema.specs.{declared.schema.Reference.{Reference}, declared.schema.Keys.{Keys}, declared.program.Program.{Program}}
 use Rattle.sqlite_schema.specs.declared.schema.Column.{Column}
 use Rattle.sqlite_rules.{specs.{Edit.{taken_by}, Calls.{ids_of}}, proofs.ActionLemmas.{no_works}}
@@ -163,16 +163,16 @@ module _ (name : List ℕ) (tree : ℕ) (columns : List Column) (key : Option �
 
   -- an UPDATE of one row takes it out and puts in what SET makes of it
   pub Updates-Added : (limit : Option ℕ) (keys : Keys) (schema : Schema) (given : Row) (terms project : List Term) (with : Row) (db : Trees) (w : Written)
-      → Updates (record { limit = limit; keys = keys; schema = schema; table = here; params = given }) (record { lets = []; body = from_table tree terms (col 1 0 ∷ project) [] }) with db (Ok w) → IsCalm schema.tables → IsNumbered (db tree)
+      → Updates (record { limit = limit; keys = keys; schema = schema; table = here; params = given }) (record { lets = []; body = from_table tree terms (col 1 0 ∷ project) [] }) with db (Ok w) → HasNoActions schema.tables → IsNumbered (db tree)
       → (r made : Row) → filter (keeps terms with) (db tree) ≡ r ∷ [] → cast_row here (shows project with r) ≡ made → Added tree (filter (λ x. not (keeps terms with x)) (db tree)) made schema db w.trees
-  Updates-Added limit keys schema given terms project with db w h calm numbered r made found cast =
+  Updates-Added limit keys schema given terms project with db w h no_actions numbered r made found cast =
       let keep = keeps terms with in
       let seen = Ok-not_stopped h in
       let put = Ok-not_stopped seen.2 in
       let one = shows-one_row (record { schema = schema; trees = db }) with tree terms (col 1 0 ∷ project) [] seen.0 seen.1 r found in
       let edit = edit_of db here (ids_of (shows (col 1 0 ∷ project) with r ∷ [])) Given 1 (shows (col 1 0 ∷ project) with r ∷ []) in
       let edited : Edited schema keys db edit (Ok put.0) = subst (λ xs. Edited schema keys db (edit_of db here (ids_of xs) Given 1 xs) (Ok put.0)) one put.1 in
-      let step = one_step schema keys db put.0 edit (works-IsCalm schema keys 0 tree (taken_by db edit) edit.news calm) edited in
+      let step = one_step schema keys db put.0 edit (works-HasNoActions schema keys 0 tree (taken_by db edit) edit.news no_actions) edited in
       let rest : without_all (db tree) (ids_of ((column r 0 ∷ []) ∷ [])) ≡ filter (λ x. not (keep x)) (db tree) = without_all-ids_of (db tree) numbered keep ((column r 0 ∷ []) ∷ []) (IsPermutation-same _ _ (ap (map (λ x. column x 0 ∷ [])) found)) in
       let there = put_row-IsAdded (cast_row here (shows project with r)) (without_all (db tree) (ids_of ((column r 0 ∷ []) ∷ []))) (not_and-left_false _ true step.fresh) in
       subst (Added tree (filter (λ x. not (keep x)) (db tree)) made schema db) (sym (ap (λ (it : Written). it.trees) (Ok-injective put.2))) (
@@ -204,10 +204,10 @@ module _ (name : List ℕ) (tree : ℕ) (columns : List Column) (key : Option �
         (Writes-ChangesOnly old new tree command (statement_of sql (understood old.now.schema sql)) params count w (ap (λ (d : Database). d.schema) done.2) edit.1 edit.2, edit.0)
 
     -- if no foreign key acts, a DELETE takes out the rows that WHERE keeps and counts them, and changes no other table
-    pub deletes : (terms : List Term) → Means old.now.schema sql (Delete at (record { lets = []; body = from_table tree terms (col 1 0 ∷ []) [] })) → IsCalm old.now.schema.tables → IsNumbered (old.now.trees tree) → (count : ℕ) → Executes sql params old new (Ok count)
+    pub deletes : (terms : List Term) → Means old.now.schema sql (Delete at (record { lets = []; body = from_table tree terms (col 1 0 ∷ []) [] })) → HasNoActions old.now.schema.tables → IsNumbered (old.now.trees tree) → (count : ℕ) → Executes sql params old new (Ok count)
         → ChangesOnly tree old new × (new.now.trees tree ≡ filter (λ r. not (keeps terms params r)) (old.now.trees tree))
         × (count ≡ length (filter (keeps terms params) (old.now.trees tree)))
-    deletes terms means calm numbered count h =
+    deletes terms means no_actions numbered count h =
         let q : Program = record { lets = []; body = from_table tree terms (col 1 0 ∷ []) [] } in
         let command = Delete at q in
         let w = runs_as sql params old new old.now.schema refl command means.is means.plain count h in
@@ -215,7 +215,7 @@ module _ (name : List ℕ) (tree : ℕ) (columns : List Column) (key : Option �
         let ids = Ok-not_stopped done.1 in
         let gone = Ok-not_stopped ids.2 in
         let edit = edit_of old.now.trees here (ids_of ids.0) Given 0 [] in
-        let one = one_step old.now.schema (mode_of old).keys old.now.trees gone.0 edit (works-IsCalm old.now.schema (mode_of old).keys 0 tree (taken_by old.now.trees edit) [] calm) gone.1 in
+        let one = one_step old.now.schema (mode_of old).keys old.now.trees gone.0 edit (works-HasNoActions old.now.schema (mode_of old).keys 0 tree (taken_by old.now.trees edit) [] no_actions) gone.1 in
         let now : gone.0 ≡ new.now.trees = sym (ap (λ (d : Database). d.trees) done.2 ∙ ap (λ (it : Written). it.trees) (Ok-injective gone.2)) in
         let shown = IsPermutation-kept_rows old.now params tree terms (col 1 0 ∷ []) [] ids.0 ids.1 in
         let rest : gone.0 tree ≡ filter (λ r. not (keeps terms params r)) (old.now.trees tree) = one.rows ∙ without_all-ids_of (old.now.trees tree) numbered (keeps terms params) ids.0 shown in (
@@ -228,13 +228,13 @@ module _ (name : List ℕ) (tree : ℕ) (columns : List Column) (key : Option �
         )
 
     -- an UPDATE of one row takes it out and puts in what SET makes of it
-    pub updates : (terms project : List Term) → Means old.now.schema sql (Update at (record { lets = []; body = from_table tree terms (col 1 0 ∷ project) [] })) → IsCalm old.now.schema.tables → IsNumbered (old.now.trees tree)
+    pub updates : (terms project : List Term) → Means old.now.schema sql (Update at (record { lets = []; body = from_table tree terms (col 1 0 ∷ project) [] })) → HasNoActions old.now.schema.tables → IsNumbered (old.now.trees tree)
         → (r made : Row) → filter (keeps terms params) (old.now.trees tree) ≡ r ∷ [] → cast_row here (shows project params r) ≡ made → (count : ℕ) → Executes sql params old new (Ok count)
         → ChangesOnly tree old new × IsAdded (filter (λ x. not (keeps terms params x)) (old.now.trees tree)) (new.now.trees tree) made
-    updates terms project means calm numbered r made found cast count h =
+    updates terms project means no_actions numbered r made found cast count h =
         let command = Update at (record { lets = []; body = from_table tree terms (col 1 0 ∷ project) [] }) in
         let w = runs_as sql params old new old.now.schema refl command means.is means.plain count h in
         let done = OnRows-concludes task (mode_of old) command old.now.trees w.tally new.now (on_table command w.tally w.changed) in
         let edit = subst (Added tree (filter (λ x. not (keeps terms params x)) (old.now.trees tree)) made old.now.schema old.now.trees) (sym (ap (λ (d : Database). d.trees) done.2))
-        (Updates-Added old.step_limit (mode_of old).keys old.now.schema params terms project params old.now.trees done.0 done.1 calm numbered r made found cast) in
+        (Updates-Added old.step_limit (mode_of old).keys old.now.schema params terms project params old.now.trees done.0 done.1 no_actions numbered r made found cast) in
         (Writes-ChangesOnly old new tree command (statement_of sql (understood old.now.schema sql)) params count w (ap (λ (d : Database). d.schema) done.2) edit.1 edit.2, edit.0)

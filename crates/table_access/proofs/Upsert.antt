@@ -12,7 +12,7 @@ use Rattle.sqlite_schema.specs.{declared.program.Program.{Program}, declared.com
 use Rattle.sqlite_value.{specs.declared.keys.Order.{Order}, proofs.OrderLemmas.{value_cmp_total, value_cmp-Int}}
 use Rattle.sqlite_rules.{specs.{Keys.{AreConflicts, conflicts}, Lists.{Has}}, proofs.TableLemmas.{int_is}}
 use Rattle.sqlite_keyed.proofs.ListLemmas.{filter_none}
-use Rattle.table_access.specs.{Sound.{IsNumbered}, Statements.{plain_table, from_table, keeps, shows, IsCalm, IsAdded, ChangesOnly}}
+use Rattle.table_access.specs.{Sound.{IsNumbered}, Statements.{plain_table, from_table, keeps, shows, HasNoActions, IsAdded, ChangesOnly}}
 use Rattle.table_access.proofs.{Removal.{filter-same_tests}, Values.{binary-Eq_Int}, SoundLemmas.{at_has, all_of}}
 use Rattle.table_access.proofs.Steps.{Means, Added, OnRows-concludes, Writes-ChangesOnly, Ok-not_stopped, Ok-injective, Edited-Added, Updates-Added}
 use Rattle.sqlite_sql.specs.{declared.ops.BinaryOp.TheVariants.{Compare}, declared.ops.CompareOp.TheVariants.{Eq}, Ops.{binary, is_true}}
@@ -116,9 +116,9 @@ module _ (name : List ℕ) (tree : ℕ) (columns : List Column) (key : Option �
   -- if no foreign key acts, INSERT .. ON CONFLICT DO UPDATE puts one row in or updates the one in its way
   pub Executes-upsert : (terms : List Term) (width : ℕ) (row : Row) → slice_get old.now.schema.tables at ≡ Some row_table → value_rows params width (length terms / width) terms ≡ row ∷ []
       → ((v : Value) (more : Row) → column (params ++ v ∷ more) n ≡ v) → Means old.now.schema sql (InsertOr at Abort (Values terms width) (record { target = Some target; update = Some update } ∷ []))
-      → IsCalm old.now.schema.tables → IsNumbered (old.now.trees tree) → (count : ℕ) → Executes sql params old new (Ok count)
+      → HasNoActions old.now.schema.tables → IsNumbered (old.now.trees tree) → (count : ℕ) → Executes sql params old new (Ok count)
       → ChangesOnly tree old new × Upserted (with_rowid Chosen (old.now.trees tree) (cast_row row_table row))
-  Executes-upsert terms width row found one placed means calm numbered count h =
+  Executes-upsert terms width row found one placed means no_actions numbered count h =
       let command = InsertOr at Abort (Values terms width) (record { target = Some target; update = Some update } ∷ []) in
       let w = runs_as sql params old new old.now.schema refl command means.is means.plain count h in
       let job : Task = record { limit = old.step_limit; keys = (mode_of old).keys; schema = old.now.schema; table = row_table; params = params } in
@@ -137,7 +137,7 @@ module _ (name : List ℕ) (tree : ℕ) (columns : List Column) (key : Option �
             let there_is : rowid some.0 ≡ rowid hit.0 = hit.3 in
             let with = params ++ rowid some.0 ∷ shown row_table made in
             let changed = subst (Added tree (filter (λ x. not (keeps (by_rowid n) with x)) (old.now.trees tree)) (cast_row row_table (shows project with hit.0)) old.now.schema old.now.trees) trees
-            (Updates-Added name tree columns key primary uniques orders checks references old.step_limit (mode_of old).keys old.now.schema params (by_rowid n) project with old.now.trees it.0 some.3 calm numbered hit.0
+            (Updates-Added name tree columns key primary uniques orders checks references old.step_limit (mode_of old).keys old.now.schema params (by_rowid n) project with old.now.trees it.0 some.3 no_actions numbered hit.0
             (cast_row row_table (shows project with hit.0)) hit.4 refl) in
             let others = filter-same_tests (λ x. not (keeps (by_rowid n) with x)) (λ x. not (is_eq (value_cmp (rowid x) (rowid hit.0)))) (old.now.trees tree) (λ x has. ap not (hit.5 x has)) in
             let stated = subst₂ (λ rest v. IsAdded rest (new.now.trees tree) (cast_row row_table (shows project (params ++ v ∷ shown row_table made) hit.0))) others there_is changed.0 in

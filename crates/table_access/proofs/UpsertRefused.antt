@@ -22,7 +22,7 @@ use Rattle.sqlite_rules.specs.{Edit.{Edit, IsOversized, edit_of, is_off}, declar
 use Rattle.sqlite_rules.specs.declared.error.Refusal.TheVariants.{Violates, Mismatch}
 use Rattle.sqlite_rules.proofs.{ListLemmas.{some_has, some_from, test_has, has_filtered, has_kept}, RuleLemmas.{keeps_at}, KeyLemmas.{agree_back, agree_chain}}
 use Rattle.sqlite_rules.proofs.{TableLemmas.{int_is}, PlaceLemmas.{next_is_free}}
-use Rattle.table_access.{specs.{Sound.{IsNumbered}, Statements.{plain_table, shows, IsCalm}}, proofs.Answered.{is_whole, Queried-never_stops}}
+use Rattle.table_access.{specs.{Sound.{IsNumbered}, Statements.{plain_table, shows, HasNoActions}}, proofs.Answered.{is_whole, Queried-never_stops}}
 use Rattle.table_access.proofs.{Edits.{Suits, IsAlone, goes, refers, are_unique-put_row, differ-Int}, Members.{has_map, map_has}}
 use Rattle.table_access.proofs.Refused.{EndsAs-stopped, Sourced-never_stops, OnTable-stops, Executes-change_fails, Fails-weaken, IsMisplaced-never_anywhere}
 use Rattle.table_access.proofs.{SoundLemmas.{at_has}, Steps.{Means, Ok-not_stopped, Ok-injective, shows-one_row}}
@@ -63,7 +63,7 @@ module _ (name : List ℕ) (tree : ℕ) (columns : List Column) (key : Option �
     pub found : slice_get old.now.schema.tables at ≡ Some here
     pub listed : Has old.now.schema.tables here
     pub apart : IsAscending (λ a b. a.tree ≡ b.tree → ⊥) old.now.schema.tables
-    pub calm : IsCalm old.now.schema.tables
+    pub no_actions : HasNoActions old.now.schema.tables
     pub rules : (rule : Constraint) → Keeps rule old.now.schema old.now.trees
     pub numbered : IsNumbered rows
     pub alone : IsAlone old.now.schema tree
@@ -127,7 +127,7 @@ module _ (name : List ℕ) (tree : ℕ) (columns : List Column) (key : Option �
         → Suits TooBig old.now.schema (mode_of old).keys old.now.trees (record { table = here; gone = ids; news = (Int z ∷ rest) ∷ [] })
     suited ids z fits fresh free = record {
       apart = takes.apart;
-      calm = takes.calm;
+      no_actions = takes.no_actions;
       listed = takes.listed;
       ordered = takes.numbered.0;
       rules = takes.rules;

@@ -108,8 +108,8 @@ plain_table name tree columns key primary uniques orders checks references = rec
 }
 
 -- no foreign key acts on a change of its parent
-abbrev pub IsCalm : List Table → Type 0
-IsCalm = AllByRecursion (λ t. AllByRecursion (λ r. (r.on_delete ≡ NoAction) × (r.on_update ≡ NoAction)) t.references)
+abbrev pub HasNoActions : List Table → Type 0
+HasNoActions = AllByRecursion (λ t. AllByRecursion (λ r. (r.on_delete ≡ NoAction) × (r.on_update ≡ NoAction)) t.references)
 
 -- WHERE two columns are the first two parameters
 abbrev pub by_two : ℕ → ℕ → List Term

@@ -13,7 +13,7 @@ use Rattle.broker_tables.proofs.{NumberLemmas.{number_of-injective}, Placed.{Pla
 use Rattle.broker_tables.proofs.{References.{references-result}, VersionRows.{option_map-pos_Some}}
 use Rattle.table_audit.{specs.Audit.{EachOf, IsNumberOf, IsAudited}, proofs.Counted.{number_in, Rises, Rises-of_numbers, map-number_in, whole_at-number_in}}
 use Rattle.table_audit.proofs.StateRows.{versions_in, verification_in, whole_at-content, number_of-verification}
-use Rattle.table_audit.specs.declared.auditing.Rule.TheVariants as rule
+use Rattle.table_audit.specs.declared.auditing.TableRule.TheVariants as rule
 
 -- ---- the last row that passes
 

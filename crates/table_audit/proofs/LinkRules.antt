@@ -5,7 +5,7 @@ use Rattle.sqlite.specs.{declared.types.Value.TheVariants.{Int, Text as SqlText}
 use Rattle.sqlite_rules.specs.Lists.{Has}
 use Rattle.table_access.specs.{Columns.{text, whole_at}, Reading.{IsTextAt}, Sound.{text_in}, Statements.{from_both, keeps_both}}
 use Rattle.table_access.proofs.Members.{pairs-complete, pairs-sound}
-use Rattle.broker_tables.{specs.{Holds.{IsBroker}, Schema.{to, in_versions, in_results, in_latest, in_deployed}}, proofs.Asked.{Asked, IsShown}}
+use Rattle.broker_tables.{specs.{Holds.{IsBroker}, Schema.{to, in_versions, in_results, in_latest, in_deployed}}, proofs.TableQuery.{TableQuery, IsShown}}
 use Rattle.broker_tables.proofs.{References.{references-version}, VersionRows.{binary-Eq_same_Int}}
 use Rattle.broker_tables.proofs.Placed.{listed, column-texts, column-whole_numbers, at_versions, at_results, at_latest, at_deployed}
 use Rattle.contract_tables.proofs.{ItemLists.{and-true_test}, JoinRows.{rows-of_kept_pair, pair_shown}}
@@ -13,7 +13,7 @@ use Rattle.deploy_tables.proofs.VersionRows.{on_number}
 use Rattle.table_audit.specs.{Audit.{IsOfPacticipant, NamesItsOwn}, Shown.{FindsAmong, HoldsSame, FindsUnder}}
 use Rattle.table_audit.proofs.{LinkTexts.{providers_shown, named_shown, deployed_shown}, RowRules.{IsTextAt-shown, rowid-Int}, Tried.{Finds, Finds-of_shown}}
 use Rattle.broker_tables.proofs.Placed as placed
-use Rattle.table_audit.specs.declared.auditing.Rule.TheVariants as rule
+use Rattle.table_audit.specs.declared.auditing.TableRule.TheVariants as rule
 use Rattle.table_audit.proofs.LinkTexts as asks
 
 -- ---- two columns
@@ -39,7 +39,7 @@ module _ (row : Row) (one other : ℕ) where
 
 -- ---- a row beside the one whose number it has
 
-module _ {sql : List ℕ} {t u p : ℕ} {project : List Term} (asked : Asked sql [] (from_both t u (on_number p ∷ []) project [])) (db : Database) (rows : List Row) (shown : IsShown asked db rows)
+module _ {sql : List ℕ} {t u p : ℕ} {project : List Term} (asked : TableQuery sql [] (from_both t u (on_number p ∷ []) project [])) (db : Database) (rows : List Row) (shown : IsShown asked db rows)
     (numbered : (v : Row) → Has (db.trees u) v → column v 0 ≡ Int (whole_at 0 v)) (typed : (r : Row) → Has (db.trees t) r → column r p ≡ Int (whole_at p r)) where
   abbrev pub pair : Row → Row → Row
   pair r v = eval_all project ([] ∷ r ∷ v ∷ [])

@@ -14,7 +14,7 @@ use Rattle.broker_tables.proofs.Placed.{latest, at_latest, listed}
 use Rattle.contract_tables.proofs.{ResultRows.{contents as latest_contents}, VerifiedList.{option_map-Some_sound, latest_result-has_row}}
 use Rattle.contract_tables.proofs.VersionResults.{latest-pair_of_its_result}
 use Rattle.table_audit.{specs.Audit.{EachOf, Obeys, rows_under}, proofs.Entries.{numbered-mapped_entry_of_row, last_row-not_before}}
-use Rattle.table_audit.specs.declared.auditing.Rule.TheVariants as rule
+use Rattle.table_audit.specs.declared.auditing.TableRule.TheVariants as rule
 
 module _ (db : Database) (s : Broker) (held : Holds db s) where
   -- the row with the number of a version is that of this version

@@ -9,14 +9,14 @@ use Rattle.sqlite_rules.specs.Lists.{Has}
 use Rattle.table_access.{specs.Columns.{whole_at}, proofs.Answered.{IsPermutation-has_each}}
 use Rattle.table_access.proofs.{Members.{contains_has, filter_has, has_contains, has_filter, map_has}, Steps.{overlay-nil}}
 use Rattle.broker_core.proofs.Judgement.{Contains-from_flat_map}
-use Rattle.broker_tables.{specs.{Holds.{IsBroker}, Schema.{in_results, in_latest}}, proofs.{Asked.{IsShown}, Keyed.{IsAscending-keys_of_table, latest_by_key}}}
-use Rattle.broker_tables.proofs.{Orders.{by_both-total_int_int}, Placed.{column-whole_numbers, at_results, at_latest}}
-use Rattle.broker_tables.proofs.VersionRows.{IsAscending-one_row, binary-Eq_same_Int}
+use Rattle.broker_tables.{specs.{Holds.{IsBroker}, Schema.{in_results, in_latest}}, proofs.TableQuery.{IsShown}}
+use Rattle.broker_tables.proofs.{Keyed.{IsAscending-keys_of_table, latest_by_key}, Orders.{by_both-total_int_int}}
+use Rattle.broker_tables.proofs.{Placed.{column-whole_numbers, at_results, at_latest}, VersionRows.{IsAscending-one_row, binary-Eq_same_Int}}
 use Rattle.contract_tables.proofs.ItemLists.{and-true_test, and-two_tests}
 use Rattle.deploy_tables.proofs.LeftRows.{from_left_by, rows-has_env}
 use Rattle.table_audit.{specs.{Audit.{IsNamedOrPassed}, Shown.{FindsAmong, IsPassedOrSame, FindsUnder}}, proofs.LinkTexts.{newest_shown, of_pair}}
 use Rattle.table_audit.proofs.{RowRules.{rowid-Int}, Tried.{Finds-of_shown}}
-use Rattle.table_audit.specs.declared.auditing.Rule.TheVariants as rule
+use Rattle.table_audit.specs.declared.auditing.TableRule.TheVariants as rule
 use Rattle.table_audit.proofs.LinkTexts as asks
 
 -- ---- rows, or the row with NULL if there are none

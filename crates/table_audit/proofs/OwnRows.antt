@@ -12,7 +12,7 @@ use Rattle.broker_tables.specs.{Holds.{Holds, format, with_digest, ResultRow, re
 use Rattle.broker_tables.proofs.{ReadableRows.{IsNamed-version, IsUtf8-body}, Orders.{text_cmp-antisymmetric}}
 use Rattle.broker_tables.proofs.Keyed.{teams_by_name, pacticipants_by_name, IsAscending-keys_of_table}
 use Rattle.table_audit.{specs.Audit.{EachOf, Obeys, rows_under}, proofs.Entries.{IsNumberOf-of_numbered, IsNumberOf-of_mapped, numbered-mapped_entry_of_row}}
-use Rattle.table_audit.specs.declared.auditing.Rule.TheVariants as rule
+use Rattle.table_audit.specs.declared.auditing.TableRule.TheVariants as rule
 
 -- what meta has of a state, one row
 abbrev office_cells : Row → ℤ × ℤ × Text

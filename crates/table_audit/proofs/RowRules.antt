@@ -6,13 +6,13 @@ use Rattle.sqlite.specs.Effect.{Database}
 use Rattle.sqlite_rules.{specs.Lists.{Has}, proofs.TableLemmas.{int_is}}
 use Rattle.table_access.{specs.{Columns.{text, whole_at}, Reading.{IsTextAt}, Sound.{text_in}, Statements.{shows}}, proofs.SoundLemmas.{at_has}}
 use Rattle.broker_tables.specs.{Holds.{IsBroker}, Names.{IsNameAt}, Readable.{IsNamed}}
-use Rattle.broker_tables.{specs.Schema.{in_meta, in_teams, in_pacticipants, in_versions, in_contents, in_results}, proofs.Asked.{IsShown}}
+use Rattle.broker_tables.{specs.Schema.{in_meta, in_teams, in_pacticipants, in_versions, in_contents, in_results}, proofs.TableQuery.{IsShown}}
 use Rattle.broker_tables.proofs.Placed.{Placed, Placed-IsNumbered, column-texts, column-whole_numbers, at_meta, at_teams, at_pacticipants, at_versions, at_contents, at_results}
 use Rattle.broker_tables.proofs.ReadableRows.{IsNameAt-of_column}
 use Rattle.table_audit.specs.Audit.{IsNumberOf, IsSoundOffice, IsSoundTeam, IsSoundPacticipant, IsSoundVersion, IsSoundContent, SaysRun}
 use Rattle.table_audit.specs.Shown.{FindsAmong, HasNumberOf, IsOfficeShown, IsTeamShown, HasTwoNames, IsContentShown, SaysRunShown, FindsUnder, HasOffice}
 use Rattle.table_audit.proofs.{RowTexts.{with_one, with_two}, Tried.{Finds-of_table, shown-of_row, shown-has_row}}
-use Rattle.table_audit.specs.declared.auditing.Rule.TheVariants as rule
+use Rattle.table_audit.specs.declared.auditing.TableRule.TheVariants as rule
 use Rattle.table_audit.proofs.RowTexts as asks
 
 -- ---- a column that is shown

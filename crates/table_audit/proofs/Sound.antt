@@ -11,7 +11,7 @@ use Rattle.broker_tables.proofs.Placed.{Placed-IsNumbered, at_versions, at_conte
 use Rattle.table_audit.specs.Audit.{HoldsAState, IsAudited, EachOf}
 use Rattle.table_audit.proofs.StateRows.{version_in, version_at, verification_in, state_in, IsMeta-of_rules, AreVersions-of_rules, AreContents-of_rules, AreContracts-of_rules, AreResults-of_rules, AreDeployed-of_rules, row-at_place}
 use Rattle.table_audit.proofs.{Counted.{length-of_numbers}, LatestRows.{latest_result-of_rules}}
-use Rattle.table_audit.specs.declared.auditing.Rule.TheVariants as rule
+use Rattle.table_audit.specs.declared.auditing.TableRule.TheVariants as rule
 
 -- what is so of each row is so of each element that is made of a row
 All-map : {X : Type 0} (P : X → Type 0) (f : Row → X) (rows : List Row) → EachOf rows (λ r. P (f r)) → All P (map f rows)

@@ -19,7 +19,7 @@ use Rattle.broker_tables.proofs.References.{references-version, references-conte
 use Rattle.broker_tables.proofs.Placed.{Placed-IsNumbered, column-whole_numbers, listed, meta, at_meta, at_contents, contracts, at_contracts, results, at_results, deployed, at_deployed}
 use Rattle.broker_tables.proofs.VersionRows.{IsNumbered-versions, number_of-version_row, option_and_then-Some}
 use Rattle.table_audit.{specs.Audit.{EachOf, IsAudited}, proofs.Counted.{map-numbered, IsNumbered-one_row, whole-is}}
-use Rattle.table_audit.specs.declared.auditing.Rule.TheVariants as rule
+use Rattle.table_audit.specs.declared.auditing.TableRule.TheVariants as rule
 
 -- ---- the state
 

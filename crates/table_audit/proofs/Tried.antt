@@ -8,13 +8,13 @@ use Rattle.table_access.specs.{declared.StoreFault.{StoreFault}, declared.StoreF
 use Rattle.table_access.{specs.{Reading.{IsRefusedAs}, Statements.{from_table, shows, keeps}}, proofs.Answered.{IsRefusedAs-HasFailed, IsPermutation-has_each}}
 use Rattle.table_access.proofs.{CallLemmas.{CallsBetween-weaken}, Steps.{IsPermutation-kept_rows}}
 use Rattle.table_access.proofs.Members.{contains_has, filter_has, has_contains, has_filter, has_map, map_has}
-use Rattle.broker_tables.{specs.Holds.{IsBroker}, proofs.Asked.{Asked, IsShown, Shown-IsShown, Shown-now_same}}
+use Rattle.broker_tables.{specs.Holds.{IsBroker}, proofs.TableQuery.{TableQuery, IsShown, Shown-IsShown, Shown-now_same}}
 use Rattle.broker_tables.proofs.Frames.{Means-over_broker_schema, Runs-over_broker_schema}
 use Rattle.table_audit.specs.{Audit.{EachOf}, Shown.{FindsAmong, TriesBetween}}
 
 -- ---- the call
 
-module _ {sql : List ℕ} {query : Query} (asked : Asked sql [] query) (old new : State) where
+module _ {sql : List ℕ} {query : Query} (asked : TableQuery sql [] query) (old new : State) where
   pub TriesBetween-of_query : {A : Type 0} (r : Result A StoreFault) (Read : A → List Row → Type 0) (P : A → Database → Type 0)
       → (IsBroker old.now → (rows : List Row) → IsShown asked old.now rows → (a : A) → Read a rows → P a old.now)
       → CallsTablesBetween old new r (λ a. (rows : List Row) × Shown sql [] old new rows × Read a rows)
@@ -22,7 +22,7 @@ module _ {sql : List ℕ} {query : Query} (asked : Asked sql [] query) (old new 
       → TriesBetween old new r P
   TriesBetween-of_query r Read P reports call cause = record {
     call = CallsBetween-weaken old new r _ _ (λ a h broker. (reports broker h.0 (Shown-IsShown asked old new broker h.0 h.1) a h.2, Shown-now_same asked old new broker h.0 h.1)) call;
-    calm = λ clean inside broker unlimited. IfErr-weaker r _ _ (λ fault why. elim why [
+    failure = λ clean inside broker unlimited. IfErr-weaker r _ _ (λ fault why. elim why [
       | inl refused ↦ inl (IsRefusedAs-HasFailed sql [] old new query asked.names (Means-over_broker_schema old.now broker sql asked.means)
           (Runs-over_broker_schema old.now broker sql [] query asked.runs) unlimited fault refused)
       | inr memory ↦ inr memory
@@ -52,7 +52,7 @@ filter-keeps_all : (params : Row) (rows : List Row) → filter (keeps [] params)
 filter-keeps_all params [] = refl
 filter-keeps_all params (r ∷ rows) = ap (λ rs. r ∷ rs) (filter-keeps_all params rows)
 
-module _ {sql : List ℕ} {tree : ℕ} {project : List Term} (asked : Asked sql [] (from_table tree [] project [])) (db : Database) (rows : List Row) (shown : IsShown asked db rows) where
+module _ {sql : List ℕ} {tree : ℕ} {project : List Term} (asked : TableQuery sql [] (from_table tree [] project [])) (db : Database) (rows : List Row) (shown : IsShown asked db rows) where
   all : IsPermutation (map (shows project []) (filter (keeps [] []) (db.trees tree))) rows
   all = IsPermutation-kept_rows db [] tree [] project [] rows shown
 

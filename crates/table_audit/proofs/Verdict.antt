@@ -5,7 +5,7 @@ use Rattle.sqlite_rules.specs.Lists.{Has}
 use Rattle.broker_tables.specs.Holds.{IsBroker}
 use Rattle.table_audit.specs.{Audit.{HoldsAState, IsAudited, IsBroken, Verdict, rows_under}, Shown.{AreJudged, HasOffice}, declared.auditing.Finding.{Finding}}
 use Rattle.table_audit.proofs.{Complete.{IsAudited-of_HoldsAState}, Sound.{HoldsAState-of_rules}}
-use Rattle.table_audit.specs.declared.auditing.Rule.TheVariants as rule
+use Rattle.table_audit.specs.declared.auditing.TableRule.TheVariants as rule
 
 -- no state is held if a rule is broken
 IsBroken-not_held : (db : Database) → IsBroker db → (finding : Finding) → IsBroken finding db → ¬ (HoldsAState db)

@@ -20,8 +20,8 @@ use Rattle.broker_tables.specs.Rows.{rows_of, run_in}
 use Rattle.broker_tables.specs.Schema.{in_meta, in_teams, in_pacticipants, in_versions, in_contents, in_results, in_latest, in_deployed}
 use Rattle.broker_database.specs.Ends.{IsAsBefore, LeavesNoTransaction}
 use Rattle.broker_database.specs.Opening.{IsFresh}
-use Rattle.table_audit.specs.declared.auditing.Rule.{Rule}
-use Rattle.table_audit.specs.declared.auditing.Rule.TheVariants as rule
+use Rattle.table_audit.specs.declared.auditing.TableRule.{TableRule}
+use Rattle.table_audit.specs.declared.auditing.TableRule.TheVariants as rule
 use Rattle.table_audit.specs.declared.auditing.Finding.{Finding}
 
 -- ---- one row
@@ -81,7 +81,7 @@ IsNamedOrPassed db r = (l : Row) × Has (rows_of db (codes "latest")) l
 -- ---- the rules
 
 -- the rows that a rule is about
-abbrev pub rows_under : Rule → Database → List Row
+abbrev pub rows_under : TableRule → Database → List Row
 rows_under rule.Office db = rows_of db (codes "meta")
 rows_under rule.Team db = rows_of db (codes "teams")
 rows_under rule.Pacticipant db = rows_of db (codes "pacticipants")
@@ -94,7 +94,7 @@ rows_under rule.Newest db = rows_of db (codes "results")
 rows_under rule.Deployed db = rows_of db (codes "deployed")
 
 -- what each of these rows has to be
-abbrev pub Obeys : Rule → Database → Row → Type 0
+abbrev pub Obeys : TableRule → Database → Row → Type 0
 Obeys rule.Office db r = IsSoundOffice r
 Obeys rule.Team db r = IsSoundTeam r
 Obeys rule.Pacticipant db r = IsSoundPacticipant r
@@ -112,7 +112,7 @@ Obeys rule.Deployed db d = IsOfPacticipant db in_deployed.version_number in_depl
 -- meta has a row, and each row obeys its rules
 pub record IsAudited (db : Database) : Type 0 where
   pub office : (r : Row) × Has (rows_of db (codes "meta")) r
-  pub each : (rule : Rule) → EachOf (rows_under rule db) (Obeys rule db)
+  pub each : (rule : TableRule) → EachOf (rows_under rule db) (Obeys rule db)
 
 -- the tables hold a state that can be read back
 abbrev pub HoldsAState : Database → Type 0
@@ -137,7 +137,7 @@ pub record Audited {X : Type 0} (shown : Held X → State) (old new : Held X) (g
   -- of any database: it is as it was
   pub unchanged : HasCleanDisk (shown new) → IsAsBefore (shown old) (shown new)
   -- Store, of a broker's tables and on a connection as it is opened: the store failed
-  pub calm : HasCleanDisk (shown new) → IsFresh (shown old) → IsBroker (shown old).now → given ≡ Err faults.Store
+  pub failure : HasCleanDisk (shown new) → IsFresh (shown old) → IsBroker (shown old).now → given ≡ Err faults.Store
       → HasFailed (shown old) (shown new) faults.Store
   -- for any answer, no transaction is left open
   pub over : LeavesNoTransaction (shown old) (shown new)

@@ -1,12 +1,12 @@
 -- what is written of a rule that is broken (this project's own choice)
 use Rattle.std.specs.Prelude.{ℕ, ℤ, List, ◌++◌, Option, None, Some, codes}
 use Rattle.std.specs.Fmt.{signed_decimal}
-use Rattle.table_audit.specs.declared.auditing.Rule.{Rule}
-use Rattle.table_audit.specs.declared.auditing.Rule.TheVariants as rule
+use Rattle.table_audit.specs.declared.auditing.TableRule.{TableRule}
+use Rattle.table_audit.specs.declared.auditing.TableRule.TheVariants as rule
 use Rattle.table_audit.specs.declared.auditing.Finding.{Finding}
 
 -- the table whose row breaks the rule
-abbrev pub table_under : Rule → List ℕ
+abbrev pub table_under : TableRule → List ℕ
 table_under rule.Office = codes "meta"
 table_under rule.Team = codes "teams"
 table_under rule.Pacticipant = codes "pacticipants"
@@ -19,7 +19,7 @@ table_under rule.Newest = codes "results"
 table_under rule.Deployed = codes "deployed"
 
 -- and what is wrong with that row
-abbrev pub reason_under : Rule → List ℕ
+abbrev pub reason_under : TableRule → List ℕ
 reason_under rule.Office = codes "not of format 2, or no digest"
 reason_under rule.Team = codes "no name, or no digest"
 reason_under rule.Pacticipant = codes "no name, or no name of a team"
@@ -32,7 +32,7 @@ reason_under rule.Newest = codes "in latest an older result is named, or none"
 reason_under rule.Deployed = codes "its version is of another pacticipant, or its instance isn't UTF-8"
 
 -- `TABLE, row N: REASON`
-abbrev pub line_with : Rule → Option ℤ → List ℕ
+abbrev pub line_with : TableRule → Option ℤ → List ℕ
 line_with rule None = codes "meta: no row"
 line_with rule (Some row) =
     table_under rule ++ codes ", row " ++ signed_decimal row ++ codes ": " ++ reason_under rule

@@ -14,13 +14,13 @@ use Rattle.table_access.specs.Calls.{CallsTablesBetween}
 use Rattle.table_access.specs.Columns.{text, whole_at}
 use Rattle.table_access.specs.Reading.{IsTextAt}
 use Rattle.broker_core.specs.Limit.{limit}
-use Rattle.broker_tables.specs.Calm.{HasFailedOrMemory}
+use Rattle.broker_tables.specs.Failures.{HasFailedOrMemory}
 use Rattle.broker_tables.specs.Holds.{IsBroker, format}
 use Rattle.broker_tables.specs.Names.{IsNameAt}
 use Rattle.broker_tables.specs.Rows.{run_in}
 use Rattle.table_audit.specs.Audit.{EachOf, Obeys, rows_under, IsBroken}
-use Rattle.table_audit.specs.declared.auditing.Rule.{Rule}
-use Rattle.table_audit.specs.declared.auditing.Rule.TheVariants as rule
+use Rattle.table_audit.specs.declared.auditing.TableRule.{TableRule}
+use Rattle.table_audit.specs.declared.auditing.TableRule.TheVariants as rule
 use Rattle.table_audit.specs.declared.auditing.Finding.{Finding}
 
 -- each row keeps a rule, or a row with this number in its first column breaks it
@@ -62,14 +62,14 @@ IsPassedOrSame row = (m n : ℕ) × (column row 0 ≡ Int (pos m)) × (column ro
 -- ---- a rule
 
 -- each row under the rule obeys it, or one with this number doesn't
-abbrev pub FindsUnder : Rule → Database → Option ℤ → Type 0
+abbrev pub FindsUnder : TableRule → Database → Option ℤ → Type 0
 FindsUnder rule db found = MatchOption found (EachOf (rows_under rule db) (Obeys rule db))
     (λ number. (r : Row) × Has (rows_under rule db) r × (whole_at 0 r ≡ number) × (¬ (Obeys rule db r)))
 
 -- a broker's tables are judged, nothing changes, and the call fails only as the store fails, or for memory
 pub record TriesBetween {A : Type 0} (old new : State) (r : Result A StoreFault) (P : A → Database → Type 0) : Type 0 where
   pub call : CallsTablesBetween old new r (λ found. IsBroker old.now → P found old.now × (new.now ≡ old.now))
-  pub calm : HasCleanDisk new → IsTrue old.in_transaction → IsBroker old.now → old.step_limit ≡ None
+  pub failure : HasCleanDisk new → IsTrue old.in_transaction → IsBroker old.now → old.step_limit ≡ None
       → IfErr r (HasFailedOrMemory old new)
 
 -- of a connection over this store
@@ -85,5 +85,5 @@ HasOffice has db = IsTrue has ↔ ((r : Row) × Has (rows_under rule.Office db) 
 
 -- each rule is obeyed, or a row breaks this one
 abbrev pub AreJudged : Option Finding → Database → Type 0
-AreJudged found db = MatchOption found ((rule : Rule) → EachOf (rows_under rule db) (Obeys rule db))
+AreJudged found db = MatchOption found ((rule : TableRule) → EachOf (rows_under rule db) (Obeys rule db))
     (λ finding. IsBroken finding db)

@@ -16,7 +16,7 @@ use table_access::{StoreFault, begin, has_row};
 
 /// What the rows of a table have to be, besides what SQLite tests.
 #[derive(Clone, Copy, Debug, PartialEq, Eq)]
-pub enum Rule {
+pub enum TableRule {
     /// `meta` has a row, with today's format and a digest in UTF-8.
     Office,
     /// A team has a name, and a digest in UTF-8.
@@ -42,22 +42,22 @@ pub enum Rule {
 /// A rule that is broken, and the number (the rowid) of a row that breaks it; `None` if `meta` has no row.
 #[derive(Clone, Copy, Debug, PartialEq, Eq)]
 pub struct Finding {
-    pub rule: Rule,
+    pub rule: TableRule,
     pub row: Option<i64>,
 }
 
 /// All rules, in the order in which they are tried.
-const RULES: [Rule; 10] = [
-    Rule::Office,
-    Rule::Team,
-    Rule::Pacticipant,
-    Rule::Version,
-    Rule::Content,
-    Rule::Result,
-    Rule::Provider,
-    Rule::Named,
-    Rule::Newest,
-    Rule::Deployed,
+const RULES: [TableRule; 10] = [
+    TableRule::Office,
+    TableRule::Team,
+    TableRule::Pacticipant,
+    TableRule::Version,
+    TableRule::Content,
+    TableRule::Result,
+    TableRule::Provider,
+    TableRule::Named,
+    TableRule::Newest,
+    TableRule::Deployed,
 ];
 
 /// Whether `meta` has a row.
@@ -71,21 +71,21 @@ fn has_office<S: Alter>(conn: &mut Connection<S>) -> Result<bool, StoreFault>
 fn judge_by<S: Alter>(
     alloc: Global,
     conn: &mut Connection<S>,
-    rule: Rule,
+    rule: TableRule,
 ) -> Result<Option<i64>, StoreFault>
     ensures { Tries S.Store conn.old conn.new result (λ found db. FindsUnder rule db found) }
 {
     match rule {
-        Rule::Office => judge_office(alloc, conn),
-        Rule::Team => judge_teams(alloc, conn),
-        Rule::Pacticipant => judge_pacticipants(alloc, conn),
-        Rule::Version => judge_versions(alloc, conn),
-        Rule::Content => judge_contents(alloc, conn),
-        Rule::Result => judge_results(alloc, conn),
-        Rule::Provider => judge_providers(alloc, conn),
-        Rule::Named => judge_named(alloc, conn),
-        Rule::Newest => judge_newest(alloc, conn),
-        Rule::Deployed => judge_deployed(alloc, conn),
+        TableRule::Office => judge_office(alloc, conn),
+        TableRule::Team => judge_teams(alloc, conn),
+        TableRule::Pacticipant => judge_pacticipants(alloc, conn),
+        TableRule::Version => judge_versions(alloc, conn),
+        TableRule::Content => judge_contents(alloc, conn),
+        TableRule::Result => judge_results(alloc, conn),
+        TableRule::Provider => judge_providers(alloc, conn),
+        TableRule::Named => judge_named(alloc, conn),
+        TableRule::Newest => judge_newest(alloc, conn),
+        TableRule::Deployed => judge_deployed(alloc, conn),
     }
 }
 
@@ -111,7 +111,7 @@ fn verdict<S: Alter>(alloc: Global, conn: &mut Connection<S>) -> Result<Option<F
 {
     if !done!(has_office(conn)) {
         return Ok(Some(Finding {
-            rule: Rule::Office,
+            rule: TableRule::Office,
             row: None,
         }));
     }

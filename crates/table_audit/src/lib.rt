@@ -20,4 +20,4 @@ mod line;
 mod linked;
 mod rules;
 
-pub use auditing::{Finding, Rule, audit};
+pub use auditing::{Finding, TableRule, audit};

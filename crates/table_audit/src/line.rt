@@ -2,41 +2,41 @@
 ghost use Rattle.std.specs.Prelude.{◌≡◌, IfOk, string_bytes};
 ghost use Rattle.table_audit.specs.Line.{line_of, reason_under, table_under};
 
-use crate::auditing::{Finding, Rule};
+use crate::auditing::{Finding, TableRule};
 use itoa::Buffer;
 use std::alloc::{AllocError, Global};
 
 /// The table whose row breaks the rule.
-fn table_of(rule: Rule) -> &'static str
+fn table_of(rule: TableRule) -> &'static str
     ensures { result.now ≡ table_under rule }
 {
     match rule {
-        Rule::Office => "meta",
-        Rule::Team => "teams",
-        Rule::Pacticipant => "pacticipants",
-        Rule::Version => "versions",
-        Rule::Content => "contents",
-        Rule::Result | Rule::Provider | Rule::Newest => "results",
-        Rule::Named => "latest",
-        Rule::Deployed => "deployed",
+        TableRule::Office => "meta",
+        TableRule::Team => "teams",
+        TableRule::Pacticipant => "pacticipants",
+        TableRule::Version => "versions",
+        TableRule::Content => "contents",
+        TableRule::Result | TableRule::Provider | TableRule::Newest => "results",
+        TableRule::Named => "latest",
+        TableRule::Deployed => "deployed",
     }
 }
 
 /// What is wrong with that row.
-fn reason_of(rule: Rule) -> &'static str
+fn reason_of(rule: TableRule) -> &'static str
     ensures { result.now ≡ reason_under rule }
 {
     match rule {
-        Rule::Office => "not of format 2, or no digest",
-        Rule::Team => "no name, or no digest",
-        Rule::Pacticipant => "no name, or no name of a team",
-        Rule::Version => "a gap in the numbers, or no name",
-        Rule::Content => "a gap in the numbers, or not the text of its digest",
-        Rule::Result => "a gap in the numbers, or no run",
-        Rule::Provider => "its provider isn't the pacticipant of its version",
-        Rule::Named => "it names a result of another content or version",
-        Rule::Newest => "in latest an older result is named, or none",
-        Rule::Deployed => "its version is of another pacticipant, or its instance isn't UTF-8",
+        TableRule::Office => "not of format 2, or no digest",
+        TableRule::Team => "no name, or no digest",
+        TableRule::Pacticipant => "no name, or no name of a team",
+        TableRule::Version => "a gap in the numbers, or no name",
+        TableRule::Content => "a gap in the numbers, or not the text of its digest",
+        TableRule::Result => "a gap in the numbers, or no run",
+        TableRule::Provider => "its provider isn't the pacticipant of its version",
+        TableRule::Named => "it names a result of another content or version",
+        TableRule::Newest => "in latest an older result is named, or none",
+        TableRule::Deployed => "its version is of another pacticipant, or its instance isn't UTF-8",
     }
 }
 

@@ -3,7 +3,7 @@ ghost use Rattle.std.specs.Prelude.{◌≡◌, ◌↔◌, IsTrue, IfOk, ℕ};
 ghost use Rattle.sqlite.specs.Order.{Row as SqlRow};
 ghost use Rattle.table_access.specs.Reading.{IsTextAt};
 ghost use Rattle.table_audit.specs.Shown.{Tries, FindsUnder, HoldsSame, IsPassedOrSame};
-ghost use Rattle.table_audit.specs.declared.auditing.Rule.TheVariants.{Provider, Named, Newest, Deployed};
+ghost use Rattle.table_audit.specs.declared.auditing.TableRule.TheVariants.{Provider, Named, Newest, Deployed};
 
 use crate::judging::{RowRule, judge};
 use crate::rules::has_text;
@@ -24,9 +24,9 @@ fn are_same(row: &Row, one: usize, other: usize) -> bool
 }
 
 /// A result with its provider, and the pacticipant of its version.
-struct ProviderRow;
+struct SoundProvider;
 
-impl RowRule for ProviderRow {
+impl RowRule for SoundProvider {
     ghost Keeps = { λ count. HoldsSame 1 2 };
 
     fn keeps(_alloc: Global, _count: usize, row: &Row) -> Result<bool, AllocError> {
@@ -41,7 +41,7 @@ pub(crate) fn judge_providers<S: Alter>(
 ) -> Result<Option<i64>, StoreFault>
     ensures { Tries S.Store conn.old conn.new result (λ found db. FindsUnder Provider db found) }
 {
-    judge::<ProviderRow, S>(
+    judge::<SoundProvider, S>(
         alloc,
         conn,
         "SELECT r.number, r.provider, v.pacticipant FROM results r JOIN versions v ON v.number = r.provider_version",
@@ -49,9 +49,9 @@ pub(crate) fn judge_providers<S: Alter>(
 }
 
 /// A row of `latest` with the content and the version of the result that it names.
-struct NamedRow;
+struct SoundNamed;
 
-impl RowRule for NamedRow {
+impl RowRule for SoundNamed {
     ghost Keeps = { λ count row. HoldsSame 1 2 row × HoldsSame 3 4 row };
 
     fn keeps(_alloc: Global, _count: usize, row: &Row) -> Result<bool, AllocError> {
@@ -66,7 +66,7 @@ pub(crate) fn judge_named<S: Alter>(
 ) -> Result<Option<i64>, StoreFault>
     ensures { Tries S.Store conn.old conn.new result (λ found db. FindsUnder Named db found) }
 {
-    judge::<NamedRow, S>(
+    judge::<SoundNamed, S>(
         alloc,
         conn,
         "SELECT l.rowid, l.content, r.content, l.provider_version, r.provider_version FROM latest l JOIN results r ON r.number = l.result",
@@ -84,9 +84,9 @@ fn is_passed_or_same(row: &Row) -> bool
 }
 
 /// The number of a result, and of the one that `latest` names for its content and its version.
-struct NewestRow;
+struct SoundNewest;
 
-impl RowRule for NewestRow {
+impl RowRule for SoundNewest {
     ghost Keeps = { λ count. IsPassedOrSame };
 
     fn keeps(_alloc: Global, _count: usize, row: &Row) -> Result<bool, AllocError> {
@@ -101,7 +101,7 @@ pub(crate) fn judge_newest<S: Alter>(
 ) -> Result<Option<i64>, StoreFault>
     ensures { Tries S.Store conn.old conn.new result (λ found db. FindsUnder Newest db found) }
 {
-    judge::<NewestRow, S>(
+    judge::<SoundNewest, S>(
         alloc,
         conn,
         "SELECT r.number, l.result FROM results r LEFT JOIN latest l ON l.content = r.content AND l.provider_version = r.provider_version",
@@ -109,9 +109,9 @@ pub(crate) fn judge_newest<S: Alter>(
 }
 
 /// A row of `deployed` with the pacticipant of its version.
-struct DeployedRow;
+struct SoundDeployed;
 
-impl RowRule for DeployedRow {
+impl RowRule for SoundDeployed {
     ghost Keeps = { λ count row. HoldsSame 1 2 row × IsTextAt 3 row };
 
     fn keeps(_alloc: Global, _count: usize, row: &Row) -> Result<bool, AllocError> {
@@ -126,7 +126,7 @@ pub(crate) fn judge_deployed<S: Alter>(
 ) -> Result<Option<i64>, StoreFault>
     ensures { Tries S.Store conn.old conn.new result (λ found db. FindsUnder Deployed db found) }
 {
-    judge::<DeployedRow, S>(
+    judge::<SoundDeployed, S>(
         alloc,
         conn,
         "SELECT d.rowid, d.pacticipant, v.pacticipant, d.instance FROM deployed d JOIN versions v ON v.number = d.version_number",

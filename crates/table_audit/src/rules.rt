@@ -5,7 +5,7 @@ ghost use Rattle.sqlite.specs.declared.types.Value.TheVariants.{Int, Text as Sql
 ghost use Rattle.table_access.specs.Reading.{IsTextAt};
 ghost use Rattle.broker_tables.specs.Rows.{run_in};
 ghost use Rattle.table_audit.specs.Shown.{Tries, FindsUnder, HasNumberOf, IsOfficeShown, IsTeamShown, HasTwoNames, IsContentShown, SaysRunShown};
-ghost use Rattle.table_audit.specs.declared.auditing.Rule.TheVariants.{Office, Team, Pacticipant, Version, Content, Result as ResultRule};
+ghost use Rattle.table_audit.specs.declared.auditing.TableRule.TheVariants.{Office, Team, Pacticipant, Version, Content, Result as ResultRule};
 
 use crate::judging::{RowRule, judge, row_number};
 use broker_core::limit::GREATEST_NUMBER;
@@ -53,9 +53,9 @@ fn has_number_of(count: usize, row: &Row) -> bool
 // ---- meta, teams and pacticipants
 
 /// The row of `meta`.
-struct OfficeRow;
+struct SoundOffice;
 
-impl RowRule for OfficeRow {
+impl RowRule for SoundOffice {
     ghost Keeps = { λ count. IsOfficeShown };
 
     fn keeps(_alloc: Global, _count: usize, row: &Row) -> Result<bool, AllocError> {
@@ -70,13 +70,13 @@ pub(crate) fn judge_office<S: Alter>(
 ) -> Result<Option<i64>, StoreFault>
     ensures { Tries S.Store conn.old conn.new result (λ found db. FindsUnder Office db found) }
 {
-    judge::<OfficeRow, S>(alloc, conn, "SELECT one, format, office_digest FROM meta")
+    judge::<SoundOffice, S>(alloc, conn, "SELECT one, format, office_digest FROM meta")
 }
 
 /// A row of `teams`.
-struct TeamRow;
+struct SoundTeam;
 
-impl RowRule for TeamRow {
+impl RowRule for SoundTeam {
     ghost Keeps = { λ count. IsTeamShown };
 
     fn keeps(_alloc: Global, _count: usize, row: &Row) -> Result<bool, AllocError> {
@@ -91,13 +91,13 @@ pub(crate) fn judge_teams<S: Alter>(
 ) -> Result<Option<i64>, StoreFault>
     ensures { Tries S.Store conn.old conn.new result (λ found db. FindsUnder Team db found) }
 {
-    judge::<TeamRow, S>(alloc, conn, "SELECT rowid, name, token_digest FROM teams")
+    judge::<SoundTeam, S>(alloc, conn, "SELECT rowid, name, token_digest FROM teams")
 }
 
 /// A row with two names, as one of `pacticipants`.
-struct NamesRow;
+struct SoundNames;
 
-impl RowRule for NamesRow {
+impl RowRule for SoundNames {
     ghost Keeps = { λ count. HasTwoNames };
 
     fn keeps(_alloc: Global, _count: usize, row: &Row) -> Result<bool, AllocError> {
@@ -112,15 +112,15 @@ pub(crate) fn judge_pacticipants<S: Alter>(
 ) -> Result<Option<i64>, StoreFault>
     ensures { Tries S.Store conn.old conn.new result (λ found db. FindsUnder Pacticipant db found) }
 {
-    judge::<NamesRow, S>(alloc, conn, "SELECT rowid, name, team FROM pacticipants")
+    judge::<SoundNames, S>(alloc, conn, "SELECT rowid, name, team FROM pacticipants")
 }
 
 // ---- tables that number their rows
 
 /// A row of `versions`.
-struct VersionRow;
+struct SoundVersion;
 
-impl RowRule for VersionRow {
+impl RowRule for SoundVersion {
     ghost Keeps = { λ count row. HasNumberOf count row × HasTwoNames row };
 
     fn keeps(_alloc: Global, count: usize, row: &Row) -> Result<bool, AllocError> {
@@ -135,7 +135,7 @@ pub(crate) fn judge_versions<S: Alter>(
 ) -> Result<Option<i64>, StoreFault>
     ensures { Tries S.Store conn.old conn.new result (λ found db. FindsUnder Version db found) }
 {
-    judge::<VersionRow, S>(
+    judge::<SoundVersion, S>(
         alloc,
         conn,
         "SELECT number, pacticipant, version FROM versions",
@@ -156,9 +156,9 @@ fn has_own_digest(alloc: Global, row: &Row) -> Result<bool, AllocError>
 }
 
 /// A row of `contents`.
-struct ContentRow;
+struct SoundContent;
 
-impl RowRule for ContentRow {
+impl RowRule for SoundContent {
     ghost Keeps = { λ count row. HasNumberOf count row × IsContentShown row };
 
     fn keeps(alloc: Global, count: usize, row: &Row) -> Result<bool, AllocError> {
@@ -173,7 +173,7 @@ pub(crate) fn judge_contents<S: Alter>(
 ) -> Result<Option<i64>, StoreFault>
     ensures { Tries S.Store conn.old conn.new result (λ found db. FindsUnder Content db found) }
 {
-    judge::<ContentRow, S>(alloc, conn, "SELECT number, digest, body FROM contents")
+    judge::<SoundContent, S>(alloc, conn, "SELECT number, digest, body FROM contents")
 }
 
 /// Whether the text in the column of a run is a run, or says that the row with this number has none.
@@ -198,9 +198,9 @@ fn says_run(row: &Row) -> bool
 }
 
 /// A row of `results`.
-struct ResultRow;
+struct SoundResult;
 
-impl RowRule for ResultRow {
+impl RowRule for SoundResult {
     ghost Keeps = { λ count row. HasNumberOf count row × SaysRunShown row };
 
     fn keeps(_alloc: Global, count: usize, row: &Row) -> Result<bool, AllocError> {
@@ -215,5 +215,5 @@ pub(crate) fn judge_results<S: Alter>(
 ) -> Result<Option<i64>, StoreFault>
     ensures { Tries S.Store conn.old conn.new result (λ found db. FindsUnder ResultRule db found) }
 {
-    judge::<ResultRow, S>(alloc, conn, "SELECT number, run FROM results")
+    judge::<SoundResult, S>(alloc, conn, "SELECT number, run FROM results")
 }

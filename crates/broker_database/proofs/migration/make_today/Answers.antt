@@ -1,12 +1,12 @@
 use Rattle.std.proofs.{Common.{Ok, Err, sym, subst}, lemmas.Result.{IfErr-weaker, IfOk-weaker}}
 use Rattle.sqlite.specs.{Effect.{Database}, Held.{state}}
 use Rattle.table_access.{specs.Calls.{CallsStoreBetween}, proofs.CallLemmas.{CallsBetween-then_call, CallsBetween-then_result}}
-use Rattle.broker_tables.{specs.{Former.{HoldsFormer}, Holds.{Holds}}, proofs.MakingFails.{IsCalmOverBetween-then}}
-use Rattle.broker_database.specs.Migration.{Migrates, CanBeMigrated, TakesNoFormerRoom}
+use Rattle.broker_tables.{specs.{Format1.{HoldsFormat1}, Holds.{Holds}}, proofs.MakingFails.{FailsByStoreOverBetween-then}}
+use Rattle.broker_database.specs.Migration.{Migrates, CanBeMigrated, TakesNoFormat1Room}
 use Rattle.broker_database.proofs.migration.make_today.Goals as goal
 
-pub returns-clause-brings : goal.returns-clause-brings
-returns-clause-brings g c =
+pub returns-clause-upgrades : goal.returns-clause-upgrades
+returns-clause-upgrades g c =
     let old = state g.S.Store c.args.conn.now in
     let mid = state g.S.Store c.make_exact.new.conn in
     let new = state g.S.Store c.add_all.new.conn in
@@ -15,11 +15,11 @@ returns-clause-brings g c =
     (CallsBetween-then_call old mid new c.in-Ok.value (Ok c.in-Ok-add_all.value) _ _ (λ _. Migrates old.now new.now)
     (λ exact _ up s held.
     let same = exact held.schema in
-    subst (λ (db : Database). Holds new.now s × TakesNoFormerRoom db new.now) same (up s (subst (λ (db : Database). HoldsFormer db s) (sym same) held)))
-    c.in-Ok.ensures.makes c.in-Ok-add_all.ensures.brings)
+    subst (λ (db : Database). Holds new.now s × TakesNoFormat1Room db new.now) same (up s (subst (λ (db : Database). HoldsFormat1 db s) (sym same) held)))
+    c.in-Ok.ensures.makes c.in-Ok-add_all.ensures.upgrades)
 
-pub returns-clause-calm : goal.returns-clause-calm
-returns-clause-calm g c clean inside unlimited can =
+pub returns-clause-failure : goal.returns-clause-failure
+returns-clause-failure g c clean inside unlimited can =
     let old = state g.S.Store c.args.conn.now in
     let mid = state g.S.Store c.make_exact.new.conn in
     let new = state g.S.Store c.add_all.new.conn in
@@ -27,11 +27,11 @@ returns-clause-calm g c clean inside unlimited can =
     CallsBetween-then_call old mid new c.in-Ok.value (Ok c.in-Ok-add_all.value) _ _ (λ _. Migrates old.now new.now)
     (λ exact _ up s held.
     let same = exact held.schema in
-    subst (λ (db : Database). Holds new.now s × TakesNoFormerRoom db new.now) same (up s (subst (λ (db : Database). HoldsFormer db s) (sym same) held)))
-    c.in-Ok.ensures.makes c.in-Ok-add_all.ensures.brings in
+    subst (λ (db : Database). Holds new.now s × TakesNoFormat1Room db new.now) same (up s (subst (λ (db : Database). HoldsFormat1 db s) (sym same) held)))
+    c.in-Ok.ensures.makes c.in-Ok-add_all.ensures.upgrades in
     IfErr-weaker c.confirm.result _ _ (λ fault why. absurd (why.1 (brought.ok clean can.0 can.1).0.broker.schema)) c.confirm.ensures.err
 
-pub returns-in-Err-add_all-clause-calm : goal.returns-in-Err-add_all-clause-calm
-returns-in-Err-add_all-clause-calm g c =
-    IsCalmOverBetween-then CanBeMigrated CanBeMigrated _ _ _ c.in-Ok.value (Err c.in-Err-add_all.fault) _ _ c.in-Ok.ensures.makes c.in-Err-add_all.ensures.brings c.in-Err-add_all.ensures.calm
+pub returns-in-Err-add_all-clause-failure : goal.returns-in-Err-add_all-clause-failure
+returns-in-Err-add_all-clause-failure g c =
+    FailsByStoreOverBetween-then CanBeMigrated CanBeMigrated _ _ _ c.in-Ok.value (Err c.in-Err-add_all.fault) _ _ c.in-Ok.ensures.makes c.in-Err-add_all.ensures.upgrades c.in-Err-add_all.ensures.failure
     (λ exact can. subst CanBeMigrated (sym (exact can.1.schema)) can)

@@ -8,7 +8,7 @@ pub returns-in-Ok : goal.returns-in-Ok
 returns-in-Ok g c =
     let old = c.args.conn.now in
     let new = c.run.new.conn in
-    subst (λ (r : Result (Unit {0}) OpenFault). Migrated (state g.S.Store) old new r) (sym c.judge.ensures) (Migrated-found (state g.S.Store) old new c.in-Ok.found c.in-Ok.ensures.migrates)
+    subst (λ (r : Result (Unit {0}) OpenFault). Migrated (state g.S.Store) old new r) (sym c.judge_format.ensures) (Migrated-found (state g.S.Store) old new c.in-Ok.found c.in-Ok.ensures.migrates)
 
 pub returns-in-Err : goal.returns-in-Err
 returns-in-Err g c =

@@ -28,7 +28,7 @@ returns-then-not-is_blank g c =
     record {
       made = tt;
       refuses = λ clean blank none. absurd (filled none);
-      calm = λ clean fresh blank is. absurd (cc);
+      failure = λ clean fresh blank is. absurd (cc);
       not_empty = (λ _. filled, λ _. refl);
       same = λ _. refl;
       unchanged = λ clean. IsAsBefore-refl here;
@@ -52,9 +52,9 @@ returns-in-Ok g c =
           subst (λ (f : OpenFault). Refuses IsBlank (λ db. Stores db (opening (broker_primitives.digest_of c.args.office.now))) (state g.S.Store new) f) (sym is_returned)
           (subst (λ (text : Text). Refuses IsBlank (λ db. Stores db (opening text)) (state g.S.Store new) (open_fault why)) digest_is
           (Refuses-of_fails digest (state g.S.Store new) why (c.in-Err-make.ensures.ends clean blank)));
-      calm = λ clean fresh blank is.
+      failure = λ clean fresh blank is.
           subst (λ (text : Text). HasFailed (state g.S.Store old) (state g.S.Store new) fault.Store ⊎ IsUncommitted (state g.S.Store) (opening text) old new) digest_is
-          (OnlyIfStoreFailed-of_refused (state g.S.Store) IsBlank (opening digest) old new (Err c.in-Err-make.failure) (c.in-Err-make.ensures.calm short) clean fresh blank (ap Err (open_fault-store why (ap Err (sym is_returned) ∙ is))));
+          (OnlyIfStoreFailed-of_refused (state g.S.Store) IsBlank (opening digest) old new (Err c.in-Err-make.failure) (c.in-Err-make.ensures.failure short) clean fresh blank (ap Err (open_fault-store why (ap Err (sym is_returned) ∙ is))));
       not_empty = (
         λ is. absurd (never_not_empty why (ap Err (sym is_returned) ∙ is)),
         λ filled. absurd (filled (c.is_blank.ensures.0 c.if-not-is_blank.false)),
@@ -76,7 +76,7 @@ returns g c =
       made = tt;
       refuses = λ clean blank none.
           subst (λ (f : OpenFault). Refuses IsBlank (λ db. Stores db (opening (broker_primitives.digest_of c.args.office.now))) here f) (sym is_memory) blank;
-      calm = λ clean fresh blank is.
+      failure = λ clean fresh blank is.
           absurd (let clash : fault.Memory ≡ fault.Store = sym c.in-Err.ensures.cause ∙ open_fault-store c.in-Err.fault (ap Err (sym c.open_fault-in-Err.ensures) ∙ is) in cc);
       not_empty = (
         λ is. absurd (never_not_empty c.in-Err.fault (ap Err (sym c.open_fault-in-Err.ensures) ∙ is)),

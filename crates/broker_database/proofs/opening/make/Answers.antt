@@ -19,9 +19,9 @@ returns-clause-survives g c =
 pub returns-in-Err-clause-survives : goal.returns-in-Err-clause-survives
 returns-in-Err-clause-survives g c = CommitsAtMostOnce-of_survives _ _ c.begin.ensures.survives
 
-pub returns-clause-calm : goal.returns-clause-calm
+pub returns-clause-failure : goal.returns-clause-failure
 unfolding made
-returns-clause-calm g c short =
+returns-clause-failure g c short =
     OnlyIfRefused-of_transaction (state g.S.Store) (λ db. IsBlank db × AreShort (c.args.digest.now ∷ [])) IsBlank (opening c.args.digest.now) c.args.conn.now c.begin.new.conn c.make_all-made.new.conn c.conclude.new.conn _ _ c.conclude.result
     (made c.args.digest.now _ _ _ _ c.make_all-made.result (returned c.conclude.result) c.is_ok-keeps.result c.in-Ok.ensures.begun c.begin.ensures.survives c.make_all-made.ensures.makes c.is_ok-keeps.ensures.value c.conclude.ensures.concludes)
-    c.make_all-made.ensures.calm c.conclude.ensures.refused (λ db blank. (blank, short)) (λ u makes _ blank. (makes blank).0)
+    c.make_all-made.ensures.failure c.conclude.ensures.refused (λ db blank. (blank, short)) (λ u makes _ blank. (makes blank).0)

@@ -1,5 +1,5 @@
 use Rattle.broker_tables.specs.{Holds.{format}, Making.{HasShortKeys, HasTables, IsBlank}, ChangeRefusals.{AreShort}, Schema.{all_tables, schema_of}}
-use Rattle.broker_tables.proofs.MakingFails.{IsCalmOverBetween-then, HasTables-HasShortKeys}
+use Rattle.broker_tables.proofs.MakingFails.{FailsByStoreOverBetween-then, HasTables-HasShortKeys}
 use Rattle.broker_tables.proofs.Opening.{HasTables-HasAll, HasAll-Holds_opening, HasAll-HasAllNumbers}
 use Rattle.sqlite.specs.Held.{state}
 use Rattle.std.proofs.Common.{Ok, [], ◌∷◌, ◌≡◌}
@@ -22,12 +22,12 @@ pub returns-in-Err-make_rest-clause-makes : goal.returns-in-Err-make_rest-clause
 returns-in-Err-make_rest-clause-makes g c =
     CallsBetween-then_failed_call _ _ _ c.in-Ok.value c.in-Err-make_rest.fault _ _ _ c.in-Ok.ensures.makes c.in-Err-make_rest.ensures.makes
 
-pub returns-clause-calm : goal.returns-clause-calm
-returns-clause-calm g c =
+pub returns-clause-failure : goal.returns-clause-failure
+returns-clause-failure g c =
     let old = state g.S.Store c.args.conn.now in
     let second = state g.S.Store c.make_rest.new.conn in
     let digest = c.args.digest.now in
-    IsCalmOverBetween-then (λ db. IsBlank db × AreShort (digest ∷ [])) (λ db. (db.schema ≡ schema_of all_tables) × HasShortKeys db) old second _ c.in-Ok-make_rest.value c.make_indexes.result
+    FailsByStoreOverBetween-then (λ db. IsBlank db × AreShort (digest ∷ [])) (λ db. (db.schema ≡ schema_of all_tables) × HasShortKeys db) old second _ c.in-Ok-make_rest.value c.make_indexes.result
     (λ _. IsBlank old.now → HasTables all_tables format digest second.now) _
     (CallsBetween-then_call old _ second c.in-Ok.value (Ok c.in-Ok-make_rest.value) _ _ (λ _. IsBlank old.now → HasTables all_tables format digest second.now) (λ has u rest blank. rest digest (has blank)) c.in-Ok.ensures.makes c.in-Ok-make_rest.ensures.makes)
-    c.make_indexes.ensures.makes c.make_indexes.ensures.calm (λ has it. let all = has it.0 in (all.schema, HasTables-HasShortKeys format digest second.now all))
+    c.make_indexes.ensures.makes c.make_indexes.ensures.failure (λ has it. let all = has it.0 in (all.schema, HasTables-HasShortKeys format digest second.now all))

@@ -1,5 +1,5 @@
 use Rattle.broker_tables.specs.{Making.{HasShortKeys}, Schema.{all_tables, contents_by_digest, contract_indexes, schema_of, versions_by_pacticipant}}
-use Rattle.broker_tables.proofs.MakingFails.{IsCalmOverBetween-then, HasShortKeys-kept}
+use Rattle.broker_tables.proofs.MakingFails.{FailsByStoreOverBetween-then, HasShortKeys-kept}
 use Rattle.sqlite.specs.{Change.{indexed}, Held.{state}}
 use Rattle.std.proofs.Common.{Err, Ok, [], ap, refl, ◌∙◌, ◌∷◌, ◌≡◌}
 use Rattle.table_access.{specs.Statements.{MakesIndexes, indexed_by}, proofs.CallLemmas.{CallsBetween-then_call}}
@@ -20,27 +20,27 @@ returns-clause-makes g c =
     (λ one u rest is. let made = one is in (first.now, made, rest (made.schema ∙ ap (λ s. indexed s contents_by_digest.0 contents_by_digest.1) is))) c.in-Ok.ensures.makes c.in-Ok-make_indexes.ensures.makes)
     c.make_index-2.ensures.makes
 
-pub returns-clause-calm : goal.returns-clause-calm
-returns-clause-calm g c =
+pub returns-clause-failure : goal.returns-clause-failure
+returns-clause-failure g c =
     let old = state g.S.Store c.args.conn.now in
     let first = state g.S.Store c.make_index.new.conn in
     let second = state g.S.Store c.make_indexes.new.conn in
-    IsCalmOverBetween-then (λ db. (db.schema ≡ schema_of all_tables) × HasShortKeys db) (λ db. (db.schema ≡ indexed_by (schema_of all_tables) (contents_by_digest ∷ contract_indexes)) × HasShortKeys db)
+    FailsByStoreOverBetween-then (λ db. (db.schema ≡ schema_of all_tables) × HasShortKeys db) (λ db. (db.schema ≡ indexed_by (schema_of all_tables) (contents_by_digest ∷ contract_indexes)) × HasShortKeys db)
     old second _ c.in-Ok-make_indexes.value c.make_index-2.result (λ _. old.now.schema ≡ schema_of all_tables → MakesIndexes (contents_by_digest ∷ contract_indexes) old.now second.now) _
     (CallsBetween-then_call old first second c.in-Ok.value (Ok c.in-Ok-make_indexes.value) _ _ (λ _. old.now.schema ≡ schema_of all_tables → MakesIndexes (contents_by_digest ∷ contract_indexes) old.now second.now)
     (λ one u rest is. let made = one is in (first.now, made, rest (made.schema ∙ ap (λ s. indexed s contents_by_digest.0 contents_by_digest.1) is))) c.in-Ok.ensures.makes c.in-Ok-make_indexes.ensures.makes)
-    c.make_index-2.ensures.makes c.make_index-2.ensures.calm
+    c.make_index-2.ensures.makes c.make_index-2.ensures.failure
     (λ makes it. let done = makes it.0 in (
       MakesIndexes-schema (contents_by_digest ∷ contract_indexes) old.now second.now done ∙ ap (λ s. indexed_by s (contents_by_digest ∷ contract_indexes)) it.0,
       HasShortKeys-kept [] (contents_by_digest ∷ contract_indexes) old.now second.now it.0 done it.1,
     ))
 
-pub returns-in-Err-make_indexes-clause-calm : goal.returns-in-Err-make_indexes-clause-calm
-returns-in-Err-make_indexes-clause-calm g c =
+pub returns-in-Err-make_indexes-clause-failure : goal.returns-in-Err-make_indexes-clause-failure
+returns-in-Err-make_indexes-clause-failure g c =
     let old = state g.S.Store c.args.conn.now in
     let first = state g.S.Store c.make_index.new.conn in
-    IsCalmOverBetween-then (λ db. (db.schema ≡ schema_of all_tables) × HasShortKeys db) (λ db. (db.schema ≡ indexed_by (schema_of all_tables) (contents_by_digest ∷ [])) × HasShortKeys db)
-    old first _ c.in-Ok.value (Err c.in-Err-make_indexes.fault) _ _ c.in-Ok.ensures.makes c.in-Err-make_indexes.ensures.makes c.in-Err-make_indexes.ensures.calm
+    FailsByStoreOverBetween-then (λ db. (db.schema ≡ schema_of all_tables) × HasShortKeys db) (λ db. (db.schema ≡ indexed_by (schema_of all_tables) (contents_by_digest ∷ [])) × HasShortKeys db)
+    old first _ c.in-Ok.value (Err c.in-Err-make_indexes.fault) _ _ c.in-Ok.ensures.makes c.in-Err-make_indexes.ensures.makes c.in-Err-make_indexes.ensures.failure
     (λ makes it. let made = makes it.0 in (
       made.schema ∙ ap (λ s. indexed s contents_by_digest.0 contents_by_digest.1) it.0,
       HasShortKeys-kept [] (contents_by_digest ∷ []) old.now first.now it.0 (first.now, made, refl) it.1,

@@ -20,19 +20,19 @@ pub returns-in-Ok : goal.returns-in-Ok
 returns-in-Ok g c =
     let old = state g.S.Store c.args.conn.now in
     record {
-      judges = λ clean. subst (OpensOrRefuses old.now) (sym c.judge.ensures) (OpensOrRefuses-judgement old.now c.in-Ok.found (c.in-Ok.ensures.found clean).1);
-      calm = λ clean fresh is. absurd (judgement-not_store format c.in-Ok.found (sym c.judge.ensures ∙ is));
+      judges = λ clean. subst (OpensOrRefuses old.now) (sym c.judge_format.ensures) (OpensOrRefuses-judgement old.now c.in-Ok.found (c.in-Ok.ensures.found clean).1);
+      failure = λ clean fresh is. absurd (judgement-not_store format c.in-Ok.found (sym c.judge_format.ensures ∙ is));
       blank = λ clean keeps.
           let it = c.in-Ok.ensures.found clean in
-          inl (c.judge.ensures ∙ ap (judgement format) (FindsToday-blank old.now c.in-Ok.found (HoldsDurably-now IsBlank old keeps it.0).schema it.1));
+          inl (c.judge_format.ensures ∙ ap (judgement format) (FindsToday-blank old.now c.in-Ok.found (HoldsDurably-now IsBlank old keeps it.0).schema it.1));
       marked = λ clean n office other keeps.
           let it = c.in-Ok.ensures.found clean in
-          inl (c.judge.ensures ∙ ap (judgement format) (FindsToday-other n office old.now c.in-Ok.found other (HoldsDurably-now (IsMarked n office) old keeps it.0) it.1));
+          inl (c.judge_format.ensures ∙ ap (judgement format) (FindsToday-other n office old.now c.in-Ok.found other (HoldsDurably-now (IsMarked n office) old keeps it.0) it.1));
       today = λ clean office keeps.
           let it = c.in-Ok.ensures.found clean in
-          inl (c.judge.ensures ∙ ap (judgement format) (FindsToday-today office old.now c.in-Ok.found (HoldsDurably-now (IsMarkedToday office) old keeps it.0) it.1));
-      kept = λ clean. OnOk-const c.judge.result (IsAsBefore old _) (c.find_format.ensures.same clean);
-      unchanged = λ clean. unless_store old _ c.judge.result (c.find_format.ensures.same clean);
+          inl (c.judge_format.ensures ∙ ap (judgement format) (FindsToday-today office old.now c.in-Ok.found (HoldsDurably-now (IsMarkedToday office) old keeps it.0) it.1));
+      kept = λ clean. OnOk-const c.judge_format.result (IsAsBefore old _) (c.find_format.ensures.same clean);
+      unchanged = λ clean. unless_store old _ c.judge_format.result (c.find_format.ensures.same clean);
       over = c.find_format.ensures.over;
       survives = c.find_format.ensures.survives;
     }

@@ -37,7 +37,7 @@ module _ {X : Type 0} (shown : Held X → State) (s t : BrokerView X) (before af
         run = runs mode m.0 p.0 p.1 p.2 m.1;
         holds = m.2.held;
         serves = record { ok = (p.0, p.1, p.2, p.3, m.1, p.5, p.6, p.7); end = answers.end; fault = tt };
-        calm = StopsOnlyBy-of_later shown mode s.connection t.connection (length m.0.steps) m.0.mode m.2.stops;
+        failure = StopsOnlyBy-of_later shown mode s.connection t.connection (length m.0.steps) m.0.mode m.2.stops;
       }
   machines (Err fault) answers clean mode held =
       let p = answers.fault in
@@ -47,7 +47,7 @@ module _ {X : Type 0} (shown : Held X → State) (s t : BrokerView X) (before af
         run = runs mode m.0 p.0 p.1 p.2 m.1;
         holds = m.2.held;
         serves = record { ok = tt; end = tt; fault = (p.0, p.1, p.2, p.3, p.4, m.1, p.6, p.7, p.8) };
-        calm = StopsOnlyBy-of_later shown mode s.connection t.connection (length m.0.steps) m.0.mode m.2.stops;
+        failure = StopsOnlyBy-of_later shown mode s.connection t.connection (length m.0.steps) m.0.mode m.2.stops;
       }
 
 pub returns-clause-served : goal.returns-clause-served

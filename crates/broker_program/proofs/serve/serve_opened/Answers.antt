@@ -36,13 +36,13 @@ returns-in-Ok-None-clause-ok g c =
 
 pub returns-in-Ok-None-clause-fewer : goal.returns-in-Ok-None-clause-fewer
 returns-in-Ok-None-clause-fewer g c none =
-    elim c.loop-broker.invariant.1 [ inl runs ↦ absurd (None-not_some _ _ _ c.in-Ok-None.is c.in-Ok-None.field-0-is (c.running.ensures.same runs)) | inr more ↦ more.1 ]
+    elim c.loop-broker.invariant.1 [ inl runs ↦ absurd (None-not_some _ _ _ c.in-Ok-None.is c.in-Ok-None.field-0-is (c.ensure_running.ensures.same runs)) | inr more ↦ more.1 ]
 
 pub returns-in-Err-clause-cut : goal.returns-in-Err-clause-cut
 returns-in-Err-clause-cut g c =
     let it = c.loop-broker.invariant in
     let went = AreVisited-went_length _ _ it.3.0.visits it.3.0.visited in
-    let some : 0 < length it.3.0.visits = elim it.1 [ inl runs ↦ absurd (Err-not_ok _ _ _ c.in-Err.is (c.running.ensures.same runs)) | inr more ↦ omega (arith, went, more.0) ] in
+    let some : 0 < length it.3.0.visits = elim it.1 [ inl runs ↦ absurd (Err-not_ok _ _ _ c.in-Err.is (c.ensure_running.ensures.same runs)) | inr more ↦ omega (arith, went, more.0) ] in
     (it.3.0, inl (some, c.in-Err.ensures.goes it.3.0.visits it.3.1))
 
 pub returns-in-Err-close-clause-cut : goal.returns-in-Err-close-clause-cut

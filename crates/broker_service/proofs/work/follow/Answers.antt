@@ -42,9 +42,9 @@ returns-in-CanIDeploy g c = DoesBetween-of_carries c.args.caller.now c.in-CanIDe
 pub returns-in-PostReplies : goal.returns-in-PostReplies
 returns-in-PostReplies g c = record {
   answers = subst (λ (command : Command). PerformsBetween (state g.S.Store c.args.conn.now) (state g.S.Store c.post_replies.new.conn) (CallersStep c.args.caller.now command) c.post_replies.result) (sym c.in-PostReplies.is) c.post_replies.ensures.answers;
-  calm =
+  failure =
       FailsFromBetween-of_sound_change (state g.S.Store c.args.conn.now) (state g.S.Store c.post_replies.new.conn) c.post_replies.result c.args.caller.now c.args.command.now
-      (PostReplies c.in-PostReplies.path c.in-PostReplies.report c.in-PostReplies.replies) c.in-PostReplies.is c.post_replies.ensures.calm;
+      (PostReplies c.in-PostReplies.path c.in-PostReplies.report c.in-PostReplies.replies) c.in-PostReplies.is c.post_replies.ensures.failure;
 }
 
 pub returns-in-Ok : goal.returns-in-Ok
@@ -54,5 +54,5 @@ returns-in-Ok g c = record {
       subst (λ (answer : Answer). PerformsBetween here here (CallersStep c.args.caller.now c.args.command.now) (Ok answer)) (sym c.in-Ok.ensures.ok)
       (subst (λ (command : Command). PerformsBetween here here (CallersStep c.args.caller.now command) (Ok (BadForm c.in-Malformed.fault))) (sym c.in-Malformed.is)
       (PerformsBetween-answer here (BadForm c.in-Malformed.fault) (CallersStep c.args.caller.now (Malformed c.in-Malformed.fault)) (λ s sound. inl (Some c.in-Malformed.fault, refl, refl))));
-  calm = λ clean s here sound. tt;
+  failure = λ clean s here sound. tt;
 }

@@ -18,8 +18,8 @@ loop-text-preserved g c =
     (MakesTexts-one_more AreDefinedTables-table_texts AreDefinedIndexes-index_texts _ _ old.now mid new ran.0 made ran.1))
     c.loop-text.invariant c.in-Ok.ensures.leaves
 
-pub returns-in-Err-clause-calm : goal.returns-in-Err-clause-calm
-returns-in-Err-clause-calm g c clean inside unlimited can =
+pub returns-in-Err-clause-failure : goal.returns-in-Err-clause-failure
+returns-in-Err-clause-failure g c clean inside unlimited can =
     let so_far = c.loop-text.invariant in
     let mid_clean : HasCleanDisk (state g.S.Store c.loop-text.conn) = omega (arith, c.change.ensures.leaves.survives.clean, clean) in
     let texts = c.args.texts.now in

@@ -2,7 +2,7 @@ use Rattle.std.proofs.Common.{subst, sym}
 use Rattle.sqlite.specs.Held.{state}
 use Rattle.table_access.proofs.CallLemmas.{CallsBetween-then_call}
 use Rattle.sha2.specs.Sha256.{sha256}
-use Rattle.content_store.{specs.Contents.{ContentsBy, IsPut, hex_of}, proofs.Held.{Holds-ContentsBy, IsCalmUnlessBetween-then}}
+use Rattle.content_store.{specs.Contents.{ContentsBy, IsPut, hex_of}, proofs.Held.{Holds-ContentsBy, FailsByStoreUnlessBetween-then}}
 use Rattle.content_store.proofs.contents.add.Goals as goal
 
 pub returns-clause-call : goal.returns-clause-call
@@ -14,7 +14,7 @@ returns-clause-call g c =
     (two by is texts (subst (λ d. ContentsBy by d texts) (sym read.1) held) free read.0))
     c.in-Ok.ensures.call c.add_after.ensures.call
 
-pub returns-clause-calm : goal.returns-clause-calm
-returns-clause-calm g c =
-    IsCalmUnlessBetween-then _ _ _ c.in-Ok.value c.add_after.result _ _ _ _ _ c.in-Ok.ensures.call c.add_after.ensures.call
-    (λ read s held allowed. let returned = read (hex_of sha256) s.contents (Holds-ContentsBy _ s held) in ((returned.0, allowed.1), returned.1)) c.add_after.ensures.calm
+pub returns-clause-failure : goal.returns-clause-failure
+returns-clause-failure g c =
+    FailsByStoreUnlessBetween-then _ _ _ c.in-Ok.value c.add_after.result _ _ _ _ _ c.in-Ok.ensures.call c.add_after.ensures.call
+    (λ read s held allowed. let returned = read (hex_of sha256) s.contents (Holds-ContentsBy _ s held) in ((returned.0, allowed.1), returned.1)) c.add_after.ensures.failure

@@ -4,7 +4,7 @@ use Rattle.sha2.specs.Sha256.{sha256}
 use Rattle.table_access.proofs.CallLemmas.{CallsBetween-then_Ok, CallsBetween-then_call}
 use Rattle.broker_core.specs.{Text.{Text}, Limit.{has_room}}
 use Rattle.content_store.{specs.Contents.{ContentsBy, IsPut, is_among, hex_of}, proofs.TextNumbers.{has_room-of_count}}
-use Rattle.content_store.proofs.Held.{Holds-ContentsBy, IsCalmUnlessBetween-then}
+use Rattle.content_store.proofs.Held.{Holds-ContentsBy, FailsByStoreUnlessBetween-then}
 use Rattle.content_store.proofs.contents.add_if_room.Goals as goal
 
 pub returns-in-Ok-add_after-clause-call : goal.returns-in-Ok-add_after-clause-call
@@ -23,8 +23,8 @@ returns-in-Ok-add_after-clause-call g c =
     ))
     c.in-Ok.ensures.call c.in-Ok-add_after.ensures.call)
 
-pub returns-in-Err-add_after-clause-calm : goal.returns-in-Err-add_after-clause-calm
-returns-in-Err-add_after-clause-calm g c =
-    IsCalmUnlessBetween-then {B = ℕ} _ _ _ c.in-Ok.value (Err c.in-Err-add_after.fault) _ _ _ _ _ c.in-Ok.ensures.call c.in-Err-add_after.ensures.call
+pub returns-in-Err-add_after-clause-failure : goal.returns-in-Err-add_after-clause-failure
+returns-in-Err-add_after-clause-failure g c =
+    FailsByStoreUnlessBetween-then {B = ℕ} _ _ _ c.in-Ok.value (Err c.in-Err-add_after.fault) _ _ _ _ _ c.in-Ok.ensures.call c.in-Err-add_after.ensures.call
     (λ read s held allowed. let returned = read (hex_of sha256) s.contents (Holds-ContentsBy _ s held) in
-    ((returned.0, has_room-of_count s.contents c.in-Ok.value c.room.result c.room.ensures returned.0 ∙ c.if-room.true), returned.1)) c.in-Err-add_after.ensures.calm
+    ((returned.0, has_room-of_count s.contents c.in-Ok.value c.room.result c.room.ensures returned.0 ∙ c.if-room.true), returned.1)) c.in-Err-add_after.ensures.failure

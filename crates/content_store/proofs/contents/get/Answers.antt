@@ -2,7 +2,7 @@ use Rattle.std.proofs.{Common.{ℕ, pos, ◌≤◌, ◌^◌, ◌∙◌, ap, opti
 use Rattle.sqlite.specs.Held.{state}
 use Rattle.table_access.{specs.Columns.{text}, proofs.{Answered.{slice_get-has_first}, CallLemmas.{CallsBetween-weaken}}}
 use Rattle.broker_core.proofs.Lists.{None-not_Some}
-use Rattle.broker_tables.proofs.Asked.{Shown-IsShown, Shown-now_same, FailsToTake-explained_text, FailsToTake-no_row_shown}
+use Rattle.broker_tables.proofs.TableQuery.{Shown-IsShown, Shown-now_same, FailsToTake-explained_text, FailsToTake-no_row_shown}
 use Rattle.broker_tables.proofs.QueryLemmas.{FailsOnlyBy-of_cause}
 use Rattle.content_store.proofs.{ContentRows.{stored, IsShown-text_in}, Held.{Holds-ContentsBy}, ReadableRows.{EachReads-content_body}}
 use Rattle.content_store.proofs.contents.get.Goals as goal
@@ -22,8 +22,8 @@ returns-in-Ok-clause-call g c =
     ))
     (rw c.params-to_sql.ensures at c.find_text.ensures.leaves)
 
-pub returns-in-Ok-clause-calm : goal.returns-in-Ok-clause-calm
-returns-in-Ok-clause-calm g c =
+pub returns-in-Ok-clause-failure : goal.returns-in-Ok-clause-failure
+returns-in-Ok-clause-failure g c =
     let old = state g.S.Store c.args.conn.now in
     let new = state g.S.Store c.find_text.new.conn in
     FailsOnlyBy-of_cause old new c.find_text.result _ _

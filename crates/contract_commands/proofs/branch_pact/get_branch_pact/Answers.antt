@@ -11,4 +11,4 @@ returns g c =
     let branch = c.args.branch.now in
     let place = c.in-Ok.value in
     CarriesBetween-query_listing_if {Then = λ s. HasReachedContent s place} (λ s all reach answer shows. StepOfCaller-branch_pact s caller provider consumer branch place answer reach shows)
-    (λ s held reach. ReachesBranch-has_content (state g.S.Store c.args.conn.now).now s held caller provider consumer branch place reach) c.in-Ok.ensures c.show_pact.ensures.answers c.show_pact.ensures.calm
+    (λ s held reach. ReachesBranch-has_content (state g.S.Store c.args.conn.now).now s held caller provider consumer branch place reach) c.in-Ok.ensures c.show_pact.ensures.answers c.show_pact.ensures.failure

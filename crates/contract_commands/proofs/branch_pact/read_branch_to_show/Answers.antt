@@ -1,5 +1,5 @@
 use Rattle.sqlite.specs.Held.{state}
-use Rattle.broker_tables.proofs.QueryLemmas.{CalmQueriesBetween-from_both}
+use Rattle.broker_tables.proofs.QueryLemmas.{LooksUpBetween-from_both}
 use Rattle.contract_commands.proofs.BranchLast.{reaches_branch}
 use Rattle.contract_commands.proofs.branch_pact.read_branch_to_show.Goals as goal
 
@@ -7,6 +7,6 @@ pub returns : goal.returns
 returns g c =
     let sides = c.in-Ok.value in
     let content = c.in-Ok-read_branch.value in
-    CalmQueriesBetween-from_both (state g.S.Store c.args.conn.now) (state g.S.Store c.read_sides_to_show.new.conn) (state g.S.Store c.read_branch.new.conn) sides content c.admit_branch_pact.result _ _ _
+    LooksUpBetween-from_both (state g.S.Store c.args.conn.now) (state g.S.Store c.read_sides_to_show.new.conn) (state g.S.Store c.read_branch.new.conn) sides content c.admit_branch_pact.result _ _ _
     (λ s h is. reaches_branch s c.args.caller.now c.args.provider.now c.args.consumer.now c.args.branch.now sides content h is c.admit_branch_pact.result c.admit_branch_pact.ensures)
     c.in-Ok.ensures c.in-Ok-read_branch.ensures

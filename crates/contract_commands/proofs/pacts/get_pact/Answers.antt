@@ -9,4 +9,4 @@ returns g c =
     let path = c.args.path.now in
     let place = c.in-Ok.value in
     CarriesBetween-query_listing_if {Then = λ s. HasReachedContent s place} (λ s all reach answer shows. StepOfCaller-get_pact s caller path place answer reach shows)
-    (λ s held reach. Reaches-has_content (state g.S.Store c.args.conn.now).now s held caller path _ _ place reach) c.in-Ok.ensures c.show_pact.ensures.answers c.show_pact.ensures.calm
+    (λ s held reach. Reaches-has_content (state g.S.Store c.args.conn.now).now s held caller path _ _ place reach) c.in-Ok.ensures c.show_pact.ensures.answers c.show_pact.ensures.failure

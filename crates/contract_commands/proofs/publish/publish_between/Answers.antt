@@ -10,7 +10,7 @@ returns-in-Some g c =
     let path = c.args.path.now in
     let content = c.in-Some.content in
     CarriesBetween-query_listing_if {Then = λ s. HasContent s content} (λ s may read answer returned. put_pact-again s (consumer_version path) path.provider c.args.text.now content answer (read.content_is ∙ c.in-Some.is) returned)
-    (λ s held read. contracts-has_content (state g.S.Store c.args.conn.now).now s held (consumer_version path) path.provider content (read.content_is ∙ c.in-Some.is)) c.in-Ok.ensures c.publish_again.ensures.answers c.publish_again.ensures.calm
+    (λ s held read. contracts-has_content (state g.S.Store c.args.conn.now).now s held (consumer_version path) path.provider content (read.content_is ∙ c.in-Some.is)) c.in-Ok.ensures c.publish_again.ensures.answers c.publish_again.ensures.failure
 
 pub returns-in-None : goal.returns-in-None
 returns-in-None g c =

@@ -16,4 +16,4 @@ pub returns-in-Some : goal.returns-in-Some
 returns-in-Some g c =
     let numbered = c.publish_numbered.ensures in
     CarriesBetween-query_then (λ s first it. ((CanName-of_number s (consumer_version c.args.path.now) c.args.number c.in-Some.version first.1.number_is first.1.known_is first.0.1 it, first.1.content_is, first.0), λ out is. is))
-    (rw c.in-Some.is at c.in-Ok.ensures) (record { answers = numbered.answers; calm = numbered.calm })
+    (rw c.in-Some.is at c.in-Ok.ensures) (record { answers = numbered.answers; failure = numbered.failure })

@@ -10,7 +10,7 @@ returns-in-Err g c =
     let steps = IsStepOf c.args.caller.now (PutPact c.args.path.now c.args.file.now) in
     record {
       answers = PerformsWhereBetween-of_performs _ _ c.report_unread.result (λ _. ⊤) steps (PerformsBetween-unread _ c.in-Err.fault c.report_unread.result steps c.report_unread.ensures (λ found is s. StepOfCaller-form_fault s c.args.caller.now c.args.path.now c.args.file.now found (c.in-Err.ensures.fault found is)));
-      calm = FailsFromBetween-unread _ _ c.in-Err.fault c.report_unread.result (λ s. ⊤) (IsToChange steps) c.report_unread.ensures;
+      failure = FailsFromBetween-unread _ _ c.in-Err.fault c.report_unread.result (λ s. ⊤) (IsToChange steps) c.report_unread.ensures;
     }
 
 pub returns-in-Ok : goal.returns-in-Ok

@@ -13,8 +13,8 @@ returns-in-Ok-compare-clause-answers g c =
     (λ s has stored. (has, λ out leads. (text, stored, (returned, reports, leads))))
     c.in-Ok.ensures.answers c.answer_compared.ensures.answers
 
-pub returns-in-Ok-compare-clause-calm : goal.returns-in-Ok-compare-clause-calm
-returns-in-Ok-compare-clause-calm g c =
+pub returns-in-Ok-compare-clause-failure : goal.returns-in-Ok-compare-clause-failure
+returns-in-Ok-compare-clause-failure g c =
     let provider = c.args.provider.now in
     let r = c.args.report.now in
     let content = c.args.content in
@@ -25,4 +25,4 @@ returns-in-Ok-compare-clause-calm g c =
     FailsFromBetween-after_query _ _ _ _ text c.answer_compared.result _ _ (CanCheck provider content) (CanLead provider content returned)
     (IsToChange (λ s out. Checks s provider r content replies out)) (IsToChange (λ s out. Leads s provider r content returned out))
     (λ s held can stored. (((can.0, (text, stored)), Matches-not_NoPact s content text replies returned stored can.1 reports), λ made. (made.0, made.1, (text, stored, (returned, reports, made.2)))))
-    c.in-Ok.ensures.answers c.answer_compared.ensures.answers c.answer_compared.ensures.calm
+    c.in-Ok.ensures.answers c.answer_compared.ensures.answers c.answer_compared.ensures.failure

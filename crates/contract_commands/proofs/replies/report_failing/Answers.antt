@@ -27,8 +27,8 @@ returns-clause-answers g c =
     ))
     c.in-Ok.ensures.answers
 
-pub returns-in-Err-clause-calm : goal.returns-in-Err-clause-calm
-returns-in-Err-clause-calm g c =
+pub returns-in-Err-clause-failure : goal.returns-in-Err-clause-failure
+returns-in-Err-clause-failure g c =
     let provider = c.args.provider.now in
     let r = c.args.report.now in
     let failing = c.args.failing in
@@ -41,4 +41,4 @@ returns-in-Err-clause-calm g c =
       Replies failing made.0 pass,
       made.1,
       made.2 (λ n. Replies failing n pass) ∙ (λ i. report s (checked_result content (reported_version provider r) (passes i) r.run) (λ n. Replies failing n (passes i))),
-    )) c.in-Err.ensures.calm
+    )) c.in-Err.ensures.failure

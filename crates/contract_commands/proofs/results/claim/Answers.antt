@@ -19,9 +19,9 @@ returns-clause-answers g c =
     ))
     c.in-Ok.ensures.answers
 
-pub returns-in-Err-clause-calm : goal.returns-in-Err-clause-calm
-returns-in-Err-clause-calm g c =
+pub returns-in-Err-clause-failure : goal.returns-in-Err-clause-failure
+returns-in-Err-clause-failure g c =
     let provider = c.args.provider.now in
     let report = c.args.report.now in
     FailsFromBetween-pass_Err _ Reported Answer _ _ c.in-Err.fault (CanReceive provider c.args.content) (IsToChange (Claims provider report c.args.content c.args.success)) (IsToReport provider report (record { content = c.args.content; pass = c.args.success; checked = false }))
-    (λ s has made. (Result made.0, made.1, made.2 Result)) c.in-Err.ensures.calm
+    (λ s has made. (Result made.0, made.1, made.2 Result)) c.in-Err.ensures.failure

@@ -19,7 +19,7 @@ returns-in-Ok-2 g c =
     (λ s held all reach.
     let none = reach.1 command refl in
     ((HasPacticipant-of_allowed s caller path command refl none, contracts-has_content (state g.S.Store c.args.conn.now).now s held (consumer_version path) path.provider content reach.0), λ out is. StepOfCaller-effect s caller command refl out none (content, reach.0, is)))
-    (rw c.in-Ok-2.is at c.in-Ok.ensures) (record { answers = claimed.answers; calm = claimed.calm }))
+    (rw c.in-Ok-2.is at c.in-Ok.ensures) (record { answers = claimed.answers; failure = claimed.failure }))
 
 pub returns-in-Err-2 : goal.returns-in-Err-2
 returns-in-Err-2 g c =

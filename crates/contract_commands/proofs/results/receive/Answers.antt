@@ -1,7 +1,7 @@
 use Rattle.std.{specs.Prelude.{option_map}, proofs.Common.{false, ◌≡◌, ℕ, Ok, Option, is_some}}
 use Rattle.sqlite.specs.State.{State as Connection}
 use Rattle.broker_core.specs.{State.{State}, Text.{Text, version}, Change.{result_of_run}, Request.{is_known}, declared.command.Report.{Report}}
-use Rattle.broker_tables.{specs.{Calm.{CalmQueriesBetween}, Numbers.{number_of}}, proofs.QueryLemmas.{CalmQueriesBetween-then}}
+use Rattle.broker_tables.{specs.{Failures.{LooksUpBetween}, Numbers.{number_of}}, proofs.QueryLemmas.{LooksUpBetween-then}}
 use Rattle.broker_tables.proofs.FailLemmas.{FailsFromBetween-after_query}
 use Rattle.contract_tables.specs.{Verified.{returned_of}, declared.lookups.ResultRow.{ResultRow}}
 use Rattle.contract_commands.specs.{Pacts.{HasContent}, Results.{CanReceive, IsToReport, IsUnused, reported_version, IsNumbered, returned_row}}
@@ -14,10 +14,10 @@ IsFound provider report number row s =
     IsNumbered s (reported_version provider report) number × (option_map returned_row row ≡ option_map (returned_of s.versions) (result_of_run s provider report.run))
 
 found_both : (old mid new : Connection) (provider : Text) (report : Report) (p name : Text) (number : Option ℕ) (row : Option ResultRow) → p ≡ provider → name ≡ report.provider_version
-    → CalmQueriesBetween false old mid (Ok number) (λ n s. (n ≡ number_of s.versions (version p name)) × (is_some n ≡ is_known s (version p name)))
-    → CalmQueriesBetween false mid new (Ok row) (λ found s. option_map returned_row found ≡ option_map (returned_of s.versions) (result_of_run s provider report.run)) → CalmQueriesBetween false old new (Ok row) (IsFound provider report number)
+    → LooksUpBetween false old mid (Ok number) (λ n s. (n ≡ number_of s.versions (version p name)) × (is_some n ≡ is_known s (version p name)))
+    → LooksUpBetween false mid new (Ok row) (λ found s. option_map returned_row found ≡ option_map (returned_of s.versions) (result_of_run s provider report.run)) → LooksUpBetween false old new (Ok row) (IsFound provider report number)
 found_both old mid new provider report p name number row is called =
-    CalmQueriesBetween-then old mid new number (Ok row) _ _ (IsFound provider report number) (λ s known found used. (IsNumbered-of_names s provider report p name number is called known, used))
+    LooksUpBetween-then old mid new number (Ok row) _ _ (IsFound provider report number) (λ s known found used. (IsNumbered-of_names s provider report p name number is called known, used))
 
 pub returns-in-Some-clause-answers : goal.returns-in-Some-clause-answers
 returns-in-Some-clause-answers g c =
@@ -40,8 +40,8 @@ returns-in-None-clause-answers g c =
     (found_both _ _ _ provider report _ _ number found c.as_str.ensures c.as_str-2.ensures c.in-Ok.ensures c.in-Ok-read_run.ensures)
     c.receive_new.ensures.answers
 
-pub returns-in-None-clause-calm : goal.returns-in-None-clause-calm
-returns-in-None-clause-calm g c =
+pub returns-in-None-clause-failure : goal.returns-in-None-clause-failure
+returns-in-None-clause-failure g c =
     let provider = c.args.provider.now in
     let report = c.args.report.now in
     let number = c.in-Ok.value in
@@ -50,4 +50,4 @@ returns-in-None-clause-calm g c =
     FailsFromBetween-after_query _ _ _ _ found c.receive_new.result (IsFound provider report number) _ (CanReceive provider c.args.found.content) (λ s. IsUnused s provider report number × HasContent s c.args.found.content) to to
     (λ s held can first. ((record { version = first.0; owned = can.0; unused = returned_row-none s (result_of_run s provider report.run) found c.in-None.is first.1 }, can.1), λ made. made))
     (found_both _ _ _ provider report _ _ number found c.as_str.ensures c.as_str-2.ensures c.in-Ok.ensures c.in-Ok-read_run.ensures).call
-    c.receive_new.ensures.answers c.receive_new.ensures.calm
+    c.receive_new.ensures.answers c.receive_new.ensures.failure

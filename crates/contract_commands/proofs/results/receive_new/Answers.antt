@@ -21,12 +21,12 @@ returns-in-Some-clause-answers g c =
     (λ s unused first. ((CanName-of_number s v c.args.number c.in-Some.version unused.version.number_is unused.version.known_is unused.owned first, unused.unused), λ b t made. made))
     (rw c.in-Some.is at c.in-Ok.ensures) c.receive_numbered.ensures.answers
 
-pub returns-in-Some-clause-calm : goal.returns-in-Some-clause-calm
-returns-in-Some-clause-calm g c =
+pub returns-in-Some-clause-failure : goal.returns-in-Some-clause-failure
+returns-in-Some-clause-failure g c =
     let provider = c.args.provider.now in
     let report = c.args.report.now in
     let version = c.in-Some.version in
     let to = IsToReport provider report c.args.found in
     FailsFromBetween-after_query _ _ _ _ (Some version) c.receive_numbered.result _ _ (λ s. IsUnused s provider report c.args.number × HasContent s c.args.found.content) (λ s. CanReport provider report version s × HasContent s c.args.found.content) to to
     (λ s held can first. (((CanName-of_number s (reported_version provider report) c.args.number version can.0.version.number_is can.0.version.known_is can.0.owned first, can.0.unused), can.1), λ made. made))
-    (rw c.in-Some.is at c.in-Ok.ensures.call) c.receive_numbered.ensures.answers c.receive_numbered.ensures.calm
+    (rw c.in-Some.is at c.in-Ok.ensures.call) c.receive_numbered.ensures.answers c.receive_numbered.ensures.failure

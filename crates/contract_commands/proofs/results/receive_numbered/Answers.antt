@@ -27,8 +27,8 @@ returns-in-Ok-record_report-clause-answers g c =
       λ u t made. Reports-recorded s (reported_result provider report found) can.1 next t (λ i. can_name-true s (reported_version provider report) c.args.version can.0 i && first.0 i) first.1 made,
     )) (rw c.in-Some.is at c.in-Ok.ensures) c.in-Ok-record_report.ensures.answers)
 
-pub returns-in-Err-record_report-clause-calm : goal.returns-in-Err-record_report-clause-calm
-returns-in-Err-record_report-clause-calm g c =
+pub returns-in-Err-record_report-clause-failure : goal.returns-in-Err-record_report-clause-failure
+returns-in-Err-record_report-clause-failure g c =
     let provider = c.args.provider.now in
     let report = c.args.report.now in
     let found = c.args.found in
@@ -39,4 +39,4 @@ returns-in-Err-record_report-clause-calm g c =
     (λ s held can first. (
       (can.0, first.1, can.1),
       (next, recorded s r, Reports-recorded s r can.0.1 next (recorded s r) (λ i. can_name-true s (reported_version provider report) c.args.version can.0.0 i && first.0 i) first.1 refl),
-    )) (rw c.in-Some.is at c.in-Ok.ensures.call) c.in-Err-record_report.ensures.answers c.in-Err-record_report.ensures.calm
+    )) (rw c.in-Some.is at c.in-Ok.ensures.call) c.in-Err-record_report.ensures.answers c.in-Err-record_report.ensures.failure

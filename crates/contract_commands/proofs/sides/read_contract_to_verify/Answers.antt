@@ -1,6 +1,6 @@
 use Rattle.std.proofs.Common.{◌∷◌, []}
-use Rattle.broker_core.specs.declared.policy.Rule.TheVariants.{A4}
-use Rattle.broker_tables.proofs.QueryLemmas.{CalmQueriesBetween-from_both}
+use Rattle.broker_core.specs.declared.policy.Rule.TheVariants.{OwnerToVerify}
+use Rattle.broker_tables.proofs.QueryLemmas.{LooksUpBetween-from_both}
 use Rattle.contract_commands.proofs.PactLemmas.{Reaches-of_admits}
 use Rattle.contract_commands.proofs.sides.read_contract_to_verify.Goals as goal
 
@@ -10,6 +10,6 @@ returns g c =
     let sides = c.in-Ok.value in
     let contract = c.in-Ok-read_contract.value in
     let found = c.admit_contract.result in
-    CalmQueriesBetween-from_both _ _ _ sides contract found _ _ _
-    (λ s h k. Reaches-of_admits s c.args.caller.now path A4 (path.provider ∷ []) (record { sides = sides; contract = contract }) (h, k) found c.admit_contract.ensures)
+    LooksUpBetween-from_both _ _ _ sides contract found _ _ _
+    (λ s h k. Reaches-of_admits s c.args.caller.now path OwnerToVerify (path.provider ∷ []) (record { sides = sides; contract = contract }) (h, k) found c.admit_contract.ensures)
     c.in-Ok.ensures c.in-Ok-read_contract.ensures

@@ -2,14 +2,14 @@ use Rattle.std.proofs.{Common.{sym, ◌∙◌, slice_get}, lemmas.Result.{IfOk-w
 use Rattle.sqlite.specs.Held.{state}
 use Rattle.sqlite_keyed.proofs.SliceLemmas.{is_some-map}
 use Rattle.table_access.specs.Columns.{whole_at}
-use Rattle.broker_tables.proofs.{Asked.{CalmQueriesBetween-is_there}, AnyTables.{IsRefusedAs-ends}}
+use Rattle.broker_tables.proofs.{TableQuery.{LooksUpBetween-is_there}, AnyTables.{IsRefusedAs-ends}}
 use Rattle.contract_tables.proofs.{ResultLookups.{checked, IsShown-checked}, AnyTexts.{AsksOf-checked_sql}, AnyLatest.{IsMarkedChecked-shown}}
 use Rattle.contract_tables.proofs.lookups.is_checked.Goals as goal
 
 pub returns-clause-answers : goal.returns-clause-answers
 returns-clause-answers g c =
     let said = rw c.params-to_sql.ensures at c.has_row.ensures in
-    CalmQueriesBetween-is_there (checked c.args.number) _ _ (λ s held rows h has is r known. is ∙ sym (is_some-map (whole_at 0) (slice_get rows 0)) ∙ IsShown-checked c.args.number _ rows s r held known h) said.leaves said.cause
+    LooksUpBetween-is_there (checked c.args.number) _ _ (λ s held rows h has is r known. is ∙ sym (is_some-map (whole_at 0) (slice_get rows 0)) ∙ IsShown-checked c.args.number _ rows s r held known h) said.leaves said.cause
 
 pub returns-clause-mark : goal.returns-clause-mark
 returns-clause-mark g c clean asked =

@@ -1,7 +1,7 @@
 use Rattle.std.{specs.Prelude.{IsTrue, ◌↔◌}, proofs.Common.{Some, refl, inl, arith, subst}}
 use Rattle.sqlite.specs.{Held.{state}, State.{HasCleanDisk}, Effect.{Database}}
 use Rattle.broker_core.specs.{State.{latest_result}, declared.need.Latest.{Latest}}
-use Rattle.broker_tables.proofs.{QueryLemmas.{CalmQueriesBetween-from_both}, AnyTables.{HasFailed-after_query, CanBeAsked-unchanged}}
+use Rattle.broker_tables.proofs.{QueryLemmas.{LooksUpBetween-from_both}, AnyTables.{HasFailed-after_query, CanBeAsked-unchanged}}
 use Rattle.contract_tables.specs.{Verified.{passed_of, passed_as}, LatestRows.{IsMarkedChecked}}
 use Rattle.contract_tables.proofs.LastRow.{latest_result-result_with, option_map-with_mark}
 use Rattle.contract_tables.proofs.lookups.latest_of.Goals as goal
@@ -9,7 +9,7 @@ use Rattle.contract_tables.proofs.lookups.latest_of.Goals as goal
 pub returns-in-Ok-is_checked-clause-answers : goal.returns-in-Ok-is_checked-clause-answers
 returns-in-Ok-is_checked-clause-answers g c =
     let found = c.in-Some.found in
-    CalmQueriesBetween-from_both _ _ _ (Some found) c.in-Ok-is_checked.value (Some _) _ _ _
+    LooksUpBetween-from_both _ _ _ (Some found) c.in-Ok-is_checked.value (Some _) _ _ _
     (λ s one two v is. option_map-with_mark {B = Latest} s (latest_result s c.args.content v) passed_of (λ a checked. record { pass = a.1; checked = checked }) (λ a. a.0)
     (passed_as found.result found.pass) c.in-Ok-is_checked.value (λ e known. (latest_result-result_with s c.args.content v e known, refl)) (one v is) two)
     (rw c.in-Some.is at c.in-Ok.ensures.answers) c.in-Ok-is_checked.ensures.answers

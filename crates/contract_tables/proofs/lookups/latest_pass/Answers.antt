@@ -1,9 +1,8 @@
 use Rattle.std.proofs.{Common.{inl, inr}, lemmas.Result.{IfOk-weaker, IfErr-weaker, MatchResult-from_both}}
 use Rattle.sqlite.specs.Held.{state}
 use Rattle.table_access.proofs.Answered.{slice_get-has_first}
-use Rattle.broker_tables.proofs.QueryLemmas.{CalmQueriesBetween-read_result, CalmQueriesBetween-read_Err}
-use Rattle.broker_tables.proofs.{Asked.{reads, Shown-now_same, IsRefusedAs-explained}, NoVersion.{option_map-no_rows}}
-use Rattle.broker_tables.proofs.AnyTables.{IsRefusedAs-ends, Shown-leaves_all}
+use Rattle.broker_tables.proofs.{QueryLemmas.{LooksUpBetween-read_result, LooksUpBetween-read_Err}, TableQuery.{reads, Shown-now_same, IsRefusedAs-explained}}
+use Rattle.broker_tables.proofs.{NoVersion.{option_map-no_rows}, AnyTables.{IsRefusedAs-ends, Shown-leaves_all}}
 use Rattle.contract_tables.{specs.Verified.{pass_of, pass_cells}, proofs.{VersionResults.{join, IsShown-join}, ReadableRows.{EachReads-pairs, NoneFor-join}}}
 use Rattle.contract_tables.proofs.{AnyTexts.{AsksOf-pair_sql}, AnyLatest.{IsPassIn-found, NamesResult-unsound_row, IfOk-pair}}
 use Rattle.contract_tables.proofs.lookups.latest_pass.Goals as goal
@@ -11,7 +10,7 @@ use Rattle.contract_tables.proofs.lookups.latest_pass.Goals as goal
 pub returns-clause-answers : goal.returns-clause-answers
 returns-clause-answers g c =
     let asked = join c.args.content c.args.provider_version in
-    CalmQueriesBetween-read_result _ _ c.in-Ok.value c.first_pass.result _ _
+    LooksUpBetween-read_result _ _ c.in-Ok.value c.first_pass.result _ _
     (IfOk-weaker c.first_pass.result _ _ (λ found read shown s held. (
       λ v is. IsShown-join (λ r. r.result) (λ r. r.pass) c.args.content c.args.provider_version _ c.in-Ok.value.items found s v held is (reads asked _ _ s held _ shown).0 read,
       Shown-now_same asked _ _ held.broker _ shown,
@@ -25,7 +24,7 @@ returns-clause-answers g c =
 pub returns-in-Err-clause-answers : goal.returns-in-Err-clause-answers
 returns-in-Err-clause-answers g c =
     let said = rw (c.params-to_sql.ensures, c.params-to_sql-2.ensures) at c.in-Err.ensures in
-    CalmQueriesBetween-read_Err _ _ c.in-Err.fault _ _ _ (IsRefusedAs-explained (join c.args.content c.args.provider_version) _ _) said.leaves said.cause
+    LooksUpBetween-read_Err _ _ c.in-Err.fault _ _ _ (IsRefusedAs-explained (join c.args.content c.args.provider_version) _ _) said.leaves said.cause
 
 pub returns-clause-unknown : goal.returns-clause-unknown
 returns-clause-unknown g c clean s held none =

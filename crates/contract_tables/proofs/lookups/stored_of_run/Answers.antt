@@ -1,14 +1,13 @@
 use Rattle.std.proofs.lemmas.Result.{IfOk-weaker, IfErr-weaker}
 use Rattle.table_access.proofs.Answered.{slice_get-has_first}
-use Rattle.broker_tables.proofs.Asked.{reads, Shown-now_same, IsRefusedAs-explained}
-use Rattle.broker_tables.proofs.QueryLemmas.{CalmQueriesBetween-read_result, CalmQueriesBetween-read_Err}
+use Rattle.broker_tables.proofs.{TableQuery.{reads, Shown-now_same, IsRefusedAs-explained}, QueryLemmas.{LooksUpBetween-read_result, LooksUpBetween-read_Err}}
 use Rattle.contract_tables.proofs.{ResultLookups.{run, IsShown-result_of_run}, ReadableRows.{EachReads-run}}
 use Rattle.contract_tables.proofs.lookups.stored_of_run.Goals as goal
 
 pub returns : goal.returns
 returns g c =
     let asked = run c.args.provider.now c.args.run.now in
-    CalmQueriesBetween-read_result _ _ c.in-Ok.value c.first_result.result _ _
+    LooksUpBetween-read_result _ _ c.in-Ok.value c.first_result.result _ _
     (IfOk-weaker c.first_result.result _ _ (λ found read shown s held. (
       IsShown-result_of_run (λ r. r.number) (λ r. r.content) (λ r. r.provider_version) (λ r. r.pass) c.args.provider.now c.args.run.now c.is_name.ensures _ c.in-Ok.value.items s found held
           (reads asked _ _ s held _ shown).0 read,
@@ -23,4 +22,4 @@ returns g c =
 pub returns-in-Err : goal.returns-in-Err
 returns-in-Err g c =
     let said = rw (c.params-to_sql.ensures, c.params-to_sql-2.ensures, c.as_str.ensures) at c.in-Err.ensures in
-    CalmQueriesBetween-read_Err _ _ c.in-Err.fault _ _ _ (IsRefusedAs-explained (run c.args.provider.now c.args.run.now) _ _) said.leaves said.cause
+    LooksUpBetween-read_Err _ _ c.in-Err.fault _ _ _ (IsRefusedAs-explained (run c.args.provider.now c.args.run.now) _ _) said.leaves said.cause

@@ -8,7 +8,7 @@ returns-clause-points g c =
     CallsBetween-weaken _ _ c.change.result _ _ (λ _ h broker. Executes-Points c.args.content c.args.version_number c.args.number _ _ broker h.0 h.1)
     (rw (c.params-to_sql.ensures, c.params-to_sql-2.ensures, c.params-to_sql-3.ensures) at c.change.ensures.leaves)
 
-pub returns-clause-calm : goal.returns-clause-calm
-returns-clause-calm g c =
+pub returns-clause-failure : goal.returns-clause-failure
+returns-clause-failure g c =
     let said = rw (c.params-to_sql.ensures, c.params-to_sql-2.ensures, c.params-to_sql-3.ensures) at c.change.ensures.cause in
     λ clean unlimited broker allowed. IfErr-weaker c.change.result _ _ (λ fault why. EndsBy-weaken _ _ fault (λ long. long tt) (EndsOnly-point c.args.content c.args.version_number c.args.number _ _ broker allowed unlimited fault why)) (said clean)

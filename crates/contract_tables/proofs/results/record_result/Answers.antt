@@ -19,8 +19,8 @@ returns-clause-changes g c =
     (CallsBetween-then_call one two new c.in-Ok-mark.value c.point_latest.result _ _ (λ _. (IsBroker one.now → Marks c.args.checked c.args.number one two) × (IsBroker two.now → Points c.args.content c.args.version_number c.args.number two new))
     (λ mark _ point. (mark, point)) c.in-Ok-mark.ensures.marks c.point_latest.ensures.points)
 
-pub returns-in-Err-mark-clause-calm : goal.returns-in-Err-mark-clause-calm
-returns-in-Err-mark-clause-calm g c =
+pub returns-in-Err-mark-clause-failure : goal.returns-in-Err-mark-clause-failure
+returns-in-Err-mark-clause-failure g c =
     let old = state g.S.Store c.args.conn.now in
     let one = state g.S.Store c.put_result.new.conn in
     let two = state g.S.Store c.mark.new.conn in
@@ -29,11 +29,11 @@ returns-in-Err-mark-clause-calm g c =
     let one_clean : HasCleanDisk one = omega (arith, c.in-Err-mark.ensures.marks.survives.clean, clean) in
     let row = put.ok one_clean here.held.broker in
     EndsBy-weaken old two c.in-Err-mark.fault (λ never. absurd never) (EndsBy-later_call old one two c.in-Err-mark.fault (put.goes_on one_clean here.inside) put.survives.counts
-    (c.in-Err-mark.ensures.calm clean (put.survives.limit ∙ here.unlimited) (PutsRow-IsBroker _ old one here.held.broker row)
+    (c.in-Err-mark.ensures.failure clean (put.survives.limit ∙ here.unlimited) (PutsRow-IsBroker _ old one here.held.broker row)
     (AllowsMark-after_put c.args.number c.args.content c.args.provider.now c.args.version_number c.args.pass _ old one s here.held allowed row)))
 
-pub returns-clause-calm : goal.returns-clause-calm
-returns-clause-calm g c =
+pub returns-clause-failure : goal.returns-clause-failure
+returns-clause-failure g c =
     let old = state g.S.Store c.args.conn.now in
     let one = state g.S.Store c.put_result.new.conn in
     let two = state g.S.Store c.mark.new.conn in
@@ -49,5 +49,5 @@ returns-clause-calm g c =
     let marked = mark.ok two_clean broker in
     IfErr-weaker c.point_latest.result _ _
     (λ e why. EndsBy-weaken old new e (λ never. absurd never) (EndsBy-later_call old one new e on put.survives.counts (EndsBy-later_call one two new e (mark.goes_on two_clean on.0) mark.survives.counts why)))
-    (c.point_latest.ensures.calm clean (mark.survives.limit ∙ put.survives.limit ∙ here.unlimited) (Marks-IsBroker c.args.checked c.args.number one two broker marked)
+    (c.point_latest.ensures.failure clean (mark.survives.limit ∙ put.survives.limit ∙ here.unlimited) (Marks-IsBroker c.args.checked c.args.number one two broker marked)
     (AllowsPoint-after_mark c.args.number c.args.content c.args.provider.now c.args.version_number c.args.pass _ old one s here.held allowed row c.args.checked two room marked))

@@ -1,6 +1,6 @@
 use Rattle.std.proofs.lemmas.Result.{IfOk-weaker, IfErr-weaker, MatchResult-from_both}
 use Rattle.sqlite.specs.Held.{state}
-use Rattle.broker_tables.proofs.Asked.{CalmQueriesBetween-list, IfNoVersionBetween-list}
+use Rattle.broker_tables.proofs.TableQuery.{LooksUpBetween-list, IfNoVersionBetween-list}
 use Rattle.contract_tables.proofs.{VersionResults.{marks, Lists-marks}, ReadableRows.{EachReads-marks, NoneFor-version_results}}
 use Rattle.contract_tables.proofs.AnyLatest.{IsCheckedFor-found, FailsAsListed-marks}
 use Rattle.contract_tables.proofs.version_results.checked_of.Goals as goal
@@ -8,7 +8,7 @@ use Rattle.contract_tables.proofs.version_results.checked_of.Goals as goal
 pub returns-clause-answers : goal.returns-clause-answers
 returns-clause-answers g c =
     let said = rw c.params-to_sql.ensures at c.list_of.ensures in
-    CalmQueriesBetween-list (marks c.args.version_number) _ _ (λ row fault why is. why.1) (λ s held rows h list are v is. Lists-marks _ s held v c.args.version_number is rows list.items h are) (EachReads-marks c.args.version_number _) said.leaves said.cause
+    LooksUpBetween-list (marks c.args.version_number) _ _ (λ row fault why is. why.1) (λ s held rows h list are v is. Lists-marks _ s held v c.args.version_number is rows list.items h are) (EachReads-marks c.args.version_number _) said.leaves said.cause
 
 pub returns-clause-unknown : goal.returns-clause-unknown
 returns-clause-unknown g c =

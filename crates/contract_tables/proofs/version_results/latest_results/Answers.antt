@@ -1,9 +1,8 @@
 use Rattle.std.{specs.{Prelude.{Contains, option_map, IsSorted}, Ordering.{nat_cmp}}, proofs.Common.{subst, ℕ, ◌≡◌, arith, Some, Ok, map, true}}
 use Rattle.sqlite.specs.{Held.{state}, State.{HasCleanDisk}, Effect.{Database}}
 use Rattle.broker_core.specs.{declared.command.Version.{Version}, Listing.{Lists}, State.{latest_result}}
-use Rattle.broker_tables.{specs.Numbers.{number_of}, proofs.QueryLemmas.{CalmQueriesBetween-then_failed, CalmQueriesBetween-then}}
-use Rattle.broker_tables.proofs.AnyTables.{CanBeAsked-unchanged}
-use Rattle.contract_tables.{specs.{VersionResults.{pass_cmp, IsPassOf, marked}, LatestRows.{IsCheckedFor}}, proofs.QueryLemmas.{CalmQueriesBetween-computed}}
+use Rattle.broker_tables.{specs.Numbers.{number_of}, proofs.{QueryLemmas.{LooksUpBetween-then_failed, LooksUpBetween-then}, AnyTables.{CanBeAsked-unchanged}}}
+use Rattle.contract_tables.{specs.{VersionResults.{pass_cmp, IsPassOf, marked}, LatestRows.{IsCheckedFor}}, proofs.QueryLemmas.{LooksUpBetween-computed}}
 use Rattle.contract_tables.proofs.{AnyLatest.{AreRead-map_marked, AreLatestIn-found, FailsAsListed-after_query}, VersionResults.{Lists-latest_results}}
 use Rattle.contract_tables.proofs.version_results.latest_results.Goals as goal
 
@@ -13,17 +12,17 @@ returns-in-Ok-with_marks-clause-answers g c =
     let passes = c.in-Ok.value in
     let checked = c.in-Ok-checked_of.value in
     let found = c.in-Ok-with_marks.found in
-    CalmQueriesBetween-computed _ _ checked (Ok found)
+    LooksUpBetween-computed _ _ checked (Ok found)
     (λ marks s. ((v : Version) → number_of s.versions v ≡ Some n → Lists pass_cmp (IsPassOf s v) passes.items)
     × ((v : Version) → number_of s.versions v ≡ Some n → Lists nat_cmp (λ content. option_map (λ e. e.1.checked) (latest_result s content v) ≡ Some true) marks.items))
     (λ found. IsSorted nat_cmp checked.items → found.items ≡ map (marked checked.items) passes.items) _
     (λ s read found made v is. Lists-latest_results s v checked.items (read.1 v is) passes.items found.items (read.0 v is) made)
     (AreRead-map_marked checked.items passes.items found.items (rw (c.deref.ensures.value, c.deref-2.ensures.value) at c.in-Ok-with_marks.ensures)) tt
-    (CalmQueriesBetween-then _ _ _ passes _ _ _ _ (λ s one marks two. (one, two)) c.in-Ok.ensures.answers c.in-Ok-checked_of.ensures.answers)
+    (LooksUpBetween-then _ _ _ passes _ _ _ _ (λ s one marks two. (one, two)) c.in-Ok.ensures.answers c.in-Ok-checked_of.ensures.answers)
 
 pub returns-in-Err-checked_of-clause-answers : goal.returns-in-Err-checked_of-clause-answers
 returns-in-Err-checked_of-clause-answers g c =
-    CalmQueriesBetween-then_failed _ _ _ c.in-Ok.value c.in-Err-checked_of.fault _ _ _ c.in-Ok.ensures.answers c.in-Err-checked_of.ensures.answers
+    LooksUpBetween-then_failed _ _ _ c.in-Ok.value c.in-Err-checked_of.fault _ _ _ c.in-Ok.ensures.answers c.in-Err-checked_of.ensures.answers
 
 pub returns-in-Ok-with_marks-clause-mark : goal.returns-in-Ok-with_marks-clause-mark
 returns-in-Ok-with_marks-clause-mark g c clean asked =

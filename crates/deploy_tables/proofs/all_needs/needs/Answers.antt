@@ -1,13 +1,13 @@
 use Rattle.std.proofs.{Common.{Some, subst, arith}, lemmas.Result.{IfOk-weaker}}
 use Rattle.sqlite.specs.{Held.{state}, Effect.{Database}, State.{HasCleanDisk}}
 use Rattle.broker_tables.proofs.AnyTables.{CanBeAsked-unchanged}
-use Rattle.deploy_tables.{specs.AnyThere.{EachReleasedIsThere}, proofs.{MatrixLoop.{CalmQueriesBetween-then}, VersionNames.{IsOfNumber-of_version}}}
+use Rattle.deploy_tables.{specs.AnyThere.{EachReleasedIsThere}, proofs.{MatrixLoop.{LooksUpBetween-then}, VersionNames.{IsOfNumber-of_version}}}
 use Rattle.deploy_tables.proofs.all_needs.needs.Goals as goal
 
 pub returns-in-Some-clause-answers : goal.returns-in-Some-clause-answers
 returns-in-Some-clause-answers g c =
     let v = c.in-Some.version in
-    CalmQueriesBetween-then _ _ _ (Some v) c.needs_numbered.result _ _ _ (λ s known found listed. IsOfNumber-of_version s c.args.number v _ _ known (listed known))
+    LooksUpBetween-then _ _ _ (Some v) c.needs_numbered.result _ _ _ (λ s known found listed. IsOfNumber-of_version s c.args.number v _ _ known (listed known))
     (rw c.in-Some.is at c.in-Ok.ensures.answers) c.needs_numbered.ensures.answers
 
 -- the names were looked up of the same database

@@ -1,14 +1,14 @@
 use Rattle.std.proofs.{Common.{sym, ◌∙◌}, lemmas.Result.{IfOk-weaker}}
 use Rattle.broker_core.proofs.Lists.{None-not_Some}
 use Rattle.sqlite.specs.Held.{state}
-use Rattle.broker_tables.proofs.Asked.{CalmQueriesBetween-list, NeedsNoRoomBetween-list}
+use Rattle.broker_tables.proofs.TableQuery.{LooksUpBetween-list, TakesNoMemoryBetween-list}
 use Rattle.deploy_tables.proofs.{DeployedState.{deployments, Lists-deployments}, ReadableRows.{EachReads-deployments}, AnyThere.{EachDeployedIsThere-read}}
 use Rattle.deploy_tables.proofs.listings.deployed.Goals as goal
 
 pub returns-clause-answers : goal.returns-clause-answers
 returns-clause-answers g c =
     let said = rw c.params-to_sql.ensures at c.list_of.ensures in
-    CalmQueriesBetween-list (deployments c.args.environment.now) _ _ (λ row fault why. why.0) (λ s held rows h list are. Lists-deployments _ s held c.args.environment.now rows list.items h are)
+    LooksUpBetween-list (deployments c.args.environment.now) _ _ (λ row fault why. why.0) (λ s held rows h list are. Lists-deployments _ s held c.args.environment.now rows list.items h are)
     (EachReads-deployments c.args.environment.now _) said.leaves said.cause
 
 pub returns-clause-named : goal.returns-clause-named
@@ -20,7 +20,7 @@ returns-clause-named g c clean asked =
 pub returns-clause-missing : goal.returns-clause-missing
 returns-clause-missing g c =
     let said = rw c.params-to_sql.ensures at c.list_of.ensures in
-    NeedsNoRoomBetween-list (deployments c.args.environment.now) _ _ c.list_of.result _
+    TakesNoMemoryBetween-list (deployments c.args.environment.now) _ _ c.list_of.result _
     (λ row is. (record { pacticipant = is.0.1.0; instance = is.1.1.0; version = is.2.1.0 }, (is.0.1.1, is.1.1.1, is.2.1.1)))
     (λ s held none rows h items are x has. None-not_Some _ (sym (none x.pacticipant x.instance) ∙ ((Lists-deployments _ s held c.args.environment.now rows items h are).exactly x).0 has))
     (EachReads-deployments c.args.environment.now _) said.cause

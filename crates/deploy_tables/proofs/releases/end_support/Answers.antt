@@ -16,8 +16,8 @@ returns-clause-ended g c =
     (t, ((version.0, version.1, refl), λ v is. Executes-end_release_count e n _ _ count s v held is h), HoldsAfter-release_ended e n _ _ count s version.0 held version.1 h))
     (rw (c.params-to_sql.ensures, c.params-to_sql-2.ensures) at c.in-Ok.ensures.leaves)
 
-pub returns-in-Err-clause-calm : goal.returns-in-Err-clause-calm
-returns-in-Err-clause-calm g c =
+pub returns-in-Err-clause-failure : goal.returns-in-Err-clause-failure
+returns-in-Err-clause-failure g c =
     let old = state g.S.Store c.args.conn.now in
     let new = state g.S.Store c.change_counted.new.conn in
     FailsOnlyBy-of_cause {A = Bool} old new (Err c.in-Err.fault) _ _ (λ s here. FailsToRun-delete (ending c.args.environment.now c.args.number) old new here.held.broker here.unlimited)

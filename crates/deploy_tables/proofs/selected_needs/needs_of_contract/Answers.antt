@@ -1,5 +1,5 @@
 use Rattle.std.proofs.Common.{◌==◌, sym, ap, ◌∙◌}
-use Rattle.broker_tables.proofs.FailLemmas.{IsCalmFromBetween-after_query}
+use Rattle.broker_tables.proofs.FailLemmas.{FailsByStoreFromBetween-after_query}
 use Rattle.broker_core.specs.Text.{version}
 use Rattle.contract_tables.proofs.QueryLemmas.{QueriesBetween-computed}
 use Rattle.deploy_tables.{specs.Partners.{AreNumbersOfVersions, AreReleasedThere}, proofs.AllowedQueries.{QueriesBetween-answers_then}}
@@ -19,10 +19,10 @@ returns-clause-answers g c =
     (ap (λ n. n == 0) (sym c.in-Ok.value.ok.0) ∙ sym c.is_empty.ensures ∙ c.if-is_empty.false) x))
     c.in-Ok.ensures.call (rw c.deref.ensures.value at c.with_partners.ensures.answers)
 
-pub returns-clause-calm : goal.returns-clause-calm
-returns-clause-calm g c =
+pub returns-clause-failure : goal.returns-clause-failure
+returns-clause-failure g c =
     let e = c.args.environment.now in
     let there = c.in-Ok.value.items in
-    IsCalmFromBetween-after_query _ _ _ c.in-Ok.value c.with_partners.result _ _ (λ s. AreReleasedThere s e c.args.released.now) (λ s. AreNumbersOfVersions s there)
+    FailsByStoreFromBetween-after_query _ _ _ c.in-Ok.value c.with_partners.result _ _ (λ s. AreReleasedThere s e c.args.released.now) (λ s. AreNumbersOfVersions s there)
     (λ s held released are n has. let it = (are released n).0 has in (version c.args.contract.now.provider it.0, it.2))
-    c.in-Ok.ensures.call (rw c.deref.ensures.value at c.with_partners.ensures.answers) (rw c.deref.ensures.value at c.with_partners.ensures.calm)
+    c.in-Ok.ensures.call (rw c.deref.ensures.value at c.with_partners.ensures.answers) (rw c.deref.ensures.value at c.with_partners.ensures.failure)

@@ -1,5 +1,5 @@
 use Rattle.std.proofs.Common.{arith, Err}
-use Rattle.broker_tables.proofs.FailLemmas.{IsCalmFromBetween-after_query}
+use Rattle.broker_tables.proofs.FailLemmas.{FailsByStoreFromBetween-after_query}
 use Rattle.deploy_tables.{specs.Partners.{AreReleasedThere}, proofs.AllowedQueries.{QueriesBetween-answers_both, QueriesBetween-answers_more}}
 use Rattle.deploy_tables.proofs.MatrixLoop.{IsOfSome-take_next, IsOfSome-take_all}
 use Rattle.deploy_tables.proofs.selected_needs.needs_of_contracts.Goals as goal
@@ -15,8 +15,8 @@ returns-clause-answers g c =
     QueriesBetween-answers_more _ _ _ _ _ _ (λ s was released. IsOfSome-take_all _ c.args.contracts.now c.loop-contract.contract-index _ (omega arith) (was released))
     c.loop-contract.invariant
 
-pub returns-in-Err-clause-calm : goal.returns-in-Err-clause-calm
-returns-in-Err-clause-calm g c =
-    λ clean s here may. IsCalmFromBetween-after_query _ _ _ _ (Err c.in-Err.fault) _ _ (λ s. AreReleasedThere s c.args.environment.now c.args.released.now) _
+pub returns-in-Err-clause-failure : goal.returns-in-Err-clause-failure
+returns-in-Err-clause-failure g c =
+    λ clean s here may. FailsByStoreFromBetween-after_query _ _ _ _ (Err c.in-Err.fault) _ _ (λ s. AreReleasedThere s c.args.environment.now c.args.released.now) _
     (λ s held released was. released)
-    c.loop-contract.invariant c.in-Err.ensures.answers c.in-Err.ensures.calm clean s here may
+    c.loop-contract.invariant c.in-Err.ensures.answers c.in-Err.ensures.failure clean s here may

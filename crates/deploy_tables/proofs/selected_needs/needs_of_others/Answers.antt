@@ -1,17 +1,17 @@
-use Rattle.deploy_tables.{specs.Needs.{AreOfVersions}, proofs.{AllowedQueries.{CalmQueriesBetween-allowed}, NeedLemmas.{IsNeedOfOthers-found}}}
-use Rattle.deploy_tables.proofs.MatrixLoop.{CalmQueriesBetween-then_failed, CalmQueriesBetween-both}
+use Rattle.deploy_tables.{specs.Needs.{AreOfVersions}, proofs.{AllowedQueries.{LooksUpBetween-allowed}, NeedLemmas.{IsNeedOfOthers-found}}}
+use Rattle.deploy_tables.proofs.MatrixLoop.{LooksUpBetween-then_failed, LooksUpBetween-both}
 use Rattle.deploy_tables.proofs.selected_needs.needs_of_others.Goals as goal
 
 pub returns : goal.returns
 returns g c =
     let v = c.args.version.now in
     let e = c.args.environment.now in
-    CalmQueriesBetween-allowed _ _ _ c.in-Ok-latest_results.value c.used_by_each.result _ _ _
+    LooksUpBetween-allowed _ _ _ c.in-Ok-latest_results.value c.used_by_each.result _ _ _
     (λ s. AreOfVersions s c.in-Ok.value.items) (λ s read contract has. let it = (read.0 contract).0 has in (it.0, it.2))
     (λ s read found here number. IsNeedOfOthers-found s _ _ _ _ _ read.0 (here (read.1 v number)))
-    (CalmQueriesBetween-both _ _ _ _ _ _ _ (rw c.as_str.ensures at c.in-Ok.ensures.answers) c.in-Ok-latest_results.ensures.answers)
+    (LooksUpBetween-both _ _ _ _ _ _ _ (rw c.as_str.ensures at c.in-Ok.ensures.answers) c.in-Ok-latest_results.ensures.answers)
     (rw (c.deref.ensures.value, c.deref-2.ensures.value) at c.used_by_each.ensures.answers)
-    (rw c.deref-2.ensures.value at c.used_by_each.ensures.calm)
+    (rw c.deref-2.ensures.value at c.used_by_each.ensures.failure)
 
 pub returns-in-Err-latest_results : goal.returns-in-Err-latest_results
-returns-in-Err-latest_results g c = CalmQueriesBetween-then_failed _ _ _ _ _ _ _ _ c.in-Ok.ensures.answers c.in-Err-latest_results.ensures.answers
+returns-in-Err-latest_results g c = LooksUpBetween-then_failed _ _ _ _ _ _ _ _ c.in-Ok.ensures.answers c.in-Err-latest_results.ensures.answers

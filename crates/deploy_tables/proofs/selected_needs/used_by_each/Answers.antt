@@ -1,6 +1,6 @@
 use Rattle.std.proofs.Common.{arith, Err}
 use Rattle.table_access.proofs.{Members.{has_contains}, ReadLemmas.{get_or-has}}
-use Rattle.broker_tables.proofs.FailLemmas.{IsCalmFromBetween-after_query}
+use Rattle.broker_tables.proofs.FailLemmas.{FailsByStoreFromBetween-after_query}
 use Rattle.deploy_tables.{specs.Needs.{AreOfVersions}, proofs.AllowedQueries.{QueriesBetween-answers_both, QueriesBetween-answers_more}}
 use Rattle.deploy_tables.proofs.MatrixLoop.{IsOfSome-take_next_at, IsOfSome-take_all}
 use Rattle.deploy_tables.proofs.selected_needs.used_by_each.Goals as goal
@@ -14,9 +14,9 @@ pub returns-clause-answers : goal.returns-clause-answers
 returns-clause-answers g c =
     QueriesBetween-answers_more _ _ _ _ _ _ (λ s was listed. IsOfSome-take_all _ c.args.contracts.now c.loop-contract.contract-index _ (omega arith) (was listed)) c.loop-contract.invariant
 
-pub returns-in-Err-clause-calm : goal.returns-in-Err-clause-calm
-returns-in-Err-clause-calm g c =
+pub returns-in-Err-clause-failure : goal.returns-in-Err-clause-failure
+returns-in-Err-clause-failure g c =
     let contracts = c.args.contracts.now in
-    λ clean s here may. IsCalmFromBetween-after_query _ _ _ _ (Err c.in-Err.fault) _ _ (λ s. AreOfVersions s contracts) _
+    λ clean s here may. FailsByStoreFromBetween-after_query _ _ _ _ (Err c.in-Err.fault) _ _ (λ s. AreOfVersions s contracts) _
     (λ s held each was. each _ (has_contains contracts _ (get_or-has contracts c.loop-contract.contract-index _ c.loop-contract-test.true)))
-    c.loop-contract.invariant c.in-Err.ensures.answers c.in-Err.ensures.calm clean s here may
+    c.loop-contract.invariant c.in-Err.ensures.answers c.in-Err.ensures.failure clean s here may

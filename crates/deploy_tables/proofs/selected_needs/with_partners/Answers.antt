@@ -1,6 +1,6 @@
 use Rattle.std.proofs.Common.{arith, Err}
 use Rattle.table_access.proofs.{Members.{has_contains}, ReadLemmas.{get_or-has}}
-use Rattle.broker_tables.proofs.FailLemmas.{IsCalmFromBetween-after_query}
+use Rattle.broker_tables.proofs.FailLemmas.{FailsByStoreFromBetween-after_query}
 use Rattle.deploy_tables.specs.Partners.{AreNumbersOfVersions}
 use Rattle.deploy_tables.proofs.AllowedQueries.{QueriesBetween-answers_both, QueriesBetween-answers_more, QueriesBetween-failed_after}
 use Rattle.deploy_tables.proofs.MatrixLoop.{IsOfSome-take_next_at, IsOfSome-take_all}
@@ -18,9 +18,9 @@ returns-clause-answers g c =
 pub returns-in-Err-clause-answers : goal.returns-in-Err-clause-answers
 returns-in-Err-clause-answers g c = QueriesBetween-failed_after _ _ _ _ _ _ _ _ c.loop-partner.invariant c.in-Err.ensures.answers
 
-pub returns-in-Err-clause-calm : goal.returns-in-Err-clause-calm
-returns-in-Err-clause-calm g c =
+pub returns-in-Err-clause-failure : goal.returns-in-Err-clause-failure
+returns-in-Err-clause-failure g c =
     let there = c.args.there.now in
-    λ clean s here may. IsCalmFromBetween-after_query _ _ _ _ (Err c.in-Err.fault) _ _ (λ s. AreNumbersOfVersions s there) _
+    λ clean s here may. FailsByStoreFromBetween-after_query _ _ _ _ (Err c.in-Err.fault) _ _ (λ s. AreNumbersOfVersions s there) _
     (λ s held each was. each _ (has_contains there _ (get_or-has there c.loop-partner.partner-index _ c.loop-partner-test.true)))
-    c.loop-partner.invariant c.in-Err.ensures.answers c.in-Err.ensures.calm clean s here may
+    c.loop-partner.invariant c.in-Err.ensures.answers c.in-Err.ensures.failure clean s here may

@@ -1,13 +1,13 @@
 use Rattle.std.proofs.lemmas.Result.{IfOk-weaker}
 use Rattle.sqlite.specs.Held.{state}
-use Rattle.broker_tables.proofs.{Asked.{CalmQueriesBetween-list}, AnyTables.{Shown-leaves_all}}
+use Rattle.broker_tables.proofs.{TableQuery.{LooksUpBetween-list}, AnyTables.{Shown-leaves_all}}
 use Rattle.deploy_tables.proofs.{VersionNames.{names_of, Contains-names_of_number}, ReadableRows.{EachReads-names_of}, AnyThere.{names_asks, version_there}}
 use Rattle.deploy_tables.proofs.version_names.versions_numbered.Goals as goal
 
 pub returns-clause-answers : goal.returns-clause-answers
 returns-clause-answers g c =
     let said = rw c.params-to_sql.ensures at c.list_of.ensures in
-    CalmQueriesBetween-list (names_of c.args.number) _ _ (λ row fault why. why.0) (λ s held rows h list are. Contains-names_of_number _ s held c.args.number rows list.items h are)
+    LooksUpBetween-list (names_of c.args.number) _ _ (λ row fault why. why.0) (λ s held rows h list are. Contains-names_of_number _ s held c.args.number rows list.items h are)
     (EachReads-names_of c.args.number _) said.leaves said.cause
 
 pub returns-clause-named : goal.returns-clause-named

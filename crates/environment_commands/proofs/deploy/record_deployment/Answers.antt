@@ -37,4 +37,4 @@ returns-clause-carries g c =
       (Plain, next s e v i, deploys s e i v c.args.number c.in-Ok.value false _ _ c.as_str.ensures c.as_str-2.ensures there.1 returned c.if-value.false),
     ))
     (λ long are. long (subst (λ (t : List ℕ). length t ≤ 10 ^ 7) (sym c.as_str-3.ensures) are.0, (subst (λ (t : List ℕ). length t ≤ 10 ^ 7) (sym c.as_str-4.ensures) are.1.0, (are.1.1.0, tt))))
-    c.returned.ensures c.in-Ok.ensures c.record_deployed.ensures.changes c.record_deployed.ensures.calm
+    c.returned.ensures c.in-Ok.ensures c.record_deployed.ensures.changes c.record_deployed.ensures.failure

@@ -34,4 +34,4 @@ returns-clause-carries g c =
     let free = is_present s e v c.args.number c.in-Ok.value false _ c.as_str.ensures there.1 returned c.if-value.false in
     ((subst (λ (t : Text). IsEnvironment t s) (sym c.as_str-2.ensures) there.0, (v, there.1, (λ i. s.released (c.as_str-2.ensures i, v)) ∙ free)), (Plain, next s e v, releases s e v false free)))
     (λ long are. long (subst (λ (t : List ℕ). length t ≤ 10 ^ 7) (sym c.as_str-2.ensures) are.0, tt))
-    c.returned.ensures c.in-Ok.ensures c.record_released.ensures.changes c.record_released.ensures.calm
+    c.returned.ensures c.in-Ok.ensures c.record_released.ensures.changes c.record_released.ensures.failure

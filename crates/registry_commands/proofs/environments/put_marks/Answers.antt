@@ -15,4 +15,4 @@ returns-in-None g c =
     let it = c.in-None.ensures.changes s c.args.environment.now c.requires (ap s.environments (sym c.as_str.ensures) ∙ sym h) in
     (_, (ap s.environments is ∙ it.0, ap (λ (x : Text). record s { environments = put_at same_text s.environments x (Some c.args.marks) }) (sym is)), it.1))
     (λ long named. long (IsName-short _ (subst IsName (sym is) named), tt))
-    c.returned.ensures c.in-Ok.ensures.answers c.add_environment.ensures.changes c.add_environment.ensures.calm
+    c.returned.ensures c.in-Ok.ensures.answers c.add_environment.ensures.changes c.add_environment.ensures.failure

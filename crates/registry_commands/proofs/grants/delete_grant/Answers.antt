@@ -16,7 +16,7 @@ returns-in-None-clause-carries g c =
     let it = c.in-None.ensures.changes s c.args.team.now c.args.environment.now h in
     let grant_is : s.grants (c.as_str.result.now, c.as_str-in-None.result.now) ≡ true = ap (λ (k : Text × Text). s.grants k) (λ i. (by i, of i)) ∙ h.grant_is ∙ it.0 in
     (_, (grant_is, λ i. record s { grants = put_at (same_pair same_text same_text) s.grants (sym by i, sym of i) false }), it.1))
-    c.returned.ensures c.in-Ok.ensures c.remove_grant.ensures.changes c.remove_grant.ensures.calm
+    c.returned.ensures c.in-Ok.ensures c.remove_grant.ensures.changes c.remove_grant.ensures.failure
 
 pub returns-in-Some-clause-memory : goal.returns-in-Some-clause-memory
 returns-in-Some-clause-memory g c = ReportsMemoryUnless-Ok false (state g.S.Store c.args.conn.now) (state g.S.Store c.read_grant_facts.new.conn) c.in-Some.answer

@@ -22,7 +22,7 @@ returns-in-None-clause-carries g c =
     let grant_is : s.grants (c.as_str.result.now, c.as_str-in-None.result.now) ≡ false = ap (λ (k : Text × Text). s.grants k) (λ i. (by i, of i)) ∙ h.grant_is ∙ it.2 in
     (_, (team_is, environment_is, grant_is, λ i. record s { grants = put_at (same_pair same_text same_text) s.grants (sym by i, sym of i) true }), it.3))
     (λ long named. long (IsName-short _ (subst IsName (sym by) named.0), (IsName-short _ (subst IsName (sym of) named.1), tt)))
-    c.returned.ensures c.in-Ok.ensures c.add_grant.ensures.changes c.add_grant.ensures.calm
+    c.returned.ensures c.in-Ok.ensures c.add_grant.ensures.changes c.add_grant.ensures.failure
 
 pub returns-in-Some-clause-memory : goal.returns-in-Some-clause-memory
 returns-in-Some-clause-memory g c = ReportsMemoryUnless-Ok false (state g.S.Store c.args.conn.now) (state g.S.Store c.read_grant_facts.new.conn) c.in-Some.answer

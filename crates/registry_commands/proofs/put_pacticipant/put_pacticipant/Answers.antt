@@ -16,4 +16,4 @@ returns g c =
     let it = c.in-None.ensures.changes s c.args.pacticipant.now h in
     (_, (ap s.pacticipants is ∙ it.0, ap (λ x. is_some (s.teams x)) by ∙ it.1, λ i. record s { pacticipants = put_at same_text s.pacticipants (sym is i) (Some (sym by i)) }), it.2))
     (λ long named. long (IsName-short _ (subst IsName (sym is) named.0), (IsName-short _ (subst IsName (sym by) named.1), tt)))
-    c.returned.ensures c.in-Ok.ensures c.add_pacticipant.ensures.changes c.add_pacticipant.ensures.calm
+    c.returned.ensures c.in-Ok.ensures c.add_pacticipant.ensures.changes c.add_pacticipant.ensures.failure

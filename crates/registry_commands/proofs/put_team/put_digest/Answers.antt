@@ -14,4 +14,4 @@ returns g c =
     let it = c.in-None.ensures.changes s c.args.team.now h in
     (_, (ap s.teams is ∙ it.0, c.in-None.ensures.unused s h.holder_is, ap (λ (x : Text). record s { teams = put_at same_text s.teams x (Some c.args.digest.now) }) (sym is)), it.1))
     (λ long are. long (subst (λ (t : List ℕ). length t ≤ 10 ^ 7) (sym is) are.0, are.1))
-    c.returned.ensures c.in-Ok.ensures c.add_team.ensures.changes c.add_team.ensures.calm
+    c.returned.ensures c.in-Ok.ensures c.add_team.ensures.changes c.add_team.ensures.failure

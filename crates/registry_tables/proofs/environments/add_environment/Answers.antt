@@ -23,8 +23,8 @@ returns-then-strict-clause-changes g c =
     (after.0, TakesRoom-trans 1 1 old.now mid.now new.now before.1 after.1))
     c.in-Ok.ensures.changes c.put_strict.ensures.changes
 
-pub returns-then-strict-clause-calm : goal.returns-then-strict-clause-calm
-returns-then-strict-clause-calm g c =
+pub returns-then-strict-clause-failure : goal.returns-then-strict-clause-failure
+returns-then-strict-clause-failure g c =
     let mid = state g.S.Store c.put_environment.new.conn in
     let e = c.args.environment.now in
     let first = marks c.args.gated false in
@@ -39,7 +39,7 @@ returns-then-strict-clause-calm g c =
     } in
     let room = subst (LeaveNumbers 1) (sym (c.in-Ok.ensures.strict mid_clean s here.held next.1.0)) numbers.1.0 in
     IfErr-weaker c.put_strict.result _ _ (λ e why. EndsBy-later_call _ _ _ e (call.goes_on mid_clean here.inside) call.survives.counts why)
-    (c.put_strict.ensures.calm clean between now (first, put_at-same_key s.environments e first, refl) (room, tt))
+    (c.put_strict.ensures.failure clean between now (first, put_at-same_key s.environments e first, refl) (room, tt))
 
 pub returns-else-strict-clause-changes : goal.returns-else-strict-clause-changes
 returns-else-strict-clause-changes g c =

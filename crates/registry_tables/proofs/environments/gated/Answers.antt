@@ -1,15 +1,15 @@
 use Rattle.std.{specs.Prelude.{option_map}, proofs.{Common.{◌∙◌, ap, pos, inl, inr}, lemmas.Result.{IfOk-weaker, IfErr-weaker, MatchResult-from_both}}}
 use Rattle.sqlite.specs.declared.types.Value.TheVariants.{Int}
 use Rattle.table_access.proofs.Answered.{slice_get-has_first}
-use Rattle.broker_tables.proofs.{AnyTables.{IsRefusedAs-ends}, Asked.{Shown-IsShown, Shown-now_same, FailsToTake-explained_number}}
-use Rattle.broker_tables.proofs.{QueryLemmas.{CalmQueriesBetween-read_result, CalmQueriesBetween-read_Err}, TruthLemmas.{mark_of-option_map}}
+use Rattle.broker_tables.proofs.{AnyTables.{IsRefusedAs-ends}, TableQuery.{Shown-IsShown, Shown-now_same, FailsToTake-explained_number}}
+use Rattle.broker_tables.proofs.{QueryLemmas.{LooksUpBetween-read_result, LooksUpBetween-read_Err}, TruthLemmas.{mark_of-option_map}}
 use Rattle.registry_tables.proofs.EnvironmentRows.{gated, IsShown-gated, EachReads-gated, IsTruthAt-not_above_one, IsTruthAt-IsNumberRow, Asks-HasBrokerTables, IsMarkIn-found, HasNoMark-shown}
 use Rattle.registry_tables.proofs.environments.gated.Goals as goal
 
 pub returns-clause-answers : goal.returns-clause-answers
 returns-clause-answers g c =
     let e = c.args.environment.now in
-    CalmQueriesBetween-read_result _ _ c.in-Ok.value c.truth_of.result _ _
+    LooksUpBetween-read_result _ _ c.in-Ok.value c.truth_of.result _ _
     (IfOk-weaker c.truth_of.result _ _ (λ truth is h s held. (
       is ∙ IsShown-gated e _ h.0 s c.in-Ok.value held (Shown-IsShown (gated e) _ _ held.broker h.0 h.1) h.2,
       Shown-now_same (gated e) _ _ held.broker h.0 h.1,
@@ -23,7 +23,7 @@ returns-clause-answers g c =
 pub returns-in-Err-clause-answers : goal.returns-in-Err-clause-answers
 returns-in-Err-clause-answers g c =
     let said = rw c.params-to_sql.ensures at c.in-Err.ensures in
-    CalmQueriesBetween-read_Err _ _ c.in-Err.fault _ _ _
+    LooksUpBetween-read_Err _ _ c.in-Err.fault _ _ _
     (FailsToTake-explained_number (gated c.args.environment.now) _ _ (λ s held readable rows h row has. IsTruthAt-IsNumberRow row (EachReads-gated c.args.environment.now _ s held readable rows h row has)))
     said.leaves said.cause
 

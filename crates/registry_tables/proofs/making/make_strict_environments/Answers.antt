@@ -7,6 +7,6 @@ pub returns-clause-makes : goal.returns-clause-makes
 returns-clause-makes g c =
     CallsBetween-weaken _ _ c.make_each.result _ _ (λ _ made is. MakesEach-single Creates strict_environments _ _ (made.0 (take 14 table_texts) (take 1 (drop 14 table_texts)) (drop 15 table_texts) refl refl is)) c.make_each.ensures.makes
 
-pub returns-clause-calm : goal.returns-clause-calm
-returns-clause-calm g c clean inside unlimited is =
-    c.make_each.ensures.calm clean inside unlimited (inl (take 14 table_texts, take 1 (drop 14 table_texts), drop 15 table_texts, refl, refl, is))
+pub returns-clause-failure : goal.returns-clause-failure
+returns-clause-failure g c clean inside unlimited is =
+    c.make_each.ensures.failure clean inside unlimited (inl (take 14 table_texts, take 1 (drop 14 table_texts), drop 15 table_texts, refl, refl, is))

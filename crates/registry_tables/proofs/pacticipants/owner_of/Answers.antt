@@ -1,12 +1,12 @@
 use Rattle.std.proofs.{Common.{◌∙◌}, lemmas.Result.{IfErr-weaker}}
-use Rattle.broker_tables.proofs.Asked.{CalmQueriesBetween-text, FailsToTake-no_row_shown}
+use Rattle.broker_tables.proofs.TableQuery.{LooksUpBetween-text, FailsToTake-no_row_shown}
 use Rattle.registry_tables.proofs.TeamRows.{owner, IsShown-owner, FirstReads-owner, FirstShown-no_text}
 use Rattle.registry_tables.proofs.pacticipants.owner_of.Goals as goal
 
 pub returns-clause-answers : goal.returns-clause-answers
 returns-clause-answers g c =
     let said = rw c.params-to_sql.ensures at c.find_text.ensures in
-    CalmQueriesBetween-text (owner c.args.pacticipant.now) _ _ (λ s held rows h found is. is ∙ IsShown-owner c.args.pacticipant.now _ rows s held h) (FirstReads-owner c.args.pacticipant.now _) said.leaves said.cause
+    LooksUpBetween-text (owner c.args.pacticipant.now) _ _ (λ s held rows h found is. is ∙ IsShown-owner c.args.pacticipant.now _ rows s held h) (FirstReads-owner c.args.pacticipant.now _) said.leaves said.cause
 
 pub returns-clause-missing : goal.returns-clause-missing
 returns-clause-missing g c clean s here none =

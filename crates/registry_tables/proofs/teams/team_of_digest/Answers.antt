@@ -1,12 +1,12 @@
 use Rattle.std.proofs.{Common.{sym, subst, string_bytes}, lemmas.Result.{IfErr-weaker}}
-use Rattle.broker_tables.proofs.Asked.{CalmQueriesBetween-text, FailsToTake-no_row_shown}
+use Rattle.broker_tables.proofs.TableQuery.{LooksUpBetween-text, FailsToTake-no_row_shown}
 use Rattle.registry_tables.proofs.TeamRows.{holder, IsShown-team_of_digest, FirstReads-team_of_digest, FirstShown-no_team_of_digest, IsTeamOf, IsTeamOf-by_view}
 use Rattle.registry_tables.proofs.teams.team_of_digest.Goals as goal
 
 pub returns-clause-answers : goal.returns-clause-answers
 returns-clause-answers g c =
     let said = rw c.params-to_sql.ensures at c.find_text.ensures in
-    CalmQueriesBetween-text (holder c.args.digest.now) _ _ (λ s held rows h found is. IsTeamOf-by_view string_bytes s c.args.digest.now found (subst (IsTeamOf s c.args.digest.now) (sym is) (IsShown-team_of_digest c.args.digest.now _ rows s held h))) (FirstReads-team_of_digest c.args.digest.now _) said.leaves said.cause
+    LooksUpBetween-text (holder c.args.digest.now) _ _ (λ s held rows h found is. IsTeamOf-by_view string_bytes s c.args.digest.now found (subst (IsTeamOf s c.args.digest.now) (sym is) (IsShown-team_of_digest c.args.digest.now _ rows s held h))) (FirstReads-team_of_digest c.args.digest.now _) said.leaves said.cause
 
 pub returns-clause-missing : goal.returns-clause-missing
 returns-clause-missing g c clean s here none =

@@ -26,14 +26,14 @@ returns g c =
     record {
       finds = λ clean broker. IfOk-weaker c.end.result _ _ (λ found it. subst (Verdict found) it.1 (it.2 (subst IsBroker (sym it.1) broker)).0) (IfOk-transaction _ _ _ _ _ _ c.end.result whole clean);
       unchanged = λ clean. search rules;
-      calm = λ clean fresh broker is.
+      failure = λ clean fresh broker is.
           let begun = Begins-transaction _ _ _ _ _ _ c.end.result whole clean in
           let worked : HasCleanDisk (state g.S.Store c.verdict-found.new.conn) = omega (arith, c.end.ensures.ends.survives.clean, clean) in
           elim (HasFailed-of_transaction _ _ _ _ _ _ ⊥ clean c.end.result whole
           (IfErr-weaker c.verdict-found.result _ _ (λ fault why store. elim why [
             | inl failed ↦ inl failed
             | inr memory ↦ absurd (let e = sym memory ∙ store in cc)
-          ]) (c.verdict-found.ensures.calm worked begun.1.mode (subst IsBroker (sym begun.1.now_is) broker) (c.begin.ensures.survives.limit ∙ fresh.1)))
+          ]) (c.verdict-found.ensures.failure worked begun.1.mode (subst IsBroker (sym begun.1.now_is) broker) (c.begin.ensures.survives.limit ∙ fresh.1)))
           (λ a it never. absurd never) is) [ inl failed ↦ failed | inr never ↦ absurd never ];
       over = LeavesNoTransaction-transaction _ _ _ _ _ _ c.end.result whole;
       survives = search rules;

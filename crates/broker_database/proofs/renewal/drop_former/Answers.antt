@@ -1,7 +1,0 @@
-use Rattle.std.proofs.Common.{refl}
-use Rattle.sqlite_tied.specs.Compute.{everything}
-use Rattle.broker_database.proofs.renewal.drop_former.Goals as goal
-
-pub drop_each-requires : goal.drop_each-requires
-unfolding everything
-drop_each-requires g c = (refl, (refl, (refl, (refl, (refl, (refl, (refl, (refl, (refl, (refl, (refl, (refl, (refl, tt)))))))))))))

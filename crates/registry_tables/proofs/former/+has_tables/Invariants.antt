@@ -1,5 +1,0 @@
-use Rattle.std.proofs.Common.{length}
-use Rattle.registry_tables.proofs.former.+has_tables.Given as goal
-
-abbrev pub decreases-has_tables : goal.decreases-has_tables
-decreases-has_tables l = length l.forms.now
