@@ -86,18 +86,26 @@ def answer(status: int, body: str | bytes, fields: list[str] | None = None) -> b
     return "".join(it + "\r\n" for it in [*lines, *(fields or []), ""]).encode() + text
 
 
+def head_in(text: bytes) -> tuple[Answer, int]:
+    """The answer with which a stream begins, without its body, and the length of its head."""
+    head, end, _ = text.partition(b"\r\n\r\n")
+    if not end:
+        raise Wrong(f"an answer that is cut: {text[:500]!r}")
+    first, *lines = head.decode().split("\r\n")
+    headers = {name.lower(): value.strip() for name, _, value in (it.partition(":") for it in lines)}
+    return Answer(int(first.split(" ")[1]), headers, ""), len(head + end)
+
+
 def answers_in(text: bytes) -> list[Answer]:
     """The answers that follow one another in a stream, each of the length that its head says."""
     found = []
     while text:
-        head, end, rest = text.partition(b"\r\n\r\n")
-        first, *lines = head.decode().split("\r\n")
-        headers = {name.lower(): value.strip() for name, _, value in (it.partition(":") for it in lines)}
-        length = int(headers.get("content-length", 0))
-        if not end or length > len(rest):
+        head, begin = head_in(text)
+        end = begin + int(head.headers.get("content-length", 0))
+        if end > len(text):
             raise Wrong(f"an answer that is cut: {text[:500]!r}")
-        found.append(Answer(int(first.split(" ")[1]), headers, rest[:length].decode()))
-        text = rest[length:]
+        found.append(head._replace(body=text[begin:end].decode()))
+        text = text[end:]
     return found
 
 

@@ -1,15 +1,18 @@
-"""docs/openapi.json is true of the requests and answers that stories and stops make, and each of its operations is met
-with each status that it has. Those of command lines are tried as they are played (players/lines.py). Each pact file and
-each reply of the cases that the program reads fits its schema."""
-import json
+"""docs/openapi.json is true of all requests and answers of stories and stops, and each of its operations is met with
+each status that it has. The requests of command lines with their answers, and the pact files and replies of cases that
+the program reads, are tried as they are played (players/lines.py, players/questions.py)."""
+from collections import Counter
 from typing import Any
 import pytest
-from tests.players.cases import cases_of
-from tests.players.exchanges import exchanges, exchanges_in
-from tests.players.interface import FAILURES, HEADS, document, fits, schema, try_exchange
-from tests.players.questions import file_of
+from tests.players.exchanges import exchanges, exchanges_in, named
+from tests.players.interface import FAILURES, document, fits, schema, try_exchange
+from tests.players.lines import CommandLine, steps_of
 from tests.players.texts import DATA
 from tests.wire import Wrong, answer, request
+
+# How many requests of each story, by its rule, are refused since their heads are wrong: the document says nothing of
+# them but the answer.
+REFUSED = {"refused-heads": 23, "head-requests": 3, "long-heads": 2, "longest-head": 2, "sixty-four-fields": 2}
 
 
 def test_each_exchange_is_as_the_document_says() -> None:
@@ -21,24 +24,22 @@ def test_each_exchange_is_as_the_document_says() -> None:
         for status in its[method]["responses"].keys() - {"default"}
     }
     assert said - met == set(), "no story has these"
-    assert {it for it in met if it and it[2] not in (*HEADS, *FAILURES)} - said == set(), "the document hasn't these"
-    assert len(exchanges()) > 1500
+    assert {it for it in met if it and it[2] not in FAILURES} - said == set(), "the document hasn't these"
+    assert len(exchanges()) > 1700
 
 
-@pytest.mark.parametrize("name", [it.stem for it in sorted((DATA / "cases").glob("*.cases"))])
-def test_each_file_that_is_read_fits(name: str) -> None:
-    """Also one in another way than the normal text's, as libraries write them; and each reply on which there is a
-    verdict."""
-    for case in cases_of(DATA / "cases" / f"{name}.cases"):
-        place = f"{name}.cases:{case.line}"
-        if case.question == "pact" and case.wanted.startswith("{"):
-            for fields in case.asks:
-                fits(json.loads(file_of(fields)), schema("PactFile"), f"{place}: the file")
-            fits(json.loads(case.wanted), schema("PactFile"), f"{place}: the normal text")
-        if case.question == "verdict" and case.wanted.startswith(("passes", "fails")):
-            for fields in case.asks:
-                for reply in json.loads(fields["replies"])["replies"]:
-                    fits(reply, schema("Reply"), f"{place}: a reply")
+def test_which_requests_are_refused() -> None:
+    wrong = Counter(it.place.partition(".story")[0].rpartition("/")[2] for it in exchanges() if it.is_refused())
+    assert wrong == REFUSED
+
+
+def test_which_answers_of_command_lines_are_tried() -> None:
+    """All to a file of requests, but where the words are no command line, or no answer is whole."""
+    steps = [it for file in sorted((DATA / "lines").glob("*.lines")) for it in steps_of(file)]
+    lines = [it for it in steps if isinstance(it, CommandLine) and it.input.endswith(".http")]
+    left = [f"{it.input} to {it.words[0]}, {it.status}" for it in lines if not it.are_answered()]
+    assert left == ["lost.http to rewind, 2", "first.http to replay, 3", "first.http to replay, 3"]
+    assert len(lines) >= 8 and sum(it.text.endswith(".http") for it in steps) >= 10
 
 
 def test_a_wrong_answer_is_seen() -> None:
@@ -50,16 +51,26 @@ def test_a_wrong_answer_is_seen() -> None:
             fits(wrong, schema("Judgement"), "the answer")
 
 
-# A request that names no token, one that is no operation, and a status that its operation hasn't.
+DONE = answer(200, '{"answer":"done"}')
+CLOSED = answer(400, '{"answer":"refused","status":400}', ["connection: close"])
+TEAM, MARKED = request("PUT", "/teams/red", body='{"token":"red-team-token-01"}'), request("PUT", "/teams/red", body="{}")
+# A request that names no token, one that is no operation, a status that its operation hasn't, a field that is missing;
+# and streams in which something else is answered than exchanges.py says.
 WRONG = {
-    "'token' is a required": (request("PUT", "/teams/red", body="{}"), answer(200, '{"answer":"done"}')),
-    "no operation": (request("PUT", "/teams"), answer(200, '{"answer":"done"}')),
-    "the answer 404": (request("PUT", "/teams/red", body="{}"), answer(404, '{"answer":"unknown","what":"team"}')),
+    "'token' is a required": (MARKED, DONE),
+    "no operation": (request("PUT", "/teams"), DONE),
+    "the answer 404": (MARKED, answer(404, '{"answer":"unknown","what":"team"}')),
+    "www-authenticate": (TEAM, answer(401, '{"answer":"denied","rule":"A1"}').replace(b"www-authenticate", b"x")),
+    "isn't answered": (TEAM + TEAM, DONE),
+    "what is no request": (TEAM + b"PUT x", DONE + DONE),
+    "the connection is closed": (TEAM + TEAM, CLOSED + DONE),
+    "the answer 400": (TEAM, CLOSED.replace(b"refused", b"unknown")),
 }
 
 
 @pytest.mark.parametrize("why", WRONG)
 def test_a_wrong_exchange_is_seen(why: str) -> None:
+    sent, answered = WRONG[why]
     with pytest.raises(Wrong, match=why):
-        for it in exchanges_in(*WRONG[why]):
+        for it in exchanges_in(sent, named("it", answered)):
             try_exchange(it)

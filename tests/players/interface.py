@@ -11,8 +11,8 @@ from tests.wire import Wrong
 
 # What is answered to a request that is no operation.
 ELSEWHERE = {404: {"answer": "no route"}, 405: {"answer": "no method"}}
-# How a head is refused, and how the broker fails: by no operation's own doing.
-HEADS, FAILURES = (400, 413, 431, 501), (500, 503)
+# How the broker fails: by no operation's own doing.
+FAILURES = 500, 503
 # The answers that come after the request was read, so that it has its form.
 READ = 200, 403, 404, 409
 
@@ -85,20 +85,24 @@ def operation_of(method: str, target: str) -> Operation | None:
     return None
 
 
-def schema_of(said: dict[str, Any]) -> dict[str, Any]:
-    found: dict[str, Any] = said["content"]["application/json"]["schema"]
-    return found
-
-
 def try_exchange(it: Exchange) -> tuple[str, str, int] | None:
-    """Tries a request and its answer, and says which operation was met with which status."""
-    operation, status = operation_of(it.method, it.path), it.answer.status
-    body = json.loads(it.answer.body) if it.answer.body else None
-    if operation is None or body == ELSEWHERE.get(status):
-        if status not in HEADS and body not in (ELSEWHERE.get(status), None):
-            raise Wrong(f"{it.place}: {it.method} {it.path} is no operation, and is answered {status} {body}")
+    """Tries a request and its answer, and says which operation was met with which status; None if its head was refused
+    or it is no operation."""
+    status, answer = it.answer.status, f"{it.place}: the answer {it.answer.status}"
+    if it.method == "HEAD" and it.is_refused():
         return None
-    fits(body, schema_of(operation.response(status)), f"{it.place}: the answer {status}")
+    body, operation = json.loads(it.answer.body), operation_of(it.method, it.path)
+    if it.is_refused():
+        fits(body, schema("Refused"), answer)
+        return None
+    if operation is None:
+        if body != ELSEWHERE.get(status):
+            raise Wrong(f"{answer} to {it.method} {it.path}, which is no operation: {body}")
+        return None
+    response = operation.response(status)
+    fits(body, response["content"]["application/json"]["schema"], answer)
+    for name, said in response.get("headers", {}).items():
+        fits(it.answer.headers.get(name), said["schema"], f"{answer}: {name}")
     if status in READ:
         try_request(operation, it)
     return operation.method, operation.path, status
@@ -112,4 +116,4 @@ def try_request(operation: Operation, it: Exchange) -> None:
         fits(operation.given[name], parameter["schema"], f"{it.place}: {name}")
     asked = operation.said.get("requestBody")
     if asked and (it.body or asked["required"]):
-        fits(json.loads(it.body), schema_of(asked), f"{it.place}: the request")
+        fits(json.loads(it.body), asked["content"]["application/json"]["schema"], f"{it.place}: the request")

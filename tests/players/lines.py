@@ -15,15 +15,15 @@ that an earlier one made. Its lines are:
     % DATABASE STATEMENTS   they are run over the database, which is made if it isn't there
     %< DATABASE FILE        the same, with the statements that the file holds
 
-Requests that are served or replayed, and their answers, have to be as docs/openapi.json says; nothing else is said of
-these answers here.
+Requests that are served or replayed, and their answers, have to be as docs/openapi.json says (exchanges.py has which
+are answered); nothing else is said of these answers here, and nothing of one that is cut by an output that takes less.
 
 Standard input that fails is a socket whose peer resets it after the bytes are read. Standard output that takes so many
 bytes is a file that is so many bytes short of the longest that a file may be, and /dev/full if it takes none."""
 import os, resource, shutil, socket, struct, tempfile, termios
 from pathlib import Path
 from typing import NamedTuple
-from tests.players.exchanges import exchanges_in, parted
+from tests.players.exchanges import exchanges_in, named
 from tests.players.files import statements
 from tests.players.interface import try_exchange
 from tests.players.streams import look_until, number_of, receive, send_by_socket
@@ -67,6 +67,11 @@ class CommandLine:
             self.wanted[STREAMS[mark]] = None
         else:
             raise Wrong(f"no such line: {mark} {rest}")
+
+    def are_answered(self) -> bool:
+        """Whether its input is requests, whose answers it writes whole."""
+        is_cut = self.room is not None and self.status != "0"
+        return self.words[:1] == ["replay"] and bool(self.input) and not is_cut
 
 
 def steps_of(file: Path) -> list["CommandLine | Between"]:
@@ -116,14 +121,12 @@ def output_of(line: CommandLine) -> tuple[int, int]:
     return output, MOST - line.room
 
 
-def as_described(sent: bytes, answered: bytes) -> int:
-    """Fails unless the requests and their answers are as docs/openapi.json says; how many are answered, at least one."""
-    found = exchanges_in(sent, answered)
+def as_described(sent: bytes, answered: bytes) -> None:
+    """Fails unless the requests and their answers are as docs/openapi.json says."""
+    if not (found := exchanges_in(sent, named("its output", answered))):
+        raise Wrong("no request is answered")
     for it in found:
         try_exchange(it)
-    if not found:
-        raise Wrong("no request is answered")
-    return len(found)
 
 
 class Folder:
@@ -175,7 +178,7 @@ class Folder:
                 raise Wrong(f"on {name}:\n{difference(wanted, got[stream])}")
         if str(status) != line.status:
             raise Wrong(f"status: wanted {line.status}, got {status}")
-        if line.words[:1] == ["replay"] and line.input and status == 0:
+        if line.are_answered():
             as_described(self.read(line.input), got["output"])
 
     def ended(self, line: CommandLine, process: Started) -> int:
@@ -204,9 +207,7 @@ class Folder:
             with server.connect() as connection:
                 send_by_socket(connection, [text], server)
                 connection.shutdown(socket.SHUT_WR)
-                count = as_described(text, receive(connection))
-                if count != len([*parted(text)]):
-                    raise Wrong(f"{count} requests are answered")
+                as_described(text, receive(connection))
             if status := server.finish():
                 raise Wrong(f"serve ends with {status}: {server.log()}")
         finally:

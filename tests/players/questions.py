@@ -2,6 +2,7 @@
 import json, re, tempfile
 from collections.abc import Callable
 from typing import NamedTuple
+from tests.players.interface import fits, schema
 from tests.process import ran
 from tests.wire import Wrong
 
@@ -32,16 +33,23 @@ class Program:
         return output[:-1]
 
     def normalise(self, file: str) -> str:
-        """The normal text of a pact file."""
-        return self.run("normalise", text=file.encode())
+        """The normal text of a pact file. Both are as docs/openapi.json says."""
+        text = self.run("normalise", text=file.encode())
+        for name, it in ("the file", file), ("the normal text", text):
+            fits(json.loads(it), schema("PactFile"), name)
+        return text
 
     def check(self, pact: bytes, replies: bytes) -> str:
-        """The verdict on recorded replies by a pact file."""
+        """The verdict on recorded replies by a pact file. Both are as docs/openapi.json says."""
         with tempfile.TemporaryDirectory() as room:
             for name, text in ("pact", pact), ("replies", replies):
                 with open(f"{room}/{name}", "wb") as it:
                     it.write(text)
-            return self.run("check", "--pact", f"{room}/pact", "--replies", f"{room}/replies")
+            verdict = self.run("check", "--pact", f"{room}/pact", "--replies", f"{room}/replies")
+        fits(json.loads(pact), schema("PactFile"), "the pact file")
+        for it in json.loads(replies)["replies"]:
+            fits(it, schema("Reply"), "a reply")
+        return verdict
 
     def meets(self, response: str, sent: str) -> str:
         """Whether the response that was sent to an interaction meets the one that it expects."""
