@@ -2,7 +2,10 @@
 import os, shutil, tempfile
 from collections.abc import Iterator
 import pytest
+from tests.broker.filled import fill
 from tests.broker.parts import Broker
+from tests.process import Server
+from tests.world import folded, new_file, register, verify
 
 
 @pytest.fixture
@@ -22,3 +25,24 @@ def by_nobody(program: str) -> Iterator[tuple[Broker, str]]:
         os.chmod(copy, 0o755)
         who = {"user": 65534, "group": 65534, "extra_groups": []} if os.geteuid() == 0 else {}
         yield Broker(copy, **who), room
+
+
+@pytest.fixture(scope="session")
+def filled(program: str, tmp_path_factory: pytest.TempPathFactory) -> bytes:
+    """What the file of a broker holds after the requests of world.py and of filled.py."""
+    file = new_file(program, str(tmp_path_factory.mktemp("filled")))
+    with Server(program, file) as server:
+        register(server)
+        verify(server)
+        fill(server)
+    folded(program, file)
+    with open(file, "rb") as it:
+        return it.read()
+
+
+@pytest.fixture
+def file(filled: bytes, room: str) -> str:
+    """That file, in a folder of the test's own."""
+    with open(f"{room}/broker.db", "wb") as it:
+        it.write(filled)
+    return f"{room}/broker.db"

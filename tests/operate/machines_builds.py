@@ -1,7 +1,8 @@
 """A client of builds that goes on through the common address: it publishes, asks the gate, and deploys, by
 client/holzhebo, which waits while nobody answers."""
 import os, subprocess, sys, threading, time
-from tests.operate.machines_cluster import COMMON, Cluster
+from tests.operate.machines_asked import COMMON
+from tests.operate.machines_cluster import Cluster
 from tests.process import TOP
 
 PACT = """{"consumer":{"name":"shop"},"provider":{"name":"stock"},"interactions":[{"description":"build %d",

@@ -2,7 +2,8 @@
 machine's own broker answered. All clocks are one, as the machines are on one kernel."""
 import contextlib, json, os, subprocess, sys, threading, time
 from typing import NamedTuple
-from tests.operate.machines_cluster import COMMON, Cluster
+from tests.operate.machines_asked import COMMON
+from tests.operate.machines_cluster import Cluster
 from tests.operate.machines_hosts import PATIENCE, Machine
 from tests.process import TOP
 from tests.wire import Wrong

@@ -1,30 +1,17 @@
 """Copies of a broker's file by examples/backup.sh, keep-copies.sh and nightly.sh, in bad nights: two at once, a clock
-that jumps, a folder that is a link, a slow folder, a program of the machine that keeps a port busy, and kills. The
-broker is never left stopped, a new copy is never removed, and nothing is left for good."""
-import os, shutil, signal, subprocess, tempfile, threading, time
+that jumps, a folder that is a link, a slow folder, and a program of the machine that keeps a port busy. The broker is
+never left stopped, and a new copy is never removed."""
+import os, tempfile, threading, time
 from collections.abc import Iterator
 import pytest
+from tests.operate.scripts import await_halt, edited, goes_on, keep, keep_words, names, set_clock
 from tests.operate.service import Service, only, read
-from tests.operate.test_restore import set_clock
 from tests.players.files import statements
 from tests.process import run
 from tests.wire import same
 from tests.world import RED
 
 pytestmark = pytest.mark.needs("curl", "sqlite3")
-
-
-def keep_words(service: Service, count: int = 3, folder: str = "") -> list[str]:
-    folder = folder or f"{service.room}/backup"
-    return ["examples/keep-copies.sh", service.program, service.file, folder, str(count), "broker"]
-
-
-def keep(service: Service, count: int = 3, status: int = 0, folder: str = "") -> str:
-    return run(keep_words(service, count, folder), status, service.env)
-
-
-def names(service: Service) -> list[str]:
-    return sorted(os.listdir(f"{service.room}/backup"))
 
 
 @pytest.mark.parametrize("text", ["", "UPDATE results SET run = char(9) || '9' WHERE number = 2"])
@@ -41,19 +28,6 @@ def test_night(service: Service, text: str) -> None:
     same("how it ends", (it.returncode, said[1:]), (1, [line]) if text else (0, []))
     assert read(page).startswith("<!"), "no page is made"
     same("what is left", [it for it in os.listdir(service.room) if it.startswith("report.html.")], [])
-
-
-def edited(service: Service, script: str, old: str, new: str) -> str:
-    """A script of examples/ with another number, so that a test needn't wait as long."""
-    folder = f"{service.room}/examples"
-    if not os.path.exists(folder):
-        shutil.copytree("examples", folder)
-    with open(f"{folder}/{script}", encoding="utf-8") as it:
-        text = it.read()
-    assert text.count(old) == 1, (script, old)
-    with open(f"{folder}/{script}", "w", encoding="utf-8") as it:
-        it.write(text.replace(old, new))
-    return f"{folder}/{script}"
 
 
 def test_two_at_once(service: Service) -> None:
@@ -176,71 +150,6 @@ def test_slow_folder(service: Service, other_disk: str) -> None:
     only(service.folder, ["broker.db", "broker.db-wal"])
 
 
-HALT = "#!/bin/sh\n: > {room}/halted\nexec sleep 60\n"
-
-
-def await_halt(service: Service, it: "subprocess.Popen[str]") -> None:
-    for _ in range(2000):
-        if os.path.exists(f"{service.room}/halted"):
-            return
-        assert it.poll() is None, it.communicate()
-        time.sleep(0.01)
-    raise AssertionError("the copying isn't begun")
-
-
-def goes_on(service: Service, seconds: float) -> None:
-    end = time.monotonic() + seconds
-    while service.state() == "T":
-        assert time.monotonic() < end, "the broker is left stopped"
-        time.sleep(0.02)
-
-
-@pytest.mark.parametrize("what", ["the script", "its group"])
-def test_killed_in_the_pause(service: Service, what: str) -> None:
-    """By signal 9, while the broker is stopped: it goes on; what is left is removed by the next run."""
-    service.tool("cp", HALT.format(room=service.room))
-    env = {**os.environ, **service.env}
-    it = subprocess.Popen(keep_words(service), env=env, text=True, start_new_session=True)
-    await_halt(service, it)
-    same("the state in the pause", service.state(), "T")
-    if what == "the script":
-        os.kill(child(it.pid, "backup.sh"), signal.SIGKILL)
-    else:
-        os.killpg(it.pid, signal.SIGKILL)
-    goes_on(service, 20)
-    it.wait(60)
-    for left in sleeping(service):
-        os.kill(left, signal.SIGKILL)
-    os.remove(f"{service.room}/bin/cp")
-    keep(service)
-    same("what is in the folder", [len(names(service)), names(service)[0][:11]], [1, "broker-2026"])
-
-
-def child(pid: int, name: str) -> int:
-    """The process that it has started, itself or by `timeout`, and that runs this script."""
-    with open(f"/proc/{pid}/task/{pid}/children", encoding="ascii") as it:
-        for number in it.read().split():
-            words = read(f"/proc/{number}/cmdline").split("\0")
-            if words[0] == "timeout":
-                return child(int(number), name)
-            if any(word.endswith(name) for word in words[:2]):
-                return int(number)
-    raise AssertionError(f"{pid} has no {name}")
-
-
-def sleeping(service: Service) -> list[int]:
-    """The processes that a halted cp has become: they were started with this room in their environment."""
-    found = []
-    for it in [it for it in os.listdir("/proc") if it.isdigit()]:
-        try:
-            with open(f"/proc/{it}/environ", "rb") as env, open(f"/proc/{it}/cmdline", "rb") as line:
-                if line.read() == b"sleep\x0060\x00" and service.room.encode() in env.read():
-                    found.append(int(it))
-        except OSError:
-            pass
-    return found
-
-
 def test_copying_without_an_end(service: Service) -> None:
     """The broker goes on after a while, and there is no copy."""
     script = edited(service, "backup.sh", "seq 300", "seq 15")
@@ -274,23 +183,6 @@ def test_silent_connection(service: Service) -> None:
     assert os.path.exists(f"{service.room}/hung")
     assert time.monotonic() - began < 50
     only(f"{service.room}/backup", ["0.db"])
-
-
-def test_left(service: Service) -> None:
-    """What killed runs left is removed by the next one; what another one works in isn't."""
-    folder = f"{service.room}/backup"
-    copy = "broker-2026-11-27T020000Z.db.part"
-    for name in f"{copy}.abcdef", f"{copy}.used00", "mine.part.abcdef":
-        os.mkdir(f"{folder}/{name}")
-        with open(f"{folder}/{name}/part.db", "w", encoding="ascii"):
-            pass
-    os.mkdir(f"{service.folder}/broker.db.copying.abcdef")
-    with subprocess.Popen(["flock", f"{folder}/{copy}.used00", "sleep", "60"]) as used:
-        time.sleep(0.2)
-        keep(service)
-        used.terminate()
-    same("what stays", [it for it in names(service) if ".part." in it], [f"{copy}.used00", "mine.part.abcdef"])
-    only(service.folder, ["broker.db", "broker.db-wal"])
 
 
 def test_acknowledged(service: Service) -> None:

@@ -1,11 +1,11 @@
-"""examples/keep-copies.sh, killed at each of its calls that change a file: the broker goes on, a copy is whole or not
-there, and the next run makes one and removes what is left. And one that nobody ends, which reports nothing wrong."""
-import os
+"""examples/keep-copies.sh, killed at each of its calls that change a file, or while the broker is stopped: the broker
+goes on, a copy is whole or not there, and the next run makes one and removes what is left. And one that nobody ends,
+which reports nothing wrong."""
+import os, signal, subprocess, time
 import pytest
 from tests.operate.halts import halted, halting
-from tests.operate.service import Service, only
-from tests.operate.test_copies import goes_on, keep_words, names
-from tests.operate.test_restore import quick
+from tests.operate.scripts import HALT, await_halt, goes_on, keep, keep_words, names, quick
+from tests.operate.service import Service, only, read
 from tests.process import ran, run
 from tests.wire import same
 from tests.world import RED
@@ -32,6 +32,69 @@ def test_killed_at_each_call(service: Service) -> None:
         only(service.folder, ["broker.db", "broker.db-wal"])
         same("an answer", service.ask("GET", "/environments/live", RED).status, 200)
     assert calls > 10 and paused > 0, (calls, paused)
+
+
+@pytest.mark.parametrize("what", ["the script", "its group"])
+def test_killed_in_the_pause(service: Service, what: str) -> None:
+    """By signal 9, while the broker is stopped: it goes on; what is left is removed by the next run."""
+    service.tool("cp", HALT.format(room=service.room))
+    env = {**os.environ, **service.env}
+    it = subprocess.Popen(keep_words(service), env=env, text=True, start_new_session=True)
+    await_halt(service, it)
+    same("the state in the pause", service.state(), "T")
+    if what == "the script":
+        os.kill(child(it.pid, "backup.sh"), signal.SIGKILL)
+    else:
+        os.killpg(it.pid, signal.SIGKILL)
+    goes_on(service, 20)
+    it.wait(60)
+    for left in sleeping(service):
+        os.kill(left, signal.SIGKILL)
+    os.remove(f"{service.room}/bin/cp")
+    keep(service)
+    same("what is in the folder", [len(names(service)), names(service)[0][:11]], [1, "broker-2026"])
+
+
+def child(pid: int, name: str) -> int:
+    """The process that it has started, itself or by `timeout`, and that runs this script."""
+    with open(f"/proc/{pid}/task/{pid}/children", encoding="ascii") as it:
+        for number in it.read().split():
+            words = read(f"/proc/{number}/cmdline").split("\0")
+            if words[0] == "timeout":
+                return child(int(number), name)
+            if any(word.endswith(name) for word in words[:2]):
+                return int(number)
+    raise AssertionError(f"{pid} has no {name}")
+
+
+def sleeping(service: Service) -> list[int]:
+    """The processes that a halted cp has become: they were started with this room in their environment."""
+    found = []
+    for it in [it for it in os.listdir("/proc") if it.isdigit()]:
+        try:
+            with open(f"/proc/{it}/environ", "rb") as env, open(f"/proc/{it}/cmdline", "rb") as line:
+                if line.read() == b"sleep\x0060\x00" and service.room.encode() in env.read():
+                    found.append(int(it))
+        except OSError:
+            pass
+    return found
+
+
+def test_left(service: Service) -> None:
+    """What killed runs left is removed by the next one; what another one works in isn't."""
+    folder = f"{service.room}/backup"
+    copy = "broker-2026-11-27T020000Z.db.part"
+    for name in f"{copy}.abcdef", f"{copy}.used00", "mine.part.abcdef":
+        os.mkdir(f"{folder}/{name}")
+        with open(f"{folder}/{name}/part.db", "w", encoding="ascii"):
+            pass
+    os.mkdir(f"{service.folder}/broker.db.copying.abcdef")
+    with subprocess.Popen(["flock", f"{folder}/{copy}.used00", "sleep", "60"]) as used:
+        time.sleep(0.2)
+        keep(service)
+        used.terminate()
+    same("what stays", [it for it in names(service) if ".part." in it], [f"{copy}.used00", "mine.part.abcdef"])
+    only(service.folder, ["broker.db", "broker.db-wal"])
 
 
 def test_nothing_is_wrong(service: Service) -> None:

@@ -4,6 +4,7 @@ service's own user, which puts links into the folder."""
 import os, re, shutil, subprocess, sys, time
 import pytest
 from tests.operate.halts import halted, halting, signalled_as_it_ends
+from tests.operate.scripts import quick, set_clock
 from tests.operate.service import NOBODY, Service, content, only
 from tests.process import await_port, ran, run
 from tests.wire import same
@@ -11,16 +12,6 @@ from tests.world import RED
 
 pytestmark = pytest.mark.needs("curl", "sqlite3")
 MUTATING = ["mv", "rm", "rmdir", "mkdir", "mktemp", "cat", "sync"]
-CLOCK = """#!/bin/sh
-case "$*" in *+%Y-%m-%dT%H%M%SZ) cat {room}/clock ;; *) exec /usr/bin/date "$@" ;; esac
-"""
-
-
-def set_clock(service: Service, date: str) -> None:
-    """What `date` says to the scripts from now on."""
-    with open(f"{service.room}/clock", "w", encoding="ascii") as it:
-        it.write(date + "\n")
-    service.tool("date", CLOCK.format(room=service.room))
 
 
 def copies_of(service: Service, count: int) -> list[str]:
@@ -103,14 +94,6 @@ def reset(service: Service, first: tuple[bytes, bytes]) -> None:
             it.write(text)
         os.chown(service.file + end, NOBODY, NOBODY)
     os.chown(service.folder, NOBODY, NOBODY)
-
-
-def quick(service: Service) -> str:
-    """The scripts, with a test of copies that takes no time."""
-    folder = shutil.copytree("examples", f"{service.room}/examples")
-    with open(f"{folder}/test-copy.sh", "w", encoding="utf-8") as it:
-        it.write("#!/bin/sh\necho tested\n")
-    return str(folder)
 
 
 @pytest.mark.first

@@ -4,8 +4,8 @@ doesn't answer isn't started, which the journal says, and is started again; one 
 import os, re, socket, time
 from collections.abc import Callable
 import pytest
+from tests.operate.scripts import edited, goes_on, keep_words
 from tests.operate.service import Service, only
-from tests.operate.test_copies import edited, goes_on, keep_words
 from tests.operate.test_install import tried
 from tests.process import ran, run
 from tests.wire import same
