@@ -47,6 +47,7 @@ def ran(words: Sequence[str], text: str | bytes = b"", limits: Limits = (), **se
 def run(words: Sequence[str], status: int = 0, env: Mapping[str, str] | None = None, text: str | None = None) -> str:
     """What the words print on standard output, run from the top of the repository with these settings beside those of
     this process; they have to end with the status, and all that they start ends with them if they take too long."""
+    __tracebackhide__ = True
     pipes: dict[str, Any] = {it: subprocess.PIPE for it in ("stdin", "stdout", "stderr")}
     pipes.update(cwd=TOP, env={**os.environ, **(env or {})}, start_new_session=True, text=True)
     it = subprocess.Popen(words, **pipes)

@@ -1,10 +1,10 @@
 """What the other tests rest on: how a difference is shown, how answers are parted, what the kernel tells of a socket,
-and that a server is one broker through stops and starts."""
-import signal, socket
+that a server is one broker through stops and starts, and that a property which fails says what repeats it."""
+import re, signal, socket
 from collections.abc import Callable
 import pytest
 from tests import kernel
-from tests.process import Server, ran
+from tests.process import Server, ran, run
 from tests.wire import Address, Wrong, answer, answers_in, difference, request, same
 from tests.world import ALREADY, DONE, RED
 
@@ -66,3 +66,13 @@ def test_a_server_that_does_not_listen_says_why(program: str, room: str) -> None
 def test_each_build_is_a_program(program: str) -> None:
     status, output, errors = ran([program, "normalise"], "[]")
     assert (status, output) == (3, "") and errors.startswith("pact ")
+
+
+def test_a_property_that_fails_says_what_repeats_it() -> None:
+    """Each of them, of a program that is none: the line that repeats it, or an example that the test itself names."""
+    words = ["/usr/bin/python3", "-m", "pytest", "tests/properties", "--program", "/bin/false"]
+    said = run([*words, "-q", "-p", "no:xdist", "-p", "no:cacheprovider"], 1)
+    parts = re.split(r"(?m)^_+ (test_\w+) _+$", said)[1:]
+    repeats = re.compile(r"@reproduce_failure\('[\d.]+', b'.+'\)|Falsifying explicit example")
+    assert [name for name, text in zip(parts[::2], parts[1::2]) if not repeats.search(text)] == []
+    assert len(parts) >= 14, said

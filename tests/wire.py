@@ -63,6 +63,7 @@ def difference(wanted: object, got: object) -> str:
 
 def same(what: object, got: object, wanted: object) -> None:
     """Fails with the difference, unless what came of this is what was wanted."""
+    __tracebackhide__ = True
     if got != wanted:
         raise Wrong(f"{what}:\n{difference(wanted, got)}")
 
@@ -163,11 +164,13 @@ class Caller:
         self, wanted: tuple[int, str], method: str, path: str, token: str | None = OFFICE, body: str = ""
     ) -> None:
         """Fails with the request and the difference, unless its answer has this status and this body."""
+        __tracebackhide__ = True
         status, _, text = self.ask(method, path, token, body)
         same(f"{method} {path} {body}".strip(), (status, text), wanted)
 
     def do(self, method: str, path: str, token: str | None = OFFICE, body: str = "") -> None:
         """Asks for what has to be done: it is answered 200, and that it is done."""
+        __tracebackhide__ = True
         status, _, text = self.ask(method, path, token, body)
         if status != 200 or not text.startswith('{"answer":"done"'):
             raise Wrong(f"{method} {path} {body}: it isn't done, but answered {status} {text}")

@@ -8,6 +8,7 @@ from tests.players.lines import CommandLine, steps_of
 from tests.players.stops import Stops
 from tests.players.story import Story
 from tests.players.texts import DATA, written_counts
+from tests.wire import same
 
 COUNTS: dict[str, tuple[str, Callable[[Path], int]]] = {
     "stories": (".story", lambda file: Story(file).count()),
@@ -23,5 +24,6 @@ def test_nothing_was_lost(folder: str) -> None:
     files = [*(DATA / folder).glob(f"*{end}")]
     if folder == "stories":
         files += (DATA / "stops").glob("*.story")
-    assert {it.stem: count(it) for it in files} == written_counts(folder)
     assert files
+    found, written = {it.stem: count(it) for it in files}, written_counts(folder)
+    same(f"tests/data/{folder}/counts", *("\n".join(f"{it}: {its[it]}" for it in sorted(its)) for its in (found, written)))

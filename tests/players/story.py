@@ -126,7 +126,9 @@ class Story:
     def by_caller(self, text: str) -> tuple[str | None, str]:
         """The token of the caller that a text names first, if it isn't `-`, and the rest of the text."""
         name, _, rest = text.partition(" ")
-        return None if name == "-" else self.callers[name], rest
+        if name != "-" and name not in self.callers:
+            raise Wrong(f"no line `@ {name} TOKEN` before it")
+        return self.callers.get(name), rest
 
     def send_each(self, token: str | None, text: str) -> None:
         """Sends such a request with each beginning of its body in place of it."""
