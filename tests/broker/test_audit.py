@@ -1,5 +1,5 @@
-"""What `audit` says of a broker's file, which it leaves as it was, with rows in a log, of an earlier format, in use, or
-refused by an opening. What is expected is from docs/OPERATING.md, by hand. test_audit_rules.py has the rules of rows."""
+"""What `audit` says of a broker's file, which it leaves as it was: with rows in a log, of an earlier format, in use, or
+refused by an opening. What is expected is from docs/OPERATING.md. test_audit_rules.py has the rules of rows."""
 import os, shutil, sqlite3
 import pytest
 from tests.broker.filled import GREEN, STOCK, audited

@@ -1,6 +1,6 @@
-"""Which rows `audit` names. The tables are filled by requests (filled.py). Then a row is changed with Python's SQLite so
-that it breaks one rule, and obeys all that an opening tests: keys, CHECKs, REFERENCES, the sums of pages. What is
-expected is from docs/OPERATING.md, and the lines are written by hand."""
+"""Which rows `audit` names. The tables are filled by requests (filled.py). Then a row is changed with Python's SQLite:
+it breaks one rule, and obeys all that an opening tests: keys, CHECKs, REFERENCES, the sums of pages. What is expected
+is from docs/OPERATING.md, and the lines are written by hand."""
 import hashlib, os, sqlite3
 import pytest
 from tests.broker.filled import GREEN, audited

@@ -1,51 +1,20 @@
 """A broker that answers by a list of statuses."""
-import http.server, json
+import json
 from collections.abc import Iterator
 from typing import Any, Dict, List
 import pytest
-from tests.client.tools import Serving
+from tests.client.tools import Asked, Reply, Serving
 
 EMPTY = {"answer": "shown", "environment": "live", "gated": True, "deployed": [], "released": []}
 PROXY, MANY = b"<html>a proxy</html>", 429
 
 
-class Flaky(http.server.BaseHTTPRequestHandler):
+class FlakyBroker(Serving):
     """A broker that answers changes by a list: a status, or 0 to close without an answer. After each of them it calls
     what is to happen meanwhile. What is in an environment it says as `there` has it."""
 
-    def answer(self) -> None:
-        broker: Any = self.server
-        body = self.rfile.read(int(self.headers.get("content-length", 0)))
-        self.close_connection = True
-        if self.command == "GET":
-            self.send(200, json.dumps({**EMPTY, "deployed": broker.there}).encode())
-            return
-        status = broker.list.pop(0) if broker.list else 200
-        broker.count += 1
-        broker.bodies.append(body)
-        broker.meanwhile()
-        said = b'{"answer":"done","result":1,"content":1}'
-        self.send(status, said if status == 200 else PROXY)
-
-    def send(self, status: int, body: bytes) -> None:
-        broker: Any = self.server
-        if status:
-            self.send_response(status)
-            self.send_header("content-length", str(len(body)))
-            for key, it in broker.headers.items():
-                self.send_header(key, it)
-            self.end_headers()
-            self.wfile.write(body)
-
-    do_GET = do_POST = do_PUT = do_DELETE = answer
-
-    def log_message(self, format: str, *words: Any) -> None:
-        """Is silent."""
-
-
-class FlakyBroker(Serving):
     def __init__(self, port: int = 0) -> None:
-        super().__init__(Flaky, port)
+        super().__init__(self.next, port)
         self.list: List[int] = []
         self.headers: Dict[str, str] = {}
         self.there: List[Dict[str, str]] = []
@@ -57,6 +26,16 @@ class FlakyBroker(Serving):
         self.list, self.count, self.bodies = list(statuses), 0, []
         self.headers, self.there, self.meanwhile = {}, [], lambda: None
         self.__dict__.update(more)
+
+    def next(self, it: Asked) -> Reply:
+        status, said = 200, json.dumps({**EMPTY, "deployed": self.there}).encode()
+        if it.method != "GET":
+            status = self.list.pop(0) if self.list else 200
+            self.count += 1
+            self.bodies.append(it.body)
+            self.meanwhile()
+            said = b'{"answer":"done","result":1,"content":1}' if status == 200 else PROXY
+        return Reply(status, tuple(self.headers.items()), said)
 
 
 @pytest.fixture

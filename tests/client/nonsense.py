@@ -1,7 +1,8 @@
 """A broker, and a provider, that answers at random: statuses, shapes, bytes, half of an answer, late or not at all."""
-import contextlib, json, random, socket, threading, time
+import json, random, socket, time
 from collections.abc import Callable
 from typing import Any, List, Tuple
+from tests.client.peers import Peer
 
 SLOW = 0.4  # how many seconds a slow answer takes
 STATUSES = [200] * 12 + [100, 204, 301, 400, 401, 403, 404, 404, 409, 409, 413, 422, 429, 500, 502, 503, 504, 599]
@@ -83,47 +84,26 @@ def field(rng: random.Random) -> str:
     )
 
 
-class Nonsense:
+class Nonsense(Peer):
     """Who answers each request by a function of its bytes, and closes; or sends half of it, and the rest too late. It
     keeps what it was asked and what it answered since it began."""
 
     def __init__(self) -> None:
-        self.socket = socket.create_server(("127.0.0.1", 0))
-        self.url = f"http://127.0.0.1:{self.socket.getsockname()[1]}"
-        self.answer: Callable[[bytes], bytes] = lambda _: b""
-        self.is_slow: Callable[[], bool] = lambda: False
-        self.told: List[Tuple[bytes, bytes]] = []
+        super().__init__(self.talk)
+        self.begin(lambda _: b"")
 
-    def begin(self, answer: Callable[[bytes], bytes], is_slow: Callable[[], bool] = lambda: False) -> None:
-        self.answer, self.is_slow, self.told = answer, is_slow, []
+    def begin(self, said: Callable[[bytes], bytes], is_slow: Callable[[], bool] = lambda: False) -> None:
+        self.said, self.is_slow, self.told = said, is_slow, list[Tuple[bytes, bytes]]()
 
-    def __enter__(self) -> "Nonsense":
-        threading.Thread(target=self.loop, daemon=True).start()
-        return self
-
-    def __exit__(self, *_: Any) -> None:
-        self.socket.shutdown(socket.SHUT_RDWR)
-        self.socket.close()
-
-    def loop(self) -> None:
-        while True:
-            try:
-                line = self.socket.accept()[0]
-            except OSError:
-                return
-            threading.Thread(target=self.serve, args=(line,), daemon=True).start()
-
-    def serve(self, line: socket.socket) -> None:
-        with line, contextlib.suppress(OSError):
-            line.settimeout(5)
-            asked = request_on(line)
-            if asked:
-                answer = self.answer(asked)
-                half = len(answer) // 2 if self.is_slow() else 0
-                self.told.append((asked, answer))
-                line.sendall(answer[:half])
-                time.sleep(SLOW if half else 0)
-                line.sendall(answer[half:])
+    def talk(self, line: socket.socket, _: int) -> None:
+        line.settimeout(5)
+        if asked := request_on(line):
+            answer = self.said(asked)
+            half = len(answer) // 2 if self.is_slow() else 0
+            self.told.append((asked, answer))
+            line.sendall(answer[:half])
+            time.sleep(SLOW if half else 0)
+            line.sendall(answer[half:])
 
 
 def request_on(line: socket.socket) -> bytes:

@@ -1,10 +1,10 @@
 """Who answers `holzhebo verify` in the tests: contracts of one interaction, peers that answer by a function,
 proxies."""
-import http.server, json, socket, threading
+import json, socket, threading
 from collections.abc import Callable
-from typing import Any, List, Optional, Tuple
+from typing import Any, List, Optional, Tuple, TypeVar
 from tests.client.books import book_pact, interaction
-from tests.client.tools import Client, Serving
+from tests.client.tools import Asked, Client, Reply, Serving
 from tests.process import Server
 from tests.wire import same
 from tests.world import BLUE
@@ -47,6 +47,9 @@ def nothing_is_stored(fleet: Server, status: int, told: Any, why: str) -> None:
     same("what is stored", rows(fleet), None)
 
 
+Itself = TypeVar("Itself", bound="Peer")
+
+
 class Peer:
     """What answers each connection by a function of it, and counts them."""
 
@@ -55,7 +58,7 @@ class Peer:
         self.answer, self.count = answer, 0
         self.url = f"http://127.0.0.1:{self.socket.getsockname()[1]}"
 
-    def __enter__(self) -> "Peer":
+    def __enter__(self: Itself) -> Itself:
         threading.Thread(target=self.loop, daemon=True).start()
         return self
 
@@ -97,33 +100,17 @@ class Proxy(Serving):
     """A proxy that hands requests on to a broker, unless it has an answer of its own."""
 
     def __init__(self, broker: Server) -> None:
-        super().__init__(Hands)
+        super().__init__(self.handed)
         self.broker = broker
+
+    def handed(self, it: Asked) -> Reply:
+        found = self.answers(it.method, it.path, it.headers["authorization"].split(" ")[1], it.body)
+        return Reply(found[0], (), found[1].encode()) if found else Reply(0)
 
     def answers(self, method: str, path: str, token: str, body: bytes) -> Optional[Tuple[int, str]]:
         """The status and the text of the answer; None to close without one."""
         status, _, text = self.broker.ask(method, path, token, body)
         return status, text
-
-
-class Hands(http.server.BaseHTTPRequestHandler):
-    """A request to a proxy, and its answer."""
-
-    def answer(self) -> None:
-        proxy: Any = self.server
-        body = self.rfile.read(int(self.headers.get("content-length", 0)))
-        self.close_connection = True
-        found = proxy.answers(self.command, self.path, self.headers["authorization"].split(" ")[1], body)
-        if found is not None:
-            self.send_response(found[0])
-            self.send_header("content-length", str(len(found[1].encode())))
-            self.end_headers()
-            self.wfile.write(found[1].encode())
-
-    do_GET = do_POST = do_PUT = answer
-
-    def log_message(self, format: str, *words: Any) -> None:
-        """Is silent."""
 
 
 DENIED = 403, '{"answer":"denied","rule":"A4"}'

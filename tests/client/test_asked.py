@@ -1,11 +1,11 @@
 """What `holzhebo verify` asks a provider: the request as the pact has it, headers of its own, states."""
-import http.server, json, os
+import json, os
 from typing import Any, Dict, List, Optional, Tuple
 import pytest
 from tests.client.books import STATE, publish_book
 from tests.client.peers import BOOK_TEXT, JSON_TYPE, nothing_is_stored, one, verified, words
-from tests.client.tools import Client, Done, Reply, Serving, Stock
-from tests.process import Server
+from tests.client.tools import Asked, Client, Reply, Serving, Stock
+from tests.process import Ended, Server
 from tests.wire import same
 
 
@@ -79,29 +79,16 @@ def test_header_file(fleet: Server, client: Client, room: str) -> None:
         it.write(f"Authorization: Bearer {SECRET}\n\nX-Shop: own\n")
     seen: List[Any] = []
 
-    class Keeps(http.server.BaseHTTPRequestHandler):
-        def do_GET(self) -> None:
-            seen.append((self.path, self.headers.get_all("authorization"), self.headers.get_all("x-shop")))
-            self.send_response(200)
-            self.send_header("content-type", "application/json")
-            self.end_headers()
-            self.wfile.write(b'{"id":1}')
-
-        def do_POST(self) -> None:
-            self.rfile.read(int(self.headers["content-length"]))
-            seen.append((self.path, self.headers.get_all("authorization"), self.headers.get_all("x-shop")))
-            self.send_response(204)
-            self.end_headers()
-
-        def log_message(self, format: str, *words: Any) -> None:
-            """Is silent."""
+    def keeps(it: Asked) -> Reply:
+        seen.append((it.path, it.headers.get_all("authorization"), it.headers.get_all("x-shop")))
+        return Reply(204, (), b"") if it.method == "POST" else Reply(headers=JSON_TYPE, body=BOOK_TEXT)
 
     publish_book(
         fleet,
         "10",
         one(request={"path": "/1", "headers": {"authorization": "Bearer example", "X-Shop": "a"}}, states=STATE),
     )
-    with Serving(Keeps) as peer:
+    with Serving(keeps) as peer:
         more = ["--header-file", "headers", "--states-url", f"{peer.url}/states"]
         more += ["--record", "kept", "--junit", "junit.xml"]
         done = client.run("blue", *words(peer.url), *more)
@@ -113,7 +100,7 @@ def test_header_file(fleet: Server, client: Client, room: str) -> None:
         with open(f"{room}/wrong", "w", encoding="utf-8") as it:
             it.write(f"x-a: {SECRET}\n{text}\n")
         done = client.run("blue", *words(peer.url, "p2"), "--header-file", "wrong")
-        same("a file of something else", done, Done(3, "", "holzhebo: wrong: line 2 is no header, as name: value\n"))
+        same("a file of something else", done, Ended(3, "", "holzhebo: wrong: line 2 is no header, as name: value\n"))
 
 
 def files_of(room: str) -> List[str]:
@@ -151,17 +138,12 @@ def test_states_end_in_any_case(reply: Optional[bytes], fleet: Server, client: C
     publish_book(fleet, "10", one(states=[{"name": "a shelf"}, {"name": "a reader"}]))
     sent = []
 
-    class States(http.server.BaseHTTPRequestHandler):
-        def do_POST(self) -> None:
-            said = json.loads(self.rfile.read(int(self.headers["content-length"])))
-            sent.append((said["action"], said["state"]))
-            self.send_response(500 if reply is None and said["state"] == "a reader" else 204)
-            self.end_headers()
+    def answers(it: Asked) -> Reply:
+        said = json.loads(it.body)
+        sent.append((said["action"], said["state"]))
+        return Reply(500 if reply is None and said["state"] == "a reader" else 204, (), b"")
 
-        def log_message(self, format: str, *words: Any) -> None:
-            """Is silent."""
-
-    with Serving(States) as states, Stock({"GET /1": Reply(headers=JSON_TYPE, body=reply or b"")}) as stock:
+    with Serving(answers) as states, Stock({"GET /1": Reply(headers=JSON_TYPE, body=reply or b"")}) as stock:
         status, told = verified(client, stock.url, "--states-url", states.url, "--states-teardown")
     same("it isn't played", (status, told["played"][0]["outcome"]), (3, "not played"))
     ends = [("teardown", "a shelf")] if reply is None else [("teardown", "a reader"), ("teardown", "a shelf")]

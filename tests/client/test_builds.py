@@ -1,9 +1,9 @@
 """The lines of the builds of examples/builds, by the shells that the services use, over the program and a provider that
 listens. The client is the one file, which a server in the place of the proxy has under /desk/holzhebo."""
-import concurrent.futures, contextlib, functools, json, os, re, shlex, subprocess, sys
+import concurrent.futures, contextlib, functools, json, os, re, shlex, sys
 from typing import Any, Callable, Dict, List
-from tests.client.tools import CLIENT, PYTHON, TOKENS, Client, Reply, Stock, secret, sound
-from tests.process import TOP, Server, run
+from tests.client.tools import CLIENT, PYTHON, TOKENS, Client, Reply, Stock, told
+from tests.process import TOP, Server, ran, run
 from tests.wire import OFFICE, Wrong, same
 from tests.world import BLUE, RED, pact
 
@@ -60,19 +60,10 @@ class Build:
         with contextlib.suppress(FileNotFoundError), open(self.env["GITHUB_PATH"], encoding="utf-8") as it:
             env["PATH"] = ":".join([*it.read().split(), env.get("PATH", os.environ["PATH"])])
         path = {"PATH": f"{self.room}/bin:{env.get('PATH', os.environ['PATH'])}"}
-        done = subprocess.run(
-            [*shell, "-c", self.placed(text)],
-            cwd=self.room,
-            env={**os.environ, **env, **path},
-            capture_output=True,
-            text=True,
-            timeout=120,
-        )
-        secret(done.stdout + done.stderr)
-        sound(done.stderr)
-        if done.returncode not in (0, 1, 3):
-            raise Wrong(f"{text} ends with {done.returncode}: {done.stdout}{done.stderr}")
-        return done.returncode
+        done = told([*shell, "-c", self.placed(text)], cwd=self.room, env={**os.environ, **env, **path})
+        if done.status not in (0, 1, 3):
+            raise Wrong(f"{text} ends with {done.status}: {done.output}{done.errors}")
+        return done.status
 
     def github(
         self, name: str, token: str, given: Dict[str, str], after: Callable[[str], None] = lambda line: None
@@ -249,10 +240,8 @@ def test_a_reader_that_ends_early(fleet: Server, client: Client, room: str) -> N
         )
     line = f"{shlex.join([*PYTHON, CLIENT])} status open | head -n 1"
     for _ in range(20):
-        done = subprocess.run(
-            ["bash", "-o", "pipefail", "-c", line], env=client.env("red"), capture_output=True, text=True
-        )
-        same("status", (done.returncode, done.stderr), (0, ""))
+        done = ran(["bash", "-o", "pipefail", "-c", line], env=client.env("red"))
+        same("status", (done.status, done.errors), (0, ""))
     line = f"{shlex.join([*PYTHON, CLIENT])} matrix stock 1 | true; echo ${{PIPESTATUS[0]}}"
-    done = subprocess.run(["bash", "-c", line], env=client.env("blue"), capture_output=True, text=True)
-    same("141, as of others, or 0", (done.stdout.strip() in ("0", "141"), done.stderr), (True, ""))
+    done = ran(["bash", "-c", line], env=client.env("blue"))
+    same("141, as of others, or 0", (done.output.strip() in ("0", "141"), done.errors), (True, ""))

@@ -3,8 +3,8 @@ import hashlib, json, os, re, shlex, shutil
 from collections.abc import Iterator
 from typing import List, NamedTuple
 import pytest
-from tests.client.tools import Client, Done
-from tests.process import TOP, Server
+from tests.client.tools import Client
+from tests.process import TOP, Ended, Server
 from tests.wire import OFFICE, Wrong, same
 from tests.world import RED, pact
 
@@ -80,7 +80,7 @@ def test_commands(fleet: Server, client: Client, room: str) -> None:
         os.chmod(f"{room}/{name}", 0o640)
     for command in commands(f"{HERE}/commands.txt"):
         output, errors = ("".join(f"{line}\n" for line in lines) for lines in (command.output, command.errors))
-        wanted = Done(command.status, output, errors)
+        wanted = Ended(command.status, output, errors)
         name = f"commands.txt:{command.line}: {' '.join(command.words)}"
         same(name, client.run(command.caller, *command.words), wanted)
     branch = "/pacts/provider/stock/consumer/shop%20%26%20caf%C3%A9/branch/feat%2F%221%22%5C"

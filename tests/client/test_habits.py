@@ -1,10 +1,10 @@
 """Named brokers, doctor, formats, the names of the Pact Broker's client; and the library."""
-import json, os, re, subprocess
+import json, os, re
 import pytest
 
 from holzhebo.api import Broker, NotPermitted, Refused, Stop
 from tests.client.tools import CLIENT, PYTHON, Client
-from tests.process import TOP, Server
+from tests.process import TOP, Server, ran
 from tests.wire import OFFICE, same
 from tests.world import BLUE, RED, pact
 
@@ -27,8 +27,8 @@ def test_named_brokers(fleet: Server, client: Client, room: str) -> None:
         (["status", "--broker", "odd"], 3),
         (["--format", "x", "status"], 2),
     ):
-        done = subprocess.run([*PYTHON, CLIENT, *words], env=env, cwd=room, capture_output=True, text=True)
-        same(f"{words}: {done.stderr}", done.returncode, status)
+        done = ran([*PYTHON, CLIENT, *words], env=env, cwd=room)
+        same(f"{words}: {done.errors}", done.status, status)
 
 
 def test_doctor(fleet: Server, client: Client) -> None:

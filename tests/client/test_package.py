@@ -3,7 +3,7 @@ import glob, json, os, re, resource, shutil, subprocess, sys, urllib.request, zi
 from typing import Dict, List
 import pytest
 from tests.client.books import KEPT, book_pact
-from tests.client.tools import CLIENT, Client, Reply, Stock, secret, sound
+from tests.client.tools import CLIENT, Client, Reply, Stock, told
 from tests.process import TOP, Server, free_port, ran, run, slowness
 from tests.wire import Wrong, same
 from tests.world import RED
@@ -50,14 +50,10 @@ def test_how_fast_it_starts(one_file: str, room: str) -> None:
     took = []
     for _ in range(7):
         began = of_children()
-        done = subprocess.run(
-            [DEBIAN, one_file, "status", "live", "--broker", "http://127.0.0.1:1", "--patience", "0"],
-            capture_output=True,
-            text=True,
-            env={**os.environ, "HOLZHEBO_TOKEN": RED},
-        )
+        words = [DEBIAN, one_file, "status", "live", "--broker", "http://127.0.0.1:1", "--patience", "0"]
+        done = ran(words, env={**os.environ, "HOLZHEBO_TOKEN": RED})
         took.append(of_children() - began)
-        same("it asks", (done.returncode, done.stderr), (3, "holzhebo: the broker refuses the connection\n"))
+        same("it asks", (done.status, done.errors), (3, "holzhebo: the broker refuses the connection\n"))
     if min(took) > 0.25 and min(took) > 0.25 * slowness():
         raise Wrong(f"it takes {min(took):.2f} seconds")
 
@@ -73,14 +69,9 @@ class Shipped(Client):
         self.words, self.more = words, env
 
     def out(self, caller: str, *words: str, status: int = 0) -> str:
-        env = {**self.env(caller), **self.more}
-        done = subprocess.run(
-            [*self.words, *words], cwd=self.room, env=env, capture_output=True, text=True, timeout=120
-        )
-        secret(done.stdout + done.stderr)
-        sound(done.stderr)
-        same(f"{' '.join(words)}: {done.stderr}", done.returncode, status)
-        return done.stdout
+        done = told([*self.words, *words], cwd=self.room, env={**self.env(caller), **self.more})
+        same(f"{' '.join(words)}: {done.errors}", done.status, status)
+        return done.output
 
 
 def sources(room: str) -> str:

@@ -1,9 +1,9 @@
 """Files of the proxy: its tokens, which both proxies still read afterwards, and its logs."""
-import gzip, json, os, stat, subprocess, threading
+import gzip, json, os, stat, threading
 from typing import List, Tuple
 import pytest
-from tests.client.tools import CLIENT, PYTHON, Client, Done, sound
-from tests.process import TOP, Server, run
+from tests.client.tools import CLIENT, PYTHON, Client, told
+from tests.process import TOP, Ended, Server, ran, run
 from tests.wire import OFFICE, Wrong, same
 
 HERE = f"{TOP}/tests/client"
@@ -59,7 +59,7 @@ def test_a_team_s_name(name: str, fleet: Server, client: Client, room: str) -> N
 def test_into_without_a_token(fleet: Server, client: Client, room: str) -> None:
     start(f"{room}/teams")
     done = client.run("office", "team", "green", "--owns", "mail", "--into", "teams")
-    same("refused", done, Done(2, "", "holzhebo: --into needs the team's token: give --new-token-file\n"))
+    same("refused", done, Ended(2, "", "holzhebo: --into needs the team's token: give --new-token-file\n"))
     same("nothing is made", client.run("office", "team", "green", "--grant", "live").status, 3)
 
 
@@ -139,8 +139,8 @@ def test_a_token_is_on_the_disk_first(fleet: Server, client: Client, room: str) 
     """The file and its folder are synced before the request: the broker keeps only a digest, so the file is all."""
     trace = ["strace", "-f", "-e", "trace=fsync,sendto,connect", "-o", f"{room}/trace"]
     line = [*trace, *PYTHON, CLIENT, "team", "green", "--new-token-file", "green"]
-    done = subprocess.run(line, cwd=room, env=client.env("office"), capture_output=True, text=True)
-    same("done", (done.returncode, done.stderr), (0, ""))
+    done = ran(line, cwd=room, env=client.env("office"))
+    same("done", (done.status, done.errors), (0, ""))
     calls = [it for it in lines_in(f"{room}/trace") if "fsync" in it or "sendto" in it and "PUT /teams" in it]
     kinds = ["fsync" if "fsync(" in it else "send" for it in calls]
     same("in this order", kinds[:3], ["fsync", "fsync", "send"])
@@ -150,11 +150,7 @@ def test_a_token_is_on_the_disk_first(fleet: Server, client: Client, room: str) 
 
 
 def piped(words: List[str], text: bytes, room: str, **env: str) -> Tuple[int, str, str]:
-    done = subprocess.run(
-        [*PYTHON, CLIENT, *words], cwd=room, input=text, capture_output=True, env={**os.environ, **env}
-    )
-    sound(done.stderr.decode())
-    return done.returncode, done.stdout.decode(), done.stderr.decode()
+    return told([*PYTHON, CLIENT, *words], text, cwd=room, env={**os.environ, **env})
 
 
 STRANGE = b'{"time":"2026-11-27T03:00:00+00:00","team":"x","method":"GET","path":"/\xff\xfe","body":"","status":404,'
@@ -195,9 +191,9 @@ def test_logs_that_were_rotated(room: str) -> None:
     start(f"{room}/run.py", script % (f"{TOP}/client/src", f"{folder}/broker.log"))
 
     def who(*words: str) -> Tuple[str, str]:
-        done = subprocess.run([*PYTHON, f"{room}/run.py", *words], capture_output=True, text=True)
-        same("status", done.returncode, 0)
-        return done.stdout, done.stderr
+        done = ran([*PYTHON, f"{room}/run.py", *words])
+        same("status", done.status, 0)
+        return done.output, done.errors
 
     output, errors = who("who", "live")
     same("all three, in their order", [it.split()[-1] for it in output.splitlines()], ["1", "2", "3"])

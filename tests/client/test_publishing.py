@@ -1,10 +1,10 @@
 """What is sent of pact files and what isn't; fetched files; results."""
-import json, os, re, subprocess
+import json, os, re
 from typing import Any, List, Tuple
 import pytest
 from tests.client.flaky import FlakyBroker, flaky  # the fixture
-from tests.client.tools import CLIENT, PYTHON, Client, Done
-from tests.process import Server, ran
+from tests.client.tools import CLIENT, PYTHON, Client
+from tests.process import Ended, Server, ran
 from tests.wire import OFFICE, same
 from tests.world import BLUE, RED, pact
 
@@ -73,12 +73,10 @@ def test_a_file_that_is_read_once(fleet: Server, client: Client, room: str) -> N
     """A file of a shell's <(..) can be read only once; and explain takes - twice."""
     write(room, "a.json", pact("a book"))
     line = " ".join([*PYTHON, CLIENT, "publish", "7", "--branch", "main", "<(cat a.json)"])
-    done = subprocess.run(["bash", "-c", line], cwd=room, env=client.env("red"), capture_output=True, text=True)
-    same("publish", (done.returncode, done.stderr, done.stdout[:4]), (0, "", "new "))
-    done = subprocess.run(
-        [*PYTHON, CLIENT, "explain", "-", "-"], cwd=room, input=pact("a"), capture_output=True, text=True
-    )
-    same("explain", (done.returncode, done.stdout), (0, "-: no fault is found\n"))
+    done = ran(["bash", "-c", line], cwd=room, env=client.env("red"))
+    same("publish", (done.status, done.errors, done.output[:4]), (0, "", "new "))
+    done = ran([*PYTHON, CLIENT, "explain", "-", "-"], pact("a"), cwd=room)
+    same("explain", (done.status, done.output), (0, "-: no fault is found\n"))
 
 
 def test_a_misspelt_name(fleet: Server, client: Client, room: str) -> None:
@@ -94,7 +92,7 @@ def test_a_folder(fleet: Server, client: Client, room: str) -> None:
     write(room, "pacts/a.json", pact("a book"))
     os.mkdir(f"{room}/none")
     same("its files", client.done("red", "publish", "7", "pacts")[:25], "new       pacts/a.json: s")
-    same("no file", client.run("red", "publish", "7", "none"), Done(3, "", "holzhebo: none has no file of JSON\n"))
+    same("no file", client.run("red", "publish", "7", "none"), Ended(3, "", "holzhebo: none has no file of JSON\n"))
 
 
 # What of a file is sent: it, the plain file with which it shares a content, and what is said to be written.
@@ -234,7 +232,7 @@ def test_files_of_an_earlier_fetch(fleet: Server, client: Client, room: str) -> 
     same("of a folder", (done.status, done.output.count("pass is claimed")), (0, 2))
     client.done("blue", *fetch, "--for", "vault")
     same("none", files_in(f"{room}/got"), ["own.json"])
-    same("results of none", client.run("blue", "result", "3", "pass", "got"), Done(0, "", ""))
+    same("results of none", client.run("blue", "result", "3", "pass", "got"), Ended(0, "", ""))
     same("another folder", client.run("blue", "result", "3", "pass", room).status, 3)
 
 

@@ -5,14 +5,14 @@
 - No token and no digest of one is in it. 40,000 contracts within ten seconds of processor time.
 - Each of these pages in Chromium (report_shown.py): its picture is drawn, its texts can be read, and it asks for
   nothing and runs nothing; a page without the picture, or with something from elsewhere, is noticed."""
-import hashlib, json, os, re, resource, sqlite3, subprocess, tempfile
+import hashlib, json, os, re, resource, sqlite3, tempfile
 import pytest
 
 from tests.client.report_shown import TOOL, Page, Picture, copied, looked_at, name_everything, page_of, use_everywhere
 from tests.client.report_wanted import ROWS, SINCE, WANTED
 from tests.desk.browser import Browser
 from tests.players import files
-from tests.process import TOP, Server, run
+from tests.process import TOP, Server, ran, run
 from tests.wire import OFFICE, Wrong, same
 from tests.world import BLUE, RED, new_file, pact, register, verify
 
@@ -51,9 +51,9 @@ def two_copies(program: str, room: str) -> tuple[str, str]:
 
 def refused(*copies: str) -> int:
     """The status of a report that isn't made, which writes nothing."""
-    done = subprocess.run([*TOOL, *copies], capture_output=True)
-    same(f"the page of {' '.join(copies)}", done.stdout, b"")
-    return done.returncode
+    done = ran([*TOOL, *copies])
+    same(f"the page of {' '.join(copies)}", done.output, "")
+    return done.status
 
 
 def test_the_page(program: str, room: str) -> None:

@@ -3,8 +3,8 @@ import json, os, time, xml.etree.ElementTree
 from typing import List, Tuple
 from tests.client.books import KEPT, book_pact, publish_book
 from tests.client.peers import BOOK_TEXT, JSON_TYPE, Judging, one, Refusing, rows, verified, words
-from tests.client.tools import Client, Done, Reply, Stock
-from tests.process import Server
+from tests.client.tools import Client, Reply, Stock
+from tests.process import Ended, Server
 from tests.wire import OFFICE, Wrong, same
 from tests.world import RED
 
@@ -116,7 +116,7 @@ def test_a_misspelt_provider(fleet: Server, client: Client) -> None:
         same(
             environment,
             client.run("blue", *line),
-            Done(3, "", "holzhebo: the broker doesn't know the pacticipant stok\n"),
+            Ended(3, "", "holzhebo: the broker doesn't know the pacticipant stok\n"),
         )
     done = client.run("blue", "fetch", "--provider", "stok", "--for", "live", "--into", "got")
     same("fetch", (done.status, done.errors), (3, "holzhebo: the broker doesn't know the pacticipant stok\n"))
@@ -126,9 +126,9 @@ def test_a_misspelt_provider(fleet: Server, client: Client) -> None:
 
 def test_no_contract(fleet: Server, client: Client) -> None:
     line = ["verify", "--provider", "shop", "--version", "9", "--url", "http://127.0.0.1:1", "--for", "live"]
-    same("none", client.run("red", *line), Done(0, "there is no contract with shop\n", ""))
-    same("--fail-if-none", client.run("red", *line, "--fail-if-none"), Done(3, "there is no contract with shop\n", ""))
-    same("JSON", client.run("red", *line, "--json"), Done(0, "[]\n", ""))
+    same("none", client.run("red", *line), Ended(0, "there is no contract with shop\n", ""))
+    same("--fail-if-none", client.run("red", *line, "--fail-if-none"), Ended(3, "there is no contract with shop\n", ""))
+    same("JSON", client.run("red", *line, "--json"), Ended(0, "[]\n", ""))
 
 
 def test_seconds(fleet: Server, client: Client) -> None:

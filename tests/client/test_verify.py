@@ -1,10 +1,10 @@
 """Tries `holzhebo verify`: a provider that keeps its contract, one that breaks it in each way, what can't be played."""
-import glob, json, subprocess, xml.etree.ElementTree
+import glob, json, xml.etree.ElementTree
 from typing import Any, Dict, List
 import pytest
 from tests.client.books import KEPT, book_pact, interaction, publish_book
 from tests.client.tools import BOOK, HANGS, Client, Reply, Stock
-from tests.process import Server
+from tests.process import Server, ran
 from tests.wire import same
 from tests.world import BLUE, RED, pact
 
@@ -84,10 +84,8 @@ STATES_SET = ("POST", "/states", {"content-type": "application/json"}, b"")
 def verdict(program: str, room: str, name: str) -> List[int]:
     """Which interactions fail, as `broker check` says of the recorded files."""
     pacts, replies = (glob.glob(f"{room}/{name}/*.{it}.json") for it in ("pact", "replies"))
-    done = subprocess.run(
-        [program, "check", "--pact", pacts[0], "--replies", replies[0]], capture_output=True, text=True
-    )
-    return [int(it) for it in done.stdout.split()[1:]]
+    done = ran([program, "check", "--pact", pacts[0], "--replies", replies[0]])
+    return [int(it) for it in done.output.split()[1:]]
 
 
 def play(room: str, client: Client, stock: Stock, version: str, status: int, *more: str) -> Any:

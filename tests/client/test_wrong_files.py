@@ -1,10 +1,10 @@
 """Files and programs that aren't what a command takes them for: one line says so, and the status is 3."""
-import json, os, subprocess, time
+import json, os, time
 from typing import Any, List, Optional
 import pytest
 from tests.client.peers import one
-from tests.client.tools import PYTHON, SOURCES, Client, Done
-from tests.process import TOP, ran
+from tests.client.tools import PYTHON, SOURCES, Client
+from tests.process import TOP, Ended, ran
 from tests.wire import same
 from tests.world import pact
 
@@ -19,7 +19,7 @@ def written(path: str, text: str, mode: int = 0o644) -> str:
 
 
 def wrong(client: Client, why: str, *words: str) -> None:
-    same(f"{words}", client.run("none", *words), Done(3, "", f"holzhebo: {why}\n"))
+    same(f"{words}", client.run("none", *words), Ended(3, "", f"holzhebo: {why}\n"))
 
 
 # check
@@ -128,10 +128,10 @@ def test_tokens_that_can_t_be_made(room: str) -> None:
     wrong(client, "no token: give --token-file, HOLZHEBO_TOKEN_FILE or HOLZHEBO_TOKEN", "status")
     team = ["team", "green", "--new-token-file"]
     done = client.run("office", *team, "nowhere/green")
-    same("a folder", done, Done(3, "", "holzhebo: nowhere/green can't be made: No such file or directory\n"))
+    same("a folder", done, Ended(3, "", "holzhebo: nowhere/green can't be made: No such file or directory\n"))
     limited = ["sh", "-c", 'ulimit -f 0; exec "$@"', "sh", *PYTHON, f"{TOP}/client/holzhebo", *team, "green"]
-    full = subprocess.run(limited, cwd=room, env=client.env("office"), capture_output=True, text=True)
-    same("a full disk", (full.returncode, full.stderr), (3, "holzhebo: green can't be written: File too large\n"))
+    full = ran(limited, cwd=room, env=client.env("office"))
+    same("a full disk", (full.status, full.errors), (3, "holzhebo: green can't be written: File too large\n"))
     same("what is left", os.path.exists(f"{room}/green"), False)
 
 
@@ -143,14 +143,14 @@ def test_pages(room: str) -> None:
         "nowhere",
         "nowhere can't be read: No such file or directory",
     ):
-        same(folder, client.run("office", *words, folder), Done(3, "", f"holzhebo: {why}\n"))
+        same(folder, client.run("office", *words, folder), Ended(3, "", f"holzhebo: {why}\n"))
     for name in "index.html", "desk.json":
         written(f"{room}/empty/{name}", "{}")
     done = client.run("office", *words, "empty")
-    same("no names", done, Done(3, "", "holzhebo: desk.json can't be read, or names no environments\n"))
+    same("no names", done, Ended(3, "", "holzhebo: desk.json can't be read, or names no environments\n"))
     written(f"{room}/empty/desk.json", '{"environments":[]}')
     done = client.run("office", *words, "empty", "--cacert", "nowhere", "--broker", "https://broker.invalid")
-    same("no certificates", done, Done(3, "", "holzhebo: nowhere can't be used: No such file or directory\n"))
+    same("no certificates", done, Ended(3, "", "holzhebo: nowhere can't be used: No such file or directory\n"))
     same("no port", client.run("office", "desk", "--page-port", "0").status, 2)
 
 
@@ -170,7 +170,7 @@ def test_names_of_the_page(text: Optional[str], room: str) -> None:
         (["report", "copy.db", "--names", "desk.json"], 1, "desk.json", "names no environments"),
         (["who", "--page", ".", "--log", "log"], 3, "./desk.json", "names no environments"),
     ):
-        done = Done(status, "", f"holzhebo: {path} can't be read, or {what}\n")
+        done = Ended(status, "", f"holzhebo: {path} can't be read, or {what}\n")
         same(words[0], client.run("office", *words), done)
 
 

@@ -1,10 +1,12 @@
-"""What the tests of the client share: the client as a build runs it, and a provider that answers by a table.
+"""What the tests of the client share: the client as a build runs it, and who answers it, as a provider by a table.
 
 The callers are those of world.py. No test prints a token: what the client prints is looked through. CLIENT_PYTHON names
 another Python that runs the client, as one of a version that is to be tried."""
-import http.server, json, os, subprocess, sys, threading, time
-from typing import Any, Dict, List, NamedTuple, Tuple, Type, TypeVar
-from tests.process import TOP
+import http.server, json, os, sys, threading, time
+from collections.abc import Callable, Sequence
+from email.message import Message
+from typing import Any, Dict, List, NamedTuple, Tuple, TypeVar
+from tests.process import TOP, Ended, ran
 from tests.wire import OFFICE, Wrong, same
 from tests.world import BLUE, RED
 
@@ -19,12 +21,6 @@ TOKENS["line"] = f"authorization: Bearer {RED}"
 # The client
 
 
-class Done(NamedTuple):
-    status: int
-    output: str
-    errors: str
-
-
 def secret(text: str) -> None:
     """No token is in the text."""
     for token in RED, BLUE, OFFICE:
@@ -36,6 +32,14 @@ def sound(errors: str) -> None:
     """The client shows no fault of its own."""
     if "Traceback" in errors or "a fault of this program" in errors:
         raise Wrong(f"a fault of the client: {errors[-2000:]}")
+
+
+def told(words: Sequence[str], text: "str | bytes" = b"", **settings: Any) -> Ended:
+    """How these words, which run the client, end; what is printed has no token, and no fault of the client's own."""
+    done = ran(words, text, **settings)
+    secret(done.output + done.errors)
+    sound(done.errors)
+    return done
 
 
 class Client:
@@ -55,15 +59,9 @@ class Client:
         kept["HOME"] = self.room
         return {**kept, "HOLZHEBO_BROKER": self.url, "HOLZHEBO_TOKEN_FILE": f"{self.room}/{caller}.token"}
 
-    def run(self, caller: str, *words: str, **env: str) -> Done:
-        """Runs the client; what it prints has no token."""
-        command = [*PYTHON, CLIENT, *words]
-        done = subprocess.run(
-            command, cwd=self.room, env={**self.env(caller), **env}, capture_output=True, text=True, timeout=120
-        )
-        secret(done.stdout + done.stderr)
-        sound(done.stderr)
-        return Done(done.returncode, done.stdout, done.stderr)
+    def run(self, caller: str, *words: str, **env: str) -> Ended:
+        """Runs the client."""
+        return told([*PYTHON, CLIENT, *words], cwd=self.room, env={**self.env(caller), **env})
 
     def done(self, caller: str, *words: str, **env: str) -> str:
         """What it prints; it ends with 0 and reports nothing."""
@@ -80,7 +78,7 @@ HANGS = 6  # how many seconds the provider has for an answer
 
 
 class Reply(NamedTuple):
-    """How a provider answers: status, headers, body; what it does before, or instead."""
+    """How a provider answers: status, or 0 for no answer, headers, body; what it does before, or instead."""
 
     status: int = 200
     headers: Tuple[Tuple[str, str], ...] = (("Content-Type", "application/json; charset=utf-8"),)
@@ -89,31 +87,33 @@ class Reply(NamedTuple):
     length: int = 0  # how many bytes more are said than are sent
 
 
+class Asked(NamedTuple):
+    """A request; its headers are found without regard to case."""
+
+    method: str
+    path: str
+    headers: Message
+    body: bytes
+
+
 class Handler(http.server.BaseHTTPRequestHandler):
-    """A provider: it answers by its table, and keeps what it was asked."""
+    """A request to who answers by a function."""
 
     def answer(self) -> None:
-        stock: Any = self.server
+        server: Any = self.server
         body = self.rfile.read(int(self.headers.get("content-length", 0)))
-        headers = {key.lower(): it for key, it in self.headers.items() if key.lower() in ("content-type", "x-shop")}
-        secret(f"{self.path} {self.headers}")
-        stock.asked.append((self.command, self.path, headers, body))
-        self.send(stock.answers.get(f"{self.command} {self.path.partition('?')[0]}", Reply(599)))
-
-    def send(self, reply: Reply) -> None:
+        reply: Reply = server.reply(Asked(self.command, self.path, self.headers, body))
         time.sleep(reply.wait)
         self.close_connection = True
         if reply.status and reply.wait < HANGS:
             self.send_response(reply.status)
-            for key, it in [
-                *reply.headers,
-                *([("Content-Length", str(len(reply.body) + reply.length))] if reply.status != 204 else []),
-            ]:
+            length = ("Content-Length", str(len(reply.body) + reply.length))
+            for key, it in [*reply.headers, *([length] if reply.status != 204 else [])]:
                 self.send_header(key, it)
             self.end_headers()
             self.wfile.write(reply.body)
 
-    do_GET = do_POST = do_PUT = do_DELETE = answer
+    do_GET = do_POST = do_PUT = do_DELETE = do_CONNECT = answer
 
     def log_message(self, format: str, *words: Any) -> None:
         """Is silent."""
@@ -123,13 +123,14 @@ Itself = TypeVar("Itself", bound="Serving")
 
 
 class Serving(http.server.ThreadingHTTPServer):
-    """Who answers requests at a port of this machine, while it is entered."""
+    """Who answers requests at a port of this machine by a function of them, while it is entered."""
 
     daemon_threads = True
 
-    def __init__(self, handler: Type[http.server.BaseHTTPRequestHandler], port: int = 0) -> None:
-        super().__init__(("127.0.0.1", port), handler)
-        self.url = f"http://127.0.0.1:{self.server_address[1]}"
+    def __init__(self, reply: Callable[[Asked], Reply], port: int = 0) -> None:
+        super().__init__(("127.0.0.1", port), Handler)
+        self.reply, self.port = reply, int(self.server_address[1])
+        self.url = f"http://127.0.0.1:{self.port}"
 
     def handle_error(self, request: Any, client_address: Any) -> None:
         """Is silent about one that is gone, since its test has ended it."""
@@ -146,8 +147,14 @@ class Serving(http.server.ThreadingHTTPServer):
 
 
 class Stock(Serving):
-    """A provider that runs."""
+    """A provider: it answers by its table, and keeps what it was asked."""
 
     def __init__(self, answers: Dict[str, Reply]) -> None:
-        super().__init__(Handler)
+        super().__init__(self.by_table)
         self.answers, self.asked = answers, []  # type: Dict[str, Reply], List[Tuple[str, str, Dict[str, str], bytes]]
+
+    def by_table(self, it: Asked) -> Reply:
+        headers = {key.lower(): text for key, text in it.headers.items() if key.lower() in ("content-type", "x-shop")}
+        secret(f"{it.path} {it.headers}")
+        self.asked.append((it.method, it.path, headers, it.body))
+        return self.answers.get(f"{it.method} {it.path.partition('?')[0]}", Reply(599))

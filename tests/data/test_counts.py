@@ -25,5 +25,6 @@ def test_nothing_was_lost(folder: str) -> None:
     if folder == "stories":
         files += (DATA / "stops").glob("*.story")
     assert files
-    found, written = {it.stem: count(it) for it in files}, written_counts(folder)
-    same(f"tests/data/{folder}/counts", *("\n".join(f"{it}: {its[it]}" for it in sorted(its)) for its in (found, written)))
+    both = {it.stem: count(it) for it in files}, written_counts(folder)
+    found, written = ("\n".join(f"{name}: {its[name]}" for name in sorted(its)) for its in both)
+    same(f"tests/data/{folder}/counts", found, written)

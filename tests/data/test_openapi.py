@@ -53,7 +53,7 @@ def test_a_wrong_answer_is_seen() -> None:
 
 DONE = answer(200, '{"answer":"done"}')
 CLOSED = answer(400, '{"answer":"refused","status":400}', ["connection: close"])
-TEAM, MARKED = request("PUT", "/teams/red", body='{"token":"red-team-token-01"}'), request("PUT", "/teams/red", body="{}")
+TEAM, MARKED = (request("PUT", "/teams/red", body=it) for it in ('{"token":"red-team-token-01"}', "{}"))
 # A request that names no token, one that is no operation, a status that its operation hasn't, a field that is missing;
 # and streams in which something else is answered than exchanges.py says.
 WRONG = {

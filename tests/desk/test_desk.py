@@ -2,11 +2,12 @@
 proxy before which a sign-on is."""
 from __future__ import annotations
 
-import contextlib, http.server, json, re, signal, socket, subprocess, threading
+import contextlib, json, re, signal, socket, subprocess, threading
 from collections.abc import Iterator
 
 import pytest
 
+from tests.client.tools import Reply, Serving
 from tests.desk.browser import Browser
 from tests.desk.running import asks, by
 from tests.desk.seen import cells, settled, texts
@@ -125,25 +126,9 @@ def test_its_words(world: World, room: str) -> None:
 # A proxy before which a sign-on is
 
 
-@contextlib.contextmanager
-def sign_on() -> Iterator[int]:
-    """A service of a sign-on: it answers 204 to whoever has the cookie, and else 401. Gives its port."""
-
-    class Answers(http.server.BaseHTTPRequestHandler):
-        def do_GET(self) -> None:
-            self.send_response(204 if "session=known" in self.headers.get("cookie", "") else 401)
-            self.end_headers()
-
-        def log_message(self, *_: object) -> None:
-            pass
-
-    server = http.server.ThreadingHTTPServer(("127.0.0.1", 0), Answers)
-    threading.Thread(target=server.serve_forever, daemon=True).start()
-    try:
-        yield server.server_address[1]
-    finally:
-        server.shutdown()
-        server.server_close()
+def sign_on() -> Serving:
+    """A service of a sign-on: it answers 204 to whoever has the cookie, and else 401."""
+    return Serving(lambda it: Reply(204 if "session=known" in it.headers.get("cookie", "") else 401, (), b""))
 
 
 def recipe(world: World, nginx: Nginx, sign_on_port: int) -> str:
@@ -170,8 +155,8 @@ def test_a_sign_on(world: World, nginx: Nginx, room: str) -> None:
     write(f"{world.page}/desk.json", json.dumps({**demo, "signedIn": True}))
     cookie = "Cookie: session=known"
     shown = world.server.ask("GET", "/environments/live")
-    with sign_on() as port:
-        nginx.start(recipe(world, nginx, port))
+    with sign_on() as known:
+        nginx.start(recipe(world, nginx, known.port))
         same("the listing", asks(nginx.port, LISTING, cookie, "Connection: close")[::2], (shown.status, shown.body))
         for ask in LISTING, "GET /desk/", "GET /desk/desk.json", "PUT /teams/green":
             same(f"{ask} by nobody", asks(nginx.port, ask, "Connection: close")[0], 401)

@@ -1,9 +1,10 @@
 """Where the page of desk/ is tried: the program with the demo, a proxy by a recipe of examples/, the page's files."""
 from __future__ import annotations
 
-import contextlib, http.server, os, re, shutil, threading
+import contextlib, os, re, shutil
 from collections.abc import Iterator
 
+from tests.client.tools import Reply, Serving
 from tests.process import TOP, Server, run
 from tests.proxy import Caddy, Nginx, Proxy
 from tests.wire import OFFICE, Wrong, same
@@ -57,26 +58,9 @@ def by_caddy(it: Caddy, broker: int, folder: str) -> Caddy:
     return it.start(text_of("examples/desk.Caddyfile"), **env, DESK_TOKEN=READER, OFFICE_TOKEN=OFFICE)
 
 
-@contextlib.contextmanager
-def stub(port: int, status: int, body: str) -> Iterator[None]:
+def stub(port: int, status: int, body: str) -> Serving:
     """Something else in the broker's place, which has one answer."""
-
-    class Answers(http.server.BaseHTTPRequestHandler):
-        def do_GET(self) -> None:
-            self.send_response(status)
-            self.end_headers()
-            self.wfile.write(body.encode())
-
-        def log_message(self, *_: object) -> None:
-            pass
-
-    server = http.server.HTTPServer(("127.0.0.1", port), Answers)
-    threading.Thread(target=server.serve_forever, daemon=True).start()
-    try:
-        yield
-    finally:
-        server.shutdown()
-        server.server_close()
+    return Serving(lambda _: Reply(status, (), body.encode()), port)
 
 
 class World:

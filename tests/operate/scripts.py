@@ -1,4 +1,4 @@
-"""How the scripts of examples/ are run over a service: with another clock, other numbers, a copying that doesn't end."""
+"""How the scripts of examples/ are run over a service: with another clock, other numbers, a copying without an end."""
 import os, shutil, subprocess, time
 from tests.operate.service import Service
 from tests.process import run

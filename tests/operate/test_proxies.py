@@ -3,6 +3,7 @@ by the broker itself, names keep their escapes, a body of the limit passes and a
 up nobody, and a broker that isn't there is 502 until it is there again. What one address can do to the others is
 little, and what is in the log. No line of a log has a token (conftest.py)."""
 import contextlib, http.client, re, socket, sqlite3, threading, time
+from collections.abc import Sequence
 import pytest
 from tests import proxy
 from tests.desk.world import by_nginx
@@ -109,6 +110,17 @@ def test_page_by_itself(nginx: proxy.Nginx) -> None:
     same("nginx's warnings", [it for it in nginx.log("errors").splitlines() if "[warn]" in it], [])
 
 
+def another_is_answered(front: Front, most: float, peers: Sequence[socket.socket]) -> None:
+    """Within so many seconds, beside these."""
+    began = time.monotonic()
+    same("another client", front.ask("GET", LIVE, RED).status, 200)
+    took = time.monotonic() - began
+    for peer in peers:
+        peer.close()
+    if took > most:
+        raise Wrong(f"another client waits {took:.1f} s")
+
+
 @pytest.mark.timing
 def test_slow(front: Front) -> None:
     """Clients that stop in the middle of a head or of a body hold up nobody."""
@@ -117,13 +129,7 @@ def test_slow(front: Front) -> None:
     for number, peer in enumerate(peers):
         peer.sendall(message[: 30 if number % 2 else -5])
     time.sleep(0.3)
-    began = time.monotonic()
-    same("another client", front.ask("GET", LIVE, RED).status, 200)
-    took = time.monotonic() - began
-    for peer in peers:
-        peer.close()
-    if took > 5:
-        raise Wrong(f"another client waits {took:.1f} s")
+    another_is_answered(front, 5, peers)
 
 
 def test_restart(front: Front, fleet: Server) -> None:
@@ -253,9 +259,4 @@ def test_unread_answers(front: Front, fleet: Server) -> None:
         peer.sendall(front.message(f"authorization: Bearer {RED}".encode(), "GET /environments/open"))
         peers.append(peer)
     time.sleep(0.5)
-    began = time.monotonic()
-    same("another client", front.ask("GET", LIVE, RED).status, 200)
-    took = time.monotonic() - began
-    for peer in peers:
-        peer.close()
-    assert took < 20, took
+    another_is_answered(front, 20, peers)
