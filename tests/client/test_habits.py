@@ -64,61 +64,20 @@ def test_doctor(fleet: Server, client: Client) -> None:
 def test_the_names_of_the_pact_broker_s_client(fleet: Server, client: Client, room: str) -> None:
     with open(f"{room}/a.json", "w", encoding="utf-8") as it:
         it.write(pact("a book"))
-    for words, status in (
-        (["publish", "a.json", "--consumer-app-version", "20", "--branch", "main"], 0),
-        (
-            [
-                "can-i-deploy",
-                "--pacticipant",
-                "shop",
-                "--version",
-                "20",
-                "--to-environment",
-                "live",
-                "--output",
-                "json",
-            ],
-            0,
-        ),
-        (
-            [
-                "can-i-deploy",
-                "-a",
-                "shop",
-                "-e",
-                "2",
-                "--to-environment",
-                "live",
-                "--retry-while-unknown",
-                "2",
-                "--retry-interval",
-                "1",
-            ],
-            1,
-        ),
-        (["record-deployment", "--pacticipant", "shop", "--version", "20", "--environment", "live"], 0),
-        (
-            [
-                "record-deployment",
-                "--pacticipant",
-                "shop",
-                "--version",
-                "20",
-                "--environment",
-                "live",
-                "--application-instance",
-                "b",
-            ],
-            0,
-        ),
-        (["record-undeployment", "--pacticipant", "shop", "--environment", "live", "--application-instance", "b"], 0),
-        (["record-release", "--pacticipant", "shop", "--version", "20", "--environment", "live"], 0),
-        (["record-support-ended", "--pacticipant", "shop", "--version", "20", "--environment", "live"], 0),
-        (["can-i-deploy", "shop", "--version", "20", "live"], 0),
-        (["can-i-deploy", "shop", "20", "live", "extra"], 2),
-        (["can-i-deploy", "--pacticipant", "shop", "20"], 2),
+    for line, status in (
+        ("publish a.json --consumer-app-version 20 --branch main", 0),
+        ("can-i-deploy --pacticipant shop --version 20 --to-environment live --output json", 0),
+        ("can-i-deploy -a shop -e 2 --to-environment live --retry-while-unknown 2 --retry-interval 1", 1),
+        ("record-deployment --pacticipant shop --version 20 --environment live", 0),
+        ("record-deployment --pacticipant shop --version 20 --environment live --application-instance b", 0),
+        ("record-undeployment --pacticipant shop --environment live --application-instance b", 0),
+        ("record-release --pacticipant shop --version 20 --environment live", 0),
+        ("record-support-ended --pacticipant shop --version 20 --environment live", 0),
+        ("can-i-deploy shop --version 20 live", 0),
+        ("can-i-deploy shop 20 live extra", 2),
+        ("can-i-deploy --pacticipant shop 20", 2),
     ):
-        same(f"{words}", client.run("red", *words).status, status)
+        same(line, client.run("red", *line.split()).status, status)
 
 
 def test_format(fleet: Server, client: Client) -> None:
@@ -199,14 +158,5 @@ def test_each_route_has_a_method() -> None:
         source = it.read()
     places = re.findall(r"(?m)^\| `?(?:PUT|GET|DELETE|POST)[^|]*", table)
     same("routes", len(places), 18)
-    for part in (
-        "undeployments",
-        "deployments",
-        "releases",
-        "support-ended",
-        "/replies",
-        "/results",
-        "/can-i-deploy",
-        "/matrix",
-    ):
+    for part in "undeployments deployments releases support-ended /replies /results /can-i-deploy /matrix".split():
         same(part, part in source, True)

@@ -117,20 +117,7 @@ HOSTILE += ["{name} {c0} %s", "  two  spaces ", "\u00e9" * 50, "x" * 100, "@team
 OWN = "html head meta title style body h1 h2 h3 p section div table thead tbody tr th td bdi b small ul li svg defs"
 OWN += " marker path g rect text nav a ol caption"
 FIELDS = {
-    "charset",
-    "http-equiv",
-    "content",
-    "lang",
-    "class",
-    "scope",
-    "id",
-    "role",
-    "d",
-    "x",
-    "y",
-    "rx",
-    "width",
-    "height",
+    "charset", "http-equiv", "content", "lang", "class", "scope", "id", "role", "d", "x", "y", "rx", "width", "height",
 }
 FIELDS |= {"href", "aria-label", "name", "tabindex", "viewbox", "refx", "refy", "markerwidth", "markerheight", "orient", "marker-end"}
 

@@ -71,12 +71,8 @@ def served_by_https(room: str, broker: FlakyBroker) -> None:
 def test_https(flaky: FlakyBroker, room: str) -> None:
     """By the system's certificates and those of --cacert: an unknown one is refused before anything is sent."""
     served_by_https(room, flaky)
-    client, words = Client(room, flaky.url.replace("http://127.0.0.1", "https://localhost")), [
-        "deploy",
-        "shop",
-        "1",
-        "live",
-    ]
+    client = Client(room, flaky.url.replace("http://127.0.0.1", "https://localhost"))
+    words = ["deploy", "shop", "1", "live"]
     done = client.run("red", *words, "--patience", "0")
     is_refused = "CERTIFICATE_VERIFY_FAILED" in done.errors or "certificate verify failed" in done.errors
     same("an unknown certificate", (done.status, flaky.count, is_refused), (3, 0, True))

@@ -103,15 +103,8 @@ def test_each_answer(name: str, program: str, fleet: Server, client: Client, roo
     number = list(ANSWERS).index(name)
     reply, wanted = ANSWERS[name]
     with Stock({**KEPT, "GET /books/1": reply, "POST /states": Reply(body=b"")}) as stock:
-        told = play(
-            room,
-            client,
-            stock,
-            f"b{number}",
-            {PASSES: 0, FAILS: 1, UNPLAYED: 3}[wanted],
-            "--states-url",
-            f"{stock.url}/states",
-        )
+        status = {PASSES: 0, FAILS: 1, UNPLAYED: 3}[wanted]
+        told = play(room, client, stock, f"b{number}", status, "--states-url", f"{stock.url}/states")
     others = {PASSES: PASSES, FAILS: PASSES, UNPLAYED: "played"}[wanted]
     same(name, [it["outcome"] for it in told["played"]], [wanted] + [others] * 4)
     if name in WHYS or wanted == PASSES:
@@ -165,21 +158,8 @@ def test_what_is_asked_and_told(fleet: Server, client: Client, room: str) -> Non
             [it.get("message") for it in suites.iter("failure")],
             ["status: 500; expected 200 (by the example)"],
         )
-        words = [
-            "--provider",
-            "stock",
-            "--version",
-            "c2",
-            "--url",
-            stock.url,
-            "--contract",
-            "shop",
-            "10",
-            "--for",
-            "live",
-            "--ignore-states",
-        ]
-        lines = client.run("blue", "verify", *words).output.split("\n")
+        words = f"verify --provider stock --version c2 --url {stock.url} --contract shop 10 --for live --ignore-states"
+        lines = client.run("blue", *words.split()).output.split("\n")
         number = json.loads(fleet.ask("GET", "/matrix?pacticipant=stock&version=c2", BLUE).body)["rows"][0]["result"]
         same(
             "in sentences",
@@ -240,19 +220,7 @@ def test_a_branch(program: str, fleet: Server, client: Client) -> None:
     with Stock({"GET /": Reply(status=200)}) as stock:
         fleet.do("PUT", "/pacticipants/shop/versions/20", RED, '{"branch":"main"}')
         fleet.do("PUT", "/pacts/provider/stock/consumer/shop/version/20", RED, pact("a fork"))
-        words = [
-            "verify",
-            "--provider",
-            "stock",
-            "--version",
-            "e1",
-            "--url",
-            stock.url,
-            "--branch",
-            "main",
-            "--consumer",
-            "shop",
-        ]
+        words = f"verify --provider stock --version e1 --url {stock.url} --branch main --consumer shop".split()
         why = "the broker doesn't say which version has it: name it by --contract shop VERSION"
         done = client.run("blue", *words)
         same(

@@ -65,18 +65,7 @@ GOOD: list[Scene] = [board, questions, matrix, environment, promote, contract]
 
 
 SCENES: list[Scene] = [
-    *GOOD,
-    wording,
-    pasted,
-    refused_only,
-    saved,
-    overtaken,
-    old,
-    keyboard,
-    looks,
-    forgotten,
-    hostile,
-    none_yet,
+    *GOOD, wording, pasted, refused_only, saved, overtaken, old, keyboard, looks, forgotten, hostile, none_yet,
 ]
 
 

@@ -9,23 +9,8 @@ from holzhebo.gate.sentences import FAULTS, sentence_of
 from tests.desk.browser import Browser
 from tests.desk.seen import Served, WHEN, cells, leaves, settled, shows, signs_in, text, texts
 from tests.desk.shown import (
-    ASKED,
-    BOARD,
-    BUILDS,
-    CALLED,
-    CHANGED,
-    LIVE,
-    MATRIX,
-    PROMOTED,
-    READ,
-    RESULTS,
-    STOCK,
-    STRICT,
-    TICKET,
-    TODAY,
-    UNRESULTED,
-    WHO,
-    WITH_WHO,
+    ASKED, BOARD, BUILDS, CALLED, CHANGED, LIVE, MATRIX, PROMOTED, READ, RESULTS, STOCK, STRICT, TICKET, TODAY,
+    UNRESULTED, WHO, WITH_WHO,
 )
 from tests.desk.world import BLUE, READER, RED, World, write
 from tests.process import TOP, run

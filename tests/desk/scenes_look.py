@@ -66,13 +66,8 @@ def keyboard(page: Browser, world: World) -> None:
 
 
 VIEWS = [
-    "board/today",
-    "ask/shop/1.4/live",
-    "matrix/shop/1.4",
-    "environment/live",
-    "promote/dev/staging",
-    "promote/staging/live",
-    "contract/stock/shop/1.4/1.3",
+    "board/today", "ask/shop/1.4/live", "matrix/shop/1.4", "environment/live", "promote/dev/staging",
+    "promote/staging/live", "contract/stock/shop/1.4/1.3",
 ]
 
 

@@ -82,11 +82,7 @@ ASKED = {
 MATRIX = [
     ["consumer", "pay 7", "stock 1.0", "stock 1.1", "stock 2.0", "shop 1.4"],
     [
-        "shop 1.4",
-        "✓ pass, claimed no. 5",
-        "✕ fail, claimed no. 6",
-        "✓ pass, checked no. 7",
-        "✓ pass, claimed no. 8",
+        "shop 1.4", "✓ pass, claimed no. 5", "✕ fail, claimed no. 6", "✓ pass, checked no. 7", "✓ pass, claimed no. 8",
         "",
     ],
     ["web 5 in staging, live and 1 other with the same contract", "", "", "", "", "✓ pass, claimed no. 9"],
