@@ -9,11 +9,13 @@
    STOPS_KEPT      a folder: `database` and `log` in it are the files as they were last synced, if they were; `calls`
                    has of each, the database first, how many calls there were and how many of them were refused
    STOPS_FORGETS   if it is set, nothing is kept at a sync, as by a disk that says that it has synced and hasn't
+   STOPS_KILLS     if it is set, the program is killed by signal 9 at the first call that would be refused
 
    What the program takes for chance is the same at each run, so that two runs leave the same bytes. */
 #define _GNU_SOURCE
 #include <errno.h>
 #include <fcntl.h>
+#include <signal.h>
 #include <stdarg.h>
 #include <stdio.h>
 #include <stdlib.h>
@@ -29,7 +31,7 @@ static const char *const names[SIDES] = {"database", "log"};
 static const char *const ends[SIDES] = {"", "-wal"};
 static unsigned long calls[SIDES], refused[SIDES], passes[SIDES];
 static const char *file, *kept;
-static int forgets;
+static int forgets, kills;
 /* The side of each open file, counted from 1. */
 static unsigned char side_of[OPEN_FILES];
 
@@ -38,6 +40,7 @@ __attribute__((constructor)) static void begin(void) {
   file = getenv("STOPS_FILE");
   kept = getenv("STOPS_KEPT");
   forgets = getenv("STOPS_FORGETS") != 0;
+  kills = getenv("STOPS_KILLS") != 0;
   for (int it = 0; it < SIDES; it++)
     passes[it] = side && count && !strcmp(side, names[it]) ? strtoul(count, 0, 10) : -1UL;
 }
@@ -74,6 +77,8 @@ static int side_in(int fd) { return fd >= 0 && fd < OPEN_FILES ? side_of[fd] : 0
 static int is_refused(int side) {
   if (!side || calls[side - 1]++ < passes[side - 1])
     return 0;
+  if (kills)
+    kill(getpid(), SIGKILL);
   refused[side - 1]++;
   errno = EIO;
   return 1;
