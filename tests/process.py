@@ -68,12 +68,13 @@ def run(words: Sequence[str], status: int = 0, env: Mapping[str, str] | None = N
 COUNTS = 0.5
 
 
-def slowness() -> float:
-    """How many times as long as an ordinary one the processor takes now, which others may share: 1 or more."""
-    began, total = time.process_time(), 0
+def slowness(clock: Callable[[], float] = time.process_time) -> float:
+    """How many times as long as an ordinary one the processor takes now, which others may share: 1 or more. By the clock
+    time.monotonic it counts too how long it works for others meanwhile."""
+    began, total = clock(), 0
     for number in range(10_000_000):
         total += number
-    return max(1.0, (time.process_time() - began) / COUNTS)
+    return max(1.0, (clock() - began) / COUNTS)
 
 
 # Ports and addresses

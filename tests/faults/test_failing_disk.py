@@ -177,10 +177,11 @@ def found(program: str, file: str, told: list[str]) -> None:
 
 
 @contextlib.contextmanager
-def small_disk(room: str) -> Iterator[bool]:
-    """A file system of 4 MiB on the folder, or none if none can be mounted: then a limit on the size of files is
+def small_disk(room: str, size: int = 4) -> Iterator[bool]:
+    """A file system of so many MiB on the folder, or none if none can be mounted: then a limit on the size of files is
     tried."""
-    done = subprocess.run(["mount", "-t", "tmpfs", "-o", "size=4m", "tmpfs", room], capture_output=True, check=False)
+    words = ["mount", "-t", "tmpfs", "-o", f"size={size}m", "tmpfs", room]
+    done = subprocess.run(words, capture_output=True, check=False)
     try:
         yield done.returncode == 0
     finally:
