@@ -6,8 +6,8 @@
   wrong-definitions/, and changes files of specs/ alone.
 - Only the crates of KIT have edits in must-fail/, which `rt ci` proves once more for them; all others are in
   wrong-bodies/.
-- Each public function is called by another crate of the product, by `worked_examples` or a test of `calls`, or by a law. ci/UNCALLED
-  has the others.
+- Each public function is called by another crate of the product, by `worked_examples` or a test of `calls`, or by a
+  law. ci/UNCALLED has the others.
 
 A line of either list is `CRATE::NAME: why`."""
 import os, re

@@ -1,7 +1,7 @@
 """The rules of sizes and names.
 
-- A crate has at most 110 functions; MORE has one with more, and why. No two of its functions outside `impl` have one name, and no two definitions of
-  its specs/ that aren't operators have one.
+- A crate has at most 110 functions; MORE has one with more, and why. No two of its functions outside `impl` have one
+  name, and no two definitions of its specs/ that aren't operators have one.
 - No two crates define one word, a name with a capital letter; TWICE has those that do, with why none is taken for
   the other. Nor do they give one name to a type that others may call; TYPES has those that do."""
 import os, re
@@ -74,36 +74,31 @@ def twice(crates):
                     yield f"crates/{crate.name}: {len(found)} {what} {name}: {', '.join(found)}"
 
 
-def words(crates):
-    """A word has one crate."""
-    places, left = defaultdict(dict), set(TWICE)
-    for crate in crates:
-        for name, found in defined(crate).items():
-            if name[0].isupper():
-                places[name][crate.name] = found[-1]
+def words(crate):
+    """The words that its specs/ define, each with a place."""
+    return {name: places[-1] for name, places in defined(crate).items() if name[0].isupper()}
+
+
+def types(crate):
+    """Its public types, each with the crate."""
+    declared = {it for path in crate.files for it in re.findall(r"(?m)^pub \w+ (\w+)", bare(text_of(path)))}
+    return {it: crate.name for it in declared if crate.is_public_type(it)}
+
+
+def shared(crates, has, what, known, of):
+    """Of what each crate has, the names that two give and that aren't among the known ones; and known ones that only one
+    crate has."""
+    places = defaultdict(list)
+    for name, found in (it for crate in crates for it in has(crate).items()):
+        places[name].append(found)
     for name, found in sorted(places.items()):
-        if len(found) > 1 and name not in TWICE:
-            yield f"{len(found)} crates define {name}: {', '.join(found.values())}"
-        if len(found) > 1:
-            left.discard(name)
-    yield from (f"ci/rules/names.py: TWICE has {it}, which one crate defines" for it in sorted(left))
-
-
-def types(crates):
-    """A public type's name has one crate."""
-    places = defaultdict(dict)
-    for crate in crates:
-        for path in crate.files:
-            for it in re.findall(r"(?m)^pub (?:struct|enum|trait|type) (\w+)", bare(text_of(path))):
-                if crate.is_lent(it, path):
-                    places[it][crate.name] = os.path.relpath(path, TOP)
-    twice = {name: found for name, found in places.items() if len(found) > 1}
-    yield from (f"{len(it)} crates have a type {name}: {', '.join(it.values())}" for name, it in twice.items() if name not in TYPES)
-    yield from (f"ci/rules/names.py: TYPES has {it}, which one crate has" for it in sorted(set(TYPES) - set(twice)))
+        if len(found) > 1 and name not in known:
+            yield f"{len(found)} crates have a {what} {name}: {', '.join(found)}"
+    yield from (f"ci/rules/names.py: {of} has {it}, which one crate has" for it in sorted(known) if len(places[it]) < 2)
 
 
 def faults(product, checks):
     yield from too_large(product + checks)
     yield from twice(product + checks)
-    yield from words(product)
-    yield from types(product)
+    yield from shared(product, words, "word", TWICE, "TWICE")
+    yield from shared(product, types, "type", TYPES, "TYPES")
