@@ -1,7 +1,6 @@
 """Peers that keep a serving broker busy for as long as they like, each kind of them beside a client that asks once a
 second with a connection of its own, each other time by a body of 900,000 bytes: each of its answers comes within three
-seconds. A connection of a flood that the
-broker ends is opened again at once."""
+seconds. A connection of a flood that the broker ends is opened again at once."""
 import selectors, socket, threading, time
 from typing import NamedTuple
 import pytest
