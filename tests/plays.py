@@ -1,12 +1,12 @@
 """The files of tests/data that are played on the program: pytest collects each, on each of both builds, and each of its
-plays is an item. The top of players/{story,lines,cases,stops}.py says what such a file has."""
+plays is an item. The top of players/{scenario,lines,cases,stops}.py says what such a file has."""
 import os
 from collections.abc import Callable, Iterator
 from functools import partial
 from pathlib import Path
 from typing import Any
 import pytest
-from tests.players import cases, lines, stops, story, story_plays, trials
+from tests.players import cases, lines, scenario, scenario_plays, stops, trials
 from tests.wire import NotRun, Wrong
 
 BUILDS = {"llvm": "", "by-rattle": ".by-rattle"}
@@ -22,9 +22,10 @@ def built(config: pytest.Config, end: str = "") -> str:
     return path
 
 
-def of_story(file: Path, turn: int) -> dict[str, Play]:
-    read = story.Story(file)
-    return {it.name(): partial(story_plays.play, read, it) for it in story_plays.plays_of(read, turn, len(BUILDS))}
+def of_scenario(file: Path, turn: int) -> dict[str, Play]:
+    read = scenario.Scenario(file)
+    plays = scenario_plays.plays_of(read, turn, len(BUILDS))
+    return {it.name(): partial(scenario_plays.play, read, it) for it in plays}
 
 
 def of_lines(file: Path, _: int) -> dict[str, Play]:
@@ -48,7 +49,7 @@ def of_stops(file: Path, _: int) -> dict[str, Play]:
     return trials.plays_of(stops.Stops(file))
 
 
-KINDS = {".story": of_story, ".lines": of_lines, ".cases": of_cases, ".stops": of_stops}
+KINDS = {".scenario": of_scenario, ".lines": of_lines, ".cases": of_cases, ".stops": of_stops}
 
 
 class PlayItem(pytest.Item):

@@ -4,7 +4,7 @@ import html.parser, json, re, sys
 from typing import Any, NamedTuple
 from urllib.parse import quote
 from tests.desk.browser import Answer, Browser
-from tests.players import story_plays
+from tests.players import scenario_plays
 from tests.process import TOP, Server, run
 from tests.wire import OFFICE, Wrong, same
 
@@ -13,7 +13,7 @@ TOOL = [f"{TOP}/client/holzhebo", "report"]
 
 def copied(file: str, to: str) -> str:
     """The copy of a stopped broker's file, with its log."""
-    story_plays.place_copy(file, to)
+    scenario_plays.place_copy(file, to)
     return to
 
 

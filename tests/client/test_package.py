@@ -58,7 +58,7 @@ def test_how_fast_it_starts(one_file: str, room: str) -> None:
         raise Wrong(f"it takes {min(took):.2f} seconds")
 
 
-# A fleet's whole story, by each form in which the client is shipped
+# A fleet's whole scenario, by each form in which the client is shipped
 
 
 class Shipped(Client):
@@ -126,7 +126,7 @@ def installed(program: str, room: str) -> List[str]:
 
 @pytest.mark.needs("dh_python3", "dpkg-deb", "argparse-manpage", "shtab")
 @pytest.mark.parametrize("form", ["one file", "wheel", "package"])
-def test_a_fleet_s_story(form: str, one_file: str, program: str, fleet: Server, room: str) -> None:
+def test_a_fleet_s_scenario(form: str, one_file: str, program: str, fleet: Server, room: str) -> None:
     """Publish, verify with states, deploy, a canary, a roll back."""
     env: Dict[str, str] = {}
     if form == "wheel":

@@ -1,7 +1,7 @@
 """The gate of `holzhebo report`, the second reading of the tables, against the program.
 
 For every version and every environment, what the report finds is what can-i-deploy answers, fault by fault, and what it
-says is there is what the listing says: over the file that each story of tests/data/stories leaves that breaks no
+says is there is what the listing says: over the file that each scenario of tests/data/scenarios leaves that breaks no
 rule by a statement, and over random histories, in which each kind of fault comes up."""
 import collections, json, os, random, tempfile
 from concurrent.futures import ThreadPoolExecutor
@@ -13,7 +13,7 @@ from holzhebo.report.board import refusals
 from holzhebo.report.copy import Copy
 from holzhebo.report.gate import faults
 from tests.client.report_shown import copied, page_of
-from tests.players import story, story_plays
+from tests.players import scenario, scenario_plays
 from tests.process import TOP, Server
 from tests.wire import OFFICE, Wrong, same
 from tests.world import BLUE, RED, new_file, pact
@@ -64,25 +64,25 @@ def compare(program: str, file: str, office: str, room: str) -> Kinds:
     return kinds
 
 
-def kinds_of_story(program: str, name: str) -> Kinds | None:
-    """A story, if it changes nothing by a statement."""
-    read = story.Story(story.file_of(name))
+def kinds_of_scenario(program: str, name: str) -> Kinds | None:
+    """A scenario, if it changes nothing by a statement."""
+    read = scenario.Scenario(scenario.file_of(name))
     if any(it.strip() for stream in read.streams for it in stream.statements):
         return None
     with tempfile.TemporaryDirectory() as room:
-        story_plays.play_file(program, read, "whole", room, "left")
+        scenario_plays.play_file(program, read, "whole", room, "left")
         try:
             return compare(program, f"{room}/left.db", read.office, room)
         except Wrong as it:
             raise Wrong(f"{name}: {it}") from None
 
 
-def test_the_gate_of_stories(program: str) -> None:
-    names = sorted(it.stem for it in Path(f"{TOP}/tests/data/stories").glob("*.story"))
+def test_the_gate_of_scenarios(program: str) -> None:
+    names = sorted(it.stem for it in Path(f"{TOP}/tests/data/scenarios").glob("*.scenario"))
     with ThreadPoolExecutor(len(os.sched_getaffinity(0))) as pool:
-        found = [it for it in pool.map(lambda name: kinds_of_story(program, name), names) if it is not None]
+        found = [it for it in pool.map(lambda name: kinds_of_scenario(program, name), names) if it is not None]
     if len(found) * 2 < len(names):
-        raise Wrong(f"only {len(found)} of {len(names)} stories leave a sound file")
+        raise Wrong(f"only {len(found)} of {len(names)} scenarios leave a sound file")
     kinds: Kinds = sum(found, collections.Counter())
     same("there are faults, and questions", kinds.total() > kinds["asked"] > 0, True)
 

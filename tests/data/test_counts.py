@@ -5,13 +5,13 @@ from pathlib import Path
 import pytest
 from tests.players.cases import cases_of
 from tests.players.lines import CommandLine, steps_of
+from tests.players.scenario import Scenario
 from tests.players.stops import Stops
-from tests.players.story import Story
 from tests.players.texts import DATA, written_counts
 from tests.wire import same
 
 COUNTS: dict[str, tuple[str, Callable[[Path], int]]] = {
-    "stories": (".story", lambda file: Story(file).count()),
+    "scenarios": (".scenario", lambda file: Scenario(file).count()),
     "lines": (".lines", lambda file: sum(isinstance(it, CommandLine) for it in steps_of(file))),
     "cases": (".cases", lambda file: len(cases_of(file))),
     "stops": (".stops", lambda file: len(Stops(file).steps)),
@@ -22,8 +22,8 @@ COUNTS: dict[str, tuple[str, Callable[[Path], int]]] = {
 def test_nothing_was_lost(folder: str) -> None:
     end, count = COUNTS[folder]
     files = [*(DATA / folder).glob(f"*{end}")]
-    if folder == "stories":
-        files += (DATA / "stops").glob("*.story")
+    if folder == "scenarios":
+        files += (DATA / "stops").glob("*.scenario")
     assert files
     both = {it.stem: count(it) for it in files}, written_counts(folder)
     found, written = ("\n".join(f"{name}: {its[name]}" for name in sorted(its)) for its in both)

@@ -1,4 +1,4 @@
-"""docs/openapi.json is true of all requests and answers of stories and stops, and each of its operations is met with
+"""docs/openapi.json is true of all requests and answers of scenarios and stops, and each of its operations is met with
 each status that it has. The requests of command lines with their answers, and the pact files and replies of cases that
 the program reads, are tried as they are played (players/lines.py, players/questions.py)."""
 from collections import Counter
@@ -10,7 +10,7 @@ from tests.players.lines import CommandLine, steps_of
 from tests.players.texts import DATA
 from tests.wire import Wrong, answer, request
 
-# How many requests of each story, by its rule, are refused since their heads are wrong: the document says nothing of
+# How many requests of each scenario, by its rule, are refused since their heads are wrong: the document says nothing of
 # them but the answer.
 REFUSED = {"refused-heads": 23, "head-requests": 3, "long-heads": 2, "longest-head": 2, "sixty-four-fields": 2}
 
@@ -23,13 +23,13 @@ def test_each_exchange_is_as_the_document_says() -> None:
         for method in its.keys() & {"get", "put", "post", "delete"}
         for status in its[method]["responses"].keys() - {"default"}
     }
-    assert said - met == set(), "no story has these"
+    assert said - met == set(), "no scenario has these"
     assert {it for it in met if it and it[2] not in FAILURES} - said == set(), "the document hasn't these"
     assert len(exchanges()) > 1700
 
 
 def test_which_requests_are_refused() -> None:
-    wrong = Counter(it.place.partition(".story")[0].rpartition("/")[2] for it in exchanges() if it.is_refused())
+    wrong = Counter(it.place.partition(".scenario")[0].rpartition("/")[2] for it in exchanges() if it.is_refused())
     assert wrong == REFUSED
 
 

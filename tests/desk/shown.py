@@ -1,4 +1,4 @@
-"""What the page of desk/ has to show of the demo: written by hand from the story that examples/demo.sh says, from
+"""What the page of desk/ has to show of the demo: written by hand from the scenario that examples/demo.sh says, from
 docs/DESK.md and from docs/API.md, and never taken from the page or the program."""
 
 HEADS = ["service", "dev open", "staging gated", "live strict"]

@@ -1,4 +1,4 @@
-"""`holzhebo plan` over the demo: what it prints, by hand from the story that examples/demo.sh says; its JSON; words."""
+"""`holzhebo plan` over the demo: what it prints, by hand from the scenario of examples/demo.sh; its JSON; words."""
 from __future__ import annotations
 
 import json

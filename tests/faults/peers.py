@@ -3,8 +3,8 @@ takes no time (devices.c)."""
 import os, tempfile
 from collections.abc import Sequence
 from typing import NamedTuple
+from tests.players.scenario import Scenario, file_of
 from tests.players.shims import MEMORY, library
-from tests.players.story import Story, file_of
 from tests.process import free_address, ran
 from tests.wire import OFFICE, same
 from tests.world import new_file
@@ -84,7 +84,7 @@ def served(program: str, *peers: Peer) -> Played:
 
 def first_run() -> tuple[list[bytes], list[bytes]]:
     """The requests and the answers of the first run, one by one."""
-    stream = Story(file_of("first-run")).streams[0]
+    stream = Scenario(file_of("first-run")).streams[0]
     return stream.messages, [it.text for it in stream.answers]
 
 

@@ -1,5 +1,5 @@
 """Peers of the program that fail at one byte, or make it wait at a clock of their own (peers.py). What is expected is
-from docs/OPERATING.md and docs/LIMITS.md; the requests and answers are those of data/stops/first-run.story."""
+from docs/OPERATING.md and docs/LIMITS.md; the requests and answers are those of data/stops/first-run.scenario."""
 import errno
 import pytest
 from tests.faults.peers import MOST, Peer, corners, first_run, replayed, served, stream_of, whole_within

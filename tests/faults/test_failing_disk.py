@@ -10,7 +10,7 @@ all. And SQLite's own integrity_check and foreign_key_check find a copy of the f
 import contextlib, os, resource, socket, sqlite3, subprocess, tempfile
 from collections.abc import Iterator
 import pytest
-from tests.players.story_plays import place_copy
+from tests.players.scenario_plays import place_copy
 from tests.process import Server, ran
 from tests.wire import OFFICE, Wrong, next_answer, request, same
 from tests.world import BLUE, RED, new_file

@@ -8,8 +8,8 @@ from collections.abc import Iterator
 from concurrent.futures import ThreadPoolExecutor
 import pytest
 from tests.players.files import statements
+from tests.players.scenario import Scenario, file_of
 from tests.players.shims import library
-from tests.players.story import Story, file_of
 from tests.process import Ended, Server, ran
 from tests.wire import OFFICE, PATIENCE, Wrong, answer, same
 from tests.world import folded, new_file, register, verify
@@ -41,11 +41,11 @@ def parted(out: bytes) -> list[bytes]:
 
 
 class Stream:
-    """The requests of a story and their answers, as a replay reads them, whose requests for memory are refused one by
-    one."""
+    """The requests of a scenario and their answers, as a replay reads them, whose requests for memory are refused one
+    by one."""
 
     def __init__(self, program: str, name: str) -> None:
-        stream = Story(file_of(name)).streams[0]
+        stream = Scenario(file_of(name)).streams[0]
         self.program, self.requests, self.answers = program, stream.messages, [it.text for it in stream.answers]
         self.words = [program, "replay", "--office-token", OFFICE]
         self.without = functools.cache(self.run_without)

@@ -31,7 +31,7 @@ SEVERAL = SOCKETS, "test_a_connection_of_several_requests_is_one"
 CALLS = {
     "last-byte-is-lost": Wrongly(*COUNTED),
     "bytes-are-turned": Wrongly(*COUNTED),
-    "first-byte-twice": Wrongly("tests/data/stories/runs.story", "llvm"),
+    "first-byte-twice": Wrongly("tests/data/scenarios/runs.scenario", "llvm"),
     "half-is-sent": Wrongly(*COUNTED),
     "each-second-is-lost": Wrongly(*SEVERAL),
     "what-is-seen-is-lost": Wrongly(*COUNTED),

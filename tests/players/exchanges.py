@@ -1,4 +1,4 @@
-"""The messages of streams with their answers, one by one: of stories, of stops, and of the run that README.md shows.
+"""The messages of streams with their answers, one by one: of scenarios, of stops, and of the run that README.md shows.
 
 Each answer is to one message, in their order. A message that isn't a whole request, or isn't read further, is refused
 (400, 413, 431 or 501), and nothing after it is answered; nor is what comes after an answer that closes the connection,
@@ -8,8 +8,8 @@ from collections.abc import Iterator, Sequence
 from functools import cache
 from pathlib import Path
 from typing import NamedTuple
+from tests.players.scenario import Scenario
 from tests.players.stops import Stops
-from tests.players.story import Story
 from tests.players.texts import DATA
 from tests.process import TOP
 from tests.wire import Answer, Wrong, answers_in, head_in
@@ -67,9 +67,9 @@ def exchanges_in(sent: bytes, answers: Sequence[Named]) -> list[Exchange]:
     return found
 
 
-def of_story(file: Path) -> Iterator[Exchange]:
-    """Those of a story's own streams. The answer to a HEAD is its head alone."""
-    for stream in (it for it in Story(file).streams if it.is_own):
+def of_scenario(file: Path) -> Iterator[Exchange]:
+    """Those of a scenario's own streams. The answer to a HEAD is its head alone."""
+    for stream in (it for it in Scenario(file).streams if it.is_own):
         texts = ((it.place, it.text) for it in stream.answers)
         read = [(place, head_in(it)[0] if it.endswith(b"\r\n\r\n") else answers_in(it)[0]) for place, it in texts]
         yield from exchanges_in(stream.sent, read)
@@ -94,7 +94,7 @@ def of_shown_run() -> Iterator[Exchange]:
 @cache
 def exchanges() -> list[Exchange]:
     """All of them, as they are written."""
-    files = [*sorted((DATA / "stories").glob("*.story")), *sorted((DATA / "stops").iterdir())]
-    by_kind = {".story": of_story, ".stops": of_stops}
+    files = [*sorted((DATA / "scenarios").glob("*.scenario")), *sorted((DATA / "stops").iterdir())]
+    by_kind = {".scenario": of_scenario, ".stops": of_stops}
     found = [it for file in files if file.suffix in by_kind for it in by_kind[file.suffix](file)]
     return [*found, *of_shown_run()]

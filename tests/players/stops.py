@@ -3,8 +3,8 @@ spaces goes on where the line before it ended; the others are:
 
     # TEXT, or nothing              no part of the file
     @ CALLER TOKEN                  a caller's token; the first is the office's
-    & NAME                          what the story NAME says comes first, unstopped, on a new broker. Of the lines of
-                                    a story (story.py) it has only callers, requests, answers and `= end`
+    & NAME                          what the scenario NAME says comes first, unstopped, on a new broker. Of the lines of
+                                    a scenario (scenario.py) it has only callers, requests, answers and `= end`
     > CALLER METHOD PATH BODY       a step, a request; the caller may be `-`, for none, and the body may be left out
     < STATUS FIELD | FIELD BODY     its answer; fields beside those of each answer come between bars; the body begins
                                     with `{`
@@ -78,7 +78,7 @@ class Stops:
     def take_marked(self, mark: str, text: str) -> None:
         """Takes a line by its mark."""
         if mark == "&":
-            for place, line in lines_in(DATA / "stops" / f"{text}.story"):
+            for place, line in lines_in(DATA / "stops" / f"{text}.scenario"):
                 self.take_line(place, line, self.take_first)
         elif mark == "@":
             self.take_first(mark, text)

@@ -1,5 +1,5 @@
-"""What the files of stories, cases and stops share: lines that go on, requests and answers as one writes them, and the
-counts beside the files."""
+"""What the files of scenarios, cases and stops share: lines that go on, requests and answers as one writes them, and
+the counts beside the files."""
 import os, re
 from pathlib import Path
 from tests.process import TOP

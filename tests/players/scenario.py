@@ -1,8 +1,8 @@
-"""A story: requests and their answers, byte for byte. Its file is NAME.story; a line that begins with two spaces goes
-on where the line before it ended; the others are:
+"""A scenario: requests and their answers, byte for byte. Its file is NAME.scenario; a line that begins with two spaces
+goes on where the line before it ended; the others are:
 
-    # TEXT, or nothing                  no part of the story
-    & NAME                              the lines of the story NAME come first; it has no such line itself
+    # TEXT, or nothing                  no part of the scenario
+    & NAME                              the lines of the scenario NAME come first; it has no such line itself
     @ CALLER TOKEN                      a caller's token; the first is the office's
     > CALLER METHOD PATH BODY           a request; the caller may be `-`, for none, and the body may be left out
     < STATUS FIELD | FIELD BODY         the next answer; fields beside those of each answer come between bars; the body
@@ -25,11 +25,11 @@ from typing import NamedTuple
 from tests.players.texts import DATA, answered, asked, lines_in, unescaped
 from tests.wire import Wrong
 
-FOLDERS = "stories", "stops"
+FOLDERS = "scenarios", "stops"
 
 
 class Wanted(NamedTuple):
-    """An answer: the place of its line, its bytes, and what was asked before it, as the story says it."""
+    """An answer: the place of its line, its bytes, and what was asked before it, as the scenario says it."""
 
     place: str
     text: bytes
@@ -54,15 +54,15 @@ class Stream:
 
 
 def file_of(name: str) -> Path:
-    """The file of the story of this name."""
+    """The file of the scenario of this name."""
     for folder in FOLDERS:
-        if (file := DATA / folder / f"{name}.story").exists():
+        if (file := DATA / folder / f"{name}.scenario").exists():
             return file
-    raise Wrong(f"there is no story {name}")
+    raise Wrong(f"there is no scenario {name}")
 
 
-class Story:
-    """A story: its callers and its streams."""
+class Scenario:
+    """A scenario: its callers and its streams."""
 
     def __init__(self, file: Path) -> None:
         self.name, self.callers = file.stem, dict[str, str]()
@@ -81,7 +81,7 @@ class Story:
         self.office = next(iter(self.callers.values()))
 
     def take_other(self, name: str) -> None:
-        """Takes the lines of another story."""
+        """Takes the lines of another scenario."""
         self.current.is_own = False
         for place, line in lines_in(file_of(name)):
             self.take_line(place, line)
@@ -92,7 +92,7 @@ class Story:
         try:
             self.take_marked(place, mark, text)
         except (KeyError, ValueError, Wrong) as it:
-            raise Wrong(f"{place}: no line of a story: {line[:200]} ({it})") from None
+            raise Wrong(f"{place}: no line of a scenario: {line[:200]} ({it})") from None
 
     def take_marked(self, place: str, mark: str, text: str) -> None:
         """Takes a line by its mark."""
@@ -161,7 +161,7 @@ class Story:
         return sum(len(it.answers) for it in self.streams)
 
     def longest(self) -> int:
-        """The length of the longest stream of the story's own."""
+        """The length of the longest stream of the scenario's own."""
         return max((len(it.sent) for it in self.streams if it.is_own), default=0)
 
     def is_one_stream(self) -> bool:

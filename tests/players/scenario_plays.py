@@ -1,18 +1,18 @@
-"""How a story is played: over a new file by `init` and `serve`, with a connection for each stream, and opened again by
-another `serve` after statements; and, if all of its streams but the last are whole and it has no statements, as one
+"""How a scenario is played: over a new file by `init` and `serve`, with a connection for each stream, and opened again
+by another `serve` after statements; and, if all of its streams but the last are whole and it has no statements, as one
 stream to `replay`. Each is played whole; to `replay` byte by byte too, if it is short; and cut in two, at as many
 places as LIMITS allow, each on one of the builds in turn. What comes first, by `& NAME`, is cut nowhere."""
 import os, shutil, socket, tempfile
 from collections.abc import Iterator, Sequence
 from typing import NamedTuple
 from tests.players.files import statements
-from tests.players.story import Story, Stream, Wanted
+from tests.players.scenario import Scenario, Stream, Wanted
 from tests.players.streams import is_closed, receive, send_by_pipe, send_by_socket, shown
 from tests.process import Server, Started, free_address, kept_bytes
 from tests.wire import Wrong, difference
 from tests.world import new_file
 
-# About how many answers are asked for at most, and how many bytes are sent, when a story is cut again and again: to
+# About how many answers are asked for at most, and how many bytes are sent, when a scenario is cut again and again: to
 # `replay`, and over a file, where a play takes longer.
 LIMITS = {"replay": (4000, 5_000_000), "serve": (300, 400_000)}
 # How long a stream is at most that is sent byte by byte, and how many plays one item has.
@@ -24,7 +24,7 @@ Cut = str | int
 
 
 class Plays(NamedTuple):
-    """Some plays of a story: the way, and where each is cut."""
+    """Some plays of a scenario: the way, and where each is cut."""
 
     way: str
     cuts: Sequence[Cut]
@@ -34,11 +34,11 @@ class Plays(NamedTuple):
         return f"{self.way} {cut if isinstance(cut, str) else f'cut after {cut} bytes'}"
 
 
-def plays_of(story: Story, turn: int, builds: int) -> Iterator[Plays]:
+def plays_of(scenario: Scenario, turn: int, builds: int) -> Iterator[Plays]:
     """What is played on one of so many builds: whole, byte by byte, and the places of its turn, some at a time."""
-    for way in ["serve", "replay"] if story.is_one_stream() else ["serve"]:
-        length, (answers, size) = story.longest(), LIMITS[way]
-        step = max(length * story.count() // answers, length * length // size) + 1
+    for way in ["serve", "replay"] if scenario.is_one_stream() else ["serve"]:
+        length, (answers, size) = scenario.longest(), LIMITS[way]
+        step = max(length * scenario.count() // answers, length * length // size) + 1
         yield Plays(way, ["whole"])
         if way == "replay" and length <= SHORT:
             yield Plays(way, ["bytes"])
@@ -75,19 +75,19 @@ def end_well(process: Started) -> None:
         raise Wrong(f"it ends with {status}, and on standard error is {shown(said)}")
 
 
-def play_replay(program: str, story: Story, cut: Cut) -> None:
-    """Plays the story as one stream on standard input of `replay`."""
+def play_replay(program: str, scenario: Scenario, cut: Cut) -> None:
+    """Plays the scenario as one stream on standard input of `replay`."""
     output, (reader, writer) = os.memfd_create("output"), os.pipe()
-    words = [program, "replay", "--office-token", story.office]
+    words = [program, "replay", "--office-token", scenario.office]
     try:
         with Started(words, stdin=reader, stdout=output) as process:
             os.close(reader)
-            for stream in story.streams:
+            for stream in scenario.streams:
                 send_by_pipe(writer, pieces_of(stream, cut), process)
             os.close(writer)
             writer = -1
             end_well(process)
-            compare([it for stream in story.streams for it in stream.answers], kept_bytes(output), "to replay")
+            compare([it for stream in scenario.streams for it in stream.answers], kept_bytes(output), "to replay")
     finally:
         for it in (output, writer):
             if it >= 0:
@@ -116,7 +116,7 @@ def play_connection(connection: socket.socket, stream: Stream, cut: Cut, where: 
 
 
 def play_served(program: str, file: str, streams: Sequence[Stream], number: int, cut: Cut) -> None:
-    """Plays the streams over the file by one `serve`. The first of them is the story's stream of this number."""
+    """Plays the streams over the file by one `serve`. The first of them is the scenario's stream of this number."""
     server = Server(program, file, len(streams), free_address())
     server.begin()
     try:
@@ -145,32 +145,32 @@ def place_copy(base: str, file: str) -> None:
             shutil.copyfile(base + end, file + end)
 
 
-def play_file(program: str, story: Story, cut: Cut, room: str, name: str) -> None:
-    """Plays the story over a file: what is its own over a copy of the file that what comes first left."""
-    own = next((number for number, it in enumerate(story.streams) if it.is_own), len(story.streams))
+def play_file(program: str, scenario: Scenario, cut: Cut, room: str, name: str) -> None:
+    """Plays the scenario over a file: what is its own over a copy of the file that what comes first left."""
+    own = next((number for number, it in enumerate(scenario.streams) if it.is_own), len(scenario.streams))
     base, file = f"{room}/base.db", f"{room}/{name}.db"
     if not os.path.exists(base):
-        new_file(program, room, "base.db", story.office)
+        new_file(program, room, "base.db", scenario.office)
         if own:
-            play_served(program, base, story.streams[:own], 1, "whole")
+            play_served(program, base, scenario.streams[:own], 1, "whole")
     place_copy(base, file)
     number = own + 1
-    for streams in served_runs(story.streams[own:]):
+    for streams in served_runs(scenario.streams[own:]):
         if streams[0].statements:
             statements(file, "".join(f"{it};\n" for it in streams[0].statements))
         play_served(program, file, streams, number, cut)
         number += len(streams)
 
 
-def play(story: Story, plays: Plays, program: str) -> None:
-    """Plays a story this way, cut at each of these places; the first play that is otherwise is an error."""
+def play(scenario: Scenario, plays: Plays, program: str) -> None:
+    """Plays a scenario this way, cut at each of these places; the first play that is otherwise is an error."""
     with tempfile.TemporaryDirectory() as room:
         for count, cut in enumerate(plays.cuts):
             try:
                 if plays.way == "replay":
-                    play_replay(program, story, cut)
+                    play_replay(program, scenario, cut)
                 else:
-                    play_file(program, story, cut, room, str(count))
+                    play_file(program, scenario, cut, room, str(count))
             except Wrong as why:
                 how = {"whole": "whole", "bytes": "byte by byte"}.get(str(cut), f"cut after {cut} bytes")
-                raise Wrong(f"{story.name}, {how}: {why}") from None
+                raise Wrong(f"{scenario.name}, {how}: {why}") from None
