@@ -178,10 +178,10 @@ fn find_or_make<S: Alter>(alloc: Global, conn: Connection<S>, office: &Token) ->
 pub(crate) enum Act<'a> {
     /// These statements are run.
     Run(&'a [&'a str]),
-    /// A story goes on, with a broker whose office has this token; it is made if there is none.
+    /// A scenario goes on, with a broker whose office has this token; it is made if there is none.
     Play(&'a Script, &'a Token),
-    /// The tables are migrated if they are of format 1. Then the questions of the story are asked, whose one step that
-    /// is.
+    /// The tables are migrated if they are of format 1. Then the questions of the scenario are asked, whose one step
+    /// that is.
     Renew(&'a Script),
 }
 

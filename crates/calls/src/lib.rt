@@ -2,7 +2,8 @@
 //! program can't show: each is made with memory enough, and its answer is what the public sources or this project's
 //! documents say, worked out by hand.
 //!
-//! The crate has no code of its own. What has a text form is a story, a command line or a case of pacts (`tests/data`).
+//! The crate has no code of its own. What has a text form is a scenario, a command line or a case of pacts
+//! (`tests/data`).
 #![tactic(auto)]
 
 #[cfg(test)]
@@ -12,11 +13,11 @@ mod lines;
 #[cfg(test)]
 mod rules;
 #[cfg(test)]
+mod scenarios;
+#[cfg(test)]
 mod scripts;
 #[cfg(test)]
 mod stops;
-#[cfg(test)]
-mod stories;
 #[cfg(test)]
 mod streams;
 #[cfg(test)]

@@ -1,5 +1,5 @@
-//! The texts of a story, and how far it is.
-use crate::stories::{Answer, Question, Story};
+//! The texts of a scenario, and how far it is.
+use crate::scenarios::{Answer, Question, Scenario};
 use crate::streams::{Outcome, Run, run_of, served_at_once};
 use broker_service::Broker;
 use sqlite::Alter;
@@ -14,7 +14,7 @@ fn answer_text(alloc: Global, answer: &Answer) -> Result<String, Fail> {
     )?)
 }
 
-/// The texts of a story.
+/// The texts of a scenario.
 #[derive(Drop)]
 pub(crate) struct Script {
     requests: Run,
@@ -61,24 +61,26 @@ fn answered<S: Alter>(alloc: Global, broker: &mut Broker<S>, stream: &[u8]) -> V
 }
 
 impl Script {
-    pub(crate) fn new(alloc: Global, story: &Story) -> Result<Script, Fail> {
+    pub(crate) fn new(alloc: Global, scenario: &Scenario) -> Result<Script, Fail> {
         let mut requests = Vec::new(alloc);
-        for (request, _, _) in story.steps {
+        for (request, _, _) in scenario.steps {
             requests.push(*request)?;
         }
         let mut script = Script {
             requests: run_of(alloc, &requests)?,
             answers: Vec::new(alloc),
             again: Vec::new(alloc),
-            questions: asked(alloc, story.questions)?,
+            questions: asked(alloc, scenario.questions)?,
             shown: Vec::new(alloc),
         };
-        for (_, answer, again) in story.steps {
+        for (_, answer, again) in scenario.steps {
             script.answers.push(answer_text(alloc, answer)?)?;
             script.again.push(answer_text(alloc, again)?)?;
         }
-        for done in 0..=story.steps.len() {
-            script.shown.push(all_shown(alloc, story.questions, done)?)?;
+        for done in 0..=scenario.steps.len() {
+            script
+                .shown
+                .push(all_shown(alloc, scenario.questions, done)?)?;
         }
         Ok(script)
     }
@@ -179,7 +181,7 @@ fn are_refusals(returned: &[u8], count: usize) -> bool {
     rest.is_empty()
 }
 
-/// How far a story is: so many requests are done, and maybe one more, which was cut before it was answered.
+/// How far a scenario is: so many requests are done, and maybe one more, which was cut before it was answered.
 #[derive(Clone, Copy)]
 pub(crate) struct Course {
     pub(crate) done: usize,

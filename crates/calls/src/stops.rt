@@ -1,9 +1,9 @@
-//! Stories over files that stop at a call, at each one after another, and are opened again.
+//! Scenarios over files that stop at a call, at each one after another, and are opened again.
 use crate::disks::{Act, Fuses, Held, Left, NEVER, session};
-use crate::scripts::{BEGIN, Course, Script};
-use crate::stories::{
-    FIRST_DEPLOYMENT, First, GATED_DEPLOYMENTS, MIGRATION, REPLIES, RESULT_OF_RUN, Step, Story,
+use crate::scenarios::{
+    FIRST_DEPLOYMENT, First, GATED_DEPLOYMENTS, MIGRATION, REPLIES, RESULT_OF_RUN, Scenario, Step,
 };
+use crate::scripts::{BEGIN, Course, Script};
 use crate::streams::OFFICE;
 use broker_names::name::Token;
 use broker_service::OpenFault;
@@ -46,7 +46,7 @@ impl Stop {
     }
 }
 
-/// What a test needs: a story, what each session does, and what is there before.
+/// What a test needs: a scenario, what each session does, and what is there before.
 #[derive(Clone, Copy)]
 struct Plan<'a> {
     alloc: Global,
@@ -100,7 +100,7 @@ fn goes_on(plan: &Plan<'_>, held: Held, stop: Stop, course: Course) -> Result<bo
 /// Of which of the two files all is lost that wasn't synced.
 const LOSSES: [(bool, bool); 4] = [(false, false), (true, false), (false, true), (true, true)];
 
-/// After a session that stopped so the story ends well, for each loss of what wasn't synced.
+/// After a session that stopped so the scenario ends well, for each loss of what wasn't synced.
 fn survives(
     rt: &impl Abort,
     plan: &Plan<'_>,
@@ -183,12 +183,12 @@ fn left_by(alloc: Global, act: Act<'_>) -> Result<Held, Fail> {
 
 /// What a broker leaves that has done these steps.
 fn left_by_steps(alloc: Global, office: &Token, steps: &'static [Step]) -> Result<Held, Fail> {
-    let story = Story {
+    let scenario = Scenario {
         first: First::Nothing,
         steps,
         questions: &[],
     };
-    let script = Script::new(alloc, &story)?;
+    let script = Script::new(alloc, &scenario)?;
     left_by(alloc, Act::Play(&script, office))
 }
 
@@ -200,11 +200,11 @@ fn base_of(alloc: Global, office: &Token, first: First) -> Result<Held, Fail> {
     }
 }
 
-fn reports(rt: &impl Abort, alloc: Global, story: &Story) -> Result<(), Fail> {
+fn reports(rt: &impl Abort, alloc: Global, scenario: &Scenario) -> Result<(), Fail> {
     let office = Token::new(alloc, OFFICE)?;
-    let script = Script::new(alloc, story)?;
-    let base = base_of(alloc, &office, story.first)?;
-    let act = match story.first {
+    let script = Script::new(alloc, scenario)?;
+    let base = base_of(alloc, &office, scenario.first)?;
+    let act = match scenario.first {
         First::Tables(_) => Act::Renew(&script),
         _ => Act::Play(&script, &office),
     };

@@ -10,7 +10,7 @@ pub(crate) type Step = (Request, Answer, Answer);
 /// A question, and its answers, each from so many requests done on.
 pub(crate) type Question = (Request, &'static [(usize, Answer)]);
 
-/// What comes before a story, over files that don't stop.
+/// What comes before a scenario, over files that don't stop.
 #[derive(Clone, Copy)]
 pub(crate) enum First {
     Nothing,
@@ -20,38 +20,38 @@ pub(crate) enum First {
 }
 
 #[derive(Clone, Copy)]
-pub(crate) struct Story {
+pub(crate) struct Scenario {
     pub(crate) first: First,
     pub(crate) steps: &'static [Step],
     pub(crate) questions: &'static [Question],
 }
 
-pub(crate) const FIRST_DEPLOYMENT: Story = Story {
+pub(crate) const FIRST_DEPLOYMENT: Scenario = Scenario {
     first: First::Nothing,
     steps: FIRST_RUN,
     questions: FIRST_RUN_QUESTIONS,
 };
 
-pub(crate) const GATED_DEPLOYMENTS: Story = Story {
+pub(crate) const GATED_DEPLOYMENTS: Scenario = Scenario {
     first: First::Nothing,
     steps: GATE,
     questions: GATE_QUESTIONS,
 };
 
-pub(crate) const REPLIES: Story = Story {
+pub(crate) const REPLIES: Scenario = Scenario {
     first: First::Steps(CONTRACT),
     steps: SENT_REPLIES,
     questions: REPLIES_QUESTIONS,
 };
 
-pub(crate) const RESULT_OF_RUN: Story = Story {
+pub(crate) const RESULT_OF_RUN: Scenario = Scenario {
     first: First::Steps(CONTRACT),
     steps: RUN_OF_TESTS,
     questions: RUN_QUESTIONS,
 };
 
 /// The migration, which is no request.
-pub(crate) const MIGRATION: Story = Story {
+pub(crate) const MIGRATION: Scenario = Scenario {
     first: First::Tables(FORMER),
     steps: &[((OFFICE, "", ""), DONE, ALREADY)],
     questions: MIGRATION_QUESTIONS,
