@@ -41,7 +41,7 @@ pub enum Rule {
 impl Rule {
     ghost use Rattle.broker_core.specs.Words.{rule_text};
 
-    /// The rule's name in answers, from `KnownCaller` to `KnownCallerToList`.
+    /// The rule's name in answers, from `A1` to `A8`.
     pub const fn as_str(self) -> &'static str
         ensures { result.now ≡ rule_text self }
     {
@@ -128,7 +128,8 @@ impl Caller {
 
 /// Whether the policy allows the caller what is asked: nothing, or the rule that denies, which is the one asked for.
 ///
-/// `KnownCaller` and `KnownCallerToList` let every caller that is known. A team is an owner if it is among the owners. Takes no memory.
+/// `KnownCaller` and `KnownCallerToList` let every caller that is known. A team is an owner if it is among the owners.
+/// Takes no memory.
 pub fn allowed(caller: &Caller, ask: &Ask<'_>) -> Result<(), Rule>
     ensures { result ≡ (if allows ask.now.rule caller.now (map (λ o. o.now) ask.now.owners.now) ask.now.granted
         then Ok tt else Err ask.now.rule) }
