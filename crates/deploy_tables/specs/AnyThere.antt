@@ -6,7 +6,7 @@ use Rattle.sqlite.specs.declared.types.Value.TheVariants as value
 use Rattle.sqlite.specs.Order.{Row, column}
 use Rattle.sqlite.specs.Effect.{Database}
 use Rattle.sqlite.specs.Held.{Held, state}
-use Rattle.sqlite.specs.State.{HasCleanDisk}
+use Rattle.sqlite.specs.State.{HasCleanDisk, IsUnchanged}
 use Rattle.sqlite_trees.specs.declared.store.Store.{Ghosts}
 use Rattle.sqlite_rules.specs.Lists.{Has}
 use Rattle.table_access.specs.declared.StoreFault.{StoreFault}
@@ -52,3 +52,8 @@ module _ {X A : Type 0} (store : Ghosts X) (old new : Held X) (r : Result A Stor
   -- and there is one only if this is so of that
   abbrev pub AnswersOnlyIf : (Database → Type 0) → Type 0
   AnswersOnlyIf P = AnswersAsIn (λ _. P)
+
+  -- and what the database holds is as it was
+  abbrev pub LeavesUnchanged : Type 0
+  LeavesUnchanged = HasCleanDisk (state store new) → CanBeAsked (state store old)
+      → IfOk r (λ _. IsUnchanged (state store old) (state store new))

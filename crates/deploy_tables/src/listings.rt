@@ -4,7 +4,7 @@ ghost use Rattle.broker_core.specs.Listing.{Lists};
 ghost use Rattle.broker_core.specs.Machine.{deployed_cmp, version_cmp};
 ghost use Rattle.broker_core.specs.declared.command.Version.{Version as VersionModel};
 ghost use Rattle.broker_tables.specs.Failures.{LooksUp, TakesNoMemoryIf};
-ghost use Rattle.deploy_tables.specs.AnyThere.{AnswersOnlyIf, EachDeployedIsThere, EachReleasedIsThere};
+ghost use Rattle.deploy_tables.specs.AnyThere.{AnswersOnlyIf, EachDeployedIsThere, EachReleasedIsThere, LeavesUnchanged};
 ghost use Rattle.deploy_tables.specs.Listings.{IsDeployedRow, IsReleasedRow, ReadsAsDeployed, ReadsAsReleased, FailsAsDeployed, FailsAsReleased};
 
 use broker_core::answer::DeployedItem;
@@ -75,7 +75,7 @@ impl ReadRow for VersionRow {
 }
 
 /// What is deployed in the environment, each once, in the order of pacticipants and instances. A row of it that
-/// names no version is never left out, with any CHECKs and references in the tables.
+/// names no version is never left out, with any CHECKs and references in the tables. What they hold stays.
 ///
 /// # Errors
 /// `StoreFault::Memory` if the database is out of memory, or there is none for the answer; `StoreFault::Store` if it
@@ -89,6 +89,7 @@ pub fn deployed<S: Alter>(
         (λ items s. Lists deployed_cmp
         (λ x. s.deployed (environment.now, x.pacticipant, x.instance) ≡ Some x.version) items.items) }
     ensures named { AnswersOnlyIf S.Store conn.old conn.new result (EachDeployedIsThere environment.now) }
+    ensures stays { LeavesUnchanged S.Store conn.old conn.new result }
     ensures missing { TakesNoMemoryIf S.Store conn.old conn.new result
         (λ s. (p i : List ℕ) → s.deployed (environment.now, p, i) ≡ None) }
 {

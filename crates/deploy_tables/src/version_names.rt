@@ -1,14 +1,11 @@
 //! The names of a version, by its number.
-ghost use Rattle.std.specs.Prelude.{◌≡◌, ◌<◌, ◌↔◌, Some, IsSome, IfOk, Contains, length, pos};
-ghost use Rattle.sqlite.specs.Held.{state};
-ghost use Rattle.sqlite.specs.State.{HasCleanDisk, IsUnchanged};
+ghost use Rattle.std.specs.Prelude.{◌≡◌, ◌<◌, ◌↔◌, Some, IsSome, Contains, length, pos};
 ghost use Rattle.sqlite.specs.declared.types.Value.TheVariants.{Int};
-ghost use Rattle.broker_tables.specs.Asking.{CanBeAsked};
 ghost use Rattle.broker_core.specs.declared.command.Version.{Version as VersionModel};
 ghost use Rattle.broker_tables.specs.Numbers.{number_of};
 ghost use Rattle.broker_tables.specs.Failures.{LooksUp, FailsByStoreFrom};
 ghost use Rattle.broker_tables.specs.Holds.{Queries};
-ghost use Rattle.deploy_tables.specs.AnyThere.{AnswersAsIn, AnswersOnlyIf, IsOfAVersion};
+ghost use Rattle.deploy_tables.specs.AnyThere.{AnswersAsIn, AnswersOnlyIf, IsOfAVersion, LeavesUnchanged};
 ghost use Rattle.deploy_tables.specs.Releases.{IsVersion, FindsVersion};
 
 use crate::listings::VersionRow;
@@ -27,8 +24,7 @@ fn versions_numbered<S: Alter>(
         (λ found s. (w : VersionModel) → Contains found.items w ↔ (number_of s.versions w ≡ Some number)) }
     ensures named { AnswersAsIn S.Store conn.old conn.new result
         (λ found db. (0 < length found.items) ↔ IsOfAVersion db (Int (pos number))) }
-    ensures stays { HasCleanDisk (state S.Store conn.new) → CanBeAsked (state S.Store conn.old) →
-        IfOk result (λ _. IsUnchanged (state S.Store conn.old) (state S.Store conn.new)) }
+    ensures stays { LeavesUnchanged S.Store conn.old conn.new result }
 {
     list_of::<VersionRow, S>(
         alloc,
@@ -52,8 +48,7 @@ pub(crate) fn find_version<S: Alter>(
     ensures answers { LooksUp S.Store conn.old conn.new result (FindsVersion number) }
     ensures named { AnswersAsIn S.Store conn.old conn.new result
         (λ found db. IsSome found ↔ IsOfAVersion db (Int (pos number))) }
-    ensures stays { HasCleanDisk (state S.Store conn.new) → CanBeAsked (state S.Store conn.old) →
-        IfOk result (λ _. IsUnchanged (state S.Store conn.old) (state S.Store conn.new)) }
+    ensures stays { LeavesUnchanged S.Store conn.old conn.new result }
 {
     let mut found = done!(versions_numbered(alloc, conn, number));
     Ok(found.pop())

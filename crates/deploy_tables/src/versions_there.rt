@@ -4,6 +4,7 @@ ghost use Rattle.broker_core.specs.Gate.{IsPresent};
 ghost use Rattle.broker_core.specs.Listing.{Lists};
 ghost use Rattle.broker_core.specs.Machine.{version_cmp};
 ghost use Rattle.broker_tables.specs.Failures.{LooksUp};
+ghost use Rattle.deploy_tables.specs.AnyThere.{AnswersOnlyIf, EachDeployedIsThere, EachReleasedIsThere};
 ghost use Rattle.deploy_tables.specs.Listings.{deployed_version};
 
 use crate::listings::{deployed, released};
@@ -56,18 +57,21 @@ fn each_version_once(versions: Vec<Version>) -> Vec<Version>
 }
 
 /// The versions that are in the environment, deployed there in some instance or released there: each once, in the order
-/// of pacticipants and versions.
+/// of pacticipants and versions. An answer comes only if each row of what is deployed in the environment, and of what is
+/// released there, names a version, also if no CHECK or reference of the tables asks for it.
 ///
 /// # Errors
 /// `StoreFault::Memory` if the database is out of memory, or there is none for the answer; `StoreFault::Store` if it
-/// refused a query, or if a row holds a text that is no name.
+/// refused a query, or if a row holds a text that is no name, or names no version.
 pub fn standing<S: Alter>(
     alloc: Global,
     conn: &mut Connection<S>,
     environment: &str,
 ) -> Result<Vec<Version>, StoreFault>
-    ensures { LooksUp S.Store conn.old conn.new result
+    ensures answers { LooksUp S.Store conn.old conn.new result
         (λ found s. Lists version_cmp (IsPresent s environment.now) found.items) }
+    ensures named { AnswersOnlyIf S.Store conn.old conn.new result
+        (λ db. EachDeployedIsThere environment.now db × EachReleasedIsThere environment.now db) }
 {
     let deployed = done!(deployed(alloc, conn, environment));
     let released = done!(released(alloc, conn, environment));
