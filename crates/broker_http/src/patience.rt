@@ -16,8 +16,8 @@ use std::time::Clock;
 struct InTurn;
 
 impl<R: PeerReader, D: Door, C: Clock> Turn<Incoming<'_, '_, R, D, C>> for InTurn {
-    fn is_over(reader: &mut Incoming<'_, '_, R, D, C>) -> Option<TurnOver> {
-        reader.is_over()
+    fn is_over(reader: &mut Incoming<'_, '_, R, D, C>, is_begun: bool) -> Option<TurnOver> {
+        reader.is_over(is_begun)
     }
 }
 

@@ -18,8 +18,8 @@ use std::io::Read;
 
 /// When a stream ends between two of its messages, though its reader goes on.
 pub(crate) trait Turn<R: Read> {
-    /// Its end, if it ends now. What the reader gives stays.
-    fn is_over(reader: &mut R) -> Option<TurnOver>
+    /// Its end, if it ends now, where some of the next message was read already or not. What the reader gives stays.
+    fn is_over(reader: &mut R, is_begun: bool) -> Option<TurnOver>
         ensures { Keeps (R.remaining reader.old) (R.remaining reader.new) };
 }
 
@@ -27,7 +27,7 @@ pub(crate) trait Turn<R: Read> {
 struct Endless;
 
 impl<R: Read> Turn<R> for Endless {
-    fn is_over(_reader: &mut R) -> Option<TurnOver> {
+    fn is_over(_reader: &mut R, _is_begun: bool) -> Option<TurnOver> {
         None
     }
 }
@@ -64,7 +64,7 @@ fn serve_messages<T: Turn<R>, R: FallibleRead, W: FallibleWrite, B: Service>(
         return Err(StreamFault::Memory);
     };
     for answered in 0..u64::MAX {
-        if let Some(over) = T::is_over(reader) {
+        if let Some(over) = T::is_over(reader, !buffer.is_empty()) {
             return Err(StreamFault::Turn(over));
         }
         let (head_len, body_len, head) = match read_message(reader, &mut buffer)? {

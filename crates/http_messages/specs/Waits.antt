@@ -1,10 +1,9 @@
 -- how long a peer is waited for, in nanoseconds (this project's own)
-use Rattle.std.specs.Prelude.{◌≡◌, ◌≢◌, ◌⊎◌, ◌+◌, ◌-◌, ◌*◌, ◌≤◌, ℕ, max, min, Result, Ok, Err}
+use Rattle.std.specs.Prelude.{◌≡◌, ◌⊎◌, ◌+◌, ◌-◌, ◌*◌, ◌≤◌, ℕ, Bool, false, max, min, Result, Ok, Err}
 use Rattle.std.specs.Duration.{as_nanos}
 use Rattle.std.specs.IoError.{error_kind}
 use Rattle.std.specs.declared.io.Error.{Error}
 use Rattle.std.specs.declared.io.ErrorKind.TheVariants.{WouldBlock}
-use Rattle.http_messages.specs.Limits.{head_limit}
 use Rattle.http_messages.specs.declared.patience.Limits.{Limits}
 use Rattle.http_messages.specs.declared.patience.Wait.{Wait}
 use Rattle.http_messages.specs.declared.patience.Wait.TheVariants as waits
@@ -70,14 +69,19 @@ abbrev pub IsMoreOfNew : Awaited → Type 0
 IsMoreOfNew (awaits.First grace) = ⊥
 IsMoreOfNew (awaits.More spent) = (as_nanos spent.all ≡ 0) × (as_nanos spent.wanted ≡ 0)
 
--- What a read of at most so many bytes waits for. At first, the first bytes of all; within a message, its rest, of
--- whose limits is spent what was; after an answer, the first bytes of the next message if it asks for as many as a head
--- may have, and else the rest of one of which nothing is spent.
-abbrev pub IsAwaited : Limits → Wait → ℕ → Awaited → Type 0
-IsAwaited limits waits.First most awaited = awaited ≡ awaits.First limits.first
-IsAwaited limits (waits.Message spent) most awaited = awaited ≡ awaits.More spent
-IsAwaited limits (waits.Answer spent) most awaited =
-    ((most ≡ head_limit) × (awaited ≡ awaits.First limits.next)) ⊎ ((most ≢ head_limit) × IsMoreOfNew awaited)
+-- What a read waits for: at first the first bytes of all, and later those of the next message; within a message its
+-- rest, of whose limits is spent what was; and after an answer, of which more was there, the rest of a message of which
+-- nothing is spent.
+abbrev pub IsAwaited : Limits → Wait → Awaited → Type 0
+IsAwaited limits waits.First awaited = awaited ≡ awaits.First limits.first
+IsAwaited limits (waits.Next spent) awaited = awaited ≡ awaits.First limits.next
+IsAwaited limits (waits.Message spent) awaited = awaited ≡ awaits.More spent
+IsAwaited limits (waits.Answer spent) awaited = IsMoreOfNew awaited
+
+-- what is waited for once a message is answered: the first bytes of the next one, unless that is begun
+abbrev pub wait_between : Bool → Wait → Wait
+wait_between false (waits.Answer spent) = waits.Next spent
+wait_between _ wait = wait
 
 -- So much is spent of the limit of the answer that is waited for: of a new one, what its message took while another peer
 -- waited, but for a look.
@@ -85,4 +89,5 @@ abbrev pub IsSpentOnAnswer : Limits → Wait → Duration → Type 0
 IsSpentOnAnswer limits waits.First spent = as_nanos spent ≡ 0
 IsSpentOnAnswer limits (waits.Message before) spent =
     as_nanos spent ≡ min (as_nanos before.wanted) (millis limits.answer - millis limits.look)
+IsSpentOnAnswer limits (waits.Next before) spent = spent ≡ before
 IsSpentOnAnswer limits (waits.Answer before) spent = spent ≡ before

@@ -16,7 +16,7 @@ use crate::reading::{ReadFault, ReadOutcome, read_message};
 use std::alloc::Global;
 use std::io::{self, Read};
 use std::marker::Model;
-use std::time::{Clock, Duration, Instant};
+use std::time::{Duration, Instant};
 
 /// What has come of a peer's first message.
 #[derive(Clone, Copy, Debug, PartialEq, Eq)]
@@ -93,7 +93,7 @@ pub struct Waiting<S> {
     sent: Buffer,
     /// what has come of its first message by that,
     arrived: Arrived,
-    /// and since when that is ready.
+    /// and since when that has been ready, as far as it may have been.
     since: Option<Instant>,
 }
 
@@ -138,8 +138,9 @@ impl<S: Read + Drop> Waiting<S> {
         self.arrived.is_ready()
     }
 
-    /// Reads what is there of its first message, unless that is ready.
-    pub(crate) fn look<C: Clock>(&mut self, clock: &C)
+    /// Reads what is there of its first message, unless that is ready. If it is now, it has been so since `before`, when
+    /// those that wait were looked at before this: what came since then was seen by nobody.
+    pub(crate) fn look(&mut self, before: Option<Instant>)
         ensures same { is_ready self.old.arrived ≡ true → self.new ≡ self.old }
         ensures kept { self.new.arrived ≢ Arrived.Lost → Gains (S.remaining self.old.stream) (S.remaining self.new.stream)
             self.old.sent self.new.sent }
@@ -149,7 +150,7 @@ impl<S: Read + Drop> Waiting<S> {
         }
         self.arrived = read_arrived(&mut self.stream, &mut self.sent);
         if self.is_ready() {
-            self.since = Instant::now(clock).ok();
+            self.since = before;
         }
     }
 

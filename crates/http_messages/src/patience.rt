@@ -10,9 +10,8 @@ ghost use Rattle.std.specs.Duration.{as_nanos, max_nanos};
 ghost use Rattle.std.specs.Io.{ReadsAtMost, WritesAtMost};
 ghost use Rattle.std.specs.Io.KnownBytes.{ReadConsumes, WriteAppends};
 ghost use Rattle.std.specs.IoError.{error_kind};
-ghost use Rattle.http_messages.specs.Waits.{AreWithin, IsAwaited, IsSpentOnAnswer, IsVain, Waits, millis};
+ghost use Rattle.http_messages.specs.Waits.{AreWithin, IsAwaited, IsSpentOnAnswer, IsVain, Waits, millis, wait_between};
 
-use crate::messages::HEAD_LIMIT;
 use crate::turn::{TurnOver, end_of_turn};
 use std::cell::Cell;
 use std::io::{self, ErrorKind, Read, Write};
@@ -136,6 +135,8 @@ impl Spent {
 pub enum Wait {
     /// For the first bytes of all.
     First,
+    /// For those of a later message. The answers since the last read took so long.
+    Next(Duration),
     /// For the rest of a message.
     Message(Spent),
     /// To take the answer.
@@ -243,19 +244,25 @@ enum Awaited {
     More(Spent),
 }
 
-/// What a read of at most so many bytes waits for.
-///
-/// After an answer, a read that asks for as many bytes as a head may have asks for the first bytes of a message: if
-/// some of it is there already, fewer are asked for. (A body that lacks as many, whose head came with the request
-/// before, is taken for the same, and has to go on within `next` if another peer waits.)
-fn waits_for(limits: Limits, wait: Wait, most: usize) -> Awaited
-    ensures { IsAwaited limits wait most result }
+/// What a read waits for.
+fn waits_for(limits: Limits, wait: Wait) -> Awaited
+    ensures { IsAwaited limits wait result }
 {
     match wait {
         Wait::First => Awaited::First(limits.first),
-        Wait::Answer(_) if most == HEAD_LIMIT => Awaited::First(limits.next),
+        Wait::Next(_) => Awaited::First(limits.next),
         Wait::Answer(_) => Awaited::More(Spent::NONE),
         Wait::Message(spent) => Awaited::More(spent),
+    }
+}
+
+/// What is waited for once a message is answered: the first bytes of the next one, if nothing of it is there.
+fn wait_between(wait: Wait, is_begun: bool) -> Wait
+    ensures { result ≡ wait_between is_begun wait }
+{
+    match wait {
+        Wait::Answer(spent) if !is_begun => Wait::Next(spent),
+        _ => wait,
     }
 }
 
@@ -270,7 +277,7 @@ fn spent_on_answer(limits: Limits, wait: Wait) -> Duration
             spent.wanted,
             Duration::from_millis(limits.answer).saturating_sub(Duration::from_millis(limits.look)),
         ),
-        Wait::Answer(spent) => spent,
+        Wait::Next(spent) | Wait::Answer(spent) => spent,
     }
 }
 
@@ -332,13 +339,15 @@ impl<R: PeerReader, D: Door, C: Clock> Incoming<'_, '_, R, D, C> {
     }
 
     /// The end of the peer's turn, between two of its messages, if it has been served for as long while others wait. If
-    /// the clock fails, it is over.
-    pub fn is_over(&mut self) -> Option<TurnOver>
+    /// the clock fails, it is over. `is_begun` says that some of the next message is there already: else its first bytes
+    /// are waited for next.
+    pub fn is_over(&mut self, is_begun: bool) -> Option<TurnOver>
         ensures peer { self.new.peer ≡ self.old.peer }
         ensures alone { D.IsAlone self.old.door.now → result ≡ None }
     {
         let others = self.door.others();
         let served = self.served(others != 0);
+        self.wait.set(wait_between(self.wait.get(), is_begun));
         end_of_turn(self.limits.turn, served, others)
     }
 
@@ -408,7 +417,7 @@ impl<R: PeerReader, D: Door, C: Clock> Read for Incoming<'_, '_, R, D, C> {
 
     fn read(&mut self, buf: &mut [u8]) -> io::Result<usize> {
         let mut spent = Spent::NONE;
-        let read = match waits_for(self.limits, self.wait.get(), buf.len()) {
+        let read = match waits_for(self.limits, self.wait.get()) {
             Awaited::First(grace) => self.begin(buf, grace),
             Awaited::More(before) => {
                 spent = before;

@@ -70,10 +70,11 @@ pub fn places<S: Read + Drop>(waiting: &[Waiting<S>]) -> usize
     }
 }
 
-/// Reads what has come from each that isn't ready.
-pub fn look<S: Read + Drop, C: Clock>(waiting: &mut [Waiting<S>], clock: &C) {
+/// Reads what has come from each that isn't ready. Who is ready now counts as ready since `before`, when they were looked
+/// at before this, or nobody waited: a peer isn't charged for what another one took while nobody looked.
+pub fn look<S: Read + Drop>(waiting: &mut [Waiting<S>], before: Option<Instant>) {
     for it in waiting.iter_mut() {
-        it.look(clock);
+        it.look(before);
     }
 }
 

@@ -10,6 +10,7 @@ use http_messages::arrival::Waiting;
 use http_messages::patience::Door;
 use http_messages::room::{MOST_WAITING, look, next_of, others_wait, places, take_in};
 use std::net::TcpStream;
+use std::time::Instant;
 
 /// Where connections come in.
 #[derive(Drop)]
@@ -22,6 +23,8 @@ pub struct Entrance {
     room: u32,
     /// How many were taken in and are gone, and weren't reported as lost yet.
     gone: u32,
+    /// When those that wait were looked at last, or nobody waited.
+    looked: Option<Instant>,
     rt: HostRuntime,
     ghost fits: { gone + room ≤ 4294967295 },
 }
@@ -72,6 +75,15 @@ impl Entrance {
         }
     }
 
+    /// Reads what has come from those that wait. Who is ready now counts as ready since they were looked at before.
+    fn look(&mut self)
+        ensures same { (length self.new.waiting.items ≡ length self.old.waiting.items) × (self.new.room ≡ self.old.room)
+            × (self.new.gone ≡ self.old.gone) }
+    {
+        look(&mut self.waiting, self.looked);
+        self.looked = Instant::now(&self.rt).ok();
+    }
+
     /// The next one that comes in. None if it was lost.
     fn wait_for_one(&mut self) -> Option<Waiting<TcpStream>>
         ensures taken { self.old.room ≢ 0 → self.old.room ≡ self.new.room + 1 }
@@ -80,6 +92,7 @@ impl Entrance {
         self.room = self.room.saturating_sub(1);
         self.listener.set_nonblocking(false).ok()?;
         let found = self.listener.accept();
+        self.looked = Instant::now(&self.rt).ok();
         self.listener.set_nonblocking(true).ok()?;
         Waiting::new(self.rt.alloc(), found.ok()?.0)
     }
@@ -97,7 +110,7 @@ impl Entrance {
             return None;
         }
         self.gather();
-        look(&mut self.waiting, &self.rt);
+        self.look();
         match next_of(&self.waiting) {
             Some(place) => Some(self.waiting.remove(place)),
             None if self.gone > 0 => {
@@ -119,7 +132,7 @@ impl Door for Entrance {
 
     fn has_another(&mut self) -> bool {
         self.gather();
-        look(&mut self.waiting, &self.rt);
+        self.look();
         !self.waiting.is_empty()
     }
 
@@ -127,7 +140,7 @@ impl Door for Entrance {
         self.gather();
         // So that nobody goes whom nobody looked at.
         if self.waiting.len() >= MOST_WAITING {
-            look(&mut self.waiting, &self.rt);
+            self.look();
         }
         u32::try_from(self.waiting.len()).unwrap_or(u32::MAX)
     }
@@ -191,6 +204,7 @@ pub fn listen_on(rt: &HostRuntime, listen: &str, connections: u32) -> Result<Con
             waiting: Vec::new(rt.alloc()),
             room: connections,
             gone: 0,
+            looked: Instant::now(rt).ok(),
             rt: *rt,
         },
         left: connections,

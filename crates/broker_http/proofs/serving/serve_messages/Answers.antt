@@ -1,5 +1,5 @@
 use Rattle.std.specs.Io.KnownBytes.{Appends}
-use Rattle.std.proofs.Common.{◌≢◌, ◌+◌, ◌-◌, ◌++◌, length, drop, [], ◌∷◌, refl, sym, inl, ◌∙◌, subst, arith, eqb-true, length-append}
+use Rattle.std.proofs.Common.{◌≢◌, ◌+◌, ◌++◌, length, drop, [], ◌∷◌, refl, sym, inl, ◌∙◌, subst, arith, eqb-true, length-append}
 use Rattle.std.proofs.{KnownBytes.{Consumes-kept, Consumes-nil, Consumes-trans, Appends-nil, Appends-trans}, lemmas.Result.{err_from_is_err_and}}
 use Rattle.std.proofs.lemmas.Bool.{eqb-false}
 use Rattle.http_messages.specs.Reading.{IsOutcome}
@@ -49,9 +49,9 @@ returns-in-End-clause-answers g c =
         Consumes-trans _ _ _ so_far.0 came.0 read came.1,
         Responses-came (ByBroker g.B.Service.shown) _ so_far.0 so_far.1 _ c.loop-answered.buffer.items came.0 bytes so_far.3 came.2,
         elim c.if-is_empty.branch [
-          | then-is_empty w ↦ StreamEnds-at_end _ so_far.1 bytes w.ended-is so_far.4 (eqb-true (length bytes) 0 (sym c.is_empty.ensures ∙ w.if-is_empty.true))
+          | then-is_empty w ↦ StreamEnds-at_end _ so_far.1 bytes w.ended-is so_far.4 (eqb-true (length bytes) 0 (sym c.is_empty-in-End.ensures ∙ w.if-is_empty.true))
           | else-is_empty w ↦ StreamEnds-rest _ so_far.1 bytes w.ended-is so_far.4
-              (let some : length bytes ≢ 0 = eqb-false (length bytes) 0 (sym c.is_empty.ensures ∙ w.if-is_empty.false) in omega arith) none
+              (let some : length bytes ≢ 0 = eqb-false (length bytes) 0 (sym c.is_empty-in-End.ensures ∙ w.if-is_empty.false) in omega arith) none
         ],
         so_far.5,
         so_far.6,
