@@ -2,7 +2,6 @@
 use Rattle.std.specs.{Prelude.{option_map, is_some}, List.{list_any}, Option.{option_map_or}, Ordering.{eq_by_cmp, int_cmp}, Cmp.{Equal-is}}
 use Rattle.std.proofs.Common.{◌≡◌, ℕ, ℤ, pos, codes, List, [], ◌∷◌, true, false, Bool, ◌&&◌, not, filter, nat_lt, Ordering, Option, refl, sym, ap, ◌∙◌, cond, slice_get, Some, None, Ok}
 use Rattle.std.proofs.{Math.Bool.{and-true, and-false, or-true}, lemmas.List.Folds.{list_all-append}}
-use Rattle.sqlite_value.specs.Keys.{plain}
 use Rattle.sqlite_catalog.proofs.ListFacts.{filter_all}
 use Rattle.sqlite_tied.specs.Compute.{everything}
 use Rattle.table_access.specs.{Columns.{text, text_cmp, whole_at, by_both}, Statements.{from_table, keeps, ChangesOnly}}

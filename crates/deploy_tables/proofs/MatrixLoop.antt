@@ -1,7 +1,6 @@
 -- Lists that are put together, what is found of each member of a list, and one reading after another.
-use Rattle.std.{specs.Prelude.{Contains, ◌↔◌}, proofs.Common.{◌≡◌, ◌<◌, ◌≤◌, ◌+◌, ◌⊎◌, inl, inr, ℕ, List, [], ◌∷◌, ◌++◌, length, take, get_or, sym, subst, ◌∙◌}}
-use Rattle.std.proofs.lemmas.List.{get_or_default, take_more, take_all}
-use Rattle.std.proofs.lemmas.List.Elements.{Contains-append_cases, Contains-append_left, Contains-append_right}
+use Rattle.std.{specs.Prelude.{Contains, ◌↔◌}, proofs.Common.{◌≡◌, ◌<◌, ◌+◌, ◌⊎◌, inl, inr, ℕ, List, [], ◌∷◌, ◌++◌, length, take, get_or, sym, subst, ◌∙◌}}
+use Rattle.std.proofs.{lemmas.List.{get_or_default, take_more}, lemmas.List.Elements.{Contains-append_cases, Contains-append_left, Contains-append_right}}
 use Rattle.broker_core.proofs.Lists.{Contains-empty, Contains-cons_cases, Contains-here}
 use Rattle.deploy_tables.specs.Matrix.{IsOfSome}
 pub use Rattle.broker_tables.proofs.QueryLemmas.{LooksUpBetween-then_failed, LooksUpBetween-then, LooksUpBetween-both, LooksUpBetween-other_answer, LooksUpBetween-from_both}
@@ -13,9 +12,6 @@ iff-trans one two = (λ a. two.0 (one.0 a), λ c. one.1 (two.1 c))
 
 pub Contains-one : {A : Type 0} (x y : A) → Contains (x ∷ []) y ↔ (y ≡ x)
 Contains-one x y = (λ c. elim (Contains-cons_cases x [] y c) [ inl same ↦ sym same | inr none ↦ absurd (Contains-empty y none) ], λ same. subst (Contains (x ∷ [])) (sym same) (Contains-here x []))
-
-pub Contains-single : {A : Type 0} (xs : List A) (x : A) → xs ≡ x ∷ [] → (y : A) → Contains xs y ↔ (y ≡ x)
-Contains-single xs x is y = subst (λ ys. Contains ys y ↔ (y ≡ x)) (sym is) (Contains-one x y)
 
 -- the members of two lists
 pub Contains-append : {X A B : Type 0} (a b all : List X) → all ≡ a ++ b → (x : X) → Contains a x ↔ A → Contains b x ↔ B → Contains all x ↔ (A ⊎ B)
@@ -30,17 +26,17 @@ Contains-take_next cs at c d low = Contains-append (take at cs) (get_or cs at c 
 
 -- what is found of each member so far
 module _ {C Y : Type 0} (Is : C → Y → Type 0) (cs : List C) where
-  pub IsOfSome-take_next : (at : ℕ) (c : C) (a more b : List Y) → at < length cs → c ≡ get_or cs at c → b ≡ a ++ more → ((x : Y) → Contains a x ↔ IsOfSome (λ c. Is c x) (take at cs)) → ((x : Y) → Contains more x ↔ Is c x)
-      → (x : Y) → Contains b x ↔ IsOfSome (λ c. Is c x) (take (at + 1) cs)
-  IsOfSome-take_next at c a more b low is grown was here x = iff-trans (Contains-append a more b grown x (was x) (here x)) (
+  pub IsOfSome-take_more : (at : ℕ) (c : C) → at < length cs → c ≡ get_or cs at c → (x : Y) → (IsOfSome (λ c. Is c x) (take at cs) ⊎ Is c x) ↔ IsOfSome (λ c. Is c x) (take (at + 1) cs)
+  IsOfSome-take_more at c low is x = (
     λ found. elim found [ inl old ↦ (old.0, (Contains-take_next cs at c old.0 low).1 (inl old.1), old.2) | inr new ↦ (c, (Contains-take_next cs at c c low).1 (inr is), new) ],
     λ some. elim ((Contains-take_next cs at c some.0 low).0 some.1) [ inl old ↦ inl (some.0, old, some.2) | inr new ↦ inr (subst (λ d. Is d x) (new ∙ sym is) some.2) ],
   )
+
+  pub IsOfSome-take_next : (at : ℕ) (c : C) (a more b : List Y) → at < length cs → c ≡ get_or cs at c → b ≡ a ++ more → ((x : Y) → Contains a x ↔ IsOfSome (λ c. Is c x) (take at cs)) → ((x : Y) → Contains more x ↔ Is c x)
+      → (x : Y) → Contains b x ↔ IsOfSome (λ c. Is c x) (take (at + 1) cs)
+  IsOfSome-take_next at c a more b low is grown was here x = iff-trans (Contains-append a more b grown x (was x) (here x)) (IsOfSome-take_more at c low is x)
 
   -- the same, with the member given by its place
   pub IsOfSome-take_next_at : (at : ℕ) (d : C) (a more b : List Y) → at < length cs → b ≡ a ++ more → ((x : Y) → Contains a x ↔ IsOfSome (λ c. Is c x) (take at cs)) → ((x : Y) → Contains more x ↔ Is (get_or cs at d) x)
       → (x : Y) → Contains b x ↔ IsOfSome (λ c. Is c x) (take (at + 1) cs)
   IsOfSome-take_next_at at d a more b low grown was here = IsOfSome-take_next at (get_or cs at d) a more b low (get_or_default cs at d (get_or cs at d) low) grown was here
-
-  pub IsOfSome-take_all : (at : ℕ) (a : List Y) → length cs ≤ at → ((x : Y) → Contains a x ↔ IsOfSome (λ c. Is c x) (take at cs)) → (x : Y) → Contains a x ↔ IsOfSome (λ c. Is c x) cs
-  IsOfSome-take_all at a past was x = subst (λ ds. Contains a x ↔ IsOfSome (λ c. Is c x) ds) (take_all at cs past) (was x)

@@ -1,6 +1,6 @@
 -- What a version needs in an environment, from the parts that are read. The clauses of `faults` and `needs` cite
 -- `ListsFaults` and `ListsNeeds`, which say it in the machine's words; all else is for private clauses.
-use Rattle.std.specs.Prelude.{Contains, ◌≡◌, ◌≢◌, ◌⊎◌, ◌&&◌, ◌||◌, not, List, [], ℕ, Bool, true, false, Option, Some, None, is_some, if◌then◌else◌, IsTrue}
+use Rattle.std.specs.Prelude.{Contains, ◌≡◌, ◌≢◌, ◌↔◌, ◌⊎◌, ◌&&◌, ◌||◌, not, List, [], ℕ, Bool, true, false, Option, Some, None, is_some, if◌then◌else◌, IsTrue}
 use Rattle.std.specs.declared.cmp.Ordering.{Ordering}
 use Rattle.std.specs.Ordering.{ordering_then}
 use Rattle.std.specs.Option.{option_map_or, option_cmp}
@@ -20,6 +20,7 @@ use Rattle.contract_tables.specs.VersionResults.{latest_cmp, IsLatestOf}
 use Rattle.deploy_tables.specs.Releases.{IsVersion, IsOfNumber}
 use Rattle.deploy_tables.specs.declared.selected_needs.Selection.{Selection}
 use Rattle.deploy_tables.specs.declared.selected_needs.Selection.TheVariants.{All, Open}
+use Rattle.deploy_tables.specs.declared.selected_needs.Question.{Question}
 use Rattle.deploy_tables.specs.declared.contracts_there.NumberedContract.{NumberedContract}
 
 -- ---- the faults
@@ -101,30 +102,45 @@ abbrev pub need_used : Version → Option Latest → Version → Option Need
 need_used v said w =
     if same_text w.pacticipant v.pacticipant then None else Some (need_with w v.pacticipant (Some v.name) said)
 
--- the contract c of v, with the version of this number
-abbrev pub IsWithPartner : State → Version → Contract → Selection → ℕ → Need → Type 0
-IsWithPartner s v c selection n x = (w : Version) × (number_of s.versions w ≡ Some n) × IsSelected selection x
-    × (x ≡ need_with v c.provider (Some w.name) (latest s c.content w))
+-- ---- what is found of what is asked: q is the version in the environment
 
--- the contract c of v, with a version of its provider that is in e, or with none if no version of it is
-abbrev pub IsNeedOfContract : State → Version → Text → Selection → Contract → Need → Type 0
-IsNeedOfContract s v e selection c x =
-    ((w : Text) × IsPresent s e (version c.provider w) × IsSelected selection x
-    × (x ≡ need_with v c.provider (Some w) (latest s c.content (version c.provider w))))
-    ⊎ (((w : Text) → ¬ (IsPresent s e (version c.provider w))) × (x ≡ need_with v c.provider None None))
+-- the list has these needs more than before, and no others
+abbrev pub AddsNeeds : List Need → List Need → (Need → Type 0) → Type 0
+AddsNeeds before now Are = (x : Need) → Contains now x ↔ (Contains before x ⊎ Are x)
 
--- v is the consumer
-abbrev pub IsOwnNeed : State → Version → Text → Selection → Need → Type 0
-IsOwnNeed s v e selection x = (c : Contract) × IsOwnContract s v c × IsNeedOfContract s v e selection c x
+-- the version has its number
+abbrev pub HasItsNumber : State → Question → Type 0
+HasItsNumber s q = number_of s.versions q.version.now ≡ Some q.number
 
--- a contract of the version of another pacticipant that has this number, with the pacticipant of v, and v
-abbrev pub IsUsed : State → Version → Selection → NumberedContract → Need → Type 0
-IsUsed s v selection c x = (w : Version) × (number_of s.versions w ≡ Some c.number) × (w.pacticipant ≢ v.pacticipant)
-    × IsSelected selection x × (x ≡ need_with w v.pacticipant (Some v.name) (latest s c.content v))
+-- a need that is wanted
+abbrev pub IsWantedNeed : State → Question → Need → Type 0
+IsWantedNeed s q x = IsNeed s q.version.now q.environment.now x × IsSelected q.selection x
 
--- v is the provider
-abbrev pub IsNeedOfOthers : State → Version → Text → Selection → Need → Type 0
-IsNeedOfOthers s v e selection x = (c : NumberedContract)
-    × ((w : Version) × IsPresent s e w × (number_of s.versions w ≡ Some c.number)
-    × (s.contracts (w, v.pacticipant) ≡ Some c.content))
-    × IsUsed s v selection c x
+-- the contract c of the version, with the version of this number
+abbrev pub IsWithPartner : State → Question → Contract → ℕ → Need → Type 0
+IsWithPartner s q c n x = (w : Version) × (number_of s.versions w ≡ Some n) × IsSelected q.selection x
+    × (x ≡ need_with q.version.now c.provider (Some w.name) (latest s c.content w))
+
+-- the contract c, with a version of its provider that is in the environment, or with none if no version of it is
+abbrev pub IsNeedOfContract : State → Question → Contract → Need → Type 0
+IsNeedOfContract s q c x = let e = q.environment.now in
+    ((w : Text) × IsPresent s e (version c.provider w) × IsSelected q.selection x
+    × (x ≡ need_with q.version.now c.provider (Some w) (latest s c.content (version c.provider w))))
+    ⊎ (((w : Text) → ¬ (IsPresent s e (version c.provider w))) × (x ≡ need_with q.version.now c.provider None None))
+
+-- the version is the consumer
+abbrev pub IsOwnNeed : State → Question → Need → Type 0
+IsOwnNeed s q x = (c : Contract) × IsOwnContract s q.version.now c × IsNeedOfContract s q c x
+
+-- a contract of the version of another pacticipant that has this number, with the pacticipant of the version, and it
+abbrev pub IsUsed : State → Question → NumberedContract → Need → Type 0
+IsUsed s q c x = let v = q.version.now in
+    (w : Version) × (number_of s.versions w ≡ Some c.number) × (w.pacticipant ≢ v.pacticipant)
+    × IsSelected q.selection x × (x ≡ need_with w v.pacticipant (Some v.name) (latest s c.content v))
+
+-- the version is the provider
+abbrev pub IsNeedOfOthers : State → Question → Need → Type 0
+IsNeedOfOthers s q x = (c : NumberedContract)
+    × ((w : Version) × IsPresent s q.environment.now w × (number_of s.versions w ≡ Some c.number)
+    × (s.contracts (w, q.version.now.pacticipant) ≡ Some c.content))
+    × IsUsed s q c x

@@ -12,7 +12,7 @@ ghost use Rattle.broker_tables.specs.Failures.{LooksUp};
 ghost use Rattle.deploy_tables.specs.AnyThere.{AnswersOnlyIf, IsOfAVersion, EachReleasedIsThere};
 ghost use Rattle.deploy_tables.specs.Needs.{need_cmp, ListsNeeds};
 
-use crate::selected_needs::{Selection, selected_needs};
+use crate::selected_needs::{Question, Selection, selected_needs};
 use crate::version_names::find_version;
 use broker_core::command::Version;
 use broker_core::need::Need;
@@ -60,7 +60,13 @@ fn needs_numbered<S: Alter>(
         Lists need_cmp (IsNeed s version.now environment.now) found.items) }
     ensures named { AnswersOnlyIf S.Store conn.old conn.new result (EachReleasedIsThere environment.now) }
 {
-    let found = done!(selected_needs(alloc, conn, number, version, environment, Selection::All));
+    let question = Question {
+        number,
+        version,
+        environment,
+        selection: Selection::All,
+    };
+    let found = done!(selected_needs(alloc, conn, &question));
     Ok(each_need_once(found))
 }
 

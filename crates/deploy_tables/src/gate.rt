@@ -3,7 +3,7 @@ ghost use Rattle.broker_tables.specs.Failures.{LooksUp};
 ghost use Rattle.deploy_tables.specs.AnyThere.{AnswersOnlyIf, EachReleasedIsThere};
 ghost use Rattle.deploy_tables.specs.Needs.{ListsFaults};
 
-use crate::selected_needs::{Selection, selected_needs};
+use crate::selected_needs::{Question, Selection, selected_needs};
 use broker_core::command::Version;
 use broker_core::gate::decide;
 use broker_core::need::PairFault;
@@ -33,8 +33,13 @@ pub fn faults<S: Alter>(
         (λ found s. ListsFaults s number version.now environment.now strict found.items) }
     ensures named { AnswersOnlyIf S.Store conn.old conn.new result (EachReleasedIsThere environment.now) }
 {
-    let selection = Selection::Open { strict };
-    let needs = done!(selected_needs(alloc, conn, number, version, environment, selection));
+    let question = Question {
+        number,
+        version,
+        environment,
+        selection: Selection::Open { strict },
+    };
+    let needs = done!(selected_needs(alloc, conn, &question));
     match decide(alloc, &needs, strict) {
         Ok(faults) => Ok(faults),
         Err(_) => Err(StoreFault::Memory),

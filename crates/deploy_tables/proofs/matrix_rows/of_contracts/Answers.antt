@@ -1,5 +1,5 @@
-use Rattle.std.proofs.Common.{arith}
-use Rattle.deploy_tables.proofs.MatrixLoop.{LooksUpBetween-then_failed, LooksUpBetween-other_answer, IsOfSome-take_next, IsOfSome-take_all, LooksUpBetween-from_both}
+use Rattle.std.proofs.{Common.{arith}, lemmas.List.{take_all}}
+use Rattle.deploy_tables.proofs.MatrixLoop.{LooksUpBetween-then_failed, IsOfSome-take_next, LooksUpBetween-from_both}
 use Rattle.deploy_tables.proofs.matrix_rows.of_contracts.Goals as goal
 
 pub loop-contract-preserved : goal.loop-contract-preserved
@@ -8,8 +8,7 @@ loop-contract-preserved g c =
     c.loop-contract.invariant c.in-Ok.ensures
 
 pub returns : goal.returns
-returns g c =
-    LooksUpBetween-other_answer _ _ _ _ _ _ (λ s was. IsOfSome-take_all _ c.args.contracts.now c.loop-contract.contract-index _ (omega arith) was) c.loop-contract.invariant
+returns g c = simp (take_all c.loop-contract.contract-index c.args.contracts.now (omega arith)) at c.loop-contract.invariant
 
 pub returns-in-Err : goal.returns-in-Err
 returns-in-Err g c = LooksUpBetween-then_failed _ _ _ _ _ _ _ _ c.loop-contract.invariant c.in-Err.ensures

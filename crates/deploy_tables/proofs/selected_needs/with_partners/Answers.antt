@@ -1,19 +1,17 @@
-use Rattle.std.proofs.Common.{arith, Err}
+use Rattle.std.proofs.{Common.{arith, Err}, lemmas.List.{get_or_default, take_all}}
 use Rattle.table_access.proofs.{Members.{has_contains}, ReadLemmas.{get_or-has}}
 use Rattle.broker_tables.proofs.FailLemmas.{FailsByStoreFromBetween-after_query}
-use Rattle.deploy_tables.specs.Partners.{AreNumbersOfVersions}
-use Rattle.deploy_tables.proofs.AllowedQueries.{QueriesBetween-answers_both, QueriesBetween-answers_more, QueriesBetween-failed_after}
-use Rattle.deploy_tables.proofs.MatrixLoop.{IsOfSome-take_next_at, IsOfSome-take_all}
+use Rattle.deploy_tables.{specs.Partners.{AreNumbersOfVersions}, proofs.AllowedQueries.{QueriesBetween-answers_both, QueriesBetween-failed_after}}
+use Rattle.deploy_tables.proofs.NeedLemmas.{AddsNeeds-take_next}
 use Rattle.deploy_tables.proofs.selected_needs.with_partners.Goals as goal
 
 pub loop-partner-preserved : goal.loop-partner-preserved
 loop-partner-preserved g c =
-    QueriesBetween-answers_both _ _ _ _ _ _ _ _ _ (λ s was here. IsOfSome-take_next_at _ _ _ _ _ _ _ c.loop-partner-test.true c.in-Ok-add.ensures.added was here)
+    QueriesBetween-answers_both _ _ _ _ _ _ _ _ _ (λ s was here. AddsNeeds-take_next _ _ _ _ _ _ _ c.loop-partner-test.true (get_or_default _ _ _ _ c.loop-partner-test.true) was here)
     c.loop-partner.invariant c.in-Ok.ensures.answers
 
 pub returns-clause-answers : goal.returns-clause-answers
-returns-clause-answers g c =
-    QueriesBetween-answers_more _ _ _ _ _ _ (λ s was. IsOfSome-take_all _ c.args.there.now c.loop-partner.partner-index _ (omega arith) was) c.loop-partner.invariant
+returns-clause-answers g c = simp (take_all c.loop-partner.partner-index c.args.there.now (omega arith)) at c.loop-partner.invariant
 
 pub returns-in-Err-clause-answers : goal.returns-in-Err-clause-answers
 returns-in-Err-clause-answers g c = QueriesBetween-failed_after _ _ _ _ _ _ _ _ c.loop-partner.invariant c.in-Err.ensures.answers
