@@ -86,6 +86,8 @@ def test_no_more_is_read_than_a_message_may_have(program: str, wanted: int) -> N
 # Peers that make the broker wait
 
 HALF, REST = b"GET / HTTP/1.1\r\n", b"host: b\r\n\r\n"
+# One that asks and takes its answer, and one that takes none.
+READ, UNREAD = Peer([(0, ASKED), (0, b"")]), Peer([(0, ASKED), (0, b"")], room=0)
 HALF_BODY = request("PUT", "/", None, "{}").replace(b": 2", b": 4")
 UNTAKEN = Peer([(0, ASKED)], signals=1)
 # One request after another, each begun as the one before it is answered.
@@ -172,8 +174,54 @@ def test_the_second_is_shared_among_those_that_wait(program: str, count: int) ->
 
 
 def test_who_is_let_in_late_leaves_others_soon(program: str) -> None:
-    """Half a head takes its two seconds from three that wait: two whose answers aren't taken, and one behind them. As the
-    first of these has waited for two seconds then, a look is left to each."""
-    untaken = Peer([(0, ASKED), (0, b"")], comes=1, room=0)
-    found = served(program, Peer([(0, HALF)]), untaken, untaken, Peer([(0, ASKED), (0, b"")], comes=2))
+    """Half a head takes its two seconds from three that wait: two whose answers aren't taken, and one after them. As
+    the first of these has waited for two seconds then, a look is left to each."""
+    unread, read = UNREAD._replace(comes=1), READ._replace(comes=2)
+    found = served(program, Peer([(0, HALF)]), unread, unread, read)
     same("when each is closed", found.closed, [2020, 2040, 2060, 2060])
+
+
+# Answers that nobody takes, how many, and how many that are taken; and when each is closed. The first has its two
+# seconds, from 1 to 2001, as nobody was ready when it was let in. Who is found ready then counts as ready since 1, when
+# those that wait were looked for before, as the first asked. So of each of the others a look is waited for, as somebody
+# waits after it; and who takes its answer at once is gone at once.
+TOGETHER = {
+    (1, 1): [2001, 2001],
+    (2, 1): [2001, 2021, 2021],
+    (3, 2): [2001, 2021, 2041, 2041, 2041],
+    (4, 4): [2001, 2021, 2041, 2061, 2061, 2061, 2061, 2061],
+}
+
+
+@pytest.mark.parametrize("others_come", [1, 2])
+@pytest.mark.parametrize("none, taken", TOGETHER)
+def test_untaken_answers_cost_two_seconds_in_all(program: str, none: int, taken: int, others_come: int) -> None:
+    """Whether the others came with the first, or after it was let in."""
+    first, others = UNREAD._replace(comes=1), [UNREAD._replace(comes=others_come)] * (none - 1)
+    found = served(program, first, *others, *[READ._replace(comes=2)] * taken)
+    same("when each is closed", found.closed, TOGETHER[none, taken])
+    same("what each takes", found.taken, [b""] * none + [TOLD] * taken)
+
+
+def test_who_comes_beside_a_later_untaken_answer_waits_as_long(program: str) -> None:
+    """The second untaken answer has two seconds too, from 2001 on, as nobody else had come by then. Those that come
+    within them count as ready since 2001: so a look is left to the third, and the last waits for two seconds and that
+    look."""
+    late = UNREAD._replace(comes=2005), READ._replace(comes=2010)
+    found = served(program, UNREAD._replace(comes=1), UNREAD._replace(comes=2), *late)
+    same("when each is closed", found.closed, [2001, 4001, 4021, 4021])
+
+
+def test_who_is_served_costs_three_seconds_and_the_next_one_forty_milliseconds(program: str) -> None:
+    """The first asks at 0, 500 and 999 and takes its answers, in the second that it has while another one waits, which
+    is seen at 20. Then its last message takes all but a millisecond of two seconds, and a look is left to the answer. If
+    two wait, the first has half a second of that kind, so its last message begins at 500. Then the next one takes an
+    answer, 19 milliseconds for another message, and a look."""
+    asks = [(0, HALF), (0, REST + HALF), (500, REST + HALF)]
+    busy = Peer([*asks, (999, REST + HALF), (2998, REST)], room=3 * len(TOLD))
+    found = served(program, busy, READ._replace(comes=1))
+    same("what each takes, and when it is closed", found[1:3], ([TOLD * 3, TOLD], [3018, 3018]))
+    busy = Peer([*asks, (2499, REST)], room=2 * len(TOLD))
+    following = Peer([(0, ASKED + HALF), (2538, REST)], comes=1, room=len(TOLD))
+    found = served(program, busy, following, READ._replace(comes=2))
+    same("what each takes, and when it is closed", found[1:3], ([TOLD * 2, TOLD, TOLD], [2519, 2558, 2558]))

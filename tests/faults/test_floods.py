@@ -1,13 +1,14 @@
 """Peers that keep a serving broker busy for as long as they like, each kind of them beside a client that asks once a
 second with a connection of its own, each other time by a body of 900,000 bytes: each of its answers comes within three
 seconds. A connection of a flood that the broker ends is opened again at once."""
-import selectors, socket, threading, time
+import resource, selectors, socket, struct, threading, time
+from collections.abc import Iterator
 from typing import NamedTuple
 import pytest
 from tests.broker.parts import former_file
 from tests.process import Server, ran
 from tests.wire import request, same
-from tests.world import RED
+from tests.world import RED, pact
 
 pytestmark = [pytest.mark.timing, pytest.mark.by_both]
 # Seconds: for an answer, for a flood, from one question to the next, and from one byte of a trickle to the next.
@@ -27,8 +28,9 @@ LACKING = (LARGE % 20_000) + b" " * 19_999
 
 
 class Kind(NamedTuple):
-    """A kind of peer: how many there are, what each sends at first, and what again and again (`always`, made of whole
-    requests), for each answer (`after`), and now and then (`trickles`); and whether it reads its answers."""
+    """A kind of peer: how many there are, what each sends at first, and what again and again (`always`, one request),
+    for each answer (`after`), and now and then (`trickles`); whether it reads its answers; and whether it goes at once,
+    by a reset, and another one comes."""
 
     many: int
     first: bytes = b""
@@ -36,11 +38,12 @@ class Kind(NamedTuple):
     after: bytes = b""
     trickles: bytes = b""
     reads: bool = True
+    goes: bool = False
 
 
 KINDS = {
-    "a pipeline without an end": Kind(1, always=ASKED * 500),
-    "four pipelines without an end": Kind(4, always=ASKED * 500),
+    "a pipeline without an end": Kind(1, always=ASKED),
+    "four pipelines without an end": Kind(4, always=ASKED),
     "three that ask one after another": Kind(3, first=ASKED, after=ASKED),
     "twenty that are silent": Kind(20),
     "twenty begun heads": Kind(20, first=HEAD[:20]),
@@ -52,10 +55,11 @@ KINDS = {
     "twenty large bodies that lack a byte": Kind(20, first=LACKING),
     "thirty that ask and begin to ask again": Kind(30, first=ASKED + HEAD[:20]),
     "thirty that ask and send a part of a large body": Kind(30, first=ASKED + BEGUN),
-    "a pipeline whose answers aren't read": Kind(1, always=ASKED * 500, reads=False),
-    "twenty pipelines whose answers aren't read": Kind(20, always=ASKED * 500, reads=False),
+    "a pipeline whose answers aren't read": Kind(1, always=ASKED, reads=False),
+    "twenty pipelines whose answers aren't read": Kind(20, always=ASKED, reads=False),
     "a hundred that are silent": Kind(100),
     "three hundred large bodies that stop": Kind(300, first=BEGUN),
+    "twenty that ask, are reset and come again": Kind(20, first=ASKED, goes=True),
 }
 
 
@@ -64,7 +68,7 @@ class Flood(threading.Thread):
 
     def __init__(self, port: int, kind: Kind) -> None:
         super().__init__(daemon=True)
-        self.port, self.kind = port, kind
+        self.port, self.kind, self.stream = port, kind, kind.always * 500
         self.ends = threading.Event()
         self.peers = selectors.DefaultSelector()
         # How many connections were opened, and how many bytes of answers came.
@@ -106,7 +110,7 @@ class Flood(threading.Thread):
             if self.kind.after:
                 it.send(self.kind.after)
         if events & selectors.EVENT_WRITE:
-            self.sent[it] += it.send(self.kind.always[self.sent[it] % len(ASKED) :])
+            self.sent[it] += it.send(self.stream[self.sent[it] % len(self.kind.always) :])
 
     def trickle(self) -> None:
         for key in list(self.peers.get_map().values()):
@@ -117,11 +121,20 @@ class Flood(threading.Thread):
             except OSError:
                 self.again(it)
 
+    def go(self) -> None:
+        """All go by a reset, and as many come."""
+        for it in list(self.sent):
+            it.setsockopt(socket.SOL_SOCKET, socket.SO_LINGER, struct.pack("ii", 1, 0))
+            self.again(it)
+
     def run(self) -> None:
         for _ in range(self.kind.many):
             self.open()
         trickled = time.monotonic()
         while not self.ends.is_set():
+            if self.kind.goes:
+                self.go()
+                continue
             for key, events in self.peers.select(0.05):
                 it = key.fileobj
                 assert isinstance(it, socket.socket)
@@ -145,7 +158,8 @@ class Flood(threading.Thread):
         """Whether these peers did what their kind does: their connections are all there, and who asks was answered, by
         more than so many bytes."""
         asks = bool(self.kind.always or self.kind.after) and self.kind.reads
-        return self.is_alive() and self.opened >= self.kind.many and (not asks or self.came > least)
+        opens = self.kind.many * (10 if self.kind.goes else 1)
+        return self.is_alive() and self.opened >= opens and (not asks or self.came > least)
 
 
 def ask(port: int, question: bytes) -> float:
@@ -183,20 +197,41 @@ def test_each_answer_comes_in_time(server: Server, name: str) -> None:
     assert held_up(server, KINDS[name]) <= MOST
 
 
-# A hundred thousand releases, whose listing has 4.8 MB.
+def test_each_answer_comes_in_time_by_few_descriptors(program: str, broker_file: str) -> None:
+    """Beside more silent peers than the process may have open."""
+    with Server(program, broker_file, limits=[(resource.RLIMIT_NOFILE, 20)]) as server:
+        assert held_up(server, Kind(100)) <= MOST
+
+
+# A hundred thousand releases, whose listing has 4.8 MB, and a contract of a megabyte.
 RELEASES = """
 WITH RECURSIVE n (i) AS (SELECT 10 UNION ALL SELECT i + 1 FROM n WHERE i < 100009)
 INSERT INTO versions SELECT i, 'stock', 'build-' || i FROM n;
 INSERT INTO released SELECT 'live', number FROM versions WHERE number >= 10;
 """
 LISTED = request("GET", "/environments/live", RED)
+CONTRACT = "/pacts/provider/stock/consumer/shop/version/large"
+LONG = {
+    "a long listing that isn't read": Kind(1, first=LISTED, reads=False),
+    "eight long listings that aren't read": Kind(8, first=LISTED, reads=False),
+    "eight times ten large contracts that aren't read": Kind(8, first=request("GET", CONTRACT, RED) * 10, reads=False),
+    "three pipelines of long listings": Kind(3, always=LISTED),
+}
 
 
-def test_a_long_listing_that_nobody_reads(program: str, room: str) -> None:
-    file = former_file(room, RELEASES)
+@pytest.fixture(scope="module")
+def filled(program: str, tmp_path_factory: pytest.TempPathFactory) -> Iterator[Server]:
+    """A broker that has these."""
+    file = former_file(str(tmp_path_factory.mktemp("filled")), RELEASES)
     same("migrate", ran([program, "migrate", "--file", file]), (0, "", ""))
     with Server(program, file) as server:
-        assert held_up(server, Kind(1, first=LISTED, reads=False)) <= MOST
+        server.do("PUT", CONTRACT, RED, pact("x" * 1_000_000))
+        yield server
+
+
+@pytest.mark.parametrize("name", LONG)
+def test_each_answer_comes_in_time_beside_long_ones(filled: Server, name: str) -> None:
+    assert held_up(filled, LONG[name]) <= MOST
 
 
 # All but the last byte of a request that is as large as one may be.
