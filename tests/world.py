@@ -60,6 +60,14 @@ def verify(server: Caller) -> None:
     server.do("POST", f"{path}/3/replies", BLUE, replies)
 
 
+def fleet_file(program: str, room: str, name: str = "broker.db") -> str:
+    """The file of a broker that was asked for all of these, and is served no longer."""
+    with Server(program, new_file(program, room, name)) as server:
+        register(server)
+        verify(server)
+        return server.file
+
+
 def served(program: str, room: str) -> Server:
     """A new broker, which isn't started yet, with its file in this folder."""
     return Server(program, new_file(program, room))

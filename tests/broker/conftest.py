@@ -5,7 +5,7 @@ import pytest
 from tests.broker.filled import fill
 from tests.broker.parts import Broker
 from tests.process import Server
-from tests.world import folded, new_file, register, verify
+from tests.world import fleet_file, folded
 
 
 @pytest.fixture
@@ -30,10 +30,8 @@ def by_nobody(program: str) -> Iterator[tuple[Broker, str]]:
 @pytest.fixture(scope="session")
 def filled(program: str, tmp_path_factory: pytest.TempPathFactory) -> bytes:
     """What the file of a broker holds after the requests of world.py and of filled.py."""
-    file = new_file(program, str(tmp_path_factory.mktemp("filled")))
+    file = fleet_file(program, str(tmp_path_factory.mktemp("filled")))
     with Server(program, file) as server:
-        register(server)
-        verify(server)
         fill(server)
     folded(program, file)
     with open(file, "rb") as it:

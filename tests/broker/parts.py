@@ -91,10 +91,10 @@ def pact_files(room: str) -> dict[str, str]:
     return {name: f"{room}/{name}" for name in texts}
 
 
-def former_file(room: str, more: str = "") -> str:
+def former_file(room: str, more: str = "", name: str = "former.db") -> str:
     """A file of format 1, with what these statements put into it."""
-    statements(f"{room}/former.db", FORMER + more)
-    return f"{room}/former.db"
+    statements(f"{room}/{name}", FORMER + more)
+    return f"{room}/{name}"
 
 
 def has_rows(log: str) -> bool:

@@ -3,7 +3,7 @@ import os, re, resource, shutil, sqlite3
 import pytest
 from tests.process import TOP, Ended, Server, ran, run
 from tests.wire import Wrong, request, same
-from tests.world import BLUE, RED, new_file, register, verify
+from tests.world import BLUE, RED, fleet_file
 
 PATH = "/pacts/provider/stock/consumer/shop/version/1/results"
 # Over how many results of one provider a cost is measured: some tenths of a second, of which a tick of the clock that
@@ -53,9 +53,7 @@ def asked(program: str, file: str) -> Ended:
 
 def opening(program: str, room: str, have_runs: bool) -> float:
     """The seconds of a processor that an opening takes, of a file with so many results: the least of three."""
-    with Server(program, new_file(program, room, f"{have_runs}.db")) as server:
-        register(server)
-        verify(server)
+    with Server(program, fleet_file(program, room, f"{have_runs}.db")) as server:
         report(server, OPENED, have_runs)
         server.stop()
     times = []

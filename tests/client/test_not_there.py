@@ -86,20 +86,17 @@ def test_ready(fleet: Server, client: Client) -> None:
     same("what is stored", rows(fleet, "p2"), None)
 
 
-def stream(line: socket.socket, _: int) -> None:
-    line.recv(65536)
-    line.sendall(head("content-type: text/event-stream\r\n"))
-    for _ in range(60):
-        line.sendall(b"data: 1\n\n")
-        time.sleep(0.2)
+def endless(kind: str, piece: bytes) -> Callable[[socket.socket, int], None]:
+    """An answer of this kind, made of such pieces, for twelve seconds."""
 
+    def send(line: socket.socket, _: int) -> None:
+        line.recv(65536)
+        line.sendall(head(f"content-type: {kind}\r\n"))
+        for _ in range(60):
+            line.sendall(piece)
+            time.sleep(0.2)
 
-def endless(line: socket.socket, _: int) -> None:
-    line.recv(65536)
-    line.sendall(head("content-type: application/json\r\n"))
-    for _ in range(60):
-        line.sendall(b" ")
-        time.sleep(0.2)
+    return send
 
 
 def large(line: socket.socket, _: int) -> None:
@@ -114,8 +111,10 @@ def many_fields(line: socket.socket, _: int) -> None:
 
 # What is more than the client takes, and what it says.
 LIMITS: Dict[str, Tuple[Callable[[socket.socket, int], None], str]] = {
-    "a stream of events": (stream, "the provider answers a stream of events"),
-    "an answer without an end": (endless, "the provider sends an answer without an end, or too slowly"),
+    "a stream of events": (
+        endless("text/event-stream", b"data: 1\n\n"), "the provider answers a stream of events"),
+    "an answer without an end": (
+        endless("application/json", b" "), "the provider sends an answer without an end, or too slowly"),
     "1.1 MB": (large, "the provider answers more than 1048576 bytes"),
     "120 fields": (many_fields, "the provider got more than 100 headers"),
 }

@@ -8,7 +8,7 @@ from tests.client.peers import Proxy
 from tests.client.tools import Client
 from tests.process import Server, free_port
 from tests.wire import OFFICE, Wrong, same
-from tests.world import RED, pact, register, verify
+from tests.world import RED, fleet_file, pact
 
 __all__ = ["flaky"]
 Words = Tuple[str, ...]
@@ -59,14 +59,11 @@ def build(client: Client, number: int) -> None:
         same(f"{words}", client.run(*words).status, 0)
 
 
-def test_restarts(program: str, broker_file: str, room: str) -> None:
+def test_restarts(program: str, room: str) -> None:
     """Builds beside one another go on as if it had served all the time, while it ends after each few connections."""
-    port = free_port()
-    with Server(program, broker_file) as server:
-        register(server)
-        verify(server)
+    file, port = fleet_file(program, room), free_port()
     client = Client(room, f"http://127.0.0.1:{port}")
-    with restarting(program, broker_file, port, 3) as starts:
+    with restarting(program, file, port, 3) as starts:
         with concurrent.futures.ThreadPoolExecutor(3) as workers:
             for it in [workers.submit(build, client, number) for number in range(6)]:
                 it.result()

@@ -5,16 +5,17 @@
 - No token and no digest of one is in it. 40,000 contracts within ten seconds of processor time.
 - Each of these pages in Chromium (report_shown.py): its picture is drawn, its texts can be read, and it asks for
   nothing and runs nothing; a page without the picture, or with something from elsewhere, is noticed."""
-import hashlib, json, os, re, resource, sqlite3, tempfile
+import hashlib, json, os, re, resource, sqlite3
 import pytest
 
+from tests.broker.parts import former_file
 from tests.client.report_shown import TOOL, Page, Picture, copied, looked_at, name_everything, page_of, use_everywhere
 from tests.client.report_wanted import ROWS, SINCE, WANTED
 from tests.desk.browser import Browser
 from tests.players import files
-from tests.process import TOP, Server, ran, run
+from tests.process import Server, ran, run
 from tests.wire import OFFICE, Wrong, same
-from tests.world import BLUE, RED, new_file, pact, register, verify
+from tests.world import BLUE, RED, fleet_file, new_file, pact
 
 GREEN = "green-team-token-1"
 
@@ -39,10 +40,7 @@ def change(server: Server) -> None:
 
 def two_copies(program: str, room: str) -> tuple[str, str]:
     """A file before these requests and after them."""
-    file = new_file(program, room)
-    with Server(program, file) as server:
-        register(server)
-        verify(server)
+    file = fleet_file(program, room)
     earlier = copied(file, f"{room}/earlier.db")
     with Server(program, file) as server:
         change(server)
@@ -57,53 +55,42 @@ def refused(*copies: str) -> int:
 
 
 def test_the_page(program: str, room: str) -> None:
-    with tempfile.TemporaryDirectory() as room:
-        earlier, now = two_copies(program, room)
-        text = page_of(now, earlier)
-        found = Page(text).sections
-        for title, lines in WANTED.items():
-            same(title, found.get(title), lines)
-        since = [lines for title, lines in found.items() if title.startswith("Since the copy")]
-        same("what has changed", since, [SINCE])
-        same("rows", [it for it in found["Rows and bytes"] if it in ROWS], ROWS)
-        same("arrows", re.findall(r'class="(now|once)"', text), ["now"])
-        for token in OFFICE, RED, BLUE, GREEN:
-            same(
-                "a token in the page",
-                [it for it in (token, hashlib.sha256(token.encode()).hexdigest()) if it in text],
-                [],
-            )
-        same("without a change", Page(page_of(now, now)).sections["Rows and bytes"][1], "teams|3|+0")
-        same("copies in the other order", refused(earlier, now), 1)
+    earlier, now = two_copies(program, room)
+    text = page_of(now, earlier)
+    found = Page(text).sections
+    for title, lines in WANTED.items():
+        same(title, found.get(title), lines)
+    since = [lines for title, lines in found.items() if title.startswith("Since the copy")]
+    same("what has changed", since, [SINCE])
+    same("rows", [it for it in found["Rows and bytes"] if it in ROWS], ROWS)
+    same("arrows", re.findall(r'class="(now|once)"', text), ["now"])
+    for token in OFFICE, RED, BLUE, GREEN:
+        secrets = token, hashlib.sha256(token.encode()).hexdigest()
+        same("a token in the page", [it for it in secrets if it in text], [])
+    same("without a change", Page(page_of(now, now)).sections["Rows and bytes"][1], "teams|3|+0")
+    same("copies in the other order", refused(earlier, now), 1)
 
 
 def test_refusals(program: str, room: str) -> None:
     """What isn't a copy of a broker's file is refused."""
-    with tempfile.TemporaryDirectory() as room:
-        file, other = new_file(program, room), f"{room}/other.db"
-        with Server(program, file) as server:
-            register(server)
-            verify(server)
-            same("a file in use", refused(file), 1)
-        run([program, "init", "--file", other, "--office-token", GREEN])
-        same("another broker's", refused(file, other), 1)
-        with open(f"{TOP}/tests/data/lines/former.sql", encoding="utf-8") as it:
-            run(["sqlite3", "-bail", f"{room}/former.db"], text=it.read())
-        run(["sqlite3", f"{room}/strange.db", "CREATE TABLE meta (one)"])
-        same(
-            "format 1, no broker's, no file",
-            [refused(f"{room}/{it}.db") for it in ("former", "strange", "nowhere")],
-            [1, 1, 1],
-        )
-        same("no word, three words", [refused(), refused("a", "b", "c")], [2, 2])
-        breaks = (
-            "UPDATE latest SET result = 1",
-            "DELETE FROM latest",
-            "DELETE FROM versions WHERE pacticipant = 'stock'",
-        )
-        for at, statement in enumerate(breaks):
-            files.statements(copied(file, f"{room}/{at}.db"), statement)
-            same(statement, refused(f"{room}/{at}.db"), 1)
+    file, other = fleet_file(program, room), f"{room}/other.db"
+    with Server(program, file):
+        same("a file in use", refused(file), 1)
+    run([program, "init", "--file", other, "--office-token", GREEN])
+    same("another broker's", refused(file, other), 1)
+    former_file(room)
+    run(["sqlite3", f"{room}/strange.db", "CREATE TABLE meta (one)"])
+    others = [refused(f"{room}/{it}.db") for it in ("former", "strange", "nowhere")]
+    same("format 1, no broker's, no file", others, [1, 1, 1])
+    same("no word, three words", [refused(), refused("a", "b", "c")], [2, 2])
+    breaks = (
+        "UPDATE latest SET result = 1",
+        "DELETE FROM latest",
+        "DELETE FROM versions WHERE pacticipant = 'stock'",
+    )
+    for at, statement in enumerate(breaks):
+        files.statements(copied(file, f"{room}/{at}.db"), statement)
+        same(statement, refused(f"{room}/{at}.db"), 1)
 
 
 HOSTILE = [

@@ -6,7 +6,7 @@ from tests.client.report_shown import TOOL, Page, copied, page_of
 from tests.client.test_report import TITLES, refused, two_copies
 from tests.process import Server, run
 from tests.wire import same
-from tests.world import BLUE, RED, new_file, register, verify
+from tests.world import BLUE, RED, fleet_file
 
 
 def test_its_numbers(program: str, room: str) -> None:
@@ -51,10 +51,8 @@ def test_its_parts(program: str, room: str) -> None:
 
 def test_work(program: str, room: str) -> None:
     """By the newest version of a provider: what has no result, a failure, or a claim where that isn't enough."""
-    file = new_file(program, room)
+    file = fleet_file(program, room)
     with Server(program, file) as server:
-        register(server)
-        verify(server)
         for version, environment in ("1", "live"), ("3", "vault"), ("2", "open"):
             body = '{"pacticipant":"shop","version":"%s"}' % version
             server.do("POST", f"/environments/{environment}/deployments", RED, body)

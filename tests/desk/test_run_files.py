@@ -5,6 +5,7 @@ import json, os, re, shutil, signal, tempfile
 
 import pytest
 
+from tests.broker.parts import former_file
 from tests.desk import served
 from tests.desk.running import SHELL, Running, asks, by, made
 from tests.desk.world import READER, RED, text_of, write
@@ -56,7 +57,7 @@ def test_other_files(room: str) -> None:
     """What can't be served, with what the broker says of it; and tokens that can't be."""
     write(f"{room}/notes", "no database")
     outcome(["sqlite3", f"{room}/other.db", "CREATE TABLE notes (line TEXT)"])
-    outcome(["sqlite3", "-bail", f"{room}/former.db"], text=text_of("tests/data/lines/former.sql"))
+    former_file(room)
     explained = "docs/OPERATING.md explains it"
     for name, line in ("notes", "file"), ("other.db", "open 2"), ("former.db", "open 3.1"):
         with Running(room, f"{room}/{name}") as it:

@@ -8,7 +8,7 @@ from tests.broker.parts import auditing, kept, question, unchanged
 from tests.players.shims import library
 from tests.process import Server, ran
 from tests.wire import OFFICE, same
-from tests.world import ALREADY, RED, folded, new_file, register, verify
+from tests.world import ALREADY, RED, fleet_file, folded
 
 pytestmark = [pytest.mark.needs("cc"), pytest.mark.by_both]
 # How many of the first calls, of the last ones and of those between them are the last for an audit.
@@ -25,11 +25,7 @@ def without_log(file: str, log: str) -> None:
 
 def filled(program: str, room: str, log: str) -> str:
     """The file of a broker, with the newest rows in its log or without a log."""
-    file = new_file(program, room)
-    with Server(program, file) as server:
-        register(server)
-        verify(server)
-        server.stop()
+    file = fleet_file(program, room)
     folded(program, file)
     without_log(file, "no log")
     if log == "rows in the log":

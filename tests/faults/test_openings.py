@@ -9,7 +9,7 @@ from tests.broker.parts import auditing, former_file, has_rows, kept, making, mi
 from tests.players.shims import library
 from tests.process import Ended, Server, ran
 from tests.wire import OFFICE, same
-from tests.world import ALREADY, DONE, RED, new_file, register, served, verify
+from tests.world import ALREADY, DONE, RED, fleet_file, new_file
 
 pytestmark = [pytest.mark.needs("cc"), pytest.mark.by_both]
 # How often an opening asks, and one of the files that are open.
@@ -29,19 +29,11 @@ class Seeds:
         return os.path.getsize(self.file) if os.path.exists(self.file) else 0
 
 
-def filled(program: str, room: str) -> str:
-    with served(program, room) as server:
-        register(server)
-        verify(server)
-        server.stop()
-        return server.file
-
-
 def commands(program: str, room: str) -> dict[str, Sequence[str]]:
     """The commands that open a file once, and end by themselves."""
     os.mkdir(f"{room}/one")
     os.mkdir(f"{room}/two")
-    file = filled(program, f"{room}/one")
+    file = fleet_file(program, f"{room}/one")
     return {
         "init": [program, *making(f"{room}/new.db")],
         "can-i-deploy": [program, *question(file, RED)],

@@ -10,9 +10,9 @@ import pytest
 from tests.players.files import statements
 from tests.players.scenario import Scenario, file_of
 from tests.players.shims import library
-from tests.process import Ended, Server, ran
+from tests.process import Ended, ran
 from tests.wire import OFFICE, PATIENCE, Wrong, answer, same
-from tests.world import folded, new_file, register, verify
+from tests.world import fleet_file, folded
 
 pytestmark = pytest.mark.needs("cc")
 STREAMS = "first-run", "goes-live", "checked-replies"
@@ -166,10 +166,7 @@ BROKEN = Ended(1, "results, row 1: in latest an older result is named, or none\n
 @pytest.mark.parametrize("text, usual", [("", Ended(0, "", "")), ("DELETE FROM latest", BROKEN)])
 def test_each_request_of_an_audit_is_refused(program: str, room: str, text: str, usual: Ended) -> None:
     """It ends as with memory, or with 3; the file stays as it was."""
-    file, no_memory = new_file(program, room), Ended(3, "", "memory\n")
-    with Server(program, file) as server:
-        register(server)
-        verify(server)
+    file, no_memory = fleet_file(program, room), Ended(3, "", "memory\n")
     folded(program, file)
     statements(file, text)
     with open(file, "rb") as it:

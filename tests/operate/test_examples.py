@@ -4,12 +4,12 @@ import http.client, os, re, shlex, shutil, signal, subprocess, tempfile, threadi
 from concurrent.futures import ThreadPoolExecutor
 from collections.abc import Mapping
 import pytest
+from tests.broker.parts import former_file
 from tests.operate.halts import signalled_as_it_ends
 from tests.process import TOP, Server, run
-from tests.players.texts import DATA
 from tests.proxy import await_that
 from tests.wire import PATIENCE, Answer, Wrong, same
-from tests.world import ALREADY, DONE, RED, new_file, register, verify
+from tests.world import ALREADY, DONE, RED, fleet_file, new_file
 
 pytestmark = pytest.mark.needs("sqlite3")
 
@@ -17,10 +17,7 @@ pytestmark = pytest.mark.needs("sqlite3")
 @pytest.fixture
 def file(program: str, room: str) -> str:
     """The file of a broker with the fleet, which isn't served."""
-    with Server(program, new_file(program, room)) as server:
-        register(server)
-        verify(server)
-        return server.file
+    return fleet_file(program, room)
 
 
 def asked(server: Server) -> list[Answer]:
@@ -233,8 +230,7 @@ def test_backup_of_another_process(program: str, file: str, room: str) -> None:
 
 
 def test_migrate(program: str, room: str) -> None:
-    file, copy = f"{room}/broker.db", f"{room}/copy.db"
-    run(["sqlite3", "-bail", file], text=(DATA / "lines" / "former.sql").read_text(encoding="utf-8"))
+    file, copy = former_file(room), f"{room}/copy.db"
     ask = [program, "can-i-deploy", "--file", file, "--token", RED, "--pacticipant", "shop", "--version", "1"]
     ask += ["--to-environment", "live"]
     run(ask, 3)

@@ -2,7 +2,7 @@
 gate answers for it. test_examples.py has examples/migrate.sh, which makes a copy first."""
 import os
 import pytest
-from tests.players.texts import DATA
+from tests.broker.parts import former_file
 from tests.process import ran, run
 from tests.wire import same
 from tests.world import RED, new_file
@@ -15,10 +15,9 @@ PERMITTED = '{"answer":"shown","environment":"live","faults":[],"gated":true,"pe
 @pytest.fixture
 def file(room: str) -> str:
     """A file of format 1, with 18 rows."""
-    with open(f"{DATA}/lines/former.sql", encoding="utf-8") as it:
-        run(["sqlite3", "-bail", f"{room}/broker.db"], text=it.read())
-    sound(f"{room}/broker.db", 1)
-    return f"{room}/broker.db"
+    made = former_file(room, name="broker.db")
+    sound(made, 1)
+    return made
 
 
 def ask(file: str, text: str) -> str:
