@@ -77,6 +77,21 @@ def slowness(clock: Callable[[], float] = time.process_time) -> float:
     return max(1.0, (clock() - began) / COUNTS)
 
 
+# Files
+
+
+def text_of(path: str) -> str:
+    """The text of a file; a path that doesn't begin with / is one of the repository."""
+    with open(os.path.join(TOP, path), encoding="utf-8") as it:
+        return it.read()
+
+
+def bytes_of(path: str) -> bytes:
+    """What a file holds."""
+    with open(os.path.join(TOP, path), "rb") as it:
+        return it.read()
+
+
 # Ports and addresses
 
 

@@ -1,7 +1,7 @@
 """The proxies that tests put before a broker: nginx and Caddy, each with a configuration and a folder of its own."""
 import os, signal, subprocess, time
 from collections.abc import Callable, Mapping
-from tests.process import await_port, free_port, run
+from tests.process import await_port, free_port, run, text_of
 from tests.wire import PATIENCE, Wrong
 
 
@@ -63,8 +63,7 @@ class Nginx(Proxy):
 
     def workers(self) -> set[str]:
         assert self.process
-        with open(f"/proc/{self.process.pid}/task/{self.process.pid}/children", encoding="ascii") as it:
-            return set(it.read().split())
+        return set(text_of(f"/proc/{self.process.pid}/task/{self.process.pid}/children").split())
 
     def reload(self) -> None:
         """Lets it read its files again, and waits until only new workers serve. Its port is listened on before it has a

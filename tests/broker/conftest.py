@@ -4,7 +4,7 @@ from collections.abc import Iterator
 import pytest
 from tests.broker.filled import fill
 from tests.broker.parts import Broker
-from tests.process import Server
+from tests.process import Server, bytes_of
 from tests.world import fleet_file, folded
 
 
@@ -34,8 +34,7 @@ def filled(program: str, tmp_path_factory: pytest.TempPathFactory) -> bytes:
     with Server(program, file) as server:
         fill(server)
     folded(program, file)
-    with open(file, "rb") as it:
-        return it.read()
+    return bytes_of(file)
 
 
 @pytest.fixture

@@ -3,7 +3,7 @@ import os, stat
 from typing import Any
 from tests.players.files import statements
 from tests.players.texts import DATA
-from tests.process import Ended, Limits, Server, ran
+from tests.process import Ended, Limits, Server, bytes_of, ran
 from tests.wire import OFFICE, request, same
 from tests.world import DONE, new_file
 
@@ -109,8 +109,7 @@ def kept(room: str) -> dict[str, tuple[int, bytes | None]]:
         for path in (f"{at}/{it}" for it in folders + files):
             about, text = os.lstat(path), None
             if os.path.isfile(path) and not os.path.islink(path):
-                with open(path, "rb") as it:
-                    text = it.read()
+                text = bytes_of(path)
             if not (path.endswith("-wal") and stat.S_ISREG(about.st_mode) and not has_rows(path)):
                 found[path] = about.st_mode, text
     return found

@@ -1,14 +1,9 @@
 """What README.md, docs/API.md and examples/ show of a new broker is what comes of it."""
 import re, shlex
-from tests.process import TOP, Server, free_port, run
+from tests.process import Server, free_port, run, text_of
 from tests.wire import Wrong, same
 from tests.world import DONE, fault
 import pytest
-
-
-def text_of(page: str) -> str:
-    with open(f"{TOP}/{page}", encoding="utf-8") as it:
-        return it.read()
 
 
 def block(page: str, pattern: str) -> str:

@@ -1,7 +1,7 @@
 """Results without a run: what their rows have, and that neither the next one nor an opening pays for those before."""
 import os, re, resource, shutil, sqlite3
 import pytest
-from tests.process import TOP, Ended, Server, ran, run
+from tests.process import Ended, Server, ran, run, text_of
 from tests.wire import Wrong, request, same
 from tests.world import BLUE, RED, fleet_file
 
@@ -40,8 +40,7 @@ def report(server: Server, count: int, have_runs: bool = False) -> float:
 
 def used(server: Server) -> float:
     """The seconds of a processor that the broker has taken so far."""
-    with open(f"/proc/{server.process.pid}/stat", encoding="ascii") as it:
-        fields = it.read().rpartition(")")[2].split()
+    fields = text_of(f"/proc/{server.process.pid}/stat").rpartition(")")[2].split()
     return (int(fields[11]) + int(fields[12])) / os.sysconf("SC_CLK_TCK")
 
 
@@ -74,8 +73,7 @@ def test_a_row_without_a_run_has_a_tab_and_its_number(fleet: Server, room: str) 
 @pytest.mark.needs("sqlite3")
 def test_the_rows_of_an_earlier_program_are_written_anew(program: str, fleet: Server, room: str) -> None:
     """By the statement of docs/OPERATING.md, and examples/add-sums.py."""
-    with open(f"{TOP}/docs/OPERATING.md", encoding="utf-8") as it:
-        found = re.search(r"`(UPDATE results [^`]*)`", it.read())
+    found = re.search(r"`(UPDATE results [^`]*)`", text_of("docs/OPERATING.md"))
     if not found:
         raise Wrong("docs/OPERATING.md has no such statement")
     fleet.stop()

@@ -7,7 +7,7 @@ import pytest
 from tests.broker.parts import PACT, TEAM, Broker, has_rows, owned, put_team, reply, serving
 from tests.kernel import in_table
 from tests.players.files import statements
-from tests.process import Server
+from tests.process import Server, text_of
 from tests.proxy import await_that
 from tests.wire import NotRun, all_of, bodies, next_answer, request, same
 from tests.world import ALREADY, DONE
@@ -127,8 +127,7 @@ def pause(process: "subprocess.Popen[Any]", seconds: float = 0.2) -> None:
     """Stops the process for so long, as a debugger or a backup does, and lets it go on."""
 
     def is_stopped() -> bool:
-        with open(f"/proc/{process.pid}/stat", encoding="ascii") as it:
-            return it.read().rsplit(") ", 1)[1].startswith("T")
+        return text_of(f"/proc/{process.pid}/stat").rsplit(") ", 1)[1].startswith("T")
 
     process.send_signal(signal.SIGSTOP)
     await_that(is_stopped, "it stops")

@@ -4,7 +4,7 @@ from collections.abc import Iterator
 from typing import List, NamedTuple
 import pytest
 from tests.client.tools import Client
-from tests.process import TOP, Ended, Server
+from tests.process import TOP, Ended, Server, text_of
 from tests.wire import OFFICE, Wrong, same
 from tests.world import RED, pact
 
@@ -92,8 +92,7 @@ def tokens_in_files(room: str) -> None:
     """What the commands on tokens wrote: each new one for its owner only, and what the proxy takes in its place."""
     made = {}
     for name in "green", "red-2", "red-3":
-        with open(f"{room}/{name}.token", encoding="ascii") as it:
-            made[name] = it.read().replace("authorization: Bearer ", "").rstrip("\n")
+        made[name] = text_of(f"{room}/{name}.token").replace("authorization: Bearer ", "").rstrip("\n")
         same(f"the form of {name}.token", bool(re.fullmatch("[0-9a-f]{48}", made[name])), True)
         same(f"the mode of {name}.token", os.stat(f"{room}/{name}.token").st_mode & 0o777, 0o600)
     same("different ones", len({*made.values()}), 3)

@@ -4,7 +4,7 @@ import pytest
 
 from holzhebo.api import Broker, NotPermitted, Refused, Stop
 from tests.client.tools import CLIENT, PYTHON, Client
-from tests.process import TOP, Server, ran
+from tests.process import Server, ran, text_of
 from tests.wire import OFFICE, same
 from tests.world import BLUE, RED, pact
 
@@ -152,10 +152,8 @@ def test_the_library(fleet: Server) -> None:
 
 def test_each_route_has_a_method() -> None:
     """The routes of docs/API.md, by how many there are of each method of HTTP."""
-    with open(f"{TOP}/docs/API.md", encoding="utf-8") as it:
-        table = it.read().split("## Routes")[1].split("## Each route by curl")[0]
-    with open(f"{TOP}/client/src/holzhebo/api/broker.py", encoding="utf-8") as it:
-        source = it.read()
+    table = text_of("docs/API.md").split("## Routes")[1].split("## Each route by curl")[0]
+    source = text_of("client/src/holzhebo/api/broker.py")
     places = re.findall(r"(?m)^\| `?(?:PUT|GET|DELETE|POST)[^|]*", table)
     same("routes", len(places), 18)
     for part in "undeployments deployments releases support-ended /replies /results /can-i-deploy /matrix".split():

@@ -4,7 +4,7 @@ from typing import Dict, List
 import pytest
 from tests.client.books import KEPT, book_pact
 from tests.client.tools import CLIENT, Client, Reply, Stock, told
-from tests.process import TOP, Server, free_port, ran, run, slowness
+from tests.process import TOP, Server, free_port, ran, run, slowness, text_of
 from tests.wire import Wrong, same
 from tests.world import RED
 
@@ -193,8 +193,7 @@ def test_pages(program: str, room: str) -> None:
     for name in "holzhebo", "broker":
         run(["mandoc", "-T", "lint", "-W", "error", f"{room}/pages/{name}.1"])
         run(["zsh", "-n", f"{room}/pages/_{name}"])
-    with open(f"{room}/pages/holzhebo.1", encoding="utf-8") as it:
-        page = it.read()
+    page = text_of(f"{room}/pages/holzhebo.1")
     commands = re.findall(r"(?m)^    (\S+) ", run([DEBIAN, CLIENT, "help"]))
     same(
         "commands",

@@ -3,15 +3,14 @@ import gzip, json, os, stat, threading
 from typing import List, Tuple
 import pytest
 from tests.client.tools import CLIENT, PYTHON, Client, told
-from tests.process import TOP, Ended, Server, ran, run
+from tests.process import TOP, Ended, Server, bytes_of, ran, run, text_of
 from tests.wire import OFFICE, Wrong, same
 
 HERE = f"{TOP}/tests/client"
 
 
 def lines_in(path: str) -> List[str]:
-    with open(path, encoding="utf-8") as it:
-        return it.read().splitlines()
+    return text_of(path).splitlines()
 
 
 def start(path: str, text: str = "# teams\n") -> None:
@@ -49,8 +48,7 @@ def test_a_team_s_name(name: str, fleet: Server, client: Client, room: str) -> N
     for at, line in enumerate(lines_in(f"{room}/teams")):
         start(f"{room}/line-{at}", line)
     os.chmod(f"{room}/teams", 0o644)
-    with open(f"{room}/teams", encoding="utf-8") as it:
-        text = it.read().replace(";\n", "\n")
+    text = text_of(f"{room}/teams").replace(";\n", "\n")
     start(f"{room}/teams", text)
     start(f"{room}/Caddyfile", CADDY % room)
     run(["caddy", "validate", "--adapter", "caddyfile", "--config", f"{room}/Caddyfile"], env={"HOME": room})
@@ -87,13 +85,11 @@ def test_other_lines(fleet: Server, client: Client, room: str) -> None:
     for team in name, "green":
         done = client.run("office", "team", team, "--new-token-file", team[:1], "--into", "teams")
         same("done", done.status, 0)
-    with open(f"{room}/teams", "rb") as it:
-        comment, empty, first, second, end = it.read().split(b"\n")
+    comment, empty, first, second, end = bytes_of(f"{room}/teams").split(b"\n")
     same("the lines that were there", (comment, empty, end), (b"# caf\xe9\r", b"", b""))
     same("the two teams", (first.endswith(f' "{name}";'.encode()), second.endswith(b' "green";')), (True, True))
     client.done("none", "replace-token", "a", "--new-token-file", "new", "--into", "teams")
-    with open(f"{room}/teams", "rb") as it:
-        same("the place of the new one", it.read().count(f' "{name}";'.encode()), 1)
+    same("the place of the new one", bytes_of(f"{room}/teams").count(f' "{name}";'.encode()), 1)
 
 
 def test_several_at_once(fleet: Server, client: Client, room: str) -> None:
@@ -159,8 +155,7 @@ STRANGE += b'"seconds":0.1}\n'
 
 def test_bytes_of_an_outsider(room: str) -> None:
     """A request with a byte that is no text of UTF-8 stops neither `who` nor `metrics`."""
-    with open(f"{HERE}/proxy.log", "rb") as it:
-        log = it.read()
+    log = bytes_of(f"{HERE}/proxy.log")
     for name in "en_US.UTF-8", "C":
         env = {"PYTHONIOENCODING": "utf-8:strict", "LC_ALL": name}
         for words in ["who", "live"], ["metrics"]:

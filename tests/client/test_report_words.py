@@ -4,7 +4,7 @@ import json, os, re
 
 from tests.client.report_shown import TOOL, Page, copied, page_of
 from tests.client.test_report import TITLES, refused, two_copies
-from tests.process import Server, run
+from tests.process import Server, run, text_of
 from tests.wire import same
 from tests.world import BLUE, RED, fleet_file
 
@@ -23,8 +23,7 @@ def test_its_numbers(program: str, room: str) -> None:
     wanted = [{**todo, "consumerVersion": version, "where": where} for version, where in places.items()]
     same("what is to be verified", said["toVerify"], wanted)
     run([*TOOL, now, earlier, "--output", f"{room}/report.html"])
-    with open(f"{room}/report.html", encoding="utf-8") as it:
-        same("the page", it.read(), page_of(now, earlier))
+    same("the page", text_of(f"{room}/report.html"), page_of(now, earlier))
     for name in "broker-2026-11-27T02:00:00Z.db", "broker-2026-11-27T020000Z.db":
         dated = copied(now, f"{room}/{name}")
         same(name, "The copy of 2026-11-27 02:00:00 UTC." in page_of(dated), True)

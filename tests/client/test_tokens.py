@@ -6,7 +6,7 @@ import pytest
 from tests.client.books import KEPT, book_pact
 from tests.client.flaky import FlakyBroker, flaky  # the fixture
 from tests.client.tools import CLIENT, PYTHON, Asked, Client, Reply, Serving, Stock
-from tests.process import Server, ran, run
+from tests.process import Server, ran, run, text_of
 from tests.wire import OFFICE, Wrong, same
 from tests.world import RED
 
@@ -37,8 +37,7 @@ def test_no_token_is_seen(fleet: Server, client: Client, room: str) -> None:
         raise Wrong(f"the client wasn't seen while it ran: {output}")
     kept = [output, seen, *(repr(it) for it in stock.asked)]
     for path in glob.glob(f"{room}/kept/*"):
-        with open(path, encoding="utf-8") as it:
-            kept.append(it.read())
+        kept.append(text_of(path))
     same("where the token is seen", [it[:200] for it in kept if token in it], [])
 
 

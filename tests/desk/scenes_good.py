@@ -13,7 +13,7 @@ from tests.desk.shown import (
     UNRESULTED, WHO, WITH_WHO,
 )
 from tests.desk.world import BLUE, READER, RED, World, write
-from tests.process import TOP, run
+from tests.process import TOP, run, text_of
 from tests.wire import OFFICE, same
 
 
@@ -185,8 +185,7 @@ def saved(page: Browser, world: World) -> None:
     page.js("document.querySelectorAll('.savings button')[1].click()")
     page.until(lambda: os.path.exists(f"{world.room}/ask-shop-1.4-staging.txt"), "a file")
     time.sleep(0.3)
-    with open(f"{world.room}/ask-shop-1.4-staging.txt", encoding="utf-8") as it:
-        lines = it.read().splitlines()
+    lines = text_of(f"{world.room}/ask-shop-1.4-staging.txt").splitlines()
     same("a question as text", lines[:4], TICKET)
     same("its address", lines[-1], f"{world.url}#/ask/shop/1.4/staging")
     quoted_by = "import('/desk/saved.js').then(it => ['=1+1', '@x', 'a\"b', '-1'].map(it.quoted))"

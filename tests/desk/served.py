@@ -4,7 +4,8 @@ import contextlib, json, os, socket, time
 from concurrent.futures import ThreadPoolExecutor
 
 from tests.desk.running import Running, asks, by, sent
-from tests.desk.world import DENIED, PAGE, POLICY, READER, RED, text_of
+from tests.desk.world import DENIED, PAGE, POLICY, READER, RED
+from tests.process import text_of
 from tests.wire import OFFICE, Caller, same
 
 LISTING = "GET /environments/live"

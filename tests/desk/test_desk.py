@@ -12,8 +12,8 @@ from tests.desk.browser import Browser
 from tests.desk.running import asks, by
 from tests.desk.seen import cells, settled, texts
 from tests.desk.shown import BOARD
-from tests.desk.world import DENIED, RED, World, text_of, write
-from tests.process import TOP, free_port, ran, run
+from tests.desk.world import DENIED, RED, World, write
+from tests.process import TOP, free_port, ran, run, text_of
 from tests.proxy import Nginx
 from tests.wire import OFFICE, same
 
@@ -64,8 +64,7 @@ def test_by_its_key(world: World, room: str) -> None:
         )
         rows = [row.split()[3] for row in run(["ss", "-Hltnp"]).splitlines() if f"pid={process.pid}," in row]
         same("what it listens on, by ss", rows, [f"127.0.0.1:{port}"])
-        with open(f"/proc/{process.pid}/cmdline", encoding="utf-8") as it:
-            words = it.read()
+        words = text_of(f"/proc/{process.pid}/cmdline")
         same("its command line has the token or the key", (OFFICE in words, key in words), (False, False))
 
 

@@ -10,16 +10,11 @@ import pytest
 
 from tests.desk.plan_fleets import Fleet, put
 from tests.desk.plan_tries import TOP, Subject, by_going, by_node, by_the_model, by_the_page, going, same
-from tests.process import Server
+from tests.process import Server, text_of
 from tests.wire import all_of, answers_in, request
 
 SOURCES = f"{TOP}/client/src"
 TEAM = "all-of-us-token-01"
-
-
-def text_of(path: str) -> str:
-    with open(path, encoding="utf-8") as it:
-        return it.read()
 
 
 @pytest.fixture(scope="module")

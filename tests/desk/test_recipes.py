@@ -10,8 +10,8 @@ from tests.desk.browser import Browser
 from tests.desk.scenes import holders
 from tests.desk.seen import cells, signs_in
 from tests.desk.shown import AFTER, BOARD, OLDER
-from tests.desk.world import DENIED, PAGE, POLICY, READER, RED, World, by_caddy, text_of, write
-from tests.process import TOP, await_port, free_port, run
+from tests.desk.world import DENIED, PAGE, POLICY, READER, RED, World, by_caddy, write
+from tests.process import TOP, await_port, free_port, run, text_of
 from tests.proxy import Caddy, Proxy
 from tests.wire import OFFICE, Wrong, same
 

@@ -13,8 +13,8 @@ from tests.desk.plan_tries import Subject
 from tests.desk.scenes import requests_are_right
 from tests.desk.seen import shows, signs_in, texts
 from tests.desk.sixty import CONTACTS, DIFFERENT, ENVIRONMENTS, SERVICES, number
-from tests.desk.world import READER, World, text_of, write
-from tests.process import TOP, Server, run
+from tests.desk.world import READER, World, write
+from tests.process import TOP, Server, run, text_of
 from tests.proxy import Nginx
 from tests.wire import OFFICE, same
 

@@ -11,8 +11,8 @@ from tests.desk import served
 from tests.desk.browser import Browser, Unseen
 from tests.desk.running import ODD, Running, asks, by, instead, made
 from tests.desk.scenes_good import board, questions
-from tests.desk.world import BLUE, READER, RED, text_of, write
-from tests.process import TOP, Server, free_port
+from tests.desk.world import BLUE, READER, RED, write
+from tests.process import TOP, Server, free_port, text_of
 from tests.wire import OFFICE, Wrong, same
 
 pytestmark = [pytest.mark.needs("chromium", "curl"), pytest.mark.usefixtures("usual")]

@@ -8,8 +8,8 @@ import pytest
 from tests.broker.parts import former_file
 from tests.desk import served
 from tests.desk.running import SHELL, Running, asks, by, made
-from tests.desk.world import READER, RED, text_of, write
-from tests.process import TOP, Server
+from tests.desk.world import READER, RED, write
+from tests.process import TOP, Server, text_of
 from tests.process import run as outcome
 from tests.wire import OFFICE, same
 from tests.world import new_file

@@ -5,7 +5,7 @@ import contextlib, os, re, shutil
 from collections.abc import Iterator
 
 from tests.client.tools import Reply, Serving
-from tests.process import TOP, Server, run
+from tests.process import TOP, Server, run, text_of
 from tests.proxy import Caddy, Nginx, Proxy
 from tests.wire import OFFICE, Wrong, same
 from tests.world import new_file
@@ -18,11 +18,6 @@ POLICY = (
     "default-src 'none'; script-src 'self'; style-src 'self'; connect-src 'self';"
     " frame-ancestors 'none'; base-uri 'none'; form-action 'none'"
 )
-
-
-def text_of(path: str) -> str:
-    with open(f"{TOP}/{path}", encoding="utf-8") as it:
-        return it.read()
 
 
 def write(path: str, text: str) -> None:

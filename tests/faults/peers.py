@@ -5,7 +5,7 @@ from collections.abc import Sequence
 from typing import NamedTuple
 from tests.players.scenario import Scenario, file_of
 from tests.players.shims import MEMORY, library
-from tests.process import free_address, ran
+from tests.process import bytes_of, free_address, ran
 from tests.wire import OFFICE, same
 from tests.world import new_file
 
@@ -46,11 +46,6 @@ class Played(NamedTuple):
     asked: list[int]
 
 
-def read(path: str) -> bytes:
-    with open(path, "rb") as it:
-        return it.read()
-
-
 def played(words: Sequence[str], peers: Sequence[Peer], **settings: str) -> Played:
     """Runs a program by these words with these peers."""
     with tempfile.TemporaryDirectory(dir=MEMORY) as room:
@@ -62,9 +57,9 @@ def played(words: Sequence[str], peers: Sequence[Peer], **settings: str) -> Play
         env = {**os.environ, "LD_PRELOAD": library("devices"), "PEERS": room, **settings}
         done = ran(words, env=env)
         numbers = range(1, len(peers) + 1)
-        reports = [[int(it) for it in read(f"{room}/{number}.report").split()] for number in numbers]
+        reports = [[int(it) for it in bytes_of(f"{room}/{number}.report").split()] for number in numbers]
         closed, asked = ([*it] for it in zip(*reports))
-        return Played((done.status, done.errors), [read(f"{room}/{it}.taken") for it in numbers], closed, asked)
+        return Played((done.status, done.errors), [bytes_of(f"{room}/{it}.taken") for it in numbers], closed, asked)
 
 
 def replayed(program: str, peer: Peer) -> Played:

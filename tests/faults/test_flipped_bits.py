@@ -8,7 +8,7 @@ import os, random, socket
 from collections.abc import Iterator
 from typing import NamedTuple
 import pytest
-from tests.process import Server, free_address
+from tests.process import Server, bytes_of, free_address
 from tests.wire import Wrong, all_of, difference, request, same
 from tests.world import BLUE, RED, new_file
 
@@ -155,8 +155,7 @@ def original(program: str, tmp_path_factory: pytest.TempPathFactory) -> Original
     all_done(program, file, [*setting_up(), *publishing(), *deploying()])
     answers = all_done(program, file, QUESTIONS)
     assert [it for it in AMONG if it not in answers] == []
-    with open(file, "rb") as it:
-        return Original(it.read(), answers)
+    return Original(bytes_of(file), answers)
 
 
 # The bits

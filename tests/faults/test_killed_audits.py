@@ -6,7 +6,7 @@ from collections.abc import Iterator
 import pytest
 from tests.broker.parts import auditing, kept, question, unchanged
 from tests.players.shims import library
-from tests.process import Server, ran
+from tests.process import Server, ran, text_of
 from tests.wire import OFFICE, same
 from tests.world import ALREADY, RED, fleet_file, folded
 
@@ -45,8 +45,7 @@ def counted(program: str, file: str, room: str) -> dict[str, int]:
     """How many calls an audit makes on each of the two files."""
     os.mkdir(f"{room}/counts")
     same("an audit", ran([program, *auditing(file)], env=settings(file, room)), (0, "", ""))
-    with open(f"{room}/counts/calls", encoding="ascii") as it:
-        of_database, _, of_log, _ = map(int, it.read().split())
+    of_database, _, of_log, _ = map(int, text_of(f"{room}/counts/calls").split())
     return {"database": of_database, "log": of_log}
 
 

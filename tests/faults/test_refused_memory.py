@@ -10,7 +10,7 @@ import pytest
 from tests.players.files import statements
 from tests.players.scenario import Scenario, file_of
 from tests.players.shims import library
-from tests.process import Ended, ran
+from tests.process import Ended, bytes_of, ran, text_of
 from tests.wire import OFFICE, PATIENCE, Wrong, answer, same
 from tests.world import fleet_file, folded
 
@@ -105,8 +105,7 @@ class Stream:
 
 
 def counted(room: str) -> int:
-    with open(f"{room}/counted", encoding="ascii") as it:
-        return int(it.read())
+    return int(text_of(f"{room}/counted"))
 
 
 def refused(words: list[str], room: str, first: int, last: int) -> list[tuple[int, Ended]]:
@@ -169,8 +168,7 @@ def test_each_request_of_an_audit_is_refused(program: str, room: str, text: str,
     file, no_memory = fleet_file(program, room), Ended(3, "", "memory\n")
     folded(program, file)
     statements(file, text)
-    with open(file, "rb") as it:
-        before = it.read()
+    before = bytes_of(file)
     words = [program, "audit", "--file", file]
     env = {**os.environ, "LD_PRELOAD": library("refuse"), "COUNTED": f"{room}/counted"}
     same("with memory", ran(words, env=env), usual)
@@ -179,5 +177,4 @@ def test_each_request_of_an_audit_is_refused(program: str, room: str, text: str,
     ends = collections.Counter(it for _, it in refused(words, room, count - LAST + 1, count))
     same("other ends", {*ends} - {usual, no_memory, Ended(3, "", "open 4\n")}, set[Ended]())
     assert ends[no_memory] > LAST / 2, ends
-    with open(file, "rb") as it:
-        same("the file", it.read() == before, True)
+    same("the file", bytes_of(file) == before, True)

@@ -1,7 +1,7 @@
 """The package that packaging/deb makes of the program, for its tests."""
 import os, re
 import pytest
-from tests.process import run
+from tests.process import run, text_of
 from tests.wire import same
 
 
@@ -29,8 +29,7 @@ def version_of(program: str) -> str:
 
 def age(room: str) -> None:
     """A package of an earlier version, with the same files."""
-    with open(f"{room}/tree/DEBIAN/control", encoding="utf-8") as it:
-        text = it.read()
+    text = text_of(f"{room}/tree/DEBIAN/control")
     with open(f"{room}/tree/DEBIAN/control", "w", encoding="utf-8") as it:
         it.write(re.sub(r"(?m)^Version: .*", "Version: 0.0.1", text))
     run(["dpkg-deb", "--root-owner-group", "-Znone", "--build", f"{room}/tree", f"{room}/old.deb"])

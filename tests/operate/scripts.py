@@ -1,7 +1,7 @@
 """How the scripts of examples/ are run over a service: with another clock, other numbers, a copying without an end."""
 import os, shutil, subprocess, time
 from tests.operate.service import Service
-from tests.process import run
+from tests.process import run, text_of
 
 CLOCK = """#!/bin/sh
 case "$*" in *+%Y-%m-%dT%H%M%SZ) cat {room}/clock ;; *) exec /usr/bin/date "$@" ;; esac
@@ -42,8 +42,7 @@ def edited(service: Service, script: str, old: str, new: str) -> str:
     folder = f"{service.room}/examples"
     if not os.path.exists(folder):
         shutil.copytree("examples", folder)
-    with open(f"{folder}/{script}", encoding="utf-8") as it:
-        text = it.read()
+    text = text_of(f"{folder}/{script}")
     assert text.count(old) == 1, (script, old)
     with open(f"{folder}/{script}", "w", encoding="utf-8") as it:
         it.write(text.replace(old, new))

@@ -2,7 +2,7 @@
 folder of its own, which belongs to another user than root. The scripts of examples/ are run with it."""
 import os, re, signal, subprocess
 from collections.abc import Sequence
-from tests.process import await_port, free_port, run
+from tests.process import await_port, bytes_of, free_port, run
 from tests.wire import Caller, same
 from tests.world import BLUE, RED, new_file
 
@@ -129,8 +129,7 @@ def content(folder: str) -> dict[str, bytes]:
     found: dict[str, bytes] = {}
     for name in sorted(os.listdir(folder)):
         if os.path.isfile(f"{folder}/{name}"):
-            with open(f"{folder}/{name}", "rb") as it:
-                found[name] = it.read()
+            found[name] = bytes_of(f"{folder}/{name}")
     return found
 
 

@@ -6,7 +6,7 @@ from tests.operate.carry_pair import Broker, played
 from tests.operate.carry_state import read_tables
 from tests.operate.carry_world import Dice
 from tests.operate.service import content
-from tests.process import TOP, ran
+from tests.process import TOP, bytes_of, ran, text_of
 from tests.wire import same
 from tests.world import new_file
 
@@ -189,8 +189,7 @@ def test_killed(program: str, memory: str) -> None:
     trace = ["strace", "-f", "-qq", "-e", f"trace={','.join(CALLS)}"]
     with tempfile.TemporaryDirectory() as room:
         same("the first run", ran([*trace, "-o", f"{room}/trace", *words]).status, 0)
-        with open(f"{room}/trace", encoding="utf-8") as it:
-            made = collections.Counter(re.findall(r"(?m)^\d+ +(\w+)\(", it.read()))
+        made = collections.Counter(re.findall(r"(?m)^\d+ +(\w+)\(", text_of(f"{room}/trace")))
     whole = content(memory)["new.db"]
     assert made["pwrite64"] > 20 and made["write"] > 20 and made["rename"] == 1 and made["fsync"] == 2, made
     seen: dict[str, int] = collections.Counter()
@@ -217,8 +216,7 @@ def content_below(folder: str) -> dict[str, bytes]:
     found = {}
     for at, _, names in os.walk(folder):
         for name in names:
-            with open(f"{at}/{name}", "rb") as it:
-                found[os.path.relpath(f"{at}/{name}", folder)] = it.read()
+            found[os.path.relpath(f"{at}/{name}", folder)] = bytes_of(f"{at}/{name}")
     return found
 
 

@@ -6,7 +6,7 @@ from collections.abc import Mapping
 import pytest
 from tests.broker.parts import former_file
 from tests.operate.halts import signalled_as_it_ends
-from tests.process import TOP, Server, run
+from tests.process import TOP, Server, run, text_of
 from tests.proxy import await_that
 from tests.wire import PATIENCE, Answer, Wrong, same
 from tests.world import ALREADY, DONE, RED, fleet_file, new_file
@@ -58,8 +58,7 @@ def test_backup(program: str, file: str, room: str) -> None:
 
 
 def is_paused(server: Server) -> bool:
-    with open(f"/proc/{server.process.pid}/status", encoding="ascii") as it:
-        return "State:\tT" in it.read()
+    return "State:\tT" in text_of(f"/proc/{server.process.pid}/status")
 
 
 def load_version(number: int) -> str:
@@ -243,8 +242,7 @@ def test_migrate(program: str, room: str) -> None:
 
 def unit(key: str) -> list[str]:
     """The values of a key of the unit."""
-    with open(f"{TOP}/examples/broker.service", encoding="utf-8") as it:
-        return re.findall(rf"(?m)^{key}=(.*)$", it.read())
+    return re.findall(rf"(?m)^{key}=(.*)$", text_of("examples/broker.service"))
 
 
 def test_service(program: str, room: str) -> None:

@@ -6,7 +6,7 @@ import os, re
 from collections.abc import Callable
 import pytest
 from tests.operate.pages import section
-from tests.process import TOP, Server, run
+from tests.process import TOP, Server, run, text_of
 from tests.wire import Wrong, same
 from tests.world import RED, new_file, register, verify
 
@@ -154,14 +154,12 @@ def test_rated() -> None:
     said = re.search(r"Overall exposure level for broker.service: ([0-9.]+)", text)
     if not said or float(said[1]) > MOST:
         raise Wrong(f"systemd-analyze rates it {said[1] if said else 'in no way'}, over {MOST}")
-    with open(f"{TOP}/docs/OPERATING.md", encoding="utf-8") as it:
-        stated = re.findall(r"`systemd-analyze security broker` says ([0-9.]+),", it.read())
+    stated = re.findall(r"`systemd-analyze security broker` says ([0-9.]+),", text_of("docs/OPERATING.md"))
     same("the rating that the section says", stated, [said[1]])
 
 
 def setting(key: str) -> list[str]:
-    with open(UNIT, encoding="utf-8") as it:
-        return re.findall(rf"(?m)^{key}=(.*)$", it.read())
+    return re.findall(rf"(?m)^{key}=(.*)$", text_of(UNIT))
 
 
 def groups() -> dict[str, list[str]]:
@@ -200,8 +198,7 @@ def test_within(program: str, room: str) -> None:
         same("an answer", server.ask("GET", "/environments/live", RED).status, 200)
         run(["pkill", "-TERM", "-P", str(server.process.pid)])
         server.finish()
-    with open(trace, encoding="utf-8") as it:
-        text = it.read()
+    text = text_of(trace)
     made = set(re.findall(r"(?m)^\d+ +(\w+)\(", text))
     same("calls that the unit forbids", sorted(made - allowed()), [])
     families = set(re.findall(r"socket\((\w+)", text)) - set(setting("RestrictAddressFamilies")[0].split())

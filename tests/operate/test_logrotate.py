@@ -2,7 +2,7 @@
 what is kept for 400 days, the others for as long as before, and neither file is refused for naming a log twice."""
 import os, re
 import pytest
-from tests.process import TOP, ran
+from tests.process import ran, text_of
 from tests.wire import same
 
 pytestmark = pytest.mark.needs("logrotate")
@@ -14,8 +14,7 @@ def test_kept(room: str) -> None:
     logs, conf = f"{room}/logs", f"{room}/conf"
     for folder in logs, conf:
         os.mkdir(folder)
-    with open(f"{TOP}/examples/logrotate", encoding="utf-8") as it:
-        text = it.read()
+    text = text_of("examples/logrotate")
     assert "/var/log/nginx/broker.log {" in text
     own = re.sub(r"(?s) *create.*?endscript\n", "", text.replace("/var/log/nginx", logs))
     for name, lines in ("holzhebo", own), ("nginx", NGINX.format(logs=logs)):

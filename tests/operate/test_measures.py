@@ -5,7 +5,7 @@ from typing import Any
 import pytest
 from tests.operate.front import CLIENT, Front, asked
 from tests.operate.service import Service
-from tests.process import Ended, ran, run
+from tests.process import Ended, ran, run, text_of
 from tests.proxy import await_that
 from tests.wire import OFFICE, same
 from tests.world import BLUE, RED
@@ -144,8 +144,7 @@ def test_file_and_copies(service: Service) -> None:
     same("with fewer bytes", measured(*words, "--most", str(size))["fileLeftSeconds"], 0.0)
     same("what would be refused", found["refusedVersions"], wanted)
     run([CLIENT, "metrics", *words, "--output", output])
-    with open(output, encoding="utf-8") as it:
-        text = it.read()
+    text = text_of(output)
     sound(text)
     once(words, second, output, text)
 

@@ -2,16 +2,11 @@
 import glob, os, re
 import pytest
 from tests.operate.packed import packages, packed  # the first is a fixture
-from tests.process import TOP, ran, run
+from tests.process import TOP, bytes_of, ran, run, text_of
 from tests.wire import same
 
 __all__ = ["packages"]
 pytestmark = [pytest.mark.first, pytest.mark.needs("dh_python3", "dpkg-deb"), pytest.mark.xdist_group("package")]
-
-
-def bytes_of(path: str) -> bytes:
-    with open(path, "rb") as it:
-        return it.read()
 
 
 def test_made_again(program: str, packages: str, room: str) -> None:
@@ -33,8 +28,7 @@ def test_python(packages: str) -> None:
     needs = run(["dpkg-deb", "-f", f"{packages}/new.deb", "Depends"])
     same("what it needs", needs, "libc6 (>= 2.34), adduser, python3:any (>= 3.9~)\n")
     for name, line in ("postinst", "py3compile -p holzhebo:amd64 -V 3.9-"), ("prerm", "py3clean -p holzhebo:amd64"):
-        with open(f"{packages}/tree/DEBIAN/{name}", encoding="utf-8") as it:
-            text = it.read()
+        text = text_of(f"{packages}/tree/DEBIAN/{name}")
         blocks = re.findall(r"(?ms)^# Automatically added by dh_python3$(.*?)^# End automatically added section$", text)
         same(f"{name} has its block, and nothing else for Python", (len(blocks), "DEBHELPER" in text), (1, False))
         same(f"the line of {name}", re.findall(r"(?m)^\t(py3\w+ .*?) *$", text), [line])
@@ -49,14 +43,12 @@ def test_places(packages: str) -> None:
     documents = glob.glob(f"{share}/doc/holzhebo/**/*.md", recursive=True)
     same("documents", len(documents) > 10, True)
     for path in documents:
-        with open(path, encoding="utf-8") as it:
-            links = re.findall(r"\]\(([^)#\s]+)(?:#[^)]*)?\)", it.read())
+        links = re.findall(r"\]\(([^)#\s]+)(?:#[^)]*)?\)", text_of(path))
         dead += [(path, it) for it in links if "://" not in it and not os.path.exists(f"{os.path.dirname(path)}/{it}")]
     examples = [it for it in glob.glob(f"{share}/holzhebo/examples/**", recursive=True) if os.path.isfile(it)]
     every = {*os.listdir(f"{TOP}/examples")} - {"broker.service", "__pycache__"}
     same("examples", {*os.listdir(f"{share}/holzhebo/examples")}, every)
     for path in examples:
-        with open(path, encoding="utf-8") as it:
-            named = re.findall(r"/usr/share/holzhebo/[\w./-]*\w", it.read())
+        named = re.findall(r"/usr/share/holzhebo/[\w./-]*\w", text_of(path))
         dead += [(path, it) for it in named if not os.path.lexists(f"{tree}{it}")]
     same("what isn't there", dead, [])

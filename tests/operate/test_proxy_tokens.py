@@ -5,7 +5,7 @@ import json, os, re, time
 import pytest
 from tests.operate.front import ALIKE, CLIENT, DENIED, FOLDED, LATEST, LEAKED, NAME, NEW, READER, UNREAD
 from tests.operate.front import Front, Shown, among, asked, shown, who
-from tests.process import TOP, Server, run
+from tests.process import Server, run, text_of
 from tests.proxy import await_that
 from tests.wire import OFFICE, same
 from tests.world import BLUE, RED, pact
@@ -70,8 +70,7 @@ WRITES += ["DELETE /grants/team/red/environment/live"]
 
 def with_reader(front: Front) -> None:
     """The token that only reads, by the line of docs/DESK.md."""
-    with open(f"{TOP}/docs/DESK.md", encoding="utf-8") as it:
-        lines = re.findall(r'(?m)^ +("~\^GET .*")(;?)$', it.read())
+    lines = re.findall(r'(?m)^ +("~\^GET .*")(;?)$', text_of("docs/DESK.md"))
     line, = (line + end for line, end in lines if end == front.end)
     front.written("broker-readers", line.replace("desk-token-000001", READER).replace("office-token-0001", OFFICE) + "\n")
     front.reload()

@@ -6,7 +6,7 @@ import pytest
 from tests.operate.halts import halted, halting, signalled_as_it_ends
 from tests.operate.scripts import quick, set_clock
 from tests.operate.service import NOBODY, Service, content, only
-from tests.process import await_port, ran, run
+from tests.process import await_port, ran, run, text_of
 from tests.wire import same
 from tests.world import RED
 
@@ -222,8 +222,7 @@ def test_links_in_the_way(service: Service) -> None:
             attacker.kill()
             attacker.wait()
         now = os.stat(secret)
-        with open(secret, encoding="ascii") as it:
-            same("root's file", (now.st_uid, now.st_mode & 0o777, it.read()), (0, 0o600, "root's\n"))
+        same("root's file", (now.st_uid, now.st_mode & 0o777, text_of(secret)), (0, 0o600, "root's\n"))
         only(place, [])
 
 

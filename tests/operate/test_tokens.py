@@ -3,7 +3,7 @@ run under strace, which writes down the words of every program that it starts, o
 itself may have a token there, as docs/OPERATING.md says."""
 import re
 import pytest
-from tests.process import Server, run
+from tests.process import Server, run, text_of
 from tests.wire import same
 
 pytestmark = pytest.mark.needs("curl", "strace")
@@ -12,8 +12,7 @@ pytestmark = pytest.mark.needs("curl", "strace")
 def started(words: list[str], trace: str) -> list[tuple[str, str]]:
     """The command lines that these words start, each with the path of its program first."""
     run(["strace", "-f", "-qq", "-s", "100000", "-e", "trace=execve", "-o", trace, *words])
-    with open(trace, encoding="utf-8") as it:
-        return re.findall(r'(?m)^\d+ +execve\("([^"]*)", \[(.*?)\], 0x.* = 0$', it.read())
+    return re.findall(r'(?m)^\d+ +execve\("([^"]*)", \[(.*?)\], 0x.* = 0$', text_of(trace))
 
 
 # Each script, with `URL` in the place of a broker's address and PROGRAM of the program, and the end of a program that

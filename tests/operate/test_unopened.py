@@ -2,7 +2,7 @@
 with an odd log. examples/which.sh has to say which of them it is, as the user `nobody`, and so has the journal."""
 import os, pwd, subprocess
 import pytest
-from tests.process import Server, free_port, ran, run
+from tests.process import Server, bytes_of, free_port, ran, run
 from tests.wire import OFFICE, same
 
 NOBODY = pwd.getpwnam("nobody")
@@ -148,11 +148,9 @@ def test_another_database(file: str, open_program: str) -> None:
 
 def test_in_a_unit(file: str, open_program: str) -> None:
     """As ExecStopPost it is silent unless the service ended with 3; nothing is changed by it."""
-    with open(file, "rb") as it:
-        before = it.read()
+    before = bytes_of(file)
     for status, said in ("0", ""), ("15", ""), ("3", "sound"):
         words = ["examples/which.sh", open_program, file, "nobody"]
         ended = ran(words, env={**os.environ, "EXIT_STATUS": status})
         same(f"after {status}", ended.output.split(":")[0].strip(), said)
-    with open(file, "rb") as it:
-        same("the file", it.read() == before, True)
+    same("the file", bytes_of(file) == before, True)

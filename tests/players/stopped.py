@@ -5,7 +5,7 @@ from typing import NamedTuple
 from tests.players.shims import MEMORY, library
 from tests.players.stops import MAKINGS
 from tests.players.streams import receive
-from tests.process import Server, Started, free_address
+from tests.process import Server, Started, bytes_of, free_address
 from tests.wire import Wrong
 
 SIDES = "log", "database"
@@ -51,8 +51,7 @@ class Done(NamedTuple):
 def read(path: str) -> bytes | None:
     """What a file holds, or None if it isn't there."""
     try:
-        with open(path, "rb") as it:
-            return it.read()
+        return bytes_of(path)
     except FileNotFoundError:
         return None
 
