@@ -4,9 +4,9 @@ of 40 digits on main or on a branch of its own for a while, a contract with each
 build of fifty, and a result for each consumer's contract on main.
 
     python3 -m tests.operate.carry_fleet PROGRAM FILE DAYS     makes FILE"""
-import contextlib, hashlib, json, random, sqlite3, sys
+import hashlib, json, random, sqlite3, sys
 from collections.abc import Iterator
-from tests.operate.carry_state import seal
+from tests.operate.carry_state import opened
 from tests.process import ran
 from tests.wire import OFFICE, same
 
@@ -91,16 +91,12 @@ class Fleet:
 def make(program: str, file: str, days: int) -> int:
     """Makes the file; gives how many builds it has."""
     same("init", ran([program, "init", "--file", file, "--office-token", OFFICE]).status, 0)
-    with open(file, "rb") as it:
-        written = it.read(20)[18:]
-    with contextlib.closing(sqlite3.connect(file)) as db:
-        db.executescript("PRAGMA journal_mode = DELETE; PRAGMA synchronous = OFF; PRAGMA cache_size = -200000; BEGIN")
+    with opened(file) as db:
+        db.executescript("PRAGMA synchronous = OFF; PRAGMA cache_size = -200000; BEGIN")
         fleet = Fleet(db)
         fleet.start()
         for service in fleet.builds(days):
             fleet.build(service)
-        db.execute("COMMIT")
-    seal(file, written)
     return fleet.versions
 
 

@@ -1,6 +1,6 @@
 """What the file of a broker holds, and what of it has to be carried: computed from sets, by no statement of SQL."""
 import collections, contextlib, os, sqlite3, sys
-from collections.abc import Iterable
+from collections.abc import Iterable, Iterator
 from typing import Any, NamedTuple
 from tests.process import TOP
 
@@ -25,8 +25,16 @@ NUMBERS: dict[str, dict[int, str]] = {
 }
 
 
-def seal(file: str, written: bytes) -> None:
-    """Gives each page of a file its sum."""
+@contextlib.contextmanager
+def opened(file: str) -> Iterator[sqlite3.Connection]:
+    """A file that isn't served, by SQLite. Afterwards its header says again how it is written, and its pages have their
+    sums."""
+    with open(file, "rb") as it:
+        written = it.read(20)[18:]
+    with contextlib.closing(sqlite3.connect(file)) as db:
+        db.execute("PRAGMA journal_mode = DELETE")
+        yield db
+        db.commit()
     carry_pages.seal(file, written)
 
 

@@ -3,7 +3,7 @@ And killed at each kind of call, its new file is whole or not there."""
 import collections, contextlib, fcntl, os, random, re, resource, shutil, sqlite3, subprocess, sys, tempfile
 import pytest
 from tests.operate.carry_pair import Broker, played
-from tests.operate.carry_state import read_tables
+from tests.operate.carry_state import opened, read_tables
 from tests.operate.carry_world import Dice
 from tests.operate.service import content
 from tests.process import TOP, bytes_of, ran, text_of
@@ -75,14 +75,10 @@ def refused(why: str, file: str, limit: int = 0) -> None:
 
 def broken(file: str, text: str) -> None:
     """These statements over the file, whose sums are right then."""
-    with open(file, "rb") as it:
-        written = it.read(20)[18:]
-    with contextlib.closing(sqlite3.connect(file)) as db:
-        db.execute("PRAGMA journal_mode = DELETE")
+    with opened(file) as db:
         changes = db.total_changes
         db.executescript(text)
         assert db.total_changes > changes or re.match("CREATE|DROP|ALTER", text), text
-    carry_pages.seal(file, written)
 
 
 @pytest.mark.parametrize("why", BREAKS)

@@ -2,12 +2,12 @@
 by the broker itself, names keep their escapes, a body of the limit passes and a larger one doesn't, slow clients hold
 up nobody, and a broker that isn't there is 502 until it is there again. What one address can do to the others is
 little, and what is in the log. No line of a log has a token (conftest.py)."""
-import contextlib, http.client, re, socket, sqlite3, threading, time
+import contextlib, http.client, re, socket, threading, time
 from collections.abc import Sequence
 import pytest
 from tests import proxy
 from tests.desk.world import by_nginx
-from tests.operate.carry_state import seal
+from tests.operate.carry_state import opened
 from tests.operate.front import DENIED, Front, Nginx, among, answered, asked, shown, who
 from tests.process import TOP, Server, free_port
 from tests.proxy import await_that
@@ -234,16 +234,11 @@ ROWS = 100_000
 
 def many_releases(file: str) -> None:
     """So many releases in the environment `open`, whose listing then has 14 MB."""
-    with open(file, "rb") as it:
-        written = it.read(20)[18:]
-    with contextlib.closing(sqlite3.connect(file)) as db:
-        db.execute("PRAGMA journal_mode = DELETE")
+    with opened(file) as db:
         (first,) = db.execute("SELECT max(number) + 1 FROM versions").fetchone()
         numbers = range(first, first + ROWS)
         db.executemany("INSERT INTO versions VALUES (?, 'shop', ?)", ((it, f"{it}-{'x' * 80}") for it in numbers))
         db.executemany("INSERT INTO released VALUES ('open', ?)", ((it,) for it in numbers))
-        db.commit()
-    seal(file, written)
 
 
 @pytest.mark.timing
