@@ -25,7 +25,7 @@
 #include <time.h>
 #include <unistd.h>
 
-enum { PEERS = 8, PIECES = 16, OPEN_FILES = 1024 };
+enum { PEERS = 65, PIECES = 16, OPEN_FILES = 1024 };
 enum { COMES, READS, FAILS, READ_ERROR, ROOM, AT_ONCE, APART, WRITE_ERROR, SIGNALS, STOPPED, COUNT, NUMBERS };
 
 struct peer {

@@ -190,6 +190,8 @@ TOGETHER = {
     (2, 1): [2001, 2021, 2021],
     (3, 2): [2001, 2021, 2041, 2041, 2041],
     (4, 4): [2001, 2021, 2041, 2061, 2061, 2061, 2061, 2061],
+    # The last one that may wait, 64 at most: beside such answers none that is taken comes later.
+    (64, 1): [*range(2001, 3262, 20), 3261],
 }
 
 

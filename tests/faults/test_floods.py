@@ -198,8 +198,9 @@ def test_each_answer_comes_in_time(server: Server, name: str) -> None:
 
 
 def test_each_answer_comes_in_time_by_few_descriptors(program: str, broker_file: str) -> None:
-    """Beside more silent peers than the process may have open."""
-    with Server(program, broker_file, limits=[(resource.RLIMIT_NOFILE, 20)]) as server:
+    """Beside more silent peers than the process may have open: 64 that wait, one that is served by two, the file and its
+    log, the streams and where it listens are 72."""
+    with Server(program, broker_file, limits=[(resource.RLIMIT_NOFILE, 80)]) as server:
         assert held_up(server, Kind(100)) <= MOST
 
 
