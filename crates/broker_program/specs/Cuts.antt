@@ -102,9 +102,6 @@ module _ {D L : Type 0} (g : Ghosts D) (later : Ghosts L) where
     pub served : (visit : Visit) → Contains visits visit → IsPeerOf g visit ⊎ IsPeerOf later visit
     pub file : CutsVisits held visits (length new.coming) fault rest seed
 
-  abbrev pub CutsAfter : Image → Queue → Queue → RunFault × Option (Leftover D g) × Option NoSeed → Type 0
-  CutsAfter held old new failed = CutsQueue held old new failed.0 failed.1 failed.2
-
   -- so it did, and this is said of it
   abbrev pub CountsCut : Image → Queue → Queue → RunFault → CutService D g → Type 0
   CountsCut held old new fault service =

@@ -1,5 +1,5 @@
 //! The program over the words of its process, and any streams.
-ghost use Rattle.std.specs.Prelude.{◌≡◌, IfErr, IfOk, OnErr, map, string_bytes};
+ghost use Rattle.std.specs.Prelude.{◌≡◌, IfErr, IfOk, map, string_bytes};
 ghost use Rattle.std.specs.IoError.{error_kind};
 ghost use Rattle.sqlite.specs.WalFiles.{image_at};
 ghost use Rattle.command_line.specs.Lines.{texts_of};
@@ -7,7 +7,7 @@ ghost use Rattle.program_io.specs.Written.{IsLineOut};
 ghost use Rattle.broker_program.specs.Running.{IsUnread, Ran, ReportsUnread, unread_text};
 
 use crate::commands::run_from;
-use crate::run_end::{ProcessEnd, RunEnd, Unread};
+use crate::run_end::{ProcessEnd, Unread};
 use program_io::output::put_line;
 use sqlite::{FileFrom, Start};
 use std::alloc::{AllocError, Global};
@@ -23,23 +23,6 @@ fn words_of(alloc: Global, texts: &[String]) -> Result<Vec<&str>, AllocError>
         words.push(text.as_str())?;
     }
     Ok(words)
-}
-
-/// Runs the words of these texts.
-fn run_texts<S: Start, R: Read, W: Write, E: Write>(
-    rt: &HostRuntime,
-    texts: &[String],
-    start: S,
-    input: &mut R,
-    output: &mut W,
-    errors: &mut E,
-) -> Result<RunEnd<FileFrom<S>>, AllocError>
-    ensures ran { IfOk result (Ran (image_at S.Start) R.remaining W.contents E.contents
-        (map string_bytes texts.now) input.old input.new output.old output.new errors.old errors.new) }
-    ensures idle { OnErr result ((input.new ≡ input.old) × (output.new ≡ output.old) × (errors.new ≡ errors.old)) }
-{
-    let words = words_of(rt.alloc(), texts)?;
-    Ok(run_from(rt, words.as_slice(), start, input, output, errors))
 }
 
 /// What a process ends with whose words can't be read, and what standard error says: 2 if a word isn't UTF-8, and else
@@ -92,13 +75,14 @@ pub fn run_over<S: Start, R: Read, W: Write, E: Write>(
             return (status, Err(unread));
         }
     };
-    match run_texts(rt, words.as_slice(), start, input, output, errors) {
-        Ok(ended) => (ended.status, Ok(ProcessEnd { words, ended })),
+    let ended = match words_of(rt.alloc(), words.as_slice()) {
+        Ok(borrowed) => run_from(rt, borrowed.as_slice(), start, input, output, errors),
         Err(error) => {
             let (status, unread) = report_unread(io::Error::from(error), errors);
-            (status, Err(unread))
+            return (status, Err(unread));
         }
-    }
+    };
+    (ended.status, Ok(ProcessEnd { words, ended }))
 }
 
 /// The process's words. The error says that one isn't UTF-8, or that there is no memory for them.

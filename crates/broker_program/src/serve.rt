@@ -3,7 +3,7 @@ ghost use Rattle.std.specs.Prelude.{◌≡◌, ◌<◌, length, is_none, false, 
 ghost use Rattle.sqlite.specs.WalFiles.{image_at};
 ghost use Rattle.program_io.specs.Entrance.{NoneIsIn, IsNewQueue};
 ghost use Rattle.program_io.specs.Listening.{ListensOn};
-ghost use Rattle.broker_program.specs.Cuts.{CutsAfter, CutsService};
+ghost use Rattle.broker_program.specs.Cuts.{CutsService};
 ghost use Rattle.broker_program.specs.Files.{OpensBroker};
 ghost use Rattle.broker_program.specs.Reasons.{FailsToServe};
 ghost use Rattle.broker_program.specs.FileRefusals.{IsReopeningFault};
@@ -132,35 +132,6 @@ fn serve_reopened<P: Peers>(
     Ok(())
 }
 
-/// Why serving ended, what is left of the files, if no sync of them failed, and that there is no seed, if that is why.
-type CutShort<S> = (RunFault, Option<Leftover<FileFrom<S>>>, Option<NoSeed>);
-
-/// Serves the peers that are to come. If a sync of the broker's files fails, those of its path are opened.
-fn serve_queue<S: Start, P: Peers>(
-    rt: &HostRuntime,
-    routes: &RouteTable,
-    broker: FileBroker<S>,
-    file: FilePath<'_>,
-    peers: &mut P,
-) -> Result<Option<Files<FileFrom<S>>>, CutShort<S>>
-    requires runs { broker.is_stopped ≡ false }
-    requires opened { OpensBroker (image_at S.Start) broker }
-    requires idle { NoneIsIn (P.queue peers.old) }
-    ensures ok { IfOk result (ServesQueue ⟦<FileFrom<S> as Disk>⟧ ⟦<FileFrom<Unknown> as Disk>⟧ (image_at S.Start)
-        (P.queue peers.old) (P.queue peers.new)) }
-    ensures cut { IfErr result (CutsAfter ⟦<FileFrom<S> as Disk>⟧ ⟦<FileFrom<Unknown> as Disk>⟧ (image_at S.Start)
-        (P.queue peers.old) (P.queue peers.new)) }
-{
-    match serve_opened(rt, routes, broker, peers) {
-        Ok(Some(files)) => Ok(Some(files)),
-        Ok(None) => match serve_reopened(rt, routes, file, peers) {
-            Ok(()) => Ok(None),
-            Err(fault) => Err((fault, None, None)),
-        },
-        Err((fault, rest, seed)) => Err((fault, Some(rest), seed)),
-    }
-}
-
 /// What was served, and what is left of the files.
 fn service_of<P: Peers, D: Disk>(peers: &P, files: Option<Files<D>>) -> ServiceEnd<D>
     ensures { (result.served ≡ length (P.queue peers.now).went) × (result.lost ≡ (P.queue peers.now).lost)
@@ -214,29 +185,13 @@ pub fn serve_each<S: Start, P: Peers>(
     ensures cut { IfErr result (CutsService ⟦<FileFrom<S> as Disk>⟧ ⟦<FileFrom<Unknown> as Disk>⟧ (image_at S.Start)
         (P.queue peers.old) (P.queue peers.new)) }
 {
-    match serve_queue(rt, routes, broker, file, peers) {
-        Ok(files) => Ok(service_of(peers, files)),
-        Err((fault, rest, seed)) => Err((fault, FileAfter::Cut(cut_of(peers, rest, seed)))),
-    }
-}
-
-/// Serves so many connections over the broker in the file.
-fn serve_listening<S: Start>(
-    rt: &HostRuntime,
-    routes: &RouteTable,
-    file: FilePath<'_>,
-    listen: &str,
-    connections: u32,
-    start: S,
-) -> Result<ServiceEnd<FileFrom<S>>, Failed<S>>
-    ensures said { IfOk result (λ _. ListensOn listen.now) }
-    ensures ok { IfOk result (ServesFile ⟦<FileFrom<S> as Disk>⟧ (image_at S.Start) connections) }
-    ensures cause { IfErr result (λ failed. FailsToServe (image_at S.Start) listen.now connections failed.0 failed.1) }
-{
-    let broker = open_broker(rt, file, start)?;
-    match listen_on(rt, listen, connections) {
-        Ok(connections) => serve_each(rt, routes, broker, file, &mut Sockets::new(connections)),
-        Err(fault) => Err((fault, FileAfter::GivenUp(release(broker)))),
+    match serve_opened(rt, routes, broker, peers) {
+        Ok(Some(files)) => Ok(service_of(peers, Some(files))),
+        Ok(None) => match serve_reopened(rt, routes, file, peers) {
+            Ok(()) => Ok(service_of(peers, None)),
+            Err(fault) => Err((fault, FileAfter::Cut(cut_of(peers, None, None)))),
+        },
+        Err((fault, rest, seed)) => Err((fault, FileAfter::Cut(cut_of(peers, Some(rest), seed)))),
     }
 }
 
@@ -252,8 +207,13 @@ pub(crate) fn serve_file<S: Start>(
     ensures ok { IfOk result (ServesFile ⟦<FileFrom<S> as Disk>⟧ (image_at S.Start) connections) }
     ensures cause { IfErr result (λ failed. FailsToServe (image_at S.Start) listen.now connections failed.0 failed.1) }
 {
-    match route_table(rt.alloc()) {
-        Ok(routes) => serve_listening(rt, &routes, file, listen, connections, start),
-        Err(fault) => Err((fault, FileAfter::Nothing)),
+    let routes = match route_table(rt.alloc()) {
+        Ok(routes) => routes,
+        Err(fault) => return Err((fault, FileAfter::Nothing)),
+    };
+    let broker = open_broker(rt, file, start)?;
+    match listen_on(rt, listen, connections) {
+        Ok(connections) => serve_each(rt, &routes, broker, file, &mut Sockets::new(connections)),
+        Err(fault) => Err((fault, FileAfter::GivenUp(release(broker)))),
     }
 }

@@ -7,7 +7,7 @@ use Rattle.broker_core.specs.SoundNames.{AreNames}
 use Rattle.broker_database.specs.{BrokerView.{BrokerView}, Calls.{Applied}, Causes.{HoldsReadable, IsNotKept, StaysReadable}}
 use Rattle.broker_database.specs.{Ends.{Applies, IsAsBefore, IsUnchangedUnless}, Transaction.{returned}, declared.ending.Failure.{Failure}}
 use Rattle.broker_database.{specs.{declared.ending.Failure.TheVariants.{Call, Commit}, Stored.{HoldsState}}, proofs.Transaction.{Survives-refl}}
-use Rattle.broker_service.specs.Transacted.{AppliesOrFails, IsNoFailure, IsSoundCommand, Transacted, failed_as}
+use Rattle.broker_service.specs.Transacted.{AppliesOrFails, IsNoFailure, Transacted, failed_as}
 use Rattle.broker_service.proofs.EndLemmas.{RecordsExactly-deployed, RecordsExactly-released}
 use Rattle.table_access.specs.declared.StoreFault.TheVariants as fault
 use Rattle.broker_core.specs.declared.answer.Answer.TheVariants as answers
@@ -62,7 +62,7 @@ module _ {X : Type 0} (shown : Held X → State) where
   -- what a running broker's transaction leaves
   pub Applied-of_transacted : (old : BrokerView X) (token : Option Text) (command : Command) (r : Result Answer Failure) (answer : Answer) (new : BrokerView X) → answer ≡ answer_of (returned r)
       → Transacted shown token command old.connection new.connection r
-      → IfOk (returned r) IsNoFailure → (IsTrue new.is_stopped ↔ (answer ≡ answers.Store)) → old.is_stopped ≡ false → IsSoundCommand token command → Applied shown old token command answer new
+      → IfOk (returned r) IsNoFailure → (IsTrue new.is_stopped ↔ (answer ≡ answers.Store)) → old.is_stopped ≡ false → AreNames command × StaysReadable token command → Applied shown old token command answer new
   Applied-of_transacted old token command r answer new is it answered stops running (named, reads) = record {
     readable = reads;
     applies = λ clean _. applies clean;

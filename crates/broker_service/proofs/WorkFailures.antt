@@ -2,7 +2,7 @@
 use Rattle.std.{specs.Prelude.{⊤}, proofs.Common.{Bool, ◌≡◌, inl, inr, true, false, Ok, Some, Option, Result, sym, ap, subst, ◌∙◌, ◌⊎◌}}
 use Rattle.std.proofs.lemmas.Result.{IfErr-weaker}
 use Rattle.sqlite.specs.State.{State, HasCleanDisk}
-use Rattle.table_access.{specs.{Calls.{CallsTablesBetween, EndsBy}, declared.StoreFault.{StoreFault}}, proofs.CallLemmas.{CallsBetween-weaken, EndsBy-weaken}}
+use Rattle.table_access.{specs.{Calls.{CallsTablesBetween, EndsBy}, declared.StoreFault.{StoreFault}}, proofs.CallLemmas.{EndsBy-weaken}}
 use Rattle.broker_core.specs.{Contents.{HasSoundContents}, Change.{Transition}, Machine.{IsCallerOfToken, is_step}, State.{State as Broker}, Text.{Text}}
 use Rattle.broker_core.specs.{declared.answer.Answer.{Answer}, declared.command.Command.{Command}, declared.policy.Caller.{Caller}, SoundNames.{AreNames}}
 use Rattle.broker_core.proofs.StepLemmas.{Step-is_step}

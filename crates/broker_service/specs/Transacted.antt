@@ -12,7 +12,7 @@ use Rattle.broker_core.specs.Text.{Text}
 use Rattle.broker_core.specs.declared.answer.Answer.{Answer}
 use Rattle.broker_core.specs.declared.answer.Answer.TheVariants.{Memory, Store, Stopped}
 use Rattle.broker_core.specs.declared.command.Command.{Command}
-use Rattle.broker_database.specs.Causes.{CommitLacksMemory, HoldsReadable, IsToBeDone, KeepsRoom, StaysReadable}
+use Rattle.broker_database.specs.Causes.{CommitLacksMemory, HoldsReadable, IsToBeDone, KeepsRoom}
 use Rattle.broker_database.specs.Ends.{HoldsNext, Steps, KeepsAtPattern, IsUnchangedUnless, CommitsAtMostOnce, LeavesNoTransaction}
 use Rattle.broker_database.specs.Stored.{Stores, HoldsState}
 use Rattle.broker_database.specs.Transaction.{EndsOrFails, returned}
@@ -23,10 +23,6 @@ use Rattle.broker_tables.specs.Room.{HasRoomFor, enough}
 -- an answer that a command may have inside its transaction: only the broker itself answers a failure, or Stopped
 abbrev pub IsNoFailure : Answer → Type 0
 IsNoFailure answer = (answer ≢ Memory) × (answer ≢ Store) × (answer ≢ Stopped)
-
--- as of each command: each of its names is a name, and it keeps what can be read back such
-abbrev pub IsSoundCommand : Option Text → Command → Type 0
-IsSoundCommand token command = AreNames command × StaysReadable token command
 
 -- a step, or a refused pattern; or, without memory, the same; or the database failed, as of `Applies`
 abbrev pub AppliesOrFails : Broker → Option Text → Command → State → Result Answer StoreFault → Type 0

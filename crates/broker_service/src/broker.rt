@@ -5,7 +5,7 @@ ghost use Rattle.caller_facts.specs.Callers.{token_of};
 ghost use Rattle.command_facts.specs.Primitives.{broker_primitives};
 ghost use Rattle.broker_database.specs.Calls.{Applied, Created, Opened};
 ghost use Rattle.broker_database.specs.Transaction.{fault_of};
-ghost use Rattle.broker_service.specs.Transacted.{IsSoundCommand, failed_as};
+ghost use Rattle.broker_service.specs.Transacted.{failed_as};
 
 use crate::work::transact;
 use answer_texts::RenderedAnswer;
@@ -77,8 +77,8 @@ impl<S: Alter> Broker<S> {
     /// Opens the database that a broker left. Nothing is changed.
     ///
     /// `NotABroker`: there is no table `meta` with its columns, its key and exactly one row; or what is declared isn't
-    /// exactly what a broker declares. `Format`: the format in that row is this other one. `Memory` and `Store` as of `create`; `Store` also if the
-    /// format isn't a number from 0 to 2^32 - 1.
+    /// exactly what a broker declares. `Format`: the format in that row is this other one. `Memory` and `Store` as of
+    /// `create`; `Store` also if the format isn't a number from 0 to 2^32 - 1.
     pub fn open(conn: Connection<S>) -> Result<Broker<S>, Refused<S>>
         ensures { Opened (state S.Store) conn result }
     {
@@ -132,14 +132,6 @@ impl<S: Alter> Broker<S> {
         if self.stopped {
             return RenderedAnswer::failed(Answer::Stopped);
         }
-        self.run(alloc, token, command)
-    }
-
-    /// Runs one command of the caller with this token, in one transaction. If the database fails the broker is stopped.
-    fn run(&mut self, alloc: Global, token: Option<&str>, command: &Command) -> RenderedAnswer
-        ensures { self.old.is_stopped ≡ false → IsSoundCommand (token_of token.entry) command.now →
-            Applied (state S.Store) self.old (token_of token.entry) command.now result self.new }
-    {
         let answer = match transact(alloc, &mut self.conn, token, command) {
             Ok(answer) => answer,
             Err(failure) => failed(&failure),
