@@ -92,6 +92,8 @@ HALF_BODY = request("PUT", "/", None, "{}").replace(b": 2", b": 4")
 UNTAKEN = Peer([(0, ASKED)], signals=1)
 # One request after another, each begun as the one before it is answered.
 ENDLESS = Peer([(0, HALF), *((at, REST + HALF) for at in range(0, 4200, 300))], signals=1)
+# Whole heads, of which the second announces as many bytes as a head may have.
+LARGE = ASKED + b"PUT / HTTP/1.1\r\nhost: b\r\ncontent-length: 16384\r\n\r\n"
 NOW_AND_THEN = b"GET /"
 SLOWER = Peer([(at * 3000, NOW_AND_THEN[at : at + 1]) for at in range(5)], signals=1)
 FASTER = Peer([(at * 600, NOW_AND_THEN[at : at + 1]) for at in range(5)], signals=1)
@@ -112,6 +114,8 @@ WAITS: dict[str, tuple[Peer, int, bytes, int]] = {
     "a byte now and then has two seconds for all, if another waits": (FASTER, 1, b"", 2020),
     "a message that is late by less than two seconds is answered, though another waits": (
         Peer([(0, HALF), (1900, REST)], signals=1), 1, TOLD, 1900),
+    "a body whose head came with the request before is answered, though another waits": (
+        Peer([(0, LARGE), (900, b" " * 16_384)], signals=1), 1, TOLD * 2, 905),
     "one request after another is answered for a second, if another waits": (ENDLESS, 0, TOLD * 5, 1200),
     "one request after another is answered for a second more once another comes": (ENDLESS, 1000, TOLD * 8, 2100),
     "one request after another is answered for as long as nobody waits": (ENDLESS, MOST, TOLD * 14, 13_900),
