@@ -5,7 +5,7 @@ use Rattle.sqlite_disk.specs.{declared.Disk.{Ghosts}, Disk.{MoreFaults}}
 use Rattle.sqlite_trees.specs.Objects.{catalog_tree}
 use Rattle.sqlite.specs.{Files.{IsOpened, file_state, HoldsDatabase}, Held.{Held, IsNew}, Recovery.{Image}, State.{HasCleanDisk}}
 use Rattle.sqlite.specs.{declared.FileStore.{FileStore}, Effect.{IsDatabase}, Schema.{Schema}, Start.{FindsIn}, Tree.{Trees}}
-use Rattle.table_access.specs.{Durability.{IsOnDisk}}
+use Rattle.table_access.specs.Durability.{IsOnDisk}
 use Rattle.broker_core.specs.{Laws.{CallLeaves, Exit, LeavesAll}, Laws.Exit.{NoStep, Stepped, WasCut}, Machine.{Request, is_step}, State.{State as Broker}}
 use Rattle.broker_core.specs.declared.answer.Answer.{Answer}
 use Rattle.broker_tables.specs.Readable.{IsReadable}

@@ -1,7 +1,7 @@
 -- peers that are let in and let go, one after another
 use Rattle.std.proofs.Common.{◌≡◌, ◌<◌, ◌+◌, ℕ, List, [], ◌∷◌, ◌++◌, length, map, append_assoc, append-nil, length-append, sym, ap, ◌∙◌, arith}
 use Rattle.std.proofs.lemmas.List.{length-map, length-replicate, map-append}
-use Rattle.program_io.specs.Entrance.{AreVisited, IsLetIn, NoneIsIn, IsLost, IsNewQueue, IsVisited, Peer, Queue, Visit, queue_of, stranger}
+use Rattle.program_io.specs.Entrance.{AreVisited, IsLetIn, NoneIsIn, IsLost, IsVisited, Peer, Queue, Visit, queue_of, stranger}
 
 pub AreVisited-none : (queue : Queue) → AreVisited queue queue []
 AreVisited-none queue = record { came = sym (append-nil queue.came); went = sym (append-nil queue.went); count = omega arith }
@@ -72,9 +72,6 @@ AreVisited-none_is_in old new visits it idle =
     omega (arith, came, went, idle)
 
 -- a new queue of peers of which nothing is known
-pub IsNewQueue-queue_of : (queue : Queue) (left lost : ℕ) → queue ≡ queue_of left 0 0 lost → IsNewQueue queue
-IsNewQueue-queue_of queue left lost is = (ap (λ (q : Queue). q.came) is, ap (λ (q : Queue). q.went) is)
-
 pub queue_of-new_counts : (queue : Queue) (left served lost all : ℕ) → queue ≡ queue_of left 0 0 lost → served ≡ 0 → left + served + lost ≡ all → (length queue.went ≡ 0) × (length queue.coming + queue.lost ≡ all)
 queue_of-new_counts queue left served lost all is none sum =
     let coming : length queue.coming ≡ left = ap (λ (q : Queue). length q.coming) is ∙ length-replicate left stranger in

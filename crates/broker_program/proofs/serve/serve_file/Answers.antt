@@ -1,7 +1,6 @@
 use Rattle.std.proofs.{Common.{◌∙◌, inl, inr}, lemmas.Result.{IfErr-weaker}}
 use Rattle.broker_program.proofs.{RefusalLemmas.{LeavesCut-weaker}, ResultLemmas.{IfOk-both}}
-use Rattle.broker_program.proofs.ServingLemmas.{CutsFile-counts, ServesFile-counts, IsLeftUnserved-given_back}
-use Rattle.broker_program.proofs.VisitLemmas.{queue_of-new_counts}
+use Rattle.broker_program.proofs.{ServingLemmas.{CutsFile-counts, ServesFile-counts, IsLeftUnserved-given_back}, VisitLemmas.{queue_of-new_counts}}
 use Rattle.broker_program.proofs.serve.serve_file.Goals as goal
 
 pub returns-in-Ok-listen_on-clause-ok : goal.returns-in-Ok-listen_on-clause-ok

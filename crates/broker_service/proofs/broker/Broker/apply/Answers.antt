@@ -1,11 +1,11 @@
 use Rattle.std.proofs.Common.{◌≡◌, ◌↔◌, Err, IfOk, IsTrue, Ok, Result, sym, subst, ap, ◌∙◌}
 use Rattle.sqlite.specs.Held.{state}
 use Rattle.broker_core.specs.declared.answer.Answer.{Answer}
-use Rattle.broker_core.specs.declared.answer.Answer.TheVariants as answers
 use Rattle.broker_database.specs.{BrokerView.{BrokerView}, Calls.{Applied}, Transaction.{returned}, declared.ending.Failure.{Failure}}
 use Rattle.broker_service.{specs.Transacted.{IsNoFailure}, proofs.AppliedLemmas.{answer_of, Applied-of_transacted, Applied-stopped}}
-use Rattle.caller_facts.specs.Callers.{token_of}
 use Rattle.broker_service.proofs.broker.Broker.apply.Goals.{in-Ok, in-Err, in-Store, in_default}
+use Rattle.caller_facts.specs.Callers.{token_of}
+use Rattle.broker_core.specs.declared.answer.Answer.TheVariants as answers
 use Rattle.broker_service.proofs.broker.Broker.apply.Goals as goal
 
 ok_returned : (r : Result Answer Failure) → IfOk r IsNoFailure → IfOk (returned r) IsNoFailure
