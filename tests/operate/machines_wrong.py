@@ -5,15 +5,15 @@ from collections.abc import Callable
 from typing import NamedTuple
 from tests.operate.machines_faults import Scene
 from tests.operate.machines_hosts import PATIENCE, Machine, awaited
-from tests.process import TOP
+from tests.process import text_of
 from tests.wire import Wrong
 
 Edits = dict[str, str]
 
 
-def text_of(name: str) -> str:
-    with open(f"{TOP}/examples/cluster/{name}", encoding="utf-8") as it:
-        return it.read()
+def part_of(name: str) -> str:
+    """A file of the recipe as it is."""
+    return text_of(f"examples/cluster/{name}")
 
 
 def with_option(text: str, name: str, value: str) -> str:
@@ -25,12 +25,12 @@ def with_option(text: str, name: str, value: str) -> str:
 
 
 def without_quorum() -> Edits:
-    return {"volume.options": with_option(text_of("volume.options"), "cluster.quorum-type", "none")}
+    return {"volume.options": with_option(part_of("volume.options"), "cluster.quorum-type", "none")}
 
 
 def without_hold() -> Edits:
     """The unit starts the broker itself."""
-    unit = text_of("broker.conf")
+    unit = part_of("broker.conf")
     changed = re.sub(r"/usr/bin/python3 \S+/hold.py \S+ \S+ \\\n +", "", unit).replace("Type=notify", "Type=simple")
     if "hold.py" in re.sub("(?m)^#.*", "", changed):
         raise Wrong("the unit has hold.py still")
@@ -39,17 +39,17 @@ def without_hold() -> Edits:
 
 def without_locks() -> Edits:
     """Neither what ends the broker that is cut off, nor what keeps it from writing."""
-    return {**without_hold(), "volume.options": with_option(text_of("volume.options"), "client.strict-locks", "off")}
+    return {**without_hold(), "volume.options": with_option(part_of("volume.options"), "client.strict-locks", "off")}
 
 
 def with_write_behind() -> Edits:
-    options = with_option(text_of("volume.options"), "performance.write-behind", "on")
+    options = with_option(part_of("volume.options"), "performance.write-behind", "on")
     return {"volume.options": with_option(options, "performance.flush-behind", "on")}
 
 
 def with_kept(options: str) -> Edits:
     """The kernel keeps what it knows of the file: the volume is mounted without these options."""
-    unit = text_of("broker-volume.service")
+    unit = part_of("broker-volume.service")
     changed = unit.replace(f"{options} ", "")
     if changed == unit:
         raise Wrong("the volume is mounted otherwise")
@@ -163,7 +163,7 @@ def try_wrong(scene: Scene, name: str) -> str:
     """What came of the recipe, with the machines as they are after it."""
     recipe = RECIPES[name]
     files = ("broker.conf", "broker-volume.service", "volume.options")
-    scene.cluster.change({it: text_of(it) for it in files} | recipe.edits())
+    scene.cluster.change({it: part_of(it) for it in files} | recipe.edits())
     found = recipe.look(scene)
     if bool(found) != recipe.is_shown:
         raise Wrong(f"the recipe without {name}: {found or 'nothing was lost'}")
