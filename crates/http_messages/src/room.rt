@@ -71,7 +71,7 @@ pub fn places<S: Read + Drop>(waiting: &[Waiting<S>]) -> usize
 }
 
 /// Reads what has come from each that isn't ready. Who is ready now counts as ready since `before`, when they were looked
-/// at before this, or nobody waited: a peer isn't charged for what another one took while nobody looked.
+/// at before this, or nobody waited: nobody saw what came since then, so each may have waited for as long.
 pub fn look<S: Read + Drop>(waiting: &mut [Waiting<S>], before: Option<Instant>) {
     for it in waiting.iter_mut() {
         it.look(before);
