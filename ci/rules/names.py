@@ -13,7 +13,7 @@ from sources import bare, place
 MOST = 110
 MORE = {
     # How many matchers of one entry are asked is the larger part of what is over; it may become a crate of its own.
-    "pact_rules": 150,
+    "pact_rules": 160,
 }
 TWICE = {
     # The same of two things.

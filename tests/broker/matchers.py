@@ -45,6 +45,19 @@ def listed(matchers: list[dict[str, Any]], items: list[Any], combine: str = "AND
     return with_rules([example], rules), replies(items)
 
 
+def named(matchers: list[dict[str, Any]], count: int) -> Texts:
+    """The same for the name of each of so many objects."""
+    rules = {"$": {"matchers": [TYPE]}, "$[*].name": {"matchers": matchers}}
+    return with_rules([{"name": "a"}], rules), replies([{"name": f"a name {at}"} for at in range(count)])
+
+
+def own_names(keys: int, count: int) -> Texts:
+    """A pact of a list of objects with so many keys, a pattern for each, and a reply with so many objects."""
+    own = {f"k{at}": rf"{NAME}|{at}$" for at in range(keys)}
+    item = {key: f"a {at}" for at, key in enumerate(own)}
+    return pact([dict.fromkeys(own, "a")], {f"$[*].{key}": it for key, it in own.items()}), replies([item] * count)
+
+
 def whole(matchers: list[dict[str, Any]], body: Any) -> Texts:
     """The same for a body and a reply that is equal to it."""
     return with_rules(body, {"$": {"matchers": matchers}}), replies(body)
@@ -121,10 +134,14 @@ TOO_MUCH: dict[str, Made] = {
     "one byte too much": lambda: of_text([LONG], "b" * 29_923),
     "one item too much": lambda: listed(patterns([f"b|{LONG}"]), ["b" * 14_958, "b" * 14_958, "b"]),
 }
-# Of which a step takes many times as long as of others: what was learned of so many patterns is forgotten again and again,
-# or isn't in the processor's caches.
-SLOW: dict[str, tuple[Made, str]] = {
+# Of so many patterns that what the searches learned would be forgotten again and again, or not be in the processor's
+# caches, if one were asked after the other of each text.
+CROWDS: dict[str, tuple[Made, str]] = {
     "a hundred names, each of 2,000": (lambda: listed(names(100), [f"a name {at}" for at in range(2_000)]), "pass"),
+    "a hundred names of 2,000 objects": (lambda: named(names(100), 2_000), "pass"),
+    "the last of a hundred names, each of 2,000": (
+        lambda: listed(patterns([f"{NAME[:-1]}!{at}$" for at in range(100)] + ["a"]), ["a name"] * 2_000, "OR"), "pass"),
+    "a hundred names of 400 objects, each its own": (lambda: own_names(100, 400), "pass"),
     "1,000 patterns, each of 200,000": (lambda: listed(plain(1_000), ["a"] * 200_000), "check 2"),
 }
 # Just as many steps as there are, but for less than one byte more would take.

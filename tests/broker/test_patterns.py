@@ -7,7 +7,7 @@ from collections.abc import Callable
 from functools import partial
 from typing import NamedTuple
 import pytest
-from tests.broker.matchers import JUST, LISTS, MOST_BYTES, NAME, SLOW, TOO_MUCH, Made, Texts
+from tests.broker.matchers import CROWDS, JUST, LISTS, MOST_BYTES, NAME, TOO_MUCH, Made, Texts
 from tests.broker.matchers import listed, names, pact, replies, rule
 from tests.process import slowness
 from tests.wire import same
@@ -16,12 +16,10 @@ pytestmark = pytest.mark.timing
 REFUSED = "pact 7.7 interactions[0]\n"
 # In seconds of the processor and in units of 10^6 bytes: of reading a file.
 READING, ROOM = 1.0, 100
-# Of a check. It may take 3 from the others, and twice that on a machine with other work.
-MOST = 6.0
+# Of a check, which takes them from the others.
+MOST = 3.0
 # Of one of an ordinary file: up to fifty plain patterns of a list of 250,000.
 ORDINARY = dict.fromkeys(["16 patterns", "17 patterns", "50 patterns"], 2.0)
-# Of one whose steps are slow (docs/LIMITS.md): nearly all of it is memory, which others use too.
-MOST_OF_SLOW = 12.0
 # What a check takes of memory at most, in units of 10^6 bytes.
 MOST_MEGABYTES = 600
 
@@ -154,7 +152,7 @@ CHECKS: dict[str, tuple[Made, float]] = {
     "a hundred of one list, 100 values": (
         lambda: listed(names(100), [f"a name {at}" for at in range(100)]), 2.0),
     "a hundred of one list, 1,000 values": (
-        lambda: listed(names(100), [f"a name {at}" for at in range(1_000)]), MOST),
+        lambda: listed(names(100), [f"a name {at}" for at in range(1_000)]), 2.0),
     "twenty, 1,000 values each": (twenty, 1.0),
 }
 
@@ -176,10 +174,10 @@ def test_searches_that_take_too_many_steps_are_refused(program: str, room: str, 
     ends(program, room, TOO_MUCH[name](), "check 2")
 
 
-@pytest.mark.parametrize("name", SLOW)
-def test_slow_searches_take_no_longer_than_is_said(program: str, room: str, name: str) -> None:
-    made, end = SLOW[name]
-    ends(program, room, made(), end, MOST_OF_SLOW)
+@pytest.mark.parametrize("name", CROWDS)
+def test_many_patterns_are_asked_one_after_the_other(program: str, room: str, name: str) -> None:
+    made, end = CROWDS[name]
+    ends(program, room, made(), end)
 
 
 @pytest.mark.parametrize("name", JUST)

@@ -1,6 +1,5 @@
 -- What the parser read and what was built are the pattern of their text.
-use Rattle.std.specs.Prelude.{is_some}
-use Rattle.std.proofs.Common.{◌≡◌, ◌≤◌, ◌<◌, ℕ, Bool, true, List, length, get_or, Option, Some, None, option_map, IsSomeAnd, refl, chars}
+use Rattle.std.{specs.Prelude.{is_some}, proofs.Common.{◌≡◌, ◌≤◌, ◌<◌, ℕ, true, List, length, get_or, Option, Some, None, option_map, IsSomeAnd, refl, chars}}
 use Rattle.regex.specs.{declared.string.regex.Regex.{Regex}, Names.{names_of}, Patterns.{Re, find_str, default_config, Reads, SameCaptures}}
 use Rattle.regex.{specs.Strings.{regex_pattern, regex_source, regex_config, IsReadFromSource}, proofs.ForCallers.{is_match_alike}}
 use Rattle.regex_syntax.specs.{Grammar.{Names, group_count, read}, Brackets.{Nested}}

@@ -1,5 +1,5 @@
 -- The pattern of a text, whether it is found in another text, and why the crate `regex` reads or builds none.
-use Rattle.std.specs.Prelude.{◌≡◌, ◌≢◌, ℕ, Bool, false, List, Option, Some, None, is_some, option_map, chars}
+use Rattle.std.specs.Prelude.{◌≢◌, ℕ, Bool, false, List, Option, Some, None, is_some, option_map, chars}
 use Rattle.regex.specs.Failures.{IsPattern}
 use Rattle.regex.specs.Patterns.{Re, find_str, default_config, Refuses}
 use Rattle.regex.specs.declared.error.Error.{Error}

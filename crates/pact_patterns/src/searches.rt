@@ -21,6 +21,9 @@ const MOST_LEARNED: u64 = 33_554_432;
 /// Once all searches are counted with more than this, what they learned is forgotten.
 const MOST_KEPT: u64 = 402_653_184;
 
+/// The searches for so many patterns are never counted with more than that.
+const ALWAYS_KEPT: usize = 12;
+
 /// So many steps the searches of a check take together: some two seconds.
 const MOST_STEPS: u64 = 300_000_000;
 
@@ -125,6 +128,13 @@ impl<'p> Searches<'p> {
             kept,
             steps: MOST_STEPS,
         }
+    }
+
+    /// Whether there are so many patterns that what the searches learned may be forgotten. Then it is better to ask one
+    /// pattern of all texts before the next one. Takes no memory.
+    pub fn may_forget(&self) -> bool {
+        let patterns = self.kept.patterns;
+        patterns.built.len() > ALWAYS_KEPT
     }
 
     /// Whether the pattern of a text matches somewhere in another. It fails only as the crate `regex` refuses a

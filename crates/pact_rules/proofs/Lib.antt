@@ -4,6 +4,7 @@ pub mod MatchingLemmas
 mod TreeLemmas
 mod AsReadLemmas
 pub mod GatheredLemmas
+mod DeferredLemmas
 pub mod PartLemmas
 pub mod PatternLemmas
 mod AcceptedPatterns

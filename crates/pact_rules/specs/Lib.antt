@@ -9,6 +9,7 @@ pub mod Choice
 pub mod Matching
 pub mod Tables
 pub mod Gathered
+pub mod Deferred
 pub mod RuleReading
 pub mod AsRead
 pub mod RegexRefusals

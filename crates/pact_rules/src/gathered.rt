@@ -14,7 +14,7 @@ use crate::parts::{are_apart, without_longer};
 use crate::table::Matcher;
 use std::alloc::{AllocError, Global};
 
-/// An entry with more matchers than this is gathered.
+/// An entry with more matchers than this is gathered, as one with a pattern is.
 const FEW: usize = 16;
 
 /// The bounds of a `SameType` matcher.
@@ -35,7 +35,7 @@ pub(crate) struct Gathered {
     pub(crate) patterns: Vec<String>,
 }
 
-/// What the matchers ask, if they are many.
+/// What the matchers ask, if they are many, or one is a pattern.
 pub(crate) fn gathered_of_many(
     alloc: Global,
     any: bool,
@@ -44,7 +44,7 @@ pub(crate) fn gathered_of_many(
     ensures says { IfOk result (λ many. IsGatheredOf any matchers.now.items (option_map (λ m. m.gathered) many)) }
     ensures patterns { IfOk result (λ many. HasItsPatterns matchers.now.items (option_map (λ m. m.gathered) many)) }
 {
-    if matchers.len() > FEW {
+    if matchers.len() > FEW || have_pattern(matchers) {
         let gathered = gather(alloc, any, matchers)?;
         let are_apart = are_apart(&gathered.parts);
         Ok(Some(Many {
@@ -54,6 +54,15 @@ pub(crate) fn gathered_of_many(
     } else {
         Ok(None)
     }
+}
+
+fn have_pattern(matchers: &Vec<Matcher>) -> bool {
+    for matcher in matchers {
+        if let Matcher::Regex(_) = matcher {
+            return true;
+        }
+    }
+    false
 }
 
 /// What the matchers ask, each thing once.

@@ -55,7 +55,7 @@ impl Entry {
     }
 
     /// The same by each matcher, one after another.
-    fn each_holds(
+    pub(crate) fn each_holds(
         &self,
         alloc: Global,
         searches: &mut Searches<'_>,
@@ -100,7 +100,13 @@ impl Gathered {
     }
 
     /// What is asked without a text.
-    fn plain_hold(&self, any: bool, expected: &Value, actual: &Value, own_place: bool) -> bool
+    pub(crate) fn plain_hold(
+        &self,
+        any: bool,
+        expected: &Value,
+        actual: &Value,
+        own_place: bool,
+    ) -> bool
         ensures { result ≡ plain_hold any self.now (view expected.now) (view actual.now) own_place }
     {
         let equality = if self.equality {
@@ -159,14 +165,14 @@ impl Gathered {
 }
 
 /// Both answers together: with `any` either is enough, or else both are wanted.
-fn join(any: bool, a: bool, b: bool) -> bool
+pub(crate) fn join(any: bool, a: bool, b: bool) -> bool
     ensures { result ≡ joined any a b }
 {
     if any { a || b } else { a && b }
 }
 
 /// What these say if none of them holds.
-fn nothing_holds(texts: &Vec<String>, any: bool) -> bool
+pub(crate) fn nothing_holds(texts: &Vec<String>, any: bool) -> bool
     ensures { result ≡ judged any (λ s. false) texts.now.items }
 {
     match texts.first() {
@@ -236,7 +242,7 @@ fn are_within(bounds: &Bounds, expected: &Value, actual: &Value, own_place: bool
         && (!own_place || is_within(bounds.min, bounds.max, expected, actual))
 }
 
-fn parts_hold(parts: &Vec<String>, any: bool, are_apart: bool, text: &str) -> bool
+pub(crate) fn parts_hold(parts: &Vec<String>, any: bool, are_apart: bool, text: &str) -> bool
     requires { IsTrue are_apart → AreApart parts.now.items }
     ensures { result ≡ judged any (λ s. contains (string_bytes s) text.now) parts.now.items }
 {

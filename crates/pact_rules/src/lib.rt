@@ -1,6 +1,7 @@
 //! Weights and matchers of response rules (Pact Specification, version 3).
 #![tactic(auto)]
 
+mod deferred;
 mod entry;
 mod gathered;
 mod judging;

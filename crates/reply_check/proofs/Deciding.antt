@@ -1,6 +1,6 @@
 -- Deciding by going through a list.
 use Rattle.std.specs.List.{AllByRecursion}
-use Rattle.std.proofs.Common.{◌≡◌, ◌⊎◌, inl, inr, ◌↔◌, ◌+◌, Bool, true, false, List, [], ◌∷◌, ◌++◌, IsTrue, refl, sym, ◌∙◌, subst, ⊎_elim, true≢false}
+use Rattle.std.proofs.Common.{◌≡◌, ◌⊎◌, inl, inr, ◌↔◌, Bool, true, false, List, [], ◌∷◌, ◌++◌, IsTrue, refl, sym, ◌∙◌, subst, ⊎_elim, true≢false}
 use Rattle.pact_rules.specs.Lists.{OneOf, IsIn}
 
 pub Bool-by_test : {B : Type 0} (b : Bool) → (b ≡ true → B) → (b ≡ false → B) → B

@@ -1,13 +1,14 @@
 -- Fitting, item by item and member by member.
 use Rattle.std.specs.{Slice.{IsItemAt}, Option.{option_or, option_copied}, Cmp.Lexicographic.{slice_cmp}, Map.{lookup}, BTreeMap.{is_at}}
 use Rattle.std.proofs.Common.{◌≡◌, ℕ, zero, suc, Bool, true, ◌&&◌, List, [], ◌∷◌, ◌++◌, length, Option, Some, None, option_map, slice_get, String, Global, Vec, BTreeMap, string_bytes, nat_cmp, Bor, refl, sym, ap, ◌∙◌, rules, ◌+◌, ◌<◌, get_or, drop, add-one}
-use Rattle.std.proofs.{lemmas.Bool.{and_from}, lemmas.List.{drop_more}, lemmas.Option.{slice_get_past, slice_get_read}}
+use Rattle.std.proofs.{lemmas.List.{drop_more}, lemmas.Option.{slice_get_past, slice_get_read}}
 use Rattle.pact_rules.specs.{Matching.{has_keys_of}, Rules.{Rules}}
 use Rattle.serde_json.specs.{Data.{Data, array, object, Items, no_items, item, Members, no_members, member}, View.{view, items_view, members_view}}
 use Rattle.serde_json.specs.{declared.value.Value.{Value, Array, Object}, Find.{get_member, get_item}}
 use Rattle.serde_json.proofs.Views.{Entry, view-Array, view-Object, view-lookup}
 use Rattle.pact_paths.specs.Paths.{Location, key}
 use Rattle.reply_check.specs.Computed.{meets_here, expected_items, expected_members, first_or, example, if_there, fits, items_fit, members_fit}
+use Rattle.reply_check.proofs.DeferredLemmas.{and-true}
 use Rattle.pact_paths.specs.Paths as paths
 
 -- nothing is expected
@@ -24,19 +25,35 @@ get_item-items_view [] i = refl
 get_item-items_view (t ∷ ts) zero = refl
 get_item-items_view (t ∷ ts) (suc i) = get_item-items_view ts i
 
-pub fits-list_without_example : (rules : Rules) (at : Location) (x : Data) (actual : Value) (v : Vec Value Global) → actual ≡ Array v → meets_here rules at x (view actual) ≡ true → expected_items x ≡ no_items
-    → true ≡ fits rules at x (view actual)
-fits-list_without_example rules at x actual v is m none =
-    let seen : view actual ≡ array (items_view v.items) = ap view is ∙ view-Array v in
-    let met : meets_here rules at x (array (items_view v.items)) ≡ true = ap (meets_here rules at x) (sym seen) ∙ m in
-    sym (ap (fits rules at x) seen ∙ and_from _ _ met (ap (λ xs. items_fit rules at xs 0 (items_view v.items)) none ∙ items_fit-no_items rules at 0 (items_view v.items)))
+-- of two lists it is asked that they meet, and of their items
+pub fits-list : (rules : Rules) (at : Location) (x : Data) (xs : Items) (actual : Value) (v : Vec Value Global) → actual ≡ Array v → expected_items x ≡ xs
+    → fits rules at x (view actual) ≡ (meets_here rules at x (view actual) && items_fit rules at xs 0 (items_view v.items))
+fits-list rules at x xs actual v is expected =
+    let ys = items_view v.items in
+    let seen : view actual ≡ array ys = ap view is ∙ view-Array v in
+    ap (fits rules at x) seen ∙ ap (λ y. meets_here rules at x y && items_fit rules at (expected_items x) 0 ys) (sym seen)
+    ∙ ap (λ xs. meets_here rules at x (view actual) && items_fit rules at xs 0 ys) expected
 
-pub fits-object_without_example : (rules : Rules) (at : Location) (x : Data) (actual : Value) (m : BTreeMap (String Global) Value) → actual ≡ Object m → meets_here rules at x (view actual) ≡ true → expected_members x ≡ no_members
-    → true ≡ fits rules at x (view actual)
-fits-object_without_example rules at x actual m is h none =
-    let seen : view actual ≡ object (members_view m.entries) = ap view is ∙ view-Object m in
-    let met : meets_here rules at x (object (members_view m.entries)) ≡ true = ap (meets_here rules at x) (sym seen) ∙ h in
-    sym (ap (fits rules at x) seen ∙ and_from _ _ met (ap (λ fs. has_keys_of fs (members_view m.entries) && members_fit rules at fs (members_view m.entries)) none ∙ members_fit-no_members rules at (members_view m.entries)))
+pub fits-list_without_example : (rules : Rules) (at : Location) (x : Data) (actual : Value) (v : Vec Value Global) → actual ≡ Array v → expected_items x ≡ no_items
+    → meets_here rules at x (view actual) ≡ fits rules at x (view actual)
+fits-list_without_example rules at x actual v is none =
+    sym (fits-list rules at x no_items actual v is none ∙ ap (λ a. meets_here rules at x (view actual) && a) (items_fit-no_items rules at 0 (items_view v.items))
+    ∙ and-true (meets_here rules at x (view actual)))
+
+-- of two objects, that they meet, that the keys are there, and of their members
+pub fits-object : (rules : Rules) (at : Location) (x : Data) (fs : Members) (actual : Value) (m : BTreeMap (String Global) Value) → actual ≡ Object m → expected_members x ≡ fs
+    → fits rules at x (view actual) ≡ (meets_here rules at x (view actual) && (has_keys_of fs (members_view m.entries) && members_fit rules at fs (members_view m.entries)))
+fits-object rules at x fs actual m is expected =
+    let gs = members_view m.entries in
+    let seen : view actual ≡ object gs = ap view is ∙ view-Object m in
+    ap (fits rules at x) seen ∙ ap (λ y. meets_here rules at x y && (has_keys_of (expected_members x) gs && members_fit rules at (expected_members x) gs)) (sym seen)
+    ∙ ap (λ fs. meets_here rules at x (view actual) && (has_keys_of fs gs && members_fit rules at fs gs)) expected
+
+pub fits-object_without_example : (rules : Rules) (at : Location) (x : Data) (actual : Value) (m : BTreeMap (String Global) Value) → actual ≡ Object m → expected_members x ≡ no_members
+    → meets_here rules at x (view actual) ≡ fits rules at x (view actual)
+fits-object_without_example rules at x actual m is none =
+    sym (fits-object rules at x no_members actual m is none ∙ ap (λ a. meets_here rules at x (view actual) && a) (members_fit-no_members rules at (members_view m.entries))
+    ∙ and-true (meets_here rules at x (view actual)))
 
 -- ---- members
 
@@ -56,10 +73,6 @@ pub members_fit-step : (rules : Rules) (at : Location) (fs : Members) (e : Entry
 members_fit-step rules at fs e es x b h k =
     ap (λ o. if_there o (λ x. fits rules (at ++ key (string_bytes e.0) ∷ []) x (view e.1)) && members_fit rules at fs (members_view es)) h
     ∙ ap (λ c. c && members_fit rules at fs (members_view es)) k
-
-pub if_there-member_fits : (rules : Rules) (at there : Location) (name copy : List ℕ) (x y : Data) (r : Bool) → there ≡ at → copy ≡ name → r ≡ fits rules (there ++ key copy ∷ []) x y
-    → if_there (Some x) (λ x. fits rules (at ++ key name ∷ []) x y) ≡ r
-if_there-member_fits rules at there name copy x y r e f h = sym (h ∙ ap (λ at. fits rules (at ++ key copy ∷ []) x y) e ∙ ap (λ n. fits rules (at ++ key n ∷ []) x y) f)
 
 -- ---- the example
 
@@ -82,15 +95,15 @@ pub IsItemAt-slice_get : (ts : List Value) (i : ℕ) (r : Option (Bor Value)) �
 IsItemAt-slice_get ts i None h = sym (slice_get_past ts i h.3)
 IsItemAt-slice_get ts i (Some x) h = sym (slice_get_read ts (length ts) i x.now refl h.3.0 h.1)
 
--- one item more that fits, or of which nothing is asked
-pub items_fit-step : (rules : Rules) (at : Location) (xs : Items) (i : ℕ) (ts : List Value) (y : Value) (x : Option Data) → i < length ts → y ≡ get_or ts i y → x ≡ example xs i
-    → if_there x (λ x. fits rules (at ++ paths.item i ∷ []) x (view y)) ≡ true → items_fit rules at xs i (items_view (drop i ts)) ≡ items_fit rules at xs (i + 1) (items_view (drop (i + 1) ts))
-items_fit-step rules at xs i ts y x lt is expected met =
+-- one item more
+pub items_fit-step : (rules : Rules) (at : Location) (xs : Items) (i : ℕ) (ts : List Value) (y : Value) (x : Option Data) (b : Bool) → i < length ts → y ≡ get_or ts i y → x ≡ example xs i
+    → if_there x (λ x. fits rules (at ++ paths.item i ∷ []) x (view y)) ≡ b → items_fit rules at xs i (items_view (drop i ts)) ≡ (b && items_fit rules at xs (i + 1) (items_view (drop (i + 1) ts)))
+items_fit-step rules at xs i ts y x b lt is expected met =
     let rest = items_view (drop (i + 1) ts) in
     ap (λ us. items_fit rules at xs i (items_view us)) (drop_more ts i y lt ∙ ap (λ z. z ∷ drop (i + 1) ts) (sym is))
     ∙ ap (λ o. if_there o (λ x. fits rules (at ++ paths.item i ∷ []) x (view y)) && items_fit rules at xs (suc i) rest) (sym expected)
     ∙ ap (λ b. b && items_fit rules at xs (suc i) rest) met
-    ∙ ap (λ n. items_fit rules at xs n rest) (sym (add-one i))
+    ∙ ap (λ n. b && items_fit rules at xs n rest) (sym (add-one i))
 
 pub option_map-no_view : (o : Option (Bor Value)) → ((x : Bor Value) → o ≡ Some x → ⊥) → None ≡ option_map (λ v. view v.now) o
 option_map-no_view o none = ap (option_map (λ (v : Bor Value). view v.now)) (sym (Option-none_of_no_some o none))

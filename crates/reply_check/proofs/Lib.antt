@@ -1,5 +1,6 @@
 pub mod BodyLemmas
 mod FitLemmas
+mod DeferredLemmas
 pub mod FittingLemmas
 mod WalkLemmas
 mod ValueLemmas

@@ -1,7 +1,7 @@
 -- Replies for one interaction, found by their keys: the description, and the text of the states.
 use Rattle.std.specs.{BTreeMap.{is_at}, BTreeSet.{BTreeSet, contains, IsEmpty, Updates}, Cmp.Lexicographic.{slice_cmp}, List.{AllByRecursion, list_any}}
 use Rattle.std.specs.{Ordering.{is_eq, ordering_then}, declared.cmp.Ordering.{Ordering}, declared.cmp.Ordering.TheVariants.{Equal}}
-use Rattle.std.proofs.Common.{◌≡◌, ◌⊎◌, inl, inr, ◌↔◌, ℕ, ◌+◌, ◌<◌, Bool, true, false, ◌&&◌, ◌||◌, cond, not, List, [], ◌∷◌, ◌++◌, length, take, drop, get_or, take-append-drop, IsTrue, Bor, bytes_eq, nat_cmp, refl, sym, ap, ap₂, ◌∙◌, subst, ⊎_elim, arith, true≢false}
+use Rattle.std.proofs.Common.{◌≡◌, inl, inr, ◌↔◌, ℕ, ◌+◌, ◌<◌, Bool, true, false, ◌&&◌, ◌||◌, cond, not, List, [], ◌∷◌, ◌++◌, length, take, drop, get_or, take-append-drop, IsTrue, Bor, bytes_eq, nat_cmp, refl, sym, ap, ap₂, ◌∙◌, subst, ⊎_elim, arith, true≢false}
 use Rattle.std.proofs.{lemmas.Bool.{and_from, and_parts, or_parts, not-true, not-false}, lemmas.List.{take_more}, lemmas.List.Folds.{list_any-append}}
 use Rattle.std.proofs.{lemmas.Map.Text.{is_eq-slice_cmp}, lemmas.Slice.Eq.{bytes_eq-Decides}}
 use Rattle.serde_json.specs.Written.{compact_text}

@@ -1,10 +1,10 @@
 -- The entry that a walk chooses, and where a pattern comes from.
 use Rattle.std.specs.List.{list_any}
-use Rattle.std.proofs.Common.{◌≡◌, ◌∙◌, ℕ, zero, suc, Bool, true, List, [], ◌∷◌, map, Option, Some, None, option_map, option_and_then, Result, Ok, Err, IfOk, IsTrue, ◌↔◌, subst, slice_get, refl, sym, ap}
+use Rattle.std.proofs.Common.{◌≡◌, ◌∙◌, ℕ, zero, suc, Bool, true, List, [], ◌∷◌, map, Option, Some, None, option_map, option_and_then, IsTrue, ◌↔◌, subst, slice_get, refl, sym, ap}
 use Rattle.std.proofs.{lemmas.Bool.{or_right}, lemmas.Option.{same_Some, slice_get-map}}
 use Rattle.pact_paths.specs.Paths.{Location}
-use Rattle.pact_rules.specs.{Matching.{entry_holds}, Walks.{Walk, HasReached, own_place, own_place_of}}
-use Rattle.pact_rules.{specs.{Rules.{Rules, IsInOrder, BodyRule, Entry, is_regex, has_regex}, Choice.{best, chosen}}, proofs.WalkLemmas.{IsThere, IsThere-best}}
+use Rattle.pact_rules.specs.{Matching.{entry_holds}, Walks.{own_place, own_place_of}, Rules.{Rules, IsInOrder, BodyRule, Entry, is_regex, has_regex}}
+use Rattle.pact_rules.{specs.Choice.{best, chosen}, proofs.WalkLemmas.{IsThere, IsThere-best}}
 use Rattle.serde_json.specs.Data.{Data}
 use Rattle.pact_file.proofs.Steps.{option_map-some}
 use Rattle.reply_check.{specs.{Computed.{meets_here, meets_rule, fits}, Fitting.{Fits}}, proofs.FittingLemmas.{fits-iff_Fits}}
@@ -42,7 +42,5 @@ has_regex-body_entry rules index e is h =
 -- ---- the relation
 
 -- what is computed at the root decides the relation there
-pub Fits-decided_at_root : {E : Type 0} (rules : Rules) (order : IsInOrder rules.body) (w : Walk) (x y : Data) (r : Result Bool E) → HasReached rules w [] → IfOk r (λ b. (at : Location) → HasReached rules w at → b ≡ fits rules at x y)
-    → IfOk r (λ b. IsTrue b ↔ Fits rules [] x y)
-Fits-decided_at_root rules order w x y (Ok b) started h = subst (λ b. IsTrue b ↔ Fits rules [] x y) (sym (h [] started)) (fits-iff_Fits rules order [] x y)
-Fits-decided_at_root rules order w x y (Err e) started h = tt
+pub Fits-decided_at_root : (rules : Rules) (order : IsInOrder rules.body) (x y : Data) (b : Bool) → b ≡ fits rules [] x y → IsTrue b ↔ Fits rules [] x y
+Fits-decided_at_root rules order x y b is = subst (λ b. IsTrue b ↔ Fits rules [] x y) (sym is) (fits-iff_Fits rules order [] x y)

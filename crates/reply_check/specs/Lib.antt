@@ -1,5 +1,6 @@
 pub mod Fitting
 pub mod Computed
+pub mod Deferred
 pub mod Bodies
 pub mod HeaderValues
 pub mod Recorded

@@ -4,6 +4,7 @@
 
 mod body;
 mod checking;
+mod deferred;
 mod fault;
 mod fit;
 mod header;

@@ -1,5 +1,4 @@
-use Rattle.std.{specs.List.{list_any}, proofs.{Common.{◌≡◌, ◌∙◌, true, Bool, [], ◌∷◌, ◌+◌, map, drop, sym, ap, arith}, lemmas.List.{drop_more, drop_all}}}
-use Rattle.serde_json.specs.Data.{Data}
+use Rattle.std.{specs.List.{list_any}, proofs.{Common.{◌≡◌, ◌∙◌, true, [], ◌∷◌, ◌+◌, map, drop, sym, ap, arith}, lemmas.List.{drop_more, drop_all}}}
 use Rattle.pact_rules.specs.{Gathered.{joined, judged, gathered_hold, has_pattern}, Matching.{holds}, MatcherView.{matcher_view}, Rules.{is_regex}}
 use Rattle.pact_rules.proofs.GatheredLemmas.{judged-next, judged-end}
 use Rattle.pact_rules.proofs.gathered.all_of.Goals as goal

@@ -1,4 +1,4 @@
-use Rattle.std.proofs.Common.{◌≡◌, ◌∙◌, false, Some, None, slice_get, option_copied, sym, ap}
+use Rattle.std.proofs.Common.{◌∙◌, slice_get, option_copied, sym, ap}
 use Rattle.pact_rules.proofs.GatheredLemmas.{judged-false_of_some, judged-false_of_none}
 use Rattle.pact_rules.proofs.judging.nothing_holds.Goals as goal
 

@@ -1,4 +1,4 @@
-use Rattle.std.{specs.List.{list_any}, proofs.Common.{◌≡◌, ◌∙◌, ◌<◌, ◌≤◌, ◌||◌, ◌+◌, Bool, true, false, length, drop, string_bytes, sym, ap, arith}}
+use Rattle.std.{specs.List.{list_any}, proofs.Common.{◌≡◌, ◌∙◌, ◌||◌, ◌+◌, true, false, length, drop, string_bytes, sym, ap, arith}}
 use Rattle.std.proofs.lemmas.List.{drop_all, take_rest}
 use Rattle.pact_rules.{specs.Matching.{begins, contains}, proofs.PartLemmas.{contains-list_any_drop}}
 use Rattle.pact_rules.proofs.parts.has_one.Goals as goal

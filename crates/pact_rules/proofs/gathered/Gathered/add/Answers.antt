@@ -1,4 +1,4 @@
-use Rattle.std.proofs.Common.{◌≡◌, ◌∙◌, string_bytes, sym, ap}
+use Rattle.std.proofs.Common.{◌≡◌, ◌∙◌, sym, ap}
 use Rattle.pact_rules.specs.Gathered.{joined, judged, if_asked, bounds_hold, part_holds, pattern_holds, plain_hold, texts_hold, gathered_hold}
 use Rattle.pact_rules.specs.{Matching.{holds}, MatcherView.{matcher_view}, Rules.{equality, integer, is_null, include, regex}}
 use Rattle.pact_rules.proofs.GatheredLemmas.{judged-push, joined-more_equality, joined-more_integer, joined-more_null, joined-more_bounds, joined-more_parts, joined-more_patterns}

@@ -1,4 +1,4 @@
-use Rattle.std.proofs.Common.{true, string_bytes}
+use Rattle.std.proofs.Common.{true}
 use Rattle.pact_rules.specs.{Gathered.{joined, plain_hold}, Matching.{holds}, Rules.{regex}}
 use Rattle.pact_rules.proofs.gathered.Gathered.without_repetition.Goals as goal
 
