@@ -211,6 +211,7 @@ INSERT INTO versions SELECT i, 'stock', 'build-' || i FROM n;
 INSERT INTO released SELECT 'live', number FROM versions WHERE number >= 10;
 """
 LISTED = request("GET", "/environments/live", RED)
+GATE = request("GET", "/can-i-deploy?pacticipant=shop&version=large&environment=live", RED)
 CONTRACT = "/pacts/provider/stock/consumer/shop/version/large"
 # The broker's own work for each listing, some 0.2 to 0.5 seconds, comes to the two that all of them cost together.
 LONG = {
@@ -219,6 +220,7 @@ LONG = {
     "eight times ten large contracts that aren't read": (
         Kind(8, first=request("GET", CONTRACT, RED) * 10, reads=False), MOST),
     "three pipelines of long listings": (Kind(3, always=LISTED), MOST),
+    "three pipelines of the gate over a hundred thousand": (Kind(3, always=GATE), MOST),
 }
 
 
