@@ -51,11 +51,11 @@ def named(matchers: list[dict[str, Any]], count: int) -> Texts:
     return with_rules([{"name": "a"}], rules), replies([{"name": f"a name {at}"} for at in range(count)])
 
 
-def own_names(keys: int, count: int) -> Texts:
-    """A pact of a list of objects with so many keys, a pattern for each, and a reply with so many objects."""
-    own = {f"k{at}": rf"{NAME}|{at}$" for at in range(keys)}
-    item = {key: f"a {at}" for at, key in enumerate(own)}
-    return pact([dict.fromkeys(own, "a")], {f"$[*].{key}": it for key, it in own.items()}), replies([item] * count)
+def by_keys(forms: list[str], texts: list[str], count: int) -> Texts:
+    """A pact of a list of objects with a key for each of these patterns, and a reply with so many that have the texts."""
+    own = {f"k{at}": it for at, it in enumerate(forms)}
+    rules = {f"$[*].{key}": it for key, it in own.items()}
+    return pact([dict.fromkeys(own, "a")], rules), replies([dict(zip(own, texts))] * count)
 
 
 def whole(matchers: list[dict[str, Any]], body: Any) -> Texts:
@@ -141,7 +141,8 @@ CROWDS: dict[str, tuple[Made, str]] = {
     "a hundred names of 2,000 objects": (lambda: named(names(100), 2_000), "pass"),
     "the last of a hundred names, each of 2,000": (
         lambda: listed(patterns([f"{NAME[:-1]}!{at}$" for at in range(100)] + ["a"]), ["a name"] * 2_000, "OR"), "pass"),
-    "a hundred names of 400 objects, each its own": (lambda: own_names(100, 400), "pass"),
+    "a hundred names of 400 objects, each its own": (
+        lambda: by_keys([rf"{NAME}|{at}$" for at in range(100)], [f"a {at}" for at in range(100)], 400), "pass"),
     "1,000 patterns, each of 200,000": (lambda: listed(plain(1_000), ["a"] * 200_000), "check 2"),
 }
 # Just as many steps as there are, but for less than one byte more would take.

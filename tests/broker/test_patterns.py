@@ -8,7 +8,7 @@ from functools import partial
 from typing import NamedTuple
 import pytest
 from tests.broker.matchers import CROWDS, JUST, LISTS, MOST_BYTES, NAME, TOO_MUCH, Made, Texts
-from tests.broker.matchers import listed, names, pact, replies, rule
+from tests.broker.matchers import by_keys, listed, names, pact, replies, rule
 from tests.process import slowness
 from tests.wire import same
 
@@ -136,10 +136,7 @@ def a_hundred(count: int) -> Texts:
 
 
 def twenty() -> Texts:
-    keys = [f"k{at}" for at in range(20)]
-    rules = {f"$[*].{key}": rf"^[A-Z]{{2}}-\d{{4}}-{at}$" for at, key in enumerate(keys)}
-    item = {key: f"AB-1234-{at}" for at, key in enumerate(keys)}
-    return pact([dict.fromkeys(keys, "a")], rules), replies([item] * 1_000)
+    return by_keys([rf"^[A-Z]{{2}}-\d{{4}}-{at}$" for at in range(20)], [f"AB-1234-{at}" for at in range(20)], 1_000)
 
 
 # What is checked, and how many seconds that may take.
