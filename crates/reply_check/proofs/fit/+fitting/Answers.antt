@@ -1,9 +1,10 @@
-use Rattle.std.proofs.Common.{◌≡◌, ◌∙◌, ◌<◌, ◌+◌, drop, ◌&&◌, ◌++◌, ◌∷◌, [], true, Some, None, option_map, length, string_bytes, refl, sym, ap, arith}
+use Rattle.std.proofs.Common.{◌≡◌, ◌∙◌, ◌<◌, ◌+◌, ℕ, Bool, List, get_or, drop, ◌&&◌, ◌++◌, ◌∷◌, [], true, false, Some, None, option_map, length, string_bytes, refl, sym, ap, arith}
 use Rattle.std.proofs.lemmas.Result.{IfOk-weaker}
 use Rattle.pact_paths.specs.Paths.{Location, key}
-use Rattle.pact_rules.specs.{Walks.{HasReached}, Matching.{has_keys_of}}
-use Rattle.serde_json.{specs.View.{view, items_view, members_view}, proofs.Views.{Entry}}
-use Rattle.reply_check.specs.{Computed.{fits, items_fit, members_fit, meets_here}, Deferred.{deferred_holds}}
+use Rattle.pact_rules.specs.{Rules.{Rules}, Walks.{HasReached}, Matching.{has_keys_of}}
+use Rattle.serde_json.specs.{View.{view, items_view, members_view}, Data.{Data, Items, Members}, Find.{get_member}, declared.value.Value.{Value}}
+use Rattle.serde_json.proofs.Views.{Entry}
+use Rattle.reply_check.specs.{Computed.{fits, items_fit, members_fit, meets_here, example}, Deferred.{deferred_holds}}
 use Rattle.reply_check.proofs.DeferredLemmas.{Defers-then, Defers-next, Defers-stop}
 use Rattle.reply_check.proofs.FitLemmas.{fits-list, fits-object, fits-list_without_example, fits-object_without_example, get_member-members_view, get_member-none, members_fit-step, items_fit-step, option_map-no_view}
 use Rattle.reply_check.proofs.fit.+fitting.Goals.{items_fit-in-Some+in_ok-fits_below+else-not-branch+in-Key-1, items_fit-in-Some+in_ok-fits_below+else-not-branch+in-Index-1, items_fit-in_default}
@@ -55,35 +56,34 @@ fits_here-returns-in-None-as_object-clause-value t c = λ at h.
     sym (ap (λ b. b && mid) c.if-not-branch.false) ∙ c.in_ok-meets_here.ensures.value at h
     ∙ ap (λ a. deferred_holds c.args.deferred.now && a) (fits-object_without_example c.args.rules.now at (view c.args.expected.now) c.args.actual.now c.in-Object.members c.in-Object.is c.in-None-as_object.ensures)
 
+-- one member more, which is expected
+member-step : (rules : Rules) (at : Location) (fs : Members) (e : Entry) (its rest : List Entry) (x : Data) → its ≡ e ∷ rest → get_member (string_bytes e.0) fs ≡ Some x
+    → members_fit rules at fs (members_view its) ≡ (fits rules (at ++ key (string_bytes e.0) ∷ []) x (view e.1) && members_fit rules at fs (members_view rest))
+member-step rules at fs e its rest x is expected = ap (λ es. members_fit rules at fs (members_view es)) is ∙ members_fit-step rules at fs e rest (Some x) _ expected refl
+
+-- what was answered of it, by a copy of its key
+member-answered : (rules : Rules) (at : Location) (copy name : List ℕ) (x y : Data) (answer b new before : Bool) → answer ≡ b → copy ≡ name
+    → (answer && new) ≡ (before && fits rules (at ++ key copy ∷ []) x y) → (b && new) ≡ (before && fits rules (at ++ key name ∷ []) x y)
+member-answered rules at copy name x y answer b new before is same h =
+    sym (ap (λ b. b && new) is) ∙ h ∙ ap (λ n. before && fits rules (at ++ key n ∷ []) x y) same
+
 pub members_fit-returns-then-not-branch-clause-value : goal.members_fit-returns-then-not-branch-clause-value
 members_fit-returns-then-not-branch-clause-value t c = λ at h.
-    let rules = c.args.rules.now in
-    let fs = members_view c.args.expected.now.entries in
-    let e : Entry = (c.in-Some.key.now, c.in-Some.member.now) in
-    let x = view c.in-Some-get.example.now in
-    let before = deferred_holds c.loop-key.deferred in
-    let new = deferred_holds c.fits_below.new.deferred in
-    let f = fits rules (at ++ key (string_bytes e.0) ∷ []) x (view e.1) in
-    let step = ap (λ es. members_fit rules at fs (members_view es)) c.in-Some.ensures.steps
-    ∙ members_fit-step rules at fs e c.next.new.self (Some x) f (get_member-members_view c.as_str.result.now (string_bytes e.0) c.args.expected.now.entries (Some c.in-Some-get.example.now) c.as_str.ensures.value c.in-Some-get.ensures.value) refl in
-    let one = sym (ap (λ b. b && new) c.if-not-branch.true) ∙ c.in_ok-fits_below.ensures.value at h ∙ ap (λ n. before && fits rules (at ++ key n ∷ []) x (view e.1)) c.in_ok-clone.ensures.cases in
-    Defers-stop _ before f _ (members_fit rules at fs (members_view c.next.new.self)) (c.loop-key.invariant.1 at h) step one
+    Defers-stop _ (deferred_holds c.loop-key.deferred) _ _ _ (c.loop-key.invariant.1 at h)
+    (member-step c.args.rules.now at (members_view c.args.expected.now.entries) (c.in-Some.key.now, c.in-Some.member.now) _ c.next.new.self (view c.in-Some-get.example.now) c.in-Some.ensures.steps
+    (get_member-members_view c.as_str.result.now (string_bytes c.in-Some.key.now) c.args.expected.now.entries (Some c.in-Some-get.example.now) c.as_str.ensures.value c.in-Some-get.ensures.value))
+    (member-answered c.args.rules.now at (string_bytes c.in_ok-clone.field-0) (string_bytes c.in-Some.key.now) (view c.in-Some-get.example.now) (view c.in-Some.member.now) c.in_ok-fits_below.field-0 false _ (deferred_holds c.loop-key.deferred)
+    c.if-not-branch.true c.in_ok-clone.ensures.cases (c.in_ok-fits_below.ensures.value at h))
 
 pub members_fit-loop-key-preserved-else-not-branch : goal.members_fit-loop-key-preserved-else-not-branch
 members_fit-loop-key-preserved-else-not-branch t c = (
   c.in_ok-fits_below.ensures.of,
   λ at h.
-      let rules = c.args.rules.now in
-      let fs = members_view c.args.expected.now.entries in
-      let e : Entry = (c.in-Some.key.now, c.in-Some.member.now) in
-      let x = view c.in-Some-get.example.now in
-      let before = deferred_holds c.loop-key.deferred in
-      let new = deferred_holds c.fits_below.new.deferred in
-      let f = fits rules (at ++ key (string_bytes e.0) ∷ []) x (view e.1) in
-      let step = ap (λ es. members_fit rules at fs (members_view es)) c.in-Some.ensures.steps
-      ∙ members_fit-step rules at fs e c.next.new.self (Some x) f (get_member-members_view c.as_str.result.now (string_bytes e.0) c.args.expected.now.entries (Some c.in-Some-get.example.now) c.as_str.ensures.value c.in-Some-get.ensures.value) refl in
-      let one = sym (ap (λ b. b && new) c.if-not-branch.false) ∙ c.in_ok-fits_below.ensures.value at h ∙ ap (λ n. before && fits rules (at ++ key n ∷ []) x (view e.1)) c.in_ok-clone.ensures.cases in
-      Defers-next _ before new f _ (members_fit rules at fs (members_view c.next.new.self)) (c.loop-key.invariant.1 at h) step one,
+      Defers-next _ (deferred_holds c.loop-key.deferred) _ _ _ _ (c.loop-key.invariant.1 at h)
+      (member-step c.args.rules.now at (members_view c.args.expected.now.entries) (c.in-Some.key.now, c.in-Some.member.now) _ c.next.new.self (view c.in-Some-get.example.now) c.in-Some.ensures.steps
+      (get_member-members_view c.as_str.result.now (string_bytes c.in-Some.key.now) c.args.expected.now.entries (Some c.in-Some-get.example.now) c.as_str.ensures.value c.in-Some-get.ensures.value))
+      (member-answered c.args.rules.now at (string_bytes c.in_ok-clone.field-0) (string_bytes c.in-Some.key.now) (view c.in-Some-get.example.now) (view c.in-Some.member.now) c.in_ok-fits_below.field-0 true _ (deferred_holds c.loop-key.deferred)
+      c.if-not-branch.false c.in_ok-clone.ensures.cases (c.in_ok-fits_below.ensures.value at h)),
 )
 
 pub members_fit-loop-key-preserved : goal.members_fit-loop-key-preserved
@@ -98,6 +98,13 @@ members_fit-loop-key-preserved t c = (
       ∙ members_fit-step rules at fs e c.next.new.self None true (get_member-none c.as_str.result.now (string_bytes e.0) c.args.expected.now.entries c.get.result c.as_str.ensures.value c.get.ensures.value c.in_default.not-Some) refl),
 )
 
+-- one item more, of which nothing but what is deferred is left to be asked
+item-answered : (rules : Rules) (at : Location) (xs : Items) (i : ℕ) (ts : List Value) (y : Value) (x : Data) (all before answer new : Bool) → i < length ts → y ≡ get_or ts i y → Some x ≡ example xs i
+    → all ≡ (before && items_fit rules at xs i (items_view (drop i ts))) → answer ≡ true → (answer && new) ≡ (before && fits rules (at ++ paths.item i ∷ []) x (view y))
+    → all ≡ (new && items_fit rules at xs (i + 1) (items_view (drop (i + 1) ts)))
+item-answered rules at xs i ts y x all before answer new within is expected kept holds h =
+    Defers-next all before new _ _ _ kept (items_fit-step rules at xs i ts y (Some x) _ within is expected refl) (sym (ap (λ b. b && new) holds) ∙ h)
+
 pub items_fit-loop-index-preserved : goal.items_fit-loop-index-preserved
 items_fit-loop-index-preserved t c =
     let rules = c.args.rules.now in
@@ -111,22 +118,12 @@ items_fit-loop-index-preserved t c =
       | items_fit-in-Some+in_ok-fits_below+else-not-branch+in-Key-1 w ↦ rw w.deferred-is (
         w.in_ok-fits_below.ensures.of,
         λ at h.
-            let new = deferred_holds w.fits_below.new.deferred in
-            let x = view w.in-Some.example.now in
-            let f = fits rules (at ++ paths.item i ∷ []) x (view y) in
-            let step = items_fit-step rules at xs i ts y (Some x) f within c.item-item.is (sym (ap (option_map (λ v. view v.now)) w.in-Some.is) ∙ c.example_at.ensures) refl in
-            let one : new ≡ (before && f) = sym (ap (λ b. b && new) w.if-not-branch.false) ∙ w.in_ok-fits_below.ensures.value at h in
-            Defers-next _ before new f _ (items_fit rules at xs (i + 1) (items_view (drop (i + 1) ts))) (c.loop-index.invariant.1 at h) step one,
+            item-answered rules at xs i ts y (view w.in-Some.example.now) _ before w.in_ok-fits_below.field-0 _ within c.item-item.is (sym (ap (option_map (λ v. view v.now)) w.in-Some.is) ∙ c.example_at.ensures) (c.loop-index.invariant.1 at h) w.if-not-branch.false (w.in_ok-fits_below.ensures.value at h),
       )
       | items_fit-in-Some+in_ok-fits_below+else-not-branch+in-Index-1 w ↦ rw w.deferred-is (
         w.in_ok-fits_below.ensures.of,
         λ at h.
-            let new = deferred_holds w.fits_below.new.deferred in
-            let x = view w.in-Some.example.now in
-            let f = fits rules (at ++ paths.item i ∷ []) x (view y) in
-            let step = items_fit-step rules at xs i ts y (Some x) f within c.item-item.is (sym (ap (option_map (λ v. view v.now)) w.in-Some.is) ∙ c.example_at.ensures) refl in
-            let one : new ≡ (before && f) = sym (ap (λ b. b && new) w.if-not-branch.false) ∙ w.in_ok-fits_below.ensures.value at h in
-            Defers-next _ before new f _ (items_fit rules at xs (i + 1) (items_view (drop (i + 1) ts))) (c.loop-index.invariant.1 at h) step one,
+            item-answered rules at xs i ts y (view w.in-Some.example.now) _ before w.in_ok-fits_below.field-0 _ within c.item-item.is (sym (ap (option_map (λ v. view v.now)) w.in-Some.is) ∙ c.example_at.ensures) (c.loop-index.invariant.1 at h) w.if-not-branch.false (w.in_ok-fits_below.ensures.value at h),
       )
       | items_fit-in_default w ↦ rw w.deferred-is (
         c.loop-index.invariant.0,
