@@ -152,17 +152,26 @@ def left_of(name, anew):
     are drawn."""
     known = ledger.lines()
     has = lambda it: (line := known.get(ledger.name_of(it))) and line.sum == ledger.sum_of(name, it)
-    return [it for it in edits_of(name) if anew or not has(it) or ledger.is_drawn(it)]
+    return [it for it in edits_of(name) if anew or name in ledger.drawn() or not has(it)]
+
+
+def names_goal(sentence):
+    """Whether it names a goal that isn't proved, and not only a place at which the proof at hand fails."""
+    return sentence != "its proof" and not re.fullmatch(r"proofs/\S+:\d+:\d+", sentence)
 
 
 def unconfirmed(tries):
-    """The lines of the ledger that have today's sum, and name another function or sentence than what was found."""
+    """The lines of the ledger that have today's sum, and name another function or sentence than what was found. A goal
+    and a place in the proof at hand don't contradict each other: a check that reaches a limit says only the place."""
     known = ledger.lines()
     for name, found in tries.lines().items():
         line = known.get(name)
-        if line and line.sum == found.sum and line.function != found.function:
+        if not line or line.sum != found.sum:
+            continue
+        differs = line.sentence != found.sentence and names_goal(line.sentence) == names_goal(found.sentence)
+        if line.function != found.function:
             yield f"{name}: the ledger says that {line.function} refuses it, and {found.function} does"
-        elif line and line.sum == found.sum and line.kit == found.kit and line.sentence != found.sentence:
+        elif line.kit == found.kit and differs:
             yield f"{name}: the ledger says that it is refused by `{line.sentence}`, and it is by `{found.sentence}`"
 
 

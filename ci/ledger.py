@@ -3,19 +3,21 @@ rests on. A line has the edit, the sum, the function, the sentence and the kit, 
 
 The sum is that of all on which a refusal rests: the edit, the sources of its crate, what crates below it promise, the
 judge, and the logic of the kit. An edit whose line has today's sum isn't tried again, but for those that are drawn:
-one in ten, by the commit, so that a line that isn't true is found, sooner or later, without anybody's doing."""
+one in ten, by the commit, so that a line that isn't true is found, sooner or later, without anybody's doing. All those
+of a crate are drawn together, since a check of one costs nearly as much as a check of as many as fit into it."""
 import hashlib, os, re, subprocess
 from collections import namedtuple
 from functools import lru_cache
 
 from definitions import TOP, files_of, text_of
+from edits import edits_of, kept
 from kit import version
 from rooms import PARTS, below, files_in, line_of
 from sources import functions_in
 
 LEDGER = f"{TOP}/wrong-bodies/refused.tsv"
 JUDGE = [f"{TOP}/ci/{it}.py" for it in ("judge", "edits", "sources")]
-# One edit of so many is tried again, though the ledger has it.
+# At least one edit of so many is tried again, though the ledger has it.
 DRAWN = 10
 Line = namedtuple("Line", "sum function sentence kit")
 HEAD = "edit\tsum\tfunction\tsentence\tkit"
@@ -113,5 +115,12 @@ def lot(what):
     return int(digest(commit(), what), 16)
 
 
-def is_drawn(edit):
-    return lot(name_of(edit)) % DRAWN == 0
+@lru_cache(None)
+def drawn():
+    """The crates, drawn by the commit, whose edits are tried again: as few as have one in ten of all edits."""
+    counts = {it: len(edits_of(it)) for it in kept()}
+    found = []
+    for it in sorted(counts, key=lot):
+        if sum(counts[name] for name in found) * DRAWN < sum(counts.values()):
+            found.append(it)
+    return found
