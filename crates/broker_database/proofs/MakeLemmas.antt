@@ -1,12 +1,12 @@
 -- What the transactions leave that make a broker's tables, look for a format, and bring a database up.
 use Rattle.broker_core.specs.{State.{State as Broker, opening}, Text.{Text}}
-use Rattle.broker_database.specs.Migration.{Migrates, MigratesOrNot, FindsFormat1Alone, HasFormat1RoomFor, IsFormat1, KeepsFormat1Room, OnlyIfNotMigrated, StoresFormat1}
+use Rattle.broker_database.specs.Migration.{DeclaresToday, Migrates, MigratesOrNot, FindsFormat1Alone, HasFormat1RoomFor, IsFormat1, KeepsFormat1Room, OnlyIfNotMigrated, StoresFormat1}
 use Rattle.broker_database.specs.Opening.{IsFresh, IsUncommitted, MakesOrFails, OnlyIfRefused, OnlyIfStoreFailed, Refuses, open_fault}
 use Rattle.broker_database.specs.{Stored.{HoldsState, Stores}, declared.ending.Failure.{Failure}, declared.ending.Failure.TheVariants.{Call, Commit}}
 use Rattle.broker_database.{specs.Transaction.{Concludes, EndsFor, returned}, proofs.MigrationLemmas.{FindsFormat1Alone-format_1}}
 use Rattle.broker_database.proofs.{OpenFailures.{ReportsNothing-of_look_up, HasFailed-unbegun}, Sound.{HasSoundContents-opening}}
 use Rattle.broker_database.proofs.StoreFailures.{HasFailed-of_transaction}
-use Rattle.broker_database.proofs.Transaction.{WholeTransaction, AddsNoCrashState-of_survives, CommitsAtMostOnce-of_survives, Begins-transaction, EndsOrFails-transaction, CommitsAtMostOnce-whole, LeavesNoTransaction-transaction, AddsNoCrashState-transaction, IfOk-transaction, IsUnchangedUnless-transaction, Survives-before_whole_end, EndsOrFails-unbegun, LeavesNoTransaction-unbegun, IsUnchangedUnless-unbegun}
+use Rattle.broker_database.proofs.Transaction.{WholeTransaction, AddsNoCrashState-of_survives, CommitsAtMostOnce-of_survives, Begins-transaction, EndsOrFails-transaction, CommitsAtMostOnce-whole, LeavesNoTransaction-transaction, AddsNoCrashState-transaction, IfOk-kept, IfOk-transaction, IsUnchangedUnless-transaction, Survives-before_whole_end, EndsOrFails-unbegun, LeavesNoTransaction-unbegun, IsUnchangedUnless-unbegun}
 use Rattle.broker_tables.specs.{Format1.{format_1}, Holds.{Holds}, Making.{IsBlank, FailsByStoreOverBetween}, Room.{HasAllNumbers, HasRoomFor}}
 use Rattle.broker_tables.specs.Schema.{broker_schema}
 use Rattle.registry_tables.specs.Format.{FailsToFind, IsOfFormat}
@@ -147,6 +147,7 @@ MigratesOrNot-of_transaction shown old mid done new worked result keeps begun be
         λ n room. commit (HasRoomFor n) (((up.1 is).0 s was.tables).1 n (subst (HasFormat1RoomFor n) (sym begun.1.now_is) room)),
       ))
       (λ found was up other kept. absurd (other (FindsFormat1Alone-format_1 (shown mid).now s found was.tables up.0)));
+  today = λ clean. IfOk-kept (shown old) (shown mid) (shown done) (shown new) _ _ result t clean DeclaresToday (λ found up is. (up.1 is).1);
   unchanged = IsUnchangedUnless-transaction (shown old) (shown mid) (shown done) (shown new) _ _ result t;
   over = LeavesNoTransaction-transaction (shown old) (shown mid) (shown done) (shown new) _ _ result t;
   survives = CommitsAtMostOnce-whole (shown old) (shown mid) (shown done) (shown new) _ _ result t;
@@ -167,6 +168,7 @@ pub MigratesOrNot-unbegun : {X : Type 0} (shown : Held X → State) (old new : H
 MigratesOrNot-unbegun shown old new why refused cause begins = record {
   found = λ clean. tt;
   ends = λ clean s holds. EndsOrFails-unbegun (shown old) (shown new) why refused begins (λ db. StoresFormat1 db s) (λ db. Stores db s) (λ found. (found ≡ Some format_1) × HoldsState s (shown new) × KeepsFormat1Room (shown old) (shown new)) clean holds;
+  today = λ clean. tt;
   unchanged = IsUnchangedUnless-unbegun (shown old) (shown new) why refused begins (λ found. found ≡ Some format_1);
   over = LeavesNoTransaction-unbegun (shown old) (shown new) refused;
   survives = CommitsAtMostOnce-of_survives (shown old) (shown new) begins;

@@ -16,7 +16,7 @@ use Rattle.broker_tables.{specs.Format1.{HoldsFormat1, IsUnmarked, format_1_tabl
 use Rattle.registry_tables.specs.Format.{AreLike, AreKeys, CompareBytes, HasForm, HasFormat1Tables, HasNoFormat, SharesTree, IsOfFormat}
 use Rattle.command_facts.specs.Primitives.{broker_primitives}
 use Rattle.broker_database.specs.{Calls.{Migrated}, Ends.{IsUnchangedUnless}}
-use Rattle.broker_database.specs.Migration.{StoresFormat1, MigratesOrNot, FindsFormat1Alone, HasFormat1Alone, KeepsFormat1Room, MigratesOrRefuses, WasGood, WasPermitted, WasFault, WasJudged, Showed, JudgesAsBefore, format_1_kind, format_1_fault, format_1_marks}
+use Rattle.broker_database.specs.Migration.{DeclaresToday, StoresFormat1, MigratesOrNot, FindsFormat1Alone, HasFormat1Alone, KeepsFormat1Room, MigratesOrRefuses, WasGood, WasPermitted, WasFault, WasJudged, Showed, JudgesAsBefore, format_1_kind, format_1_fault, format_1_marks}
 use Rattle.broker_database.specs.{Opening.{Refuses, IsUnchangedUnlessStore, judgement, open_fault}, Stored.{Stores, HoldsState}}
 use Rattle.broker_database.specs.{declared.opening.OpenFault.{OpenFault}, declared.opening.OpenFault.TheVariants.{Format}}
 use Rattle.broker_database.proofs.{Judgements.{IsMeta-format, table_of-meta_unique, Finds-blank_none, Finds-marked}, OpenFailures.{judgement-not_store}}
@@ -213,6 +213,15 @@ judgement-refused_unchanged old new (Some n) it = go (n == format_1) refl
     go true e = tt
     go false e = it (λ is. eqb-false n format_1 e (let same : n ≡ format_1 = cc in same))
 
+-- what holds if the format is 1
+OnOk-judgement : (found : Option ℕ) (P : Type 0) → (found ≡ Some format_1 → P) → OnOk (judgement format_1 found) P
+OnOk-judgement None P it = tt
+OnOk-judgement (Some n) P it = go (n == format_1) refl
+  where
+    go : (b : Bool) → (n == format_1) ≡ b → OnOk {T = Unit {0}} {E = OpenFault} (if b then Ok tt else Err (Format n)) P
+    go true e = it (ap Some (eqb-true n format_1 e))
+    go false e = tt
+
 -- a format was found
 pub Migrated-found : {X : Type 0} (shown : Held X → State) (old new : Held X) (found : Option ℕ) → MigratesOrNot shown old new (Ok found) → Migrated shown old new (judgement format_1 found)
 Migrated-found shown old new found up = record {
@@ -221,6 +230,7 @@ Migrated-found shown old new found up = record {
   refuses = λ clean s keeps.
       let is : Ok tt ≡ judgement format_1 found = sym (ap (judgement format_1) (up.ends clean s keeps).0) in
       subst (λ (r : Result (Unit {0}) OpenFault). IfErr r (Refuses (λ db. StoresFormat1 db s) (λ db. Stores db s) (shown new))) is tt;
+  today = λ clean. OnOk-judgement found (HoldsDurably DeclaresToday (shown new)) (up.today clean);
   judges = λ clean. MigratesOrRefuses-judgement (shown old).now found (up.found clean).1;
   failure = λ clean fresh is. absurd (judgement-not_store format_1 found is);
   failure_format_1 = λ s fit clean fresh holds is. absurd (judgement-not_store format_1 found is);
@@ -242,6 +252,7 @@ Migrated-failed shown old new store_fault.Memory up = record {
   migrates = λ _ _ _. tt;
   room = λ _ _ _. tt;
   refuses = up.ends;
+  today = λ _. tt;
   judges = λ _. tt;
   failure = λ clean fresh is. absurd (cc);
   failure_format_1 = λ s fit clean fresh holds is. absurd (cc);
@@ -256,6 +267,7 @@ Migrated-failed shown old new store_fault.Store up = record {
   migrates = λ _ _ _. tt;
   room = λ _ _ _. tt;
   refuses = up.ends;
+  today = λ _. tt;
   judges = λ _. tt;
   failure = λ clean fresh is. up.failure clean fresh refl;
   failure_format_1 = λ s fit clean fresh holds is. up.failure_format_1 s fit clean fresh holds refl;

@@ -203,6 +203,15 @@ module _ {A : Type 0} (old mid done new : State) (X Keeps : A → Type 0) where
   IfOk-of_parts (Err f) keeps (Ok u) t clean = tt
   IfOk-of_parts r keeps (Err f) t clean = tt
 
+  -- what is kept is committed
+  IfOk-kept_of_parts : (r : Result A StoreFault) (keeps : Bool) (ended : Result (Unit {0}) StoreFault) → IsTransaction old mid done new r X Keeps keeps ended → HasCleanDisk new → (R : Database → Type 0) → ((a : A) → X a → Keeps a → R done.now)
+      → IfOk (conclusion r ended) (λ a. Keeps a → HoldsDurably R new)
+  IfOk-kept_of_parts (Ok a) true (Ok u) t clean R has =
+      λ is. commits R done new (t.ends.committed clean refl) (t.ends.live refl) t.ends.settled (has a (t.works.ok (HasCleanDisk-before_end old mid done new (Ok a) _ _ true (Ok u) t clean)) is)
+  IfOk-kept_of_parts (Ok a) false (Ok u) t clean R has = λ is. absurd (let yes = t.kept.1 is in cc)
+  IfOk-kept_of_parts (Err f) keeps (Ok u) t clean R has = tt
+  IfOk-kept_of_parts r keeps (Err f) t clean R has = tt
+
   -- if nothing that the work may return on what was there is kept, nothing is committed
   AddsNoCrashState-of_parts : (r : Result A StoreFault) (keeps : Bool) (ended : Result (Unit {0}) StoreFault) → IsTransaction old mid done new r X Keeps keeps ended → ((a : A) → mid.now ≡ old.now → X a → ¬ (Keeps a)) → HasCleanDisk new → AddsNoCrashState old new
   AddsNoCrashState-of_parts r false ended t never clean = AddsNoCrashState-of_survives old new (Survives-nothing_kept old mid done new r _ _ false ended t refl) clean
@@ -248,6 +257,9 @@ module _ {A : Type 0} (old mid done new : State) (X Keeps : A → Type 0) (resul
 
   pub IfOk-transaction : HasCleanDisk new → IfOk result (λ a. IsTrue old.is_open × (mid.now ≡ old.now) × X a)
   IfOk-transaction clean = subst (λ (r : Result A StoreFault). IfOk r (λ a. IsTrue old.is_open × (mid.now ≡ old.now) × X a)) (sym t.concludes.answer) (IfOk-of_parts old mid done new X Keeps t.worked t.keeps t.concludes.ended IsTransaction-of_whole clean)
+
+  pub IfOk-kept : HasCleanDisk new → (R : Database → Type 0) → ((a : A) → X a → Keeps a → R done.now) → IfOk result (λ a. Keeps a → HoldsDurably R new)
+  IfOk-kept clean R has = subst (λ (r : Result A StoreFault). IfOk r (λ a. Keeps a → HoldsDurably R new)) (sym t.concludes.answer) (IfOk-kept_of_parts old mid done new X Keeps t.worked t.keeps t.concludes.ended IsTransaction-of_whole clean R has)
 
   pub now-after_transaction : HasCleanDisk new → old.now ≡ old.committed → IsTrue new.is_open → (new.now ≡ old.now) ⊎ ((a : A) × X a × (mid.now ≡ old.now) × (new.now ≡ done.now))
   now-after_transaction = now-of_parts old mid done new X Keeps t.worked t.keeps t.concludes.ended IsTransaction-of_whole

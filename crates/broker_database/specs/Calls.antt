@@ -23,7 +23,8 @@ use Rattle.broker_database.specs.Causes.{HoldsReadable, IsNotKept, KeepsRoom, St
 use Rattle.broker_database.specs.Ends.{Applies, IsAsBefore, AddsNoCrashState, CommitsAtMostOnce, LeavesNoTransaction}
 use Rattle.broker_database.specs.Handed.{left_by, verdict}
 use Rattle.broker_database.specs.Headline.{RecordsExactly}
-use Rattle.broker_database.specs.Migration.{StoresFormat1, HoldsFormat1State, KeepsFormat1Room, MigratesOrRefuses, IsFormat1, OnlyIfNotMigrated}
+use Rattle.broker_database.specs.Migration.{DeclaresToday, StoresFormat1, HoldsFormat1State, KeepsFormat1Room, MigratesOrRefuses}
+use Rattle.broker_database.specs.Migration.{IsFormat1, OnlyIfNotMigrated}
 use Rattle.broker_database.specs.Opening.{TablesMade, TablesFound, Refuses, IsUnchangedUnlessStore, Judged, IsFresh, ReportsNothing}
 use Rattle.broker_database.specs.Stored.{Stores, HoldsState}
 use Rattle.broker_database.specs.declared.opening.Refused.{Refused}
@@ -110,6 +111,8 @@ module _ {X : Type 0} (shown : Held X → State) where
     -- or a failure: it is of format 1 with that state, and after Store a crash may leave today's
     pub refuses : HasCleanDisk (shown new) → (s : Broker) → HoldsFormat1State s (shown old)
         → IfErr given (Refuses (λ db. StoresFormat1 db s) (λ db. Stores db s) (shown new))
+    -- of any database with the tables of format 1, however these are declared: it declares exactly what a new broker does
+    pub today : HasCleanDisk (shown new) → OnOk given (HoldsDurably DeclaresToday (shown new))
     -- unless it failed: the database had the tables of format 1, or the fault says what it is instead
     pub judges : HasCleanDisk (shown new) → MigratesOrRefuses (shown old).now given
     -- Store: on a connection as it is opened, the store failed, or meta has no number as its format; or the database had

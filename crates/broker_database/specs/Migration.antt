@@ -28,7 +28,7 @@ use Rattle.broker_core.specs.State.{State as Broker, is_gated}
 use Rattle.broker_core.specs.Text.{Text, same_text}
 use Rattle.broker_tables.specs.Holds.{Holds}
 use Rattle.broker_tables.specs.Format1.{HoldsFormat1, IsUnmarked, format_1, format_1_tables}
-use Rattle.broker_tables.specs.Schema.{schema_of}
+use Rattle.broker_tables.specs.Schema.{broker_schema, schema_of}
 use Rattle.broker_tables.specs.Readable.{IsReadable}
 use Rattle.broker_tables.specs.ChangeRefusals.{AreShort}
 use Rattle.broker_tables.specs.Room.{HasRoomFor, LeaveNumbers, counted_tables}
@@ -174,6 +174,10 @@ MigratesOrRefuses db (Err NotEmpty) = ⊥
 MigratesOrRefuses db (Err Memory) = Unit {0}
 MigratesOrRefuses db (Err Store) = Unit {0}
 
+-- it declares exactly what a new broker does
+abbrev pub DeclaresToday : Database → Type 0
+DeclaresToday db = db.schema ≡ broker_schema
+
 -- ---- for private clauses: the transaction of a migration
 
 -- What its transaction leaves: the format that was found is 1, and the database is today's; or it failed.
@@ -189,6 +193,8 @@ pub record MigratesOrNot {X : Type 0} (shown : Held X → State) (old new : Held
       → IfOk result (λ found. IsTrue (shown old).is_open × FindsFormat1Alone (shown old).now found)
   pub ends : HasCleanDisk (shown new) → (s : Broker) → HoldsFormat1State s (shown old)
       → MigratesOrFails s (shown old) (shown new) result
+  pub today : HasCleanDisk (shown new)
+      → IfOk result (λ found. found ≡ Some format_1 → HoldsDurably DeclaresToday (shown new))
   pub unchanged : HasCleanDisk (shown new)
       → IsUnchangedUnless (λ found. found ≡ Some format_1) (shown old) (shown new) result
   pub over : LeavesNoTransaction (shown old) (shown new)
