@@ -6,7 +6,7 @@ use Rattle.http_messages.specs.{Message.{Message}, Reading.{LeavesAtFault, IsOut
 use Rattle.http_messages.specs.{declared.head.Refused.{Refused}, declared.reading.ReadOutcome.{ReadOutcome}}
 use Rattle.http_messages.specs.Messages.{AnnouncesBody, BeginsWithMessage, HasNoMessage, message_of}
 use Rattle.http_messages.proofs.MessagesLemmas.{BeginsWithMessage-more, IsHeadOf-more}
-use Rattle.broker_http.specs.{Faults.{fault_of_read, ReportsDevice}, Serving.{IsOutOfMemory, ServesUntil}}
+use Rattle.broker_http.specs.{Faults.{fault_of_read, ReportsDevice}, Serving.{IsUnanswered, ServesUntil}}
 use Rattle.broker_http.specs.{Stream.{texts, AllOpen, Responses, ExchangeCut, StreamCut, StreamEnds}, declared.served.StreamFault.{StreamFault}}
 use Rattle.broker_http.specs.{declared.served.Ended.{Ended}, declared.served.Ended.TheVariants.{AtEnd, Rest, Closed}}
 use Rattle.http_requests.specs.Requests.{AsksOperation}
@@ -74,12 +74,12 @@ came : (a b : Option (List ℕ)) (old new : List ℕ) (fault : ReadFault) → Le
 came a b old new (reads.Reader failed) p = (p.0, p.1)
 came a b old new reads.Memory p = (p.0 ++ p.1, p.2)
 
--- memory that runs out after a head, for its body
-IsOutOfMemory-after_head : (a b : Option (List ℕ)) (old new stream : List ℕ) (fault : ReadFault) (left : LeavesAtFault a b old new fault) → (fault ≡ reads.Memory → AnnouncesBody new)
-    → IsOutOfMemory (fault_of_read fault) stream (old ++ (came a b old new fault left).0)
+-- no message is whole, or memory runs out after a head, for its body
+IsUnanswered-of_read : (a b : Option (List ℕ)) (old new stream : List ℕ) (fault : ReadFault) (left : LeavesAtFault a b old new fault) → HasNoMessage new → (fault ≡ reads.Memory → AnnouncesBody new)
+    → IsUnanswered (fault_of_read fault) stream (old ++ (came a b old new fault left).0)
 unfolding came
-IsOutOfMemory-after_head a b old new stream (reads.Reader failed) left body = tt
-IsOutOfMemory-after_head a b old new stream reads.Memory left body =
+IsUnanswered-of_read a b old new stream (reads.Reader failed) left none body = subst HasNoMessage left.2 none
+IsUnanswered-of_read a b old new stream reads.Memory left none body =
     let there = body refl in
     let grown : old ++ (left.0 ++ left.1) ≡ new ++ left.1 = sym (append_assoc old left.0 left.1) ∙ ap (λ l. l ++ left.1) (sym left.4) in
     inr (inl (subst AnnouncesBody (sym grown) (there.0, there.1, IsHeadOf-more new left.1 there.0 there.2, there.3, there.4)))
@@ -104,7 +104,7 @@ module _ {S : Type 0} (Exchange : S → Message → Response → S → Type 0) w
       → Responses Exchange s stream responses t bytes → AllOpen responses → Appends first old (texts responses) → BeginsWithMessage bytes m after
       → ExchangeCut Exchange t m u old new fault → (fault ≡ faults.Memory → AsksOperation m)
       → (more : List Response) × (rest : List ℕ) × (out : List ℕ) × Responses Exchange s stream more u rest × StreamCut fault more out × Appends first new out
-      × IsOutOfMemory fault stream rest
+      × IsUnanswered fault stream rest
   Responses-broken s stream responses t bytes m after u first old new (faults.Read failed) so_far opened out begins broken asks = absurd broken
   Responses-broken s stream responses t bytes m after u first old new (faults.Turn over) so_far opened out begins broken asks = absurd broken
   Responses-broken s stream responses t bytes m after u first old new faults.Count so_far opened out begins broken asks = absurd broken
@@ -133,9 +133,9 @@ module _ {S : Type 0} (Exchange : S → Message → Response → S → Type 0) w
   pub Responses-unread : (s : S) (stream : List ℕ) (responses : List Response) (t : S) (bytes new : List ℕ)
       (a b c first old : Option (List ℕ)) (fault : ReadFault)
       → Consumes a b stream → Responses Exchange s stream responses t bytes → AllOpen responses → Appends first old (texts responses)
-      → LeavesAtFault b c bytes new fault → (fault ≡ reads.Memory → AnnouncesBody new)
+      → LeavesAtFault b c bytes new fault → HasNoMessage new → (fault ≡ reads.Memory → AnnouncesBody new)
       → ServesUntil Exchange s t a c first old (fault_of_read fault)
-  Responses-unread s stream responses t bytes new a b c first old fault read so_far opened out left body =
+  Responses-unread s stream responses t bytes new a b c first old fault read so_far opened out left none body =
       let more = came b c bytes new fault left in (
         stream ++ more.0,
         responses,
@@ -145,7 +145,7 @@ module _ {S : Type 0} (Exchange : S → Message → Response → S → Type 0) w
         Responses-more Exchange s stream responses t bytes more.0 so_far,
         StreamCut-read fault responses opened,
         out,
-        IsOutOfMemory-after_head b c bytes new (stream ++ more.0) fault left body,
+        IsUnanswered-of_read b c bytes new (stream ++ more.0) fault left none body,
       )
 
 -- a fault at one message isn't the reader's

@@ -21,7 +21,7 @@ use Rattle.command_facts.specs.Patterns.{AsksPattern}
 use Rattle.command_facts.specs.Primitives.{broker_primitives}
 use Rattle.broker_database.specs.Stored.{Stores, HoldsState}
 use Rattle.http_messages.specs.Message.{Message}
-use Rattle.http_messages.specs.Messages.{AnnouncesBody, BeginsWithMessage}
+use Rattle.http_messages.specs.Messages.{AnnouncesBody, BeginsWithMessage, HasNoMessage}
 use Rattle.http_requests.specs.Requests.{AsksOperation}
 use Rattle.http_responses.specs.Responses.{Response}
 use Rattle.broker_http.specs.Stream.{texts, Responses, StreamEnds, StreamCut}
@@ -81,14 +81,15 @@ module _ {X : Type 0} (shown : Held X → State) (first : Mode) (old new : Held 
       × (HasRoomFor (enough * (steps + 1)) (shown old).now
       → (before : Held X) × CommitLacksMemory shown s token command before new))
 
--- Why memory ran out, by what was read, and what of that comes after the messages that are answered: nothing was read;
--- or there is a head that announces a body, or a message that asks an operation.
-abbrev pub IsOutOfMemory : StreamFault → (stream rest : List ℕ) → Type 0
-IsOutOfMemory (faults.Read failed) stream rest = Unit {0}
-IsOutOfMemory (faults.Turn over) stream rest = Unit {0}
-IsOutOfMemory faults.Count stream rest = Unit {0}
-IsOutOfMemory (faults.Write fault) stream rest = Unit {0}
-IsOutOfMemory faults.Memory stream rest =
+-- What of the stream that was read isn't answered at a fault: the rest after the messages that are. If the reader failed
+-- it has no whole message. If memory ran out, nothing was read; or the rest begins with a head that announces a body, or
+-- with a message that asks an operation.
+abbrev pub IsUnanswered : StreamFault → (stream rest : List ℕ) → Type 0
+IsUnanswered (faults.Read failed) stream rest = HasNoMessage rest
+IsUnanswered (faults.Turn over) stream rest = Unit {0}
+IsUnanswered faults.Count stream rest = Unit {0}
+IsUnanswered (faults.Write fault) stream rest = Unit {0}
+IsUnanswered faults.Memory stream rest =
     (stream ≡ []) ⊎ AnnouncesBody rest
     ⊎ ((m : Message) × (after : List ℕ) × BeginsWithMessage rest m after × AsksOperation m)
 
@@ -112,7 +113,7 @@ module _ {S : Type 0} (Exchange : S → Message → Response → S → Type 0) (
       × Responses Exchange s stream responses t rest
       × StreamCut fault responses out
       × Appends old new out
-      × IsOutOfMemory fault stream rest
+      × IsUnanswered fault stream rest
 
   -- what serving a stream does, by its result
   pub record ServesStream (result : Result Served StreamFault) : Type 0 where

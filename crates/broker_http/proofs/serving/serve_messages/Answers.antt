@@ -31,7 +31,7 @@ returns-in_err-head_len-clause-answers g c =
       ok = tt;
       end = tt;
       fault = Responses-unread (ByBroker g.B.Service.shown) _ so_far.0 so_far.1 _ c.loop-answered.buffer.items _ _ _ _ _ _ _
-          read so_far.3 so_far.4 so_far.6 c.in_err-head_len.ensures.err.leaves c.in_err-head_len.ensures.err.body;
+          read so_far.3 so_far.4 so_far.6 c.in_err-head_len.ensures.err.leaves c.in_err-head_len.ensures.err.none c.in_err-head_len.ensures.err.body;
     })
 
 pub returns-in-End-clause-answers : goal.returns-in-End-clause-answers
