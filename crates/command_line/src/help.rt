@@ -87,8 +87,8 @@ pub(crate) const SERVE: &str =
 
 pub(crate) const AFTER_SERVE: &str =
     "The connections are served one after the other, and the program ends after the last one. A request
-that has begun must be whole within 10 seconds, and its answer be taken within 10 seconds, else the
-connection ends. A connection that is idle is closed once another one waits.
+that has begun must be whole within 10 seconds, or 2 if another connection waits, and its answer be
+taken within 2 seconds, else the connection ends. An idle one is closed once another one waits.
 The address is one of loopback with a port, as 127.0.0.1:9292 or [::1]:9292: put a server with TLS
 before it. While it runs no other program can open the file.
 
@@ -133,7 +133,7 @@ Status 3, and on standard error one of
   replies N  the first fault of the replies: 1 not JSON, 2 another shape at the place that follows,
              3.1 a fraction, 3.2 nested too deep, 4 two replies for one interaction
   check 1    a reply belongs to no interaction
-  check 2    a pattern of the pact can't be used
+  check 2    a pattern of the pact can't be used, or the searches would take too many steps
   file       a file can't be read, or the output can't be written
   memory     no memory was left";
 
