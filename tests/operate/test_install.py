@@ -17,13 +17,16 @@ MOST = 2.0
 MADE = """
 echo
 cd /var/lib/broker
-stat -c '%n %U %G %a' . broker.db /usr/local/bin/broker /root/office-token /root/red.token
+stat -c '%n %U %G %a' . broker.db /usr/local/bin/broker /root/office-token /root/red.token /usr/local/bin/holzhebo
+stat -c '%n %U %G %a' /usr/local/share/broker/desk/index.html /backup/nightly
+/usr/local/share/broker/tools/report --help | head -n 1
 getent passwd broker | cut -d: -f6-
 systemd-analyze verify /etc/systemd/system/broker.service 2>&1
 systemctl is-enabled broker
 systemctl is-active broker
 """
-PRINTED = """{"answer":"no route"}new  environment live
+PRINTED = """DIGEST  /usr/local/bin/holzhebo
+{"answer":"no route"}new  environment live
 new  team red
 new  pacticipant shop
 new  grant for live
@@ -33,6 +36,10 @@ broker.db broker broker 600
 /usr/local/bin/broker root root 755
 /root/office-token root root 600
 /root/red.token root root 600
+/usr/local/bin/holzhebo root root 755
+/usr/local/share/broker/desk/index.html root root 644
+/backup/nightly root root 700
+usage: holzhebo report [-h] [--names FILE] [--output FILE] [--json]
 /var/lib/broker:/usr/sbin/nologin
 enabled
 active
@@ -60,7 +67,8 @@ def tried(machine: Machine, program: str, text: str, *folders: str, seconds: flo
 @pytest.mark.root
 @pytest.mark.needs("curl", "ip", "openssl", "systemd-analyze", "unshare")
 def test_installed(machine: Machine, program: str) -> None:
-    same("what the lines print", tried(machine, program, MADE), PRINTED)
+    said = re.sub(r"(?m)^[0-9a-f]{64}  ", "DIGEST  ", tried(machine, program, MADE))
+    same("what the lines print", said, PRINTED)
 
 
 # Each line that begins with `== ` is followed by what is compared.
@@ -137,7 +145,7 @@ say | cmp - /root/before && client/holzhebo environment later
 def test_years(machine: Machine, program: str) -> None:
     """The lines of a quiet hour, and those that go back."""
     one, other = block("Years", "systemctl stop broker"), block("Years", "examples/restore.sh")
-    output = tried(machine, program, CARRIED % (one.replace("\nholzhebo ", "\nclient/holzhebo "), other))
+    output = tried(machine, program, CARRIED % (one, other))
     parts = re.split(r"(?m)^== (.*)\n", output)
     found = dict(zip(parts[1::2], parts[2::2]))
     # The last twenty, and the one that is deployed.

@@ -6,7 +6,7 @@ from typing import Any
 import pytest
 from tests.operate.front import CLIENT
 from tests.operate.test_install import tried
-from tests.process import TOP, ran, run
+from tests.process import TOP, ran
 from tests.wire import same
 
 pytestmark = pytest.mark.needs("promtool")
@@ -67,8 +67,6 @@ def request_at(ago: float) -> str:
 
 
 LINES = r"""
-install -m 755 @CLIENT@ /usr/bin/holzhebo
-install -d -m 700 /backup /backup/nightly
 install -d /var/lib/prometheus/node-exporter /etc/systemd/system/broker.service.d
 rm -rf /var/log/nginx
 mkdir /var/log/nginx
@@ -116,13 +114,12 @@ stat -c '%n %U %a' /var/lib/prometheus/node-exporter/*
 def test_service(machine: Machine, program: str, room: str) -> None:
     """Under systemd: an opening that takes two seconds, while it goes on and afterwards; the connections left, by logs
     of which one was rotated; and the lines of docs/OPERATING.md for cron."""
-    run(["client/zip", f"{room}/holzhebo"])
     with open(f"{TOP}/docs/OPERATING.md", encoding="utf-8") as it:
         (places, line), = re.findall(r"(?m)^((?: +[A-Z]+=.*\n)+) +\* \* \* \* \* root (holzhebo metrics .*)$", it.read())
     # What cron gives to sh: the words after = as they are, and nothing of its own surroundings.
     given = " ".join(f"'{it.strip()}'" for it in places.splitlines())
     cron = f"env -i PATH=/usr/bin:/bin {given} sh -c '{line}'"
-    output = tried(machine, program, LINES.replace("@CLIENT@", f"{room}/holzhebo").replace("@CRON@", cron), room)
+    output = tried(machine, program, LINES.replace("@CRON@", cron), room)
     parts = re.split(r"(?m)^== (.*)\n", output)
     found = dict(zip(parts[1::2], parts[2::2]))
     active = re.fullmatch(r"broker_active 1\nbroker_opening_seconds (\S+)\nbroker_connections_left 997\n", found["active"])
