@@ -42,8 +42,11 @@ module _ (office : Text) (before after old new : Option (List ℕ)) where
   CutsReplay (run_fault.Serve f) = ReplaysUpTo office before after old new f
   CutsReplay _ = ⊥
 
+  -- no broker was made, and nothing was read or written; or some messages were answered
   abbrev pub EndsReplay : RunFault → Type 0
-  EndsReplay f = IsTokenFault office f ⊎ (IsToken office × (IsUnmade f ⊎ CutsReplay f))
+  EndsReplay f =
+      IsTokenFault office f
+      ⊎ (IsToken office × ((IsUnmade f × (after ≡ before) × (new ≡ old)) ⊎ CutsReplay f))
 
 -- ---- the fault of a command over a broker's file
 
