@@ -25,7 +25,7 @@ use Rattle.program_io.specs.declared.fault.RunFault.{RunFault}
 use Rattle.program_io.specs.declared.fault.RunFault.TheVariants as run_fault
 use Rattle.program_io.specs.Reported.{IsFromOutside}
 use Rattle.broker_program.specs.declared.run_end.FileAfter.{FileAfter}
-use Rattle.broker_program.specs.declared.run_end.FileAfter.TheVariants.{Nothing, Unopened}
+use Rattle.broker_program.specs.declared.run_end.FileAfter.TheVariants.{Unopened, Untaken}
 
 -- the fault that reports an error of the files: Memory only if memory ran out
 abbrev pub returned_of : Error → RunFault
@@ -84,9 +84,10 @@ module _ {D : Type 0} {g : Ghosts D} (held : Image) where
     -- a crash leaves what was there; if there was no database, perhaps a beginning of one
     pub left : IsCleanLeft rest → LeavesFiles files rest
 
-  -- no connection is opened: the file isn't there or couldn't be taken, or it isn't opened
+  -- No connection is opened: the file isn't there or couldn't be taken, which only a call that asked for it says; or it
+  -- isn't opened.
   abbrev pub FailsToConnect : RunFault → FileAfter D g → Type 0
-  FailsToConnect fault Nothing = IsFromOutside fault
+  FailsToConnect fault (Untaken it) = IsFromOutside fault
   FailsToConnect fault (Unopened rest) = IsUnopened fault rest
   FailsToConnect fault _ = ⊥
 

@@ -27,6 +27,7 @@ use Rattle.broker_program.specs.Replays.{ReplaysUpTo}
 use Rattle.broker_program.specs.Returned.{AnswersQuestion, permission, question}
 use Rattle.broker_program.specs.declared.can_i_deploy.Question.{Question}
 use Rattle.broker_program.specs.declared.run_end.FileAfter.{FileAfter}
+use Rattle.broker_program.specs.declared.run_end.FileAfter.TheVariants.{Nothing}
 
 -- a new broker over tables in memory wasn't made: memory lacked, or the database failed
 abbrev pub IsUnmade : RunFault → Type 0
@@ -117,10 +118,17 @@ module _ {D : Type 0} {g : Ghosts D} (held : Image) where
   FailsToListen run_fault.Listen rest = LeavesStore (λ store. IsClean (view store) → IsLeftUnserved held store) rest
   FailsToListen _ rest = ⊥
 
-  -- The fault of `serve`: the file is opened first, then the address is listened on, and so many connections are served.
+  -- there was no memory for the table of routes, and no file was worked on
+  abbrev pub LacksRoutes : RunFault → FileAfter D g → Type 0
+  LacksRoutes run_fault.Memory Nothing = ⊤
+  LacksRoutes _ _ = ⊥
+
+  -- The fault of `serve`: the table of routes is made first. Then the file is opened, the address is listened on, and so
+  -- many connections are served.
   abbrev pub FailsToServe : Text → ℕ → RunFault → FileAfter D g → Type 0
   FailsToServe listen connections f rest =
-      FailsToOpen f rest ⊎ FailsToListen f rest ⊎ (ListensOn listen × LeavesCut (CutsFile held connections f) rest)
+      FailsToOpen f rest ⊎ FailsToListen f rest
+      ⊎ (ListensOn listen × LeavesCut (CutsFile held connections f) rest) ⊎ LacksRoutes f rest
 
 -- The fault of a command has its reason.
 module _ {D : Type 0} {g : Ghosts D} (held : Image) (before after old new : Option (List ℕ)) (rest : FileAfter D g) where

@@ -26,6 +26,11 @@ pub(crate) type FileConnection<S> = Connection<FileStore<FileFrom<S>>>;
 /// proved again in each function that has one.
 pub(crate) type FileBroker<S> = Broker<FileStore<FileFrom<S>>>;
 
+/// The file of a path isn't there, or couldn't be taken, so that nothing was done on it. Only `connect` and
+/// `connect_existing` make one, so that who hands one on has asked.
+#[derive(Clone, Copy, Debug, PartialEq, Eq)]
+pub struct Untaken(());
+
 /// Why a command over a file failed, and what it left of the file.
 pub(crate) type Failed<S> = (RunFault, FileAfter<FileFrom<S>>);
 
@@ -122,11 +127,11 @@ pub(crate) fn connect<S: Start>(
 {
     let options = match options_for(rt, path.as_str()) {
         Ok(options) => options,
-        Err(fault) => return Err((fault, FileAfter::Nothing)),
+        Err(fault) => return Err((fault, FileAfter::Untaken(Untaken(())))),
     };
     let files = match take_files(rt, path.as_str(), start) {
         Ok(files) => files,
-        Err(fault) => return Err((fault, FileAfter::Nothing)),
+        Err(fault) => return Err((fault, FileAfter::Untaken(Untaken(())))),
     };
     match Connection::open_files_with(rt.alloc(), files, options, true) {
         Ok(mut connection) => {
@@ -159,7 +164,7 @@ pub(crate) fn connect_existing<S: Start>(
     if is_there(fs::exists(rt, path.as_str())) {
         connect(rt, path, start)
     } else {
-        Err((RunFault::File, FileAfter::Nothing))
+        Err((RunFault::File, FileAfter::Untaken(Untaken(()))))
     }
 }
 

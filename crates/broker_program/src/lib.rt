@@ -18,6 +18,7 @@ mod serve;
 
 pub use command_line::{FilePath, Line, read_line};
 pub use commands::{run, run_from};
+pub use files::Untaken;
 pub use process::{process_words, run_over};
 pub use run_end::{CutService, FileAfter, ProcessEnd, RunEnd, ServiceEnd, Unread};
 pub use seed::NoSeed;

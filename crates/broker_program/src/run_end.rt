@@ -1,4 +1,5 @@
 //! How a run of the program ended, and what a command leaves of the file that it worked on.
+use crate::files::Untaken;
 use crate::seed::NoSeed;
 use http_responses::WriteFault;
 use program_io::check::FilesRead;
@@ -33,8 +34,10 @@ pub struct CutService<D: Disk> {
 /// What a command left of the file that it worked on.
 #[derive(Drop)]
 pub enum FileAfter<D: Disk> {
-    /// Nothing is said: it worked on none, or the file isn't there or couldn't be taken.
+    /// It worked on none.
     Nothing,
+    /// It isn't there, or couldn't be taken.
+    Untaken(Untaken),
     /// Files were read, and this is what they had.
     Read(FilesRead),
     /// It was taken and couldn't be opened.

@@ -11,7 +11,7 @@ returns-in-Ok-listen_on-clause-ok g c =
 pub returns-in-Ok-listen_on-clause-cause : goal.returns-in-Ok-listen_on-clause-cause
 returns-in-Ok-listen_on-clause-cause g c =
     let first = queue_of-new_counts _ _ _ _ _ c.new.ensures c.in-Ok-listen_on.ensures.count.1 (c.in-Ok-listen_on.connections.counted ∙ c.in-Ok-listen_on.ensures.count.0) in
-    IfErr-weaker c.serve_each.result _ _ (λ failed cuts. inr (inr (c.in-Ok-listen_on.ensures.said, LeavesCut-weaker _ _ failed.1 (λ service. CutsFile-counts _ _ _ _ _ _ failed.0 service first) cuts))) c.serve_each.ensures.cut
+    IfErr-weaker c.serve_each.result _ _ (λ failed cuts. inr (inr (inl (c.in-Ok-listen_on.ensures.said, LeavesCut-weaker _ _ failed.1 (λ service. CutsFile-counts _ _ _ _ _ _ failed.0 service first) cuts)))) c.serve_each.ensures.cut
 
 pub returns-clause-cause : goal.returns-clause-cause
 returns-clause-cause g c =
