@@ -1,5 +1,5 @@
 """A broker that answers by a list of statuses."""
-import json
+import json, socket, threading
 from collections.abc import Iterator
 from typing import Any, Dict, List
 import pytest
@@ -7,6 +7,7 @@ from tests.client.tools import Asked, Reply, Serving
 
 EMPTY = {"answer": "shown", "environment": "live", "gated": True, "deployed": [], "released": []}
 PROXY, MANY = b"<html>a proxy</html>", 429
+SAID = {200: b'{"answer":"done","result":1,"content":1}', 404: b'{"answer":"unknown","what":"deployed"}'}
 
 
 class FlakyBroker(Serving):
@@ -34,8 +35,18 @@ class FlakyBroker(Serving):
             self.count += 1
             self.bodies.append(it.body)
             self.meanwhile()
-            said = b'{"answer":"done","result":1,"content":1}' if status == 200 else PROXY
+            said = SAID.get(status, PROXY)
         return Reply(status, tuple(self.headers.items()), said)
+
+    def goes(self) -> None:
+        """Its port is closed for a moment."""
+        self.shutdown()
+        self.server_close()
+        threading.Timer(0.5, self.comes_back).start()
+
+    def comes_back(self) -> None:
+        self.socket = socket.create_server(("127.0.0.1", self.port))
+        self.__enter__()
 
 
 @pytest.fixture

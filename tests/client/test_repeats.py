@@ -123,6 +123,14 @@ def test_the_wait_that_a_proxy_asks_for(flaky: FlakyBroker, room: str) -> None:
             raise Wrong(f"it was sent again after {took:.1f} seconds")
 
 
+def test_a_proxy_that_asks_for_no_wait(flaky: FlakyBroker, room: str) -> None:
+    """It isn't asked without a pause: within a second after 0.1, 0.3 and 0.7 seconds."""
+    with_file(room)
+    flaky.set([MANY] * 1000, headers={"retry-after": "0"})
+    done = Client(room, flaky.url).run("red", *RESULT, "--patience", "1")
+    same("status, and whether it is asked seldom", (done.status, flaky.count <= 4), (3, True))
+
+
 def test_a_refused_connection(room: str) -> None:
     """Nothing was sent, so nothing can count twice: a result without a run is sent again too, and arrives once."""
     with_file(room)
@@ -164,19 +172,52 @@ MEANWHILE: List[Tuple[List[Dict[str, str]], List[Dict[str, str]], int, int]] = [
 ]
 
 
-@pytest.mark.parametrize("before, after, status, count", MEANWHILE, ids=str)
-def test_a_deployment_again(before: Any, after: Any, status: int, count: int, flaky: FlakyBroker, room: str) -> None:
+# Whether the broker keeps connections, and whether its port is closed for a moment after the lost answer.
+WAYS = {"closed": (False, False), "kept": (True, False), "kept, and it restarts": (True, True)}
+AGAIN = [(way, *it) for way in WAYS for it in MEANWHILE[: 8 if way == "closed" else 3]]
+
+
+@pytest.mark.parametrize("way, before, after, status, count", AGAIN, ids=str)
+def test_a_deployment_again(
+    way: str, before: Any, after: Any, status: int, count: int, flaky: FlakyBroker, room: str
+) -> None:
     """A deployment whose answer is lost is repeated only if nothing else was deployed there meanwhile."""
+    keeps, restarts = WAYS[way]
 
     def meanwhile() -> None:
-        flaky.there = after
+        if flaky.count == 1:
+            flaky.there = after
+        if restarts and flaky.count == 1:
+            flaky.goes()
 
-    flaky.set([0], there=before, meanwhile=meanwhile)
+    flaky.set([0], there=before, is_kept=keeps, meanwhile=meanwhile)
     done = Client(room, flaky.url).run("red", "deploy", "shop", "2", "live")
     same(f"{before} {after}", (done.status, flaky.count), (status, count))
     if status:
         same("it says what is there", f"meanwhile {'shop 3' if after else 'nothing'} is there" in done.errors, True)
         same("and claims nothing", done.output, "")
+
+
+@pytest.mark.parametrize("way", WAYS)
+def test_the_end_of_an_instance_again(way: str, flaky: FlakyBroker, room: str) -> None:
+    """An undeployment whose answer is lost was done: that it isn't there any more is no fault."""
+    keeps, restarts = WAYS[way]
+    meanwhile = lambda: flaky.goes() if restarts and flaky.count == 2 else None
+    flaky.set([200, 0, 404], is_kept=keeps, meanwhile=meanwhile)
+    done = Client(room, flaky.url).run("red", "deploy", "shop", "2", "live", "--then-undeploy", "next")
+    said = "shop 2 is deployed in live.\nshop 2 is no longer deployed in live, instance next.\n"
+    same("it is done", (done.status, done.output, flaky.count), (0, said, 3))
+
+
+def test_a_deployment_that_is_lost_twice(flaky: FlakyBroker, room: str) -> None:
+    """It is looked again before each repetition, also if the answer to the look comes over a kept connection."""
+
+    def meanwhile() -> None:
+        flaky.there = OTHER if flaky.count == 2 else BEFORE
+
+    flaky.set([0, 0], there=BEFORE, is_kept=True, meanwhile=meanwhile)
+    done = Client(room, flaky.url).run("red", "deploy", "shop", "2", "live")
+    same("shop 3 stays", (done.status, flaky.count), (3, 2))
 
 
 def test_another_deployment_isn_t_undone(fleet: Server, client: Client) -> None:

@@ -99,12 +99,17 @@ class Asked(NamedTuple):
 class Handler(http.server.BaseHTTPRequestHandler):
     """A request to who answers by a function."""
 
+    def setup(self) -> None:
+        server: Any = self.server
+        super().setup()
+        self.protocol_version = "HTTP/1.1" if server.is_kept else "HTTP/1.0"
+
     def answer(self) -> None:
         server: Any = self.server
         body = self.rfile.read(int(self.headers.get("content-length", 0)))
         reply: Reply = server.reply(Asked(self.command, self.path, self.headers, body))
         time.sleep(reply.wait)
-        self.close_connection = True
+        self.close_connection = not (server.is_kept and reply.status)
         if reply.status and reply.wait < HANGS:
             self.send_response(reply.status)
             length = ("Content-Length", str(len(reply.body) + reply.length))
@@ -123,9 +128,10 @@ Itself = TypeVar("Itself", bound="Serving")
 
 
 class Serving(http.server.ThreadingHTTPServer):
-    """Who answers requests at a port of this machine by a function of them, while it is entered."""
+    """Who answers requests at a port of this machine by a function of them, while it is entered. `is_kept`: connections
+    are kept, as the broker does."""
 
-    daemon_threads = True
+    daemon_threads, is_kept = True, False
 
     def __init__(self, reply: Callable[[Asked], Reply], port: int = 0) -> None:
         super().__init__(("127.0.0.1", port), Handler)

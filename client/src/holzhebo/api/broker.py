@@ -85,13 +85,15 @@ class Broker:
         path: str,
         body: Optional[bytes] = None,
         is_idempotent: bool = True,
-        before_repeat: Callable[[], None] = lambda: None,
+        before_repeat: Optional[Callable[[], None]] = None,
     ) -> Answer:
-        """The answer to a request. It is repeated while nobody answers it, if it may be."""
+        """The answer to a request. It is repeated while nobody answers it, if it may be. Where something has to be done
+        before that, each attempt has a connection of its own, since over a kept one it may be sent twice."""
         ends, number, arrived = time.monotonic() + self.patience, 1, False
         request = Request(method, self.address.path.rstrip("/") + path, self.headers, body)
+        is_once = not is_idempotent or before_repeat is not None
         while True:
-            answer, why = self.attempt(request, is_idempotent)
+            answer, why = self.attempt(request, is_once)
             pause = policy.pause_before(number, answer)
             goes_on = policy.may_repeat(is_idempotent, answer, why) and time.monotonic() + pause <= ends
             if answer is not None and not goes_on:
@@ -106,12 +108,12 @@ class Broker:
             arrived = arrived or policy.may_have_arrived(answer, why)
             time.sleep(pause)
             number += 1
-            if arrived:
+            if arrived and before_repeat is not None:
                 before_repeat()
 
-    def attempt(self, request: Request, is_idempotent: bool) -> Tuple[Optional[Answer], Optional[NoAnswer]]:
+    def attempt(self, request: Request, is_once: bool) -> Tuple[Optional[Answer], Optional[NoAnswer]]:
         try:
-            return self.line.exchange(request, ANSWER_SECONDS, MOST_BYTES, not is_idempotent), None
+            return self.line.exchange(request, ANSWER_SECONDS, MOST_BYTES, is_once), None
         except NoAnswer as why:
             return None, why
 
@@ -217,7 +219,7 @@ class Broker:
         environment: str,
         body: Dict[str, str],
         may_be_gone: bool = False,
-        before_repeat: Callable[[], None] = lambda: None,
+        before_repeat: Optional[Callable[[], None]] = None,
     ) -> answers.Changed:
         """Sends a change of an environment. What ends may be gone by an earlier attempt of the same request."""
         path = f"/environments/{segment(environment)}/{resource}"

@@ -148,7 +148,10 @@ class Line:
         except NoAnswer as why:
             if not (was_kept and why.is_closed):
                 raise
-        return self.attempt(request, seconds, most, True)._replace(was_repeated=True)
+        try:
+            return self.attempt(request, seconds, most, True)._replace(was_repeated=True)
+        except NoAnswer as why:  # the first of the two may have arrived
+            raise NoAnswer(str(why), True, why.is_closed or not why.was_sent, why.is_limit) from None
 
     def attempt(self, request: Request, seconds: float, most: int, is_new: bool) -> Answer:
         if is_new:

@@ -21,9 +21,8 @@ def may_have_arrived(answer: Optional[Answer], why: Optional[NoAnswer]) -> bool:
 
 
 def pause_before(number: int, answer: Optional[Answer]) -> float:
-    """How long to wait before the attempt of this number, from 1: what the answer asks for, or twice as long each
-    time."""
+    """How long to wait before the attempt of this number, from 1: what the answer asks for, or twice as long each time
+    if it asks for nothing, or for no pause."""
     asked = answer.headers.get("retry-after", "") if answer is not None else ""
-    if asked.isascii() and asked.isdigit():
-        return float(asked[:9])
-    return float(min(FIRST_PAUSE * 2 ** min(number - 1, 16), LONGEST_PAUSE))
+    wanted = float(asked[:9]) if asked.isascii() and asked.isdigit() else 0.0
+    return wanted or float(min(FIRST_PAUSE * 2 ** min(number - 1, 16), LONGEST_PAUSE))
