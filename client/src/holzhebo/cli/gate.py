@@ -5,7 +5,7 @@ from typing import List, Optional
 from holzhebo.api import Broker, Lack, NotPermitted, Permission
 from holzhebo.cli.context import broker_of
 from holzhebo.cli.parser import Arguments, named
-from holzhebo.faults import DONE, NO, Stop
+from holzhebo.faults import DONE, NO, USAGE, Stop
 from holzhebo.gate.sentences import sentence_of
 from holzhebo.text import counted, note, shown, tell
 
@@ -97,6 +97,8 @@ class Change:
 
 def deploy(args: Arguments) -> int:
     """Deploys, and then takes another instance out, if that is asked for; what was done is said in any case."""
+    if args.then_undeploy == (args.instance or ""):
+        raise Stop("--then-undeploy names the instance that is deployed to", status=USAGE)
     it = Change(args, named(args, "pacticipant", "version", "environment"))
     is_new = it.deploy(args.instance)
     if is_new is None:
