@@ -3,7 +3,7 @@ import json, os, re
 from typing import Any, List, Tuple
 import pytest
 from tests.client.flaky import FlakyBroker, flaky  # the fixture
-from tests.client.tools import CLIENT, PYTHON, Client
+from tests.client.tools import Client
 from tests.process import Ended, Server, ran
 from tests.wire import OFFICE, same
 from tests.world import BLUE, RED, pact
@@ -67,16 +67,6 @@ def test_a_broker_that_goes(flaky: FlakyBroker, room: str) -> None:
     same(
         "status", (done.status, re.findall(r"(?m)^(new|not sent) ", done.output)), (3, ["new", "not sent", "not sent"])
     )
-
-
-def test_a_file_that_is_read_once(fleet: Server, client: Client, room: str) -> None:
-    """A file of a shell's <(..) can be read only once; and explain takes - twice."""
-    write(room, "a.json", pact("a book"))
-    line = " ".join([*PYTHON, CLIENT, "publish", "7", "--branch", "main", "<(cat a.json)"])
-    done = ran(["bash", "-c", line], cwd=room, env=client.env("red"))
-    same("publish", (done.status, done.errors, done.output[:4]), (0, "", "new "))
-    done = ran([*PYTHON, CLIENT, "explain", "-", "-"], pact("a"), cwd=room)
-    same("explain", (done.status, done.output), (0, "-: no fault is found\n"))
 
 
 def test_a_misspelt_name(fleet: Server, client: Client, room: str) -> None:

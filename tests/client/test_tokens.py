@@ -78,6 +78,8 @@ def test_https(flaky: FlakyBroker, room: str) -> None:
     same("a known one", client.run("red", *words, SSL_CERT_FILE=f"{room}/cert.pem").status, 0)
     same("one that is named", client.run("red", *words, "--cacert", "cert.pem").status, 0)
     same("no file of it", client.run("red", *words, "--cacert", "nowhere").status, 3)
+    once = " ".join([*PYTHON, CLIENT, *words, "--cacert", "<(cat cert.pem)"])
+    same("one that is read once", ran(["bash", "-c", once], cwd=room, env=client.env("red")).status, 0)
 
 
 def test_http_to_another_machine(room: str) -> None:

@@ -82,6 +82,14 @@ def test_lines(words: str, world: World) -> None:
     same(words, planned(world, *words.split(" ")), (status, said + LAST, ""))
 
 
+def test_a_token_that_is_read_once(world: World) -> None:
+    """Questions go over several connections, by one token: of a shell's <(..), or from standard input."""
+    words = f"{TOP}/client/holzhebo plan --broker {world.server.url} staging live --token-file"
+    status, said = SAID["staging live"]
+    same("by <(..)", ran(["bash", "-c", f"{words} <(cat {world.room}/office)"]), (status, said + LAST, ""))
+    same("by -", ran([*words.split(" "), "-"], OFFICE), (status, said + LAST, ""))
+
+
 def test_contacts(world: World) -> None:
     given = planned(world, "--contacts", f"{TOP}/examples/demo-desk.json", "dev", "staging").output
     teams = [it.strip() for it in given.splitlines() if "team of" in it]

@@ -1,5 +1,5 @@
 """Addresses of HTTP, and the way to them."""
-import os, re, ssl, urllib.parse
+import functools, os, re, ssl, urllib.parse
 from typing import NamedTuple, Optional
 
 from holzhebo.faults import Stop
@@ -33,7 +33,9 @@ class Way(NamedTuple):
     cacert: Optional[str] = None
     proxy: Optional[str] = None
 
+    @functools.lru_cache(maxsize=None)
     def context(self) -> ssl.SSLContext:
+        """What is trusted, which is read once for all connections."""
         try:
             found = ssl.create_default_context()
             if self.cacert:

@@ -1,6 +1,6 @@
 """The broker that a command asks: by its options, the environment, and ~/.config/holzhebo/config.ini."""
 import atexit, os, re
-from typing import Dict, List, Optional, Sequence
+from typing import Callable, Dict, List, Optional, Sequence
 
 from holzhebo.api.address import Address, Way, proxy_of
 from holzhebo.api.broker import Broker
@@ -67,14 +67,25 @@ def patience_of(args: Arguments, config: Dict[str, str]) -> float:
     return float(text)
 
 
-def broker_of(args: Arguments) -> Broker:
+def brokers_of(args: Arguments) -> Callable[[], Broker]:
+    """What makes the broker, with a connection of its own each time. Files are read now and not again, since one of a
+    shell's <(..) can be read only once."""
     url, config = url_and_config(args)
     cacert = args.cacert or config.get("cacert") or os.environ.get("HOLZHEBO_CACERT")
     is_plain = args.plain or config.get("plain") == "yes" or os.environ.get("HOLZHEBO_PLAIN") == "1"
     way = Way(cacert, proxy_of(Address(url)))
-    found = Broker(url, token_of(args, config), patience_of(args, config), way, is_plain)
-    atexit.register(found.close)
-    return found
+    token, patience = token_of(args, config), patience_of(args, config)
+
+    def made() -> Broker:
+        found = Broker(url, token, patience, way, is_plain)
+        atexit.register(found.close)
+        return found
+
+    return made
+
+
+def broker_of(args: Arguments) -> Broker:
+    return brokers_of(args)()
 
 
 # Lists

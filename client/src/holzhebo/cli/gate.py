@@ -57,8 +57,8 @@ def tell_permission(said: Permission, what: str, environment: str) -> None:
 class Change:
     """A change of what a version does in an environment, and how it is reported."""
 
-    def __init__(self, args: Arguments, words: "List[str]") -> None:
-        self.args, self.broker = args, broker_of(args)
+    def __init__(self, args: Arguments, words: "List[str]", broker: Optional[Broker] = None) -> None:
+        self.args, self.broker = args, broker or broker_of(args)
         self.pacticipant, self.version, self.environment = words
         self.what = f"{shown(self.pacticipant)} {shown(self.version)}"
 
@@ -120,7 +120,7 @@ def record_undeployment(args: Arguments) -> int:
     found = broker.environment(environment).version_in(pacticipant, args.instance or "")
     if found is None:
         raise Stop(f"no version of {shown(pacticipant)} is deployed there in this instance")
-    Change(args, [pacticipant, found, environment]).undeploy(args.instance, False)
+    Change(args, [pacticipant, found, environment], broker).undeploy(args.instance, False)
     return DONE
 
 

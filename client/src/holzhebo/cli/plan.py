@@ -5,7 +5,7 @@ from typing import Any, Dict
 from holzhebo.api import Broker, Environment, Matrix, Permission, Refused
 from holzhebo.api.broker import NOT_ONE
 from holzhebo.api.broker import read as shaped
-from holzhebo.cli.context import broker_of, tell_json
+from holzhebo.cli.context import brokers_of, tell_json
 from holzhebo.cli.parser import Arguments
 from holzhebo.desk.names import named_in
 from holzhebo.faults import DONE, NO, Json, Stop
@@ -24,11 +24,11 @@ class Asking:
     """Asks a broker, each thread over a connection of its own."""
 
     def __init__(self, args: Arguments) -> None:
-        self.args, self.own = args, threading.local()
+        self.args, self.own, self.make = args, threading.local(), brokers_of(args)
 
     def broker(self) -> Broker:
         if not hasattr(self.own, "broker"):
-            self.own.broker = broker_of(self.args)
+            self.own.broker = self.make()
         found: Broker = self.own.broker
         return found
 
