@@ -1,6 +1,6 @@
 """Addresses of HTTP, and the way to them."""
-import functools, os, re, ssl, urllib.parse
-from typing import NamedTuple, Optional
+import base64, contextlib, functools, os, re, ssl, urllib.parse
+from typing import Dict, NamedTuple, Optional
 
 from holzhebo.faults import Stop
 from holzhebo.text import reason, short, shown
@@ -22,8 +22,30 @@ class Address:
         self.is_loopback = LOOPBACK.fullmatch(self.host) is not None
 
     def name(self) -> str:
-        host = f"[{self.host}]" if ":" in self.host else self.host
-        return f"{host}:{self.port}"
+        return named(self.host, self.port)
+
+
+def named(host: str, port: int) -> str:
+    return f"[{host}]:{port}" if ":" in host else f"{host}:{port}"
+
+
+class Proxy(NamedTuple):
+    """A proxy: where it is, and the fields by which it knows who asks."""
+
+    host: str
+    port: int
+    fields: Dict[str, str]
+
+
+def proxy_at(text: str) -> Proxy:
+    """The proxy that a text names, as curl reads it: perhaps without http://, and with a user, who is shown nowhere."""
+    with contextlib.suppress(ValueError):
+        it = urllib.parse.urlsplit(text if "//" in text else f"http://{text}")
+        if it.hostname and "@" not in it.path + it.query + it.fragment:
+            user = ":".join(urllib.parse.unquote(part or "") for part in (it.username, it.password))
+            fields = {"Proxy-Authorization": f"Basic {base64.b64encode(user.encode()).decode()}"}
+            return Proxy(it.hostname, it.port or 8080, fields if it.username else {})
+    raise Stop("the proxy that the environment names is no address, as http://proxy.example.org:8080")
 
 
 class Way(NamedTuple):
@@ -32,6 +54,9 @@ class Way(NamedTuple):
 
     cacert: Optional[str] = None
     proxy: Optional[str] = None
+
+    def between(self) -> Optional[Proxy]:
+        return proxy_at(self.proxy) if self.proxy else None
 
     @functools.lru_cache(maxsize=None)
     def context(self) -> ssl.SSLContext:

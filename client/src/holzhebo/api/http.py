@@ -1,5 +1,5 @@
 """Requests over HTTP/1.1, each with an end by the clock; no redirect is followed."""
-import base64, contextlib, http.client, socket, ssl, threading, urllib.parse
+import contextlib, http.client, socket, ssl, threading
 from typing import Any, Dict, Iterator, List, NamedTuple, Optional
 
 from holzhebo.api.address import Address, Way
@@ -90,22 +90,26 @@ class SecureWatched(Watched):
 
 def line_to(address: Address, seconds: float, way: Way = Way()) -> http.client.HTTPConnection:
     """A connection that isn't open yet."""
-    host, port, headers = address.host, address.port, {}
-    if way.proxy:
-        proxy = urllib.parse.urlsplit(way.proxy if "//" in way.proxy else f"http://{way.proxy}")
-        host, port = proxy.hostname or "", proxy.port or 8080
-        if proxy.username:
-            user = f"{urllib.parse.unquote(proxy.username)}:{urllib.parse.unquote(proxy.password or '')}"
-            headers["Proxy-Authorization"] = f"Basic {base64.b64encode(user.encode()).decode()}"
+    proxy = way.between()
+    first = proxy or address
     line: http.client.HTTPConnection
     if address.is_https:
-        line = SecureWatched(host, port, seconds, way.context(), address.host)
-        if way.proxy:
-            line.set_tunnel(address.host, address.port, headers)
+        line = SecureWatched(first.host, first.port, seconds, way.context(), address.host)
+        if proxy:
+            line.set_tunnel(address.host, address.port, proxy.fields)
     else:
-        line = Watched(host, port, timeout=seconds)
+        line = Watched(first.host, first.port, timeout=seconds)
     line.response_class = Response
     return line
+
+
+def by_way(request: Request, address: Address, way: Way) -> Request:
+    """The request as this way takes it: a proxy that reads it gets the whole address, and who asks."""
+    proxy = way.between()
+    if proxy is None or address.is_https:
+        return request
+    target = f"http://{address.name()}{request.target}"
+    return request._replace(target=target, headers={**request.headers, **proxy.fields})
 
 
 @contextlib.contextmanager
@@ -159,7 +163,7 @@ class Line:
         line = self.line or line_to(self.address, seconds, self.way)
         self.line = None
         try:
-            answer, is_kept = exchange_on(line, self.sent(request), seconds, most)
+            answer, is_kept = exchange_on(line, by_way(request, self.address, self.way), seconds, most)
         except BaseException:
             line.close()
             raise
@@ -168,12 +172,6 @@ class Line:
         else:
             line.close()
         return answer
-
-    def sent(self, request: Request) -> Request:
-        """The request as this way takes it: a proxy between gets the whole address, if it reads the request."""
-        if self.way.proxy and not self.address.is_https:
-            return request._replace(target=f"http://{self.address.name()}{request.target}")
-        return request
 
 
 def connect(line: http.client.HTTPConnection) -> None:

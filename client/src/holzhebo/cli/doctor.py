@@ -2,7 +2,7 @@
 import email.utils, time
 from typing import List, Optional, Tuple
 
-from holzhebo.api.address import proxy_of
+from holzhebo.api.address import named
 from holzhebo.api.broker import Broker, Refused
 from holzhebo.cli.context import broker_of, config_path, tell_json, url_and_config
 from holzhebo.cli.parser import Arguments
@@ -30,10 +30,10 @@ def doctor(args: Arguments) -> int:
 def look(args: Arguments, rows: List[Row]) -> None:
     url, config = url_and_config(args)
     broker = broker_of(args)
-    address, way = broker.address, broker.line.way
+    address, proxy = broker.address, broker.line.way.between()
     source = f", [{config['']}] of {config_path()}" if config else ""
     rows.append(("ok", "address", f"{url}{source}"))
-    rows.append(("ok", "way", f"by the proxy {without_user(proxy_of(address) or '')}" if way.proxy else "no proxy"))
+    rows.append(("ok", "way", f"by the proxy {named(proxy.host, proxy.port)}" if proxy else "no proxy"))
     kind = "https, by a certificate that is trusted" if address.is_https else "http, which others on the way can read"
     answer = broker.ask("GET", "/environments/-")
     rows.append(("ok" if address.is_https or address.is_loopback else "wrong", "connection", kind))
@@ -47,11 +47,6 @@ def look(args: Arguments, rows: List[Row]) -> None:
     rows.extend(known(broker, it) for it in args.pacticipant)
     for it in args.environment:
         rows.extend(there(broker, it, args.pacticipant))
-
-
-def without_user(url: str) -> str:
-    scheme, found, rest = url.partition("://")
-    return f"{scheme}{found}{rest.rpartition('@')[2]}"
 
 
 def clock(date: Optional[str]) -> Row:

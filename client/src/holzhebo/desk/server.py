@@ -8,7 +8,8 @@ import hmac, http.client, re, socket, socketserver, sys, threading, time
 from typing import Any, Callable, Dict, List, NamedTuple, Tuple
 
 from holzhebo.api.address import Address, Way
-from holzhebo.api.http import line_to
+from holzhebo.api.http import Request as Asked
+from holzhebo.api.http import by_way, line_to
 
 HOST = "127.0.0.1"
 # The broker's own limit of a head; and how much of an answer, or of a body that nobody wants, is read.
@@ -226,13 +227,11 @@ class Desk(socketserver.ThreadingTCPServer):
         if not self.is_there():
             raise Refused(502, "The broker isn't there yet, or no longer.")
         line, target = line_to(self.broker, ANSWER_TIME, self.way), self.broker.path.rstrip("/") + request.target
-        if self.way.proxy and not self.broker.is_https:
-            target = f"http://{self.broker.name()}{target}"
+        asked = by_way(Asked("GET", target, {"connection": "close"}, None), self.broker, self.way)
         try:
-            line.putrequest("GET", target, skip_accept_encoding=True)
-            for it in self.fields_for(request):
-                line.putheader("authorization", it)
-            line.putheader("connection", "close")
+            line.putrequest(asked.method, asked.target, skip_accept_encoding=True)
+            for name, it in [*asked.headers.items(), *(("authorization", it) for it in self.fields_for(request))]:
+                line.putheader(name, it)
             line.endheaders()
             return whole(line.getresponse())
         except socket.timeout:
