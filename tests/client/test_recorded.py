@@ -13,6 +13,11 @@ def packed(body: bytes, coding: str) -> Reply:
     return Reply(headers=(*JSON_TYPE, ("Content-Encoding", coding)), body=body)
 
 
+def book(more: bytes) -> Reply:
+    """The book, with more members."""
+    return Reply(headers=JSON_TYPE, body=b'{"id":1,' + more + b"}")
+
+
 RAW = zlib.compressobj(wbits=-15)
 UTF_8 = "f\u00fcr Ada".encode().decode("latin-1")
 TITLED: Any = {**WANTED, "headers": {"X-Title": "f\u00fcr Ada"}}
@@ -26,9 +31,18 @@ REPLIES: Dict[str, Tuple[Reply, Any, str]] = {
         {**WANTED, "headers": {"Content-Encoding": "gzip"}},
         "passed",
     ),
+    "gzip in two parts": (packed(gzip.compress(b'{"id"') + gzip.compress(b":1}"), "gzip"), WANTED, "passed"),
+    "gzip without its end": (packed(gzip.compress(BOOK_TEXT)[:-1], "gzip"), WANTED, "not played"),
+    "gzip, of which the second part has no end": (
+        packed(gzip.compress(BOOK_TEXT) + gzip.compress(b" ")[:-9], "gzip"),
+        WANTED,
+        "not played",
+    ),
+    "deflate without its end": (packed(zlib.compress(BOOK_TEXT)[:-1], "deflate"), WANTED, "not played"),
     "gzip that isn't": (packed(b"{}", "gzip"), WANTED, "not played"),
     "another coding": (packed(b"{}", "br"), WANTED, "not played"),
     "gzip of 3 MB": (packed(gzip.compress(b" " * 3000000), "gzip"), WANTED, "not played"),
+    "gzip of 3 MB in parts": (packed(gzip.compress(b" " * 600000) * 5, "gzip"), WANTED, "not played"),
     "a byte order mark": (Reply(headers=JSON_TYPE, body=b"\xef\xbb\xbf" + BOOK_TEXT), WANTED, "passed"),
     "a header in UTF-8": (Reply(headers=(*JSON_TYPE, ("X-Title", UTF_8)), body=BOOK_TEXT), TITLED, "passed"),
     "a header in Latin-1": (Reply(headers=(*JSON_TYPE, ("X-Title", "f\u00fcr Ada")), body=BOOK_TEXT), TITLED, "passed"),
@@ -45,6 +59,18 @@ REPLIES: Dict[str, Tuple[Reply, Any, str]] = {
     ),
     "depth without an end": (Reply(headers=JSON_TYPE, body=b"[" * 5000 + b"]" * 5000), WANTED, "not played"),
     "a number that is too large": (Reply(headers=JSON_TYPE, body=b'{"id":1,"n":1e30}'), WANTED, "passed"),
+    "a number that is too large for any reader": (book(b'"n":1e400'), WANTED, "passed"),
+    "a whole one": (book(b'"n":[1%s]' % (b"0" * 400)), WANTED, "passed"),
+    "one that is asked for": (Reply(headers=JSON_TYPE, body=b'{"id":1e400}'), WANTED, "not played"),
+    "half of a character": (book(b'"bio":{"first":"hello \\ud83d"}'), WANTED, "passed"),
+    "half of a character in a key": (book(b'"\\ud83d":1,"a":{"\\ude00":1}'), WANTED, "passed"),
+    "two halves in their order": (book(b'"bio":"\\ud83d\\ude00"'), {**WANTED, "body": {"bio": "\U0001f600"}}, "passed"),
+    "half of a character that is asked for": (book(b'"bio":"\\ud83d"'), {**WANTED, "body": {"bio": "a"}}, "not played"),
+    "half of a character in a key by an equality": (
+        book(b'"\\ud83d":1'),
+        {**WANTED, "matchingRules": {"body": {"$": {"matchers": [{"match": "equality"}]}}}},
+        "not played",
+    ),
     "a fraction that isn't compared": (
         Reply(headers=JSON_TYPE, body=b'{"id":1,"price":19.99,"at":{"lat":52.5}}'),
         WANTED,

@@ -20,15 +20,15 @@ ESCAPE = re.compile(r"\\u[dD][89abAB][0-9a-fA-F]{2}\\u[dD][c-fC-F][0-9a-fA-F]{2}
 BRACKET = re.compile(r'"[^"\\]*(?:\\.[^"\\]*)*"|([\[{])|([\]}])')
 
 
-def whole_number(text: str) -> Json:
-    is_whole = len(text) <= 20 and text != "-0" and -(2**63) <= int(text) < 2**64
-    return int(text) if is_whole else broken_number(text)
+def any_number(text: str) -> Json:
+    is_whole = re.fullmatch("-?[0-9]{1,20}", text) and text != "-0" and -(2**63) <= int(text) < 2**64
+    return int(text) if is_whole else NotWhole(text)
 
 
-def broken_number(text: str) -> NotWhole:
+def readable_number(text: str) -> Json:
     if math.isinf(float(text)):
         raise NotJson(f"the number {short(text)} is too large for any reader")
-    return NotWhole(text)
+    return any_number(text)
 
 
 def no_constant(text: str) -> NoReturn:
@@ -48,18 +48,20 @@ class TooDeep(NotJson):
     """JSON that nests too deep."""
 
 
-def read_json(content: bytes, deepest: int = 127) -> Json:
-    """The value that the bytes are; of members with one key the last stays."""
+def read_json(content: bytes, deepest: int = 127, is_loose: bool = False) -> Json:
+    """The value that the bytes are; of members with one key the last stays. Loosely, also what isn't JSON to the broker
+    is in it: a number that is too large for any reader, and half of a character."""
+    number = any_number if is_loose else readable_number
     try:
         text = content.decode()
-        value = json.loads(text, parse_float=broken_number, parse_int=whole_number, parse_constant=no_constant)
+        value = json.loads(text, parse_float=number, parse_int=number, parse_constant=no_constant)
     except UnicodeDecodeError as it:
         raise NotJson(f"byte {it.start} isn't UTF-8") from None
     except json.JSONDecodeError as it:
         raise NotJson(f"line {it.lineno}, column {it.colno}: {it.msg}") from None
     except RecursionError:
         raise TooDeep(f"it nests over {deepest} levels") from None
-    if any(it[1] for it in ESCAPE.finditer(text)):
+    if not is_loose and any(it[1] for it in ESCAPE.finditer(text)):
         raise NotJson("an escape is half of a character")
     if levels(text) > deepest:
         raise TooDeep(f"it nests over {deepest} levels")
@@ -94,6 +96,11 @@ def walk(value: Json, path: str = "$", level: int = 1) -> Iterator[Tuple[int, st
 def numbers_not_whole(value: Json) -> List[Tuple[str, str]]:
     """The path and the text of each number that the broker doesn't take."""
     return [(path, it.text) for _, path, it in walk(value) if isinstance(it, NotWhole)]
+
+
+def has_half(value: Json) -> bool:
+    """Whether a text, or a key of an object, has half of a character."""
+    return isinstance(value, (str, dict)) and re.search("[\ud800-\udfff]", "".join(value)) is not None
 
 
 def rounded(value: Json) -> Json:

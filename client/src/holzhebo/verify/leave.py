@@ -2,6 +2,7 @@
 from typing import List, Tuple
 
 from holzhebo.faults import Json
+from holzhebo.pact.json import has_half
 from holzhebo.verify.differs import (
     NO_BODY,
     UNSUPPORTED,
@@ -18,7 +19,9 @@ DEEPEST = 96  # levels of a body: the broker reads 100, and a body is below four
 
 
 def is_taken(value: Json, level: int) -> bool:
-    """Whether the broker reads a value at this level of a body: its numbers, and how deep it nests."""
+    """Whether the broker reads a value at this level of a body: its numbers, its texts, and how deep it nests."""
+    if has_half(value):
+        return False
     if not isinstance(value, (list, dict)):
         return kind_of(value) != UNSUPPORTED
     return level < DEEPEST and all(is_taken(it, level + 1) for it in (value.values() if type(value) is dict else value))
@@ -29,7 +32,7 @@ def pruned(expected: Json, actual: Json, rules: List[Entry], gone: List[str], pa
     rule = next((it for it in rules if len(it.tokens) <= depth), None)
     kept, asked = actual, compared(expected, actual, rule is not None)
     if isinstance(actual, dict):
-        kept = {key: it for key, it in actual.items() if key in asked or is_taken(it, depth + 1)}
+        kept = {key: it for key, it in actual.items() if key in asked or is_taken({key: it}, depth)}
         fits = [not by_rule(rule, expected, it, path) for it in (actual, kept)]
         kept = kept if fits[0] == fits[1] or any(key not in actual for key in asked) else dict(actual)
         gone += [path + spelled(key) for key in actual if key not in kept]

@@ -4,7 +4,7 @@ from typing import Dict, List, NamedTuple
 
 from holzhebo.api.http import MOST_BYTES, Answer
 from holzhebo.faults import Json
-from holzhebo.pact.json import NotJson, TooDeep, ascii_lower, numbers_not_whole, read_json
+from holzhebo.pact.json import NotJson, TooDeep, ascii_lower, has_half, numbers_not_whole, read_json, walk
 from holzhebo.verify.differs import NO_BODY
 from holzhebo.verify.leave import DEEPEST, without_what_nobody_asks
 from holzhebo.verify.request import BINARY, Unplayable, is_json, kind_of_body
@@ -33,13 +33,23 @@ def unpacked(content: bytes, coding: str) -> bytes:
         return content
     ways = {"gzip": (31,), "x-gzip": (31,), "deflate": (15, -15)}.get(coding, ())
     for way in ways:
-        reader = zlib.decompressobj(way)
         with contextlib.suppress(zlib.error):
-            found = reader.decompress(content, MOST_BYTES + 1)
-            if len(found) > MOST_BYTES:
-                raise Unplayable(f"the provider's body has more than {MOST_BYTES} bytes once it is unpacked")
-            return found
+            return inflated(content, way)
     raise Unplayable(f"the provider's body is {coding}, and can't be read" if ways else f"the provider sends {coding}")
+
+
+def inflated(content: bytes, way: int) -> bytes:
+    """What was packed, of which there may be several parts, one after another. Each has to be whole."""
+    found, left = b"", content
+    while left:
+        reader = zlib.decompressobj(way)
+        found += reader.decompress(left, MOST_BYTES + 1 - len(found))
+        if len(found) > MOST_BYTES:
+            raise Unplayable(f"the provider's body has more than {MOST_BYTES} bytes once it is unpacked")
+        if not reader.eof:
+            raise zlib.error("it has no end")
+        left = reader.unused_data
+    return found
 
 
 def recorded(interaction: Json, answer: Answer) -> Recorded:
@@ -66,7 +76,7 @@ def body_in(content: bytes, headers: Dict[str, str]) -> Json:
     kind = headers.get("content-type", "")
     if is_json(kind) or not kind:
         try:
-            return read_json(content[3:] if content.startswith(b"\xef\xbb\xbf") else content, 300)
+            return read_json(content[3:] if content.startswith(b"\xef\xbb\xbf") else content, 300, True)
         except TooDeep:
             raise Unplayable("the provider's body nests deeper than 300 levels") from None
         except NotJson:
@@ -88,6 +98,9 @@ def is_recordable(body: Json) -> None:
             f"the provider's body has {broken[0]}, which the contract asks for, and replies are recorded without"
             f" fractions: {INSTEAD}"
         )
+    halves = [path for _, path, it in walk(body) if has_half(it)]
+    if halves:
+        raise Unplayable(f"the provider's body has half of a character at {halves[0]}, which the contract asks for")
     if depth(body) > DEEPEST:
         raise Unplayable(f"the provider's body nests deeper than {DEEPEST} levels, where the contract asks for it")
 
