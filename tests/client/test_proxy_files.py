@@ -207,3 +207,42 @@ def test_a_half_written_file(room: str) -> None:
     same("another file in its place", os.stat(f"{room}/broker.prom").st_ino == inode, False)
     if [it for it in os.listdir(room) if it.startswith(".")]:
         raise Wrong("something is left")
+
+
+METRICS = ["metrics", "--log", f"{HERE}/proxy.log", "--output"]
+LAST = "broker_request_seconds_count 9\n"
+
+
+def about(path: str) -> Tuple[int, int, int]:
+    """The rights of a file, and whose it is."""
+    found = os.stat(path)
+    return stat.S_IMODE(found.st_mode), found.st_uid, found.st_gid
+
+
+def test_the_rights_of_an_output(room: str) -> None:
+    """A new file has those of any new one; one that is there keeps its own, and its owner, also by another name."""
+    other = 1234 if os.geteuid() == 0 else os.geteuid()
+    for mask in 0o022, 0o077:
+        told([*PYTHON, CLIENT, *METRICS, f"new-{mask}"], cwd=room, umask=mask)
+        same(f"by {mask:o}", about(f"{room}/new-{mask}"), (0o666 & ~mask, os.geteuid(), os.getegid()))
+    for mode in 0o600, 0o664:
+        start(f"{room}/old", "old\n")
+        os.chown(f"{room}/old", other, os.getegid())
+        os.chmod(f"{room}/old", mode)
+        os.symlink("old", f"{room}/name-{mode}")
+        told([*PYTHON, CLIENT, *METRICS, f"name-{mode}"], cwd=room, umask=0o022)
+        same(f"of {mode:o}", about(f"{room}/old"), (mode, other, os.getegid()))
+        same("it is written", text_of(f"{room}/old").endswith(LAST), True)
+
+
+def test_an_output_that_is_no_file(room: str) -> None:
+    """What is a pipe or a device stays one, and gets the text."""
+    os.mkfifo(f"{room}/pipe")
+    with open(os.open(f"{room}/pipe", os.O_RDONLY | os.O_NONBLOCK), encoding="utf-8") as it:
+        told([*PYTHON, CLIENT, *METRICS, "pipe"], cwd=room)
+        same("a pipe", stat.S_ISFIFO(os.stat(f"{room}/pipe").st_mode), True)
+        same("the text", it.read().endswith(LAST), True)
+    status, output, _ = told([*PYTHON, CLIENT, *METRICS, "/dev/stdout"], cwd=room)
+    same("standard output", (status, output.endswith(LAST)), (0, True))
+    status, _, errors = told([*PYTHON, CLIENT, *METRICS, "."], cwd=room)
+    same("a folder", (status, errors.split("\n")[-2]), (3, "holzhebo: . can't be written: Is a directory"))

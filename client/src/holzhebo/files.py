@@ -1,5 +1,5 @@
 """Files that are read and written."""
-import contextlib, os, sys, tempfile
+import contextlib, os, stat, sys, tempfile
 from typing import Optional
 
 from holzhebo.faults import Stop
@@ -31,23 +31,40 @@ def write_file(path: str, text: str) -> None:
         raise Stop(f"{shown(path)} can't be written: {getattr(why, 'strerror', None) or why}") from None
 
 
-def replace_file(path: str, content: bytes, like: Optional[os.stat_result] = None) -> None:
-    """Puts a file in the place of this one at once: who reads sees the old one or the new one. With `like` it has the
-    owner and the rights of that one. A name that leads to another file stays, and that one is replaced."""
-    place = os.path.realpath(path)
-    part = ""
+def replace_file(path: str, content: bytes) -> None:
+    """Puts a file in the place of this one at once: who reads sees the old one or the new one. It has the owner and the
+    rights of the one that is there. A name that leads to another file stays, and that one is replaced; what is no file,
+    as a pipe or a device, is written into."""
     try:
-        descriptor, part = tempfile.mkstemp(dir=os.path.dirname(place), prefix=f".{os.path.basename(place)}.")
-        with open(descriptor, "wb") as it:
-            if like is not None:
-                os.fchown(it.fileno(), like.st_uid, like.st_gid)
-            os.fchmod(it.fileno(), (like.st_mode & 0o7777) if like is not None else 0o644)
-            it.write(content)
-            it.flush()
-            os.fsync(it.fileno())
-        os.replace(part, place)
+        there = os.stat(path) if os.path.exists(path) else None
+        if there is None or stat.S_ISREG(there.st_mode):
+            put_at(os.path.realpath(path), content, there)
+        else:
+            with open(path, "wb") as it:
+                it.write(content)
     except OSError as why:
         raise Stop(f"{shown(path)} can't be written: {why.strerror}") from None
+
+
+def put_at(place: str, content: bytes, like: Optional[os.stat_result]) -> None:
+    """Puts a file there, with the owner and the rights of this one, or with those of a new one."""
+    descriptor, part = tempfile.mkstemp(dir=os.path.dirname(place), prefix=f".{os.path.basename(place)}.")
+    try:
+        with open(descriptor, "wb") as it:
+            if like is not None:
+                os.fchown(descriptor, like.st_uid, like.st_gid)
+            os.fchmod(descriptor, stat.S_IMODE(like.st_mode) if like is not None else 0o666 & ~umask())
+            it.write(content)
+            it.flush()
+            os.fsync(descriptor)
+        os.replace(part, place)
     finally:
         with contextlib.suppress(OSError):
             os.unlink(part)
+
+
+def umask() -> int:
+    """What is taken from the rights of each new file."""
+    found = os.umask(0o077)
+    os.umask(found)
+    return found

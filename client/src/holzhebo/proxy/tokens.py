@@ -47,12 +47,8 @@ def alone_with(path: str) -> Iterator[None]:
 
 def rewrite(path: str, change: Callable[[Lines], Lines]) -> None:
     """Writes the lines of a file again. It is replaced at once, and keeps its owner and its rights."""
-    lines = lines_of(path)
-    try:
-        like = os.stat(path)
-    except OSError as why:
-        raise Stop(f"{shown(path)} can't be read: {why.strerror}") from None
-    replace_file(path, "".join(f"{line}\n" for line in change(lines)).encode("utf-8", "surrogateescape"), like)
+    text = "".join(f"{line}\n" for line in change(lines_of(path)))
+    replace_file(path, text.encode("utf-8", "surrogateescape"))
 
 
 def with_places(lines: Lines, places: Dict[str, str], is_caddy: bool) -> Lines:
