@@ -34,13 +34,19 @@ REPLIES = {
     '{"replies":[{"description":"a","response":{"status":"200"}}]}': "no reply",
     '{"replies":[{"description":"a","response":{"status":200,"headers":[]}}]}': "no reply",
     '{"replies":[{"description":"a","response":{"status":200,"headers":{"A":1}}}]}': "no reply",
+    '{"replies":[{"description":"a","response":{"status":200,"headers":{"A":[1]}}}]}': "no reply",
+    '{"replies":[{"description":"a book","response":{"status":200,"body":{"tax":1.5}}}]}': "fraction",
+    '{"replies":[],"a":%s}' % ("[" * 100 + "]" * 100): "deep",
     '{"replies":[{"description":"a","providerStates":5,"response":{"status":200}}]}': "other",
     json.dumps({"replies": [REPLY, REPLY]}): "two",
     json.dumps({"replies": [{**REPLY, "description": "a cup"}]}): "other",
 }
+NOT_WHOLE = "isn't whole, or isn't from -2^63 to 2^64 - 1"
 SAID = {
     "list": "replies has no list of replies",
     "no reply": "replies: replies[0] is no reply",
+    "fraction": f"replies: the number 1.5 at $.replies[0].response.body.tax {NOT_WHOLE}",
+    "deep": f"replies: it nests deeper than 100 levels at $.a{'[0]' * 99}",
     "two": "replies has two replies of one description and one list of states",
     "other": "a reply belongs to no interaction of the contract",
 }

@@ -5,7 +5,7 @@ from typing import List, NamedTuple, Optional, Tuple
 from holzhebo.api.broker import Broker, Refused
 from holzhebo.cli.context import broker_of, tell_json
 from holzhebo.cli.parser import Arguments, Parser, named
-from holzhebo.faults import DONE, NO, UNDONE, Json, Stop
+from holzhebo.faults import DONE, NO, UNDONE, USAGE, Json, Stop
 from holzhebo.files import read_file
 from holzhebo.pact.faults import findings_of, is_name
 from holzhebo.pact.findings import Findings
@@ -52,11 +52,18 @@ def tell_left_out(left_out: List[str], indent: str) -> None:
         tell(f"{indent}written for the broker: {'; '.join(left_out[:3])}{more} (--as-it-is sends the file's bytes)")
 
 
+def sent_of(path: str, as_it_is: bool) -> Tuple[bytes, List[str]]:
+    """What of a file is sent, and what was left out of it."""
+    whole = read_file(path)
+    return (whole, []) if as_it_is else plain(whole)
+
+
 def explain(args: Arguments) -> int:
+    if args.replies is not None and len(set(args.pact)) != 1:
+        raise Stop("--replies are to one pact file", status=USAGE)
     program, files, has_fault = program_at(args.program), {}, False
-    given = {path: read_file(path) for path in dict.fromkeys(args.pact)}
-    for path, whole in given.items():
-        content, left_out = (whole, []) if args.as_it_is else plain(whole)
+    given = {path: sent_of(path, args.as_it_is) for path in dict.fromkeys(args.pact)}
+    for path, (content, left_out) in given.items():
         found = found_in(content, program)
         files[path] = findings_json(found, left_out)
         has_fault = has_fault or bool(found.faults)
@@ -66,13 +73,11 @@ def explain(args: Arguments) -> int:
             tell_left_out(left_out, "  ")
     if args.json:
         tell_json(files)
-    if args.replies is not None:
-        from holzhebo.cli.verify import check_files
+    if args.replies is None or has_fault:
+        return NO if has_fault else DONE
+    from holzhebo.cli.verify import check_content
 
-        if len(given) != 1:
-            raise Stop("--replies are to one pact file", status=2)
-        return NO if has_fault else check_files(args, args.pact[0], args.replies)
-    return NO if has_fault else DONE
+    return check_content(args, path, content)
 
 
 # publish
@@ -123,8 +128,7 @@ def files_in(paths: List[str]) -> List[str]:
 
 
 def looked_at(path: str, program: Optional[Program], as_it_is: bool) -> File:
-    whole = read_file(path)
-    content, left_out = (whole, []) if as_it_is else plain(whole)
+    content, left_out = sent_of(path, as_it_is)
     return File(path, content, sides_of(content), found_in(content, program), left_out)
 
 

@@ -6,7 +6,7 @@ from holzhebo.api import Broker
 from holzhebo.api.broker import segment
 from holzhebo.cli.context import broker_of, tell_json
 from holzhebo.cli.parser import Arguments
-from holzhebo.cli.publish import sides_of
+from holzhebo.cli.publish import sent_of, sides_of
 from holzhebo.faults import DONE, NO, UNDONE, Json, Stop
 from holzhebo.files import read_file, write_file
 from holzhebo.pact.json import NotJson, compact, member, read_json
@@ -120,21 +120,21 @@ def tell_played(played: List[Played]) -> None:
 
 
 def check(args: Arguments) -> int:
-    return check_files(args, args.contract, args.replies)
+    return check_content(args, args.contract, sent_of(args.contract, False)[0])
 
 
-def check_files(args: Arguments, pact: str, replies: str) -> int:
-    """Recorded replies beside a contract: by the program if there is one, else as this client reads the rules."""
+def check_content(args: Arguments, pact: str, content: bytes) -> int:
+    """Recorded replies beside what is published of a pact file: by the program if there is one, else as this client
+    reads the rules."""
     from holzhebo.verify.check import contract_in, paired, replies_in
     from holzhebo.verify.differs import explained
 
-    program, content = program_at(args.program), read_file(pact)
-    interactions = contract_in(content, pact)
-    given = read_file(replies)
+    program, interactions = program_at(args.program), contract_in(content, pact)
+    given = read_file(args.replies)
     pairs = paired(
-        json.loads(program.normal(content))["interactions"] if program else interactions, replies_in(given, replies)
+        json.loads(program.normal(content))["interactions"] if program else interactions, replies_in(given, args.replies)
     )
-    failing = program.failing(content.decode(), read_json(given)) if program else None
+    failing = program.failing(content.decode(), given.decode()) if program else None
     played, disagrees = [], False
     for at, (one, reply) in enumerate(pairs):
         own = explained(one, reply, True) if reply is not None else None

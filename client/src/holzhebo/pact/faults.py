@@ -4,7 +4,7 @@ from typing import Dict, List, Optional, Tuple
 
 from holzhebo.faults import Json
 from holzhebo.pact.json import NotJson, below, compact, is_whole, kind, member, numbers_not_whole, read_json, rounded
-from holzhebo.pact.json import ascii_lower, walk
+from holzhebo.pact.json import ascii_lower, too_deep
 from holzhebo.pact.findings import MOST_BYTES, VERSION_3, Findings, Judge
 from holzhebo.pact.rules import read_rules
 from holzhebo.text import short, shown
@@ -39,7 +39,7 @@ IN_REQUEST = "write a text, as 19.99 in quotes, or a smaller unit, as 1999 cents
 
 
 def read_numbers(found: Findings, file: Json) -> None:
-    deep = [path for level, path, it in walk(file) if level == 101 and isinstance(it, (dict, list))]
+    deep = too_deep(file)
     if deep:
         found.fault("6.2", deep[0], "it nests deeper than 100 levels", "write a flatter example")
     for path, text in numbers_not_whole(file):

@@ -98,6 +98,11 @@ def numbers_not_whole(value: Json) -> List[Tuple[str, str]]:
     return [(path, it.text) for _, path, it in walk(value) if isinstance(it, NotWhole)]
 
 
+def too_deep(value: Json) -> List[str]:
+    """The path of each list or object that is deeper than the broker takes."""
+    return [path for level, path, it in walk(value) if level == 101 and isinstance(it, (list, dict))]
+
+
 def has_half(value: Json) -> bool:
     """Whether a text, or a key of an object, has half of a character."""
     return isinstance(value, (str, dict)) and re.search("[\ud800-\udfff]", "".join(value)) is not None

@@ -3,7 +3,7 @@ import json, os, subprocess, tempfile
 from typing import Dict, List, Optional
 
 from holzhebo.api.sentences import PATTERN
-from holzhebo.faults import DONE, NO, UNDONE, Json, Stop
+from holzhebo.faults import DONE, NO, UNDONE, Stop
 from holzhebo.files import write_file
 from holzhebo.pact.findings import Fault, Findings
 from holzhebo.pact.rules import PATTERNS
@@ -45,11 +45,11 @@ class Program:
             self.judged[pattern] = self.fault(json.dumps(pact).encode()) is None
         return self.judged[pattern]
 
-    def failing(self, pact: str, replies: Json) -> List[int]:
-        """Which interactions of a pact fail by recorded replies."""
+    def failing(self, pact: str, replies: str) -> List[int]:
+        """Which interactions of a pact fail by recorded replies, as these texts have them."""
         with tempfile.TemporaryDirectory() as room:
             words = ["check"]
-            for name, text in ("pact", pact), ("replies", json.dumps(replies)):
+            for name, text in ("pact", pact), ("replies", replies):
                 words += [f"--{name}", os.path.join(room, name)]
                 write_file(words[-1], text)
             done = self.run(words)

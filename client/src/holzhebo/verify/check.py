@@ -2,10 +2,10 @@
 from typing import Dict, List, Tuple
 
 from holzhebo.faults import Json, Stop
-from holzhebo.pact.faults import findings_of, key_of, normal_interaction
-from holzhebo.pact.json import NotJson, is_whole, member, read_json
+from holzhebo.pact.faults import findings_of, is_header_value, key_of, normal_interaction
+from holzhebo.pact.json import NotJson, is_whole, member, numbers_not_whole, read_json, too_deep
 from holzhebo.pact.rules import is_surely_refused
-from holzhebo.text import shown
+from holzhebo.text import short, shown
 
 Key = Tuple[str, str]
 
@@ -31,6 +31,8 @@ def replies_in(content: bytes, path: str) -> Dict[Key, Json]:
     items = member(file, "replies")
     if not isinstance(items, list):
         raise Stop(f"{shown(path)} has no list of replies")
+    for why in untaken_in(file):
+        raise Stop(f"{shown(path)}: {why}")
     found: Dict[Key, Json] = {}
     for at, it in enumerate(items):
         response = member(it, "response")
@@ -46,9 +48,16 @@ def replies_in(content: bytes, path: str) -> Dict[Key, Json]:
     return found
 
 
+def untaken_in(file: Json) -> List[str]:
+    """What the broker takes nowhere in replies: numbers that aren't whole, and what nests too deep."""
+    numbers = numbers_not_whole(file)
+    found = [f"the number {short(it)} at {where} isn't whole, or isn't from -2^63 to 2^64 - 1" for where, it in numbers]
+    return found + [f"it nests deeper than 100 levels at {where}" for where in too_deep(file)]
+
+
 def is_response(response: Json) -> bool:
     headers = member(response, "headers")
-    texts = isinstance(headers, dict) and all(isinstance(it, (str, list)) for it in headers.values())
+    texts = isinstance(headers, dict) and all(is_header_value(it) for it in headers.values())
     return is_whole(member(response, "status")) and (headers is None or texts)
 
 

@@ -114,7 +114,7 @@ class Session:
             return Verdict(contract.name(), contract, played, NOT_SENT, None, why)
         pact = json.dumps({**json.loads(contract.text), "interactions": [it.interaction for it in played]})
         try:
-            failing = self.program.failing(pact, {"replies": replies_of(played)})
+            failing = self.program.failing(pact, json.dumps({"replies": replies_of(played)}))
         except Stop as fault:
             return Verdict(contract.name(), contract, played, NOT_JUDGED, None, str(fault))
         return judged(contract, played, failing, None, why)
