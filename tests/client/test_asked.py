@@ -1,6 +1,6 @@
 """What `holzhebo verify` asks a provider: the request as the pact has it, headers of its own, states."""
 import json, os
-from typing import Any, Dict, List, Optional, Tuple
+from typing import Any, Dict, List, Tuple
 import pytest
 from tests.client.books import STATE, publish_book
 from tests.client.peers import BOOK_TEXT, JSON_TYPE, nothing_is_stored, one, verified, words
@@ -132,22 +132,34 @@ def test_states_and_their_end(fleet: Server, client: Client) -> None:
     same("the request is between them", [it[0] for it in stock.asked], ["POST", "POST", "GET", "POST", "POST"])
 
 
-@pytest.mark.parametrize("reply", [b'{"id":1.5}', None], ids=["a reply that can't be recorded", "a second state"])
-def test_states_end_in_any_case(reply: Optional[bytes], fleet: Server, client: Client) -> None:
-    """What can't be played has its states taken back too: those that were set, and no other."""
-    publish_book(fleet, "10", one(states=[{"name": "a shelf"}, {"name": "a reader"}]))
+SHELF, READER = "a shelf", "a reader"
+# What the provider answers, what of the states is answered 500, and how they are taken back.
+ENDS: List[Tuple[bytes, Tuple[str, str], List[str]]] = [
+    (b'{"id":1.5}', ("", ""), [READER, SHELF]),  # it can't be recorded
+    (BOOK_TEXT, ("setup", READER), [SHELF]),
+    (BOOK_TEXT, ("teardown", READER), [READER, SHELF]),
+]
+
+
+@pytest.mark.parametrize("reply, wrong, ends", ENDS, ids=str)
+def test_states_end_in_any_case(
+    reply: bytes, wrong: Tuple[str, str], ends: List[str], fleet: Server, client: Client
+) -> None:
+    """What can't be played has its states taken back too: those that were set, and no other; also those after one that
+    can't be taken back."""
+    publish_book(fleet, "10", one(states=[{"name": SHELF}, {"name": READER}]))
     sent = []
 
     def answers(it: Asked) -> Reply:
         said = json.loads(it.body)
         sent.append((said["action"], said["state"]))
-        return Reply(500 if reply is None and said["state"] == "a reader" else 204, (), b"")
+        return Reply(500 if sent[-1] == wrong else 204, (), b"")
 
-    with Serving(answers) as states, Stock({"GET /1": Reply(headers=JSON_TYPE, body=reply or b"")}) as stock:
+    with Serving(answers) as states, Stock({"GET /1": Reply(headers=JSON_TYPE, body=reply)}) as stock:
         status, told = verified(client, stock.url, "--states-url", states.url, "--states-teardown")
     same("it isn't played", (status, told["played"][0]["outcome"]), (3, "not played"))
-    ends = [("teardown", "a shelf")] if reply is None else [("teardown", "a reader"), ("teardown", "a shelf")]
-    same("what was set and taken back", sent, [("setup", "a shelf"), ("setup", "a reader"), *ends])
+    taken = [("teardown", it) for it in ends]
+    same("what was set and taken back", sent, [("setup", SHELF), ("setup", READER), *taken])
 
 
 def test_states_without_an_address(fleet: Server, client: Client) -> None:

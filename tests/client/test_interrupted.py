@@ -84,6 +84,17 @@ def test_result(name: str, flaky: FlakyBroker, room: str) -> None:
 
 
 @by_each
+def test_a_report_that_can_t_be_written(name: str, fleet: Server, client: Client) -> None:
+    """It changes nothing of the status."""
+    publish_book(fleet, "10", one())
+    with Stock({"GET /1": Reply(headers=JSON_TYPE, body=BOOK_TEXT, wait=5)}) as stock:
+        words = ["verify", "--provider", "stock", "--version", "p1", "--url", stock.url, "--contract", "shop", "10"]
+        words += ["--junit", "blue.token/junit.xml"]
+        status = ended(name, client, "blue", words, lambda: len(stock.asked) == 1).status
+    same("status", status, SIGNALS[name][1])
+
+
+@by_each
 @pytest.mark.parametrize("jobs", ["1", "2"])
 def test_verify(jobs: str, name: str, fleet: Server, client: Client, room: str) -> None:
     """Ended while the provider answers the second contract: JUnit has the first one, and that it was interrupted, before

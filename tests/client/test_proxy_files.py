@@ -2,10 +2,12 @@
 import gzip, json, os, stat, threading
 from typing import List, Tuple
 import pytest
+from tests.client.flaky import FlakyBroker, flaky  # the fixture
 from tests.client.tools import CLIENT, PYTHON, Client, told
 from tests.process import TOP, Ended, Server, bytes_of, ran, run, text_of
 from tests.wire import OFFICE, Wrong, same
 
+__all__ = ["flaky"]
 HERE = f"{TOP}/tests/client"
 
 
@@ -59,6 +61,12 @@ def test_into_without_a_token(fleet: Server, client: Client, room: str) -> None:
     done = client.run("office", "team", "green", "--owns", "mail", "--into", "teams")
     same("refused", done, Ended(2, "", "holzhebo: --into needs the team's token: give --new-token-file\n"))
     same("nothing is made", client.run("office", "team", "green", "--grant", "live").status, 3)
+
+
+def test_into_that_can_t_be_written(flaky: FlakyBroker, room: str) -> None:
+    """What was made before is said."""
+    done = Client(room, flaky.url).run("office", "team", "green", "--new-token-file", "t", "--into", "nowhere")
+    same("done", done, Ended(3, "new  team green\n", "holzhebo: nowhere can't be read: No such file or directory\n"))
 
 
 def test_what_an_earlier_run_left(fleet: Server, client: Client, room: str) -> None:

@@ -1,6 +1,7 @@
 """`holzhebo verify` with several contracts, of which one can't be had or sent; its words; what differs."""
 import json, os, time, xml.etree.ElementTree
 from typing import List, Tuple
+import pytest
 from tests.client.books import KEPT, book_pact, publish_book
 from tests.client.peers import BOOK_TEXT, JSON_TYPE, Judging, one, Refusing, rows, verified, words
 from tests.client.tools import Client, Reply, Stock
@@ -104,6 +105,28 @@ def test_junit_in_any_case(fleet: Server, client: Client, room: str) -> None:
         same("status", (done.status, done.errors), (3, f"holzhebo: {why}\n"))
         errors = [it.get("message") for it in xml.etree.ElementTree.parse(f"{room}/junit.xml").iter("error")]
         same("JUnit", errors, [why])
+
+
+@pytest.mark.parametrize("more", [["--junit", "file/junit.xml"], ["--record", "file/kept"]], ids="junit record".split())
+def test_reports_that_can_t_be_written(more: List[str], fleet: Server, client: Client, room: str) -> None:
+    """It is said, and each contract is verified and told nevertheless. The status is 3, or 1 if a contract fails."""
+    two_consumers(fleet)
+    with open(f"{room}/file", "w", encoding="utf-8"):
+        pass
+    for body, version, status in (BOOK_TEXT, "p1", 3), (b'{"id":2}', "p2", 1):
+        with Stock({"GET /1": Reply(headers=JSON_TYPE, body=body)}) as stock:
+            line = ["verify", "--provider", "stock", "--version", version, "--url", stock.url, "--for", "open", "--json"]
+            done = client.run("blue", *line, *more)
+        passes = status == 3
+        outcomes = [(it["contract"], it["outcome"]) for it in json.loads(done.output)]
+        wanted = [(name, "passed" if passes else "failed") for name in ("shop 10", "web 10")]
+        same("status, and what is told", (done.status, outcomes), (status, wanted))
+        same("what is stored", [it["success"] for it in rows(fleet, version)], [passes] * 2)
+        said = [it.startswith(f"holzhebo: {more[1]}") for it in done.errors.splitlines()]
+        same("why, of each file", said, [True] * {"--junit": 1, "--record": 4}[more[0]])
+    done = client.run("nobody", *words("http://127.0.0.1:1"), "--junit", more[1])
+    same("with another reason", done.status, 3)
+    same("both are said", [it in done.errors for it in ("doesn't know this token", f"{more[1]} can't")], [True, True])
 
 
 # Names and words

@@ -1,6 +1,6 @@
 """team, environment and replace-token: what the office makes."""
 import os
-from typing import List
+from typing import List, Tuple
 
 from holzhebo.api import Broker, Changed, Refused
 from holzhebo.api.sentences import member
@@ -34,7 +34,10 @@ def team(args: Arguments) -> int:
     broker, rows = broker_of(args), []  # type: Broker, List[List[str]]
     try:
         if args.new_token_file:
-            rows.append([make_team(broker, args), f"team {args.team}"])
+            token, outcome = make_team(broker, args)
+            rows.append([outcome, f"team {args.team}"])
+            if args.into:
+                tokens.put_team(args.into, token, args.team, args.caddy)
         for it in args.owns:
             rows.append([outcome_of(broker.make_pacticipant(it, args.team)), f"pacticipant {it}"])
         for it in args.grant:
@@ -52,18 +55,15 @@ def team(args: Arguments) -> int:
     return DONE
 
 
-def make_team(broker: Broker, args: Arguments) -> str:
+def make_team(broker: Broker, args: Arguments) -> Tuple[str, str]:
     """Makes the team with the token of a file. If the broker refuses it, a file that was made for it is removed."""
     token, is_new = new_token(args.new_token_file)
     try:
-        outcome = outcome_of(broker.make_team(args.team, token))
+        return token, outcome_of(broker.make_team(args.team, token))
     except Refused as why:
         if is_new and member(why.answer, "answer") in ("denied", "taken", "bad form"):
             os.remove(args.new_token_file)
         raise
-    if args.into:
-        tokens.put_team(args.into, token, args.team, args.caddy)
-    return outcome
 
 
 def environment(args: Arguments) -> int:

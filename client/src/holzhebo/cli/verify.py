@@ -25,25 +25,50 @@ def wanted_of(args: Arguments) -> Wanted:
     return found
 
 
+class Reports:
+    """Files beside the verdicts. One that can't be written is said, and stops nothing."""
+
+    def __init__(self, args: Arguments) -> None:
+        self.args, self.are_whole = args, True
+
+    def write(self, path: str, text: str) -> None:
+        try:
+            write_file(path, text)
+        except Stop as why:
+            note(str(why))
+            self.are_whole = False
+
+    def record(self, contract: Contract, played: List[Played]) -> None:
+        """Files for `broker check` and `holzhebo check`: the contract and the replies to it."""
+        if self.args.record is not None:
+            name = os.path.join(self.args.record, f"{segment(contract.consumer)[:60]}-{contract.digest()}")
+            self.write(f"{name}.pact.json", contract.text)
+            self.write(f"{name}.replies.json", json.dumps({"replies": replies_of(played)}, ensure_ascii=False))
+
+    def tell(self, verdicts: List[Verdict], ended_by: str) -> None:
+        if self.args.junit is not None:
+            from holzhebo.verify.junit import junit
+
+            self.write(self.args.junit, junit(verdicts, ended_by))
+        if self.args.json and (verdicts or not ended_by):
+            tell_json([verdict_json(it) for it in verdicts])
+
+
 def verify(args: Arguments) -> int:
     wanted, verdicts, ended_by = wanted_of(args), [], "it was interrupted"  # type: Wanted, List[Verdict], str
+    reports = Reports(args)
     try:
-        status = verify_each(args, wanted, verdicts)
+        status = verify_each(args, wanted, verdicts, reports)
         ended_by = ""
-        return status
     except Stop as why:
         ended_by = str(why)
         raise
     finally:
-        if args.junit:
-            from holzhebo.verify.junit import junit
-
-            write_file(args.junit, junit(verdicts, ended_by))
-        if args.json and (verdicts or not ended_by):
-            tell_json([verdict_json(it) for it in verdicts])
+        reports.tell(verdicts, ended_by)
+    return status if reports.are_whole else status or UNDONE
 
 
-def verify_each(args: Arguments, wanted: Wanted, verdicts: List[Verdict]) -> int:
+def verify_each(args: Arguments, wanted: Wanted, verdicts: List[Verdict], reports: Reports) -> int:
     """Plays and sends one contract after another, and says of each what became of it."""
     broker = broker_of(args)
     how = (args.states_url, args.states_teardown, args.ignore_states, args.header_file, args.ready)
@@ -53,8 +78,7 @@ def verify_each(args: Arguments, wanted: Wanted, verdicts: List[Verdict]) -> int
     for name, why in search.failed:
         verdicts.append(Verdict(name, None, [], NOT_SENT, None, why))
         tell_verdict(args, verdicts[-1])
-    kept = (lambda contract, played: record(args.record, contract, played)) if args.record else (lambda *_: None)
-    for it in session.verdicts(list(search.found.values()), kept):
+    for it in session.verdicts(list(search.found.values()), reports.record):
         verdicts.append(it)
         tell_verdict(args, it)
     if not search.found and not verdicts:
@@ -79,13 +103,6 @@ def tell_end(args: Arguments, verdicts: List[Verdict]) -> None:
     for it in verdicts:
         if it.disagrees:
             note(f"{it.name}: the broker and this client disagree; the broker's verdict counts")
-
-
-def record(folder: str, contract: Contract, played: List[Played]) -> None:
-    """Files for `broker check` and `holzhebo check`: the contract and the replies to it."""
-    name = os.path.join(folder, f"{segment(contract.consumer)[:60]}-{contract.digest()}")
-    write_file(f"{name}.pact.json", contract.text)
-    write_file(f"{name}.replies.json", json.dumps({"replies": replies_of(played)}, ensure_ascii=False))
 
 
 def tell_verdict(args: Arguments, verdict: Verdict) -> None:

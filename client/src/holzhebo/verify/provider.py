@@ -122,8 +122,18 @@ class Provider:
                 stand.insert(0, it)
             yield
         finally:
-            for it in stand if self.has_teardown else ():
+            self.take_back(contract, stand if self.has_teardown else [])
+
+    def take_back(self, contract: Contract, states: List[Json]) -> None:
+        """Takes the states back, also those after one that can't be."""
+        faults = []
+        for it in states:
+            try:
                 self.set_state(contract, it, "teardown")
+            except Unplayable as why:
+                faults.append(why)
+        if faults:
+            raise faults[0]
 
     def play(self, contract: Contract, interaction: Json) -> Played:
         """Plays a request, between the states that it asks for. A provider that is there and gives no answer fails the
