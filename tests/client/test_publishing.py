@@ -59,14 +59,19 @@ def test_the_rest_of_a_version(flaky: FlakyBroker, room: str) -> None:
         same("all are said", outcomes, [("a.json", "new"), ("b.json", "not sent"), ("c.json", "new")])
 
 
-def test_a_broker_that_goes(flaky: FlakyBroker, room: str) -> None:
-    """It closes at the second file and at all after it: what was stored is said, and each other is tried once."""
-    files = [write(room, f"{name}.json", pact(name).replace("stock", name)) for name in ("a", "b", "c")]
+@pytest.mark.parametrize("words", [("publish", "7"), ("result", "1", "pass", "--run", "7")], ids="publish result".split())
+def test_a_broker_that_goes(words: Tuple[str, ...], flaky: FlakyBroker, room: str) -> None:
+    """It closes at the second file and at all after it: what was stored is said, and the third one is tried once."""
+    metadata = {"holzhebo": {"consumerVersion": "1"}}
+    texts = {name: json.loads(pact(name).replace("stock", name)) for name in ("a", "b", "c")}
+    files = [write(room, f"{name}.json", {"metadata": metadata, **it}) for name, it in texts.items()]
     flaky.set([200] + [0] * 50)
-    done = Client(room, flaky.url).run("red", "publish", "7", *files, "--patience", "0.2")
-    same(
-        "status", (done.status, re.findall(r"(?m)^(new|not sent) ", done.output)), (3, ["new", "not sent", "not sent"])
-    )
+    done = Client(room, flaky.url).run("red", *words, *files, "--patience", "2", "--json")
+    outcomes = [it.get("outcome", it.get("answer")) for it in json.loads(done.output)]
+    new = "new" if words[0] == "publish" else "done"
+    same("status, and what is said", (done.status, outcomes), (3, [new, "not sent", "not sent"]))
+    tries = [flaky.bodies.count(it) for it in dict.fromkeys(flaky.bodies)]
+    same("the first, the second and the third", (tries[0], tries[1] > 1, tries[2:]), (1, True, [1]))
 
 
 def test_a_misspelt_name(fleet: Server, client: Client, room: str) -> None:

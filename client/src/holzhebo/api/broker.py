@@ -1,6 +1,6 @@
 """The broker as the caller of a token sees it: one method for each route of docs/API.md."""
-import json, time, urllib.parse
-from typing import Any, Callable, Dict, List, Optional, Tuple, Type, TypeVar
+import contextlib, json, time, urllib.parse
+from typing import Any, Callable, Iterator, List, Optional, Tuple, Type, TypeVar
 
 from holzhebo.api import answers, policy
 from holzhebo.api.address import Address, Way
@@ -11,6 +11,7 @@ from holzhebo.faults import Json, Stop
 from holzhebo.text import note
 
 T = TypeVar("T")
+Look = Optional[Callable[[], None]]  # a look at what is there, before a request is repeated that may have arrived
 ANSWER_SECONDS = 120.0
 MOST_BYTES = 1 << 28
 NOT_ONE = "the address answers, but not as a broker"
@@ -80,18 +81,13 @@ class Broker:
     # Requests
 
     def ask(
-        self,
-        method: str,
-        path: str,
-        body: Optional[bytes] = None,
-        is_idempotent: bool = True,
-        before_repeat: Optional[Callable[[], None]] = None,
+        self, method: str, path: str, body: Optional[bytes] = None, is_idempotent: bool = True, look: Look = None
     ) -> Answer:
-        """The answer to a request. It is repeated while nobody answers it, if it may be. Where something has to be done
-        before that, each attempt has a connection of its own, since over a kept one it may be sent twice."""
+        """The answer to a request. It is repeated while nobody answers it, if it may be. With a look before that each
+        attempt has a connection of its own, since over a kept one it may be sent twice."""
         ends, number, arrived = time.monotonic() + self.patience, 1, False
         request = Request(method, self.address.path.rstrip("/") + path, self.headers, body)
-        is_once = not is_idempotent or before_repeat is not None
+        is_once = not is_idempotent or look is not None
         while True:
             answer, why = self.attempt(request, is_once)
             pause = policy.pause_before(number, answer)
@@ -108,8 +104,8 @@ class Broker:
             arrived = arrived or policy.may_have_arrived(answer, why)
             time.sleep(pause)
             number += 1
-            if arrived and before_repeat is not None:
-                before_repeat()
+            if arrived and look is not None:
+                look()
 
     def attempt(self, request: Request, is_once: bool) -> Tuple[Optional[Answer], Optional[NoAnswer]]:
         try:
@@ -129,6 +125,17 @@ class Broker:
         if answer.status != 200:
             raise Refused(answer, names)
         return read(cls, answer)
+
+    @contextlib.contextmanager
+    def one_of_several(self) -> Iterator[None]:
+        """For one request of several: after one that nobody answers, the others are tried once each."""
+        try:
+            yield
+        except Refused:
+            raise
+        except Stop:
+            self.patience = 0
+            raise
 
     def close(self) -> None:
         self.line.close()
@@ -214,16 +221,11 @@ class Broker:
         return self.get(answers.Environment, f"/environments/{segment(environment)}", {"environment": [environment]})
 
     def change(
-        self,
-        resource: str,
-        environment: str,
-        body: Dict[str, str],
-        may_be_gone: bool = False,
-        before_repeat: Optional[Callable[[], None]] = None,
+        self, resource: str, environment: str, body: Json, may_be_gone: bool = False, look: Look = None
     ) -> answers.Changed:
         """Sends a change of an environment. What ends may be gone by an earlier attempt of the same request."""
         path = f"/environments/{segment(environment)}/{resource}"
-        answer = self.ask("POST", path, json.dumps(body).encode(), True, before_repeat)
+        answer = self.ask("POST", path, json.dumps(body).encode(), True, look)
         said = answer.json()
         if answer.status == 409 and member(said, "answer") == "not permitted":
             raise NotPermitted(answer)
@@ -246,7 +248,7 @@ class Broker:
                 raise Stop(f"whether {pacticipant} {version} was deployed isn't known; meanwhile {other} is there")
 
         body = {"pacticipant": pacticipant, "version": version, **({"instance": instance} if instance else {})}
-        return self.change("deployments", environment, body, before_repeat=look)
+        return self.change("deployments", environment, body, look=look)
 
     def undeploy(
         self, pacticipant: str, version: str, environment: str, instance: str = "", may_be_gone: bool = False

@@ -146,14 +146,14 @@ def publish_file(broker: Broker, it: File, version: str) -> Publication:
     assert it.names is not None
     sides = it.sides(version)
     try:
-        said = broker.publish(it.names[0], version, it.names[1], it.content)
+        with broker.one_of_several():
+            said = broker.publish(it.names[0], version, it.names[1], it.content)
     except Refused as why:
         fault = member(why.answer, "fault")
         if why.http_status in (409, 413, 422):
             return refused(it, version, fault if isinstance(fault, str) else "", str(why))
         return Publication(it.path, "not sent", sides, which_of(broker, it.names, why), None)
     except Stop as why:
-        broker.patience = 0
         return Publication(it.path, "not sent", sides, str(why), None)
     return Publication(it.path, "new" if said.is_new else "known", sides, f"content {said.content}", None)
 

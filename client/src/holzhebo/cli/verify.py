@@ -281,5 +281,6 @@ def send_result(broker: Broker, args: Arguments, path: str) -> Json:
         raise Stop(f"{shown(path)} doesn't say whose contract it is: fetch it by --for or --contract")
     text = compact({key: it for key, it in file.items() if key != "metadata"})
     run = run_of(args.run, hashlib.sha256(text.encode()).hexdigest()[:16])
-    said = broker.claim(names[0], version, names[1], args.version, args.outcome == "pass", run)
+    with broker.one_of_several():
+        said = broker.claim(names[0], version, names[1], args.version, args.outcome == "pass", run)
     return {"answer": said.answer, "result": said.result}

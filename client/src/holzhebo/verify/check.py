@@ -31,8 +31,8 @@ def replies_in(content: bytes, path: str) -> Dict[Key, Json]:
     items = member(file, "replies")
     if not isinstance(items, list):
         raise Stop(f"{shown(path)} has no list of replies")
-    for why in untaken_in(file):
-        raise Stop(f"{shown(path)}: {why}")
+    for fault in untaken_in(file):
+        raise Stop(f"{shown(path)}: {fault}")
     found: Dict[Key, Json] = {}
     for at, it in enumerate(items):
         response = member(it, "response")

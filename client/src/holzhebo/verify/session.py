@@ -97,14 +97,14 @@ class Session:
         try:
             run = run_of(self.run, contract.digest())
             one = (contract.consumer, contract.versions[0], contract.provider)
-            said = self.broker.send_replies(*one, self.version, replies_of(played), run)
+            with self.broker.one_of_several():
+                said = self.broker.send_replies(*one, self.version, replies_of(played), run)
             if not all(0 <= at < len(played) for at in said.failing):
                 raise Stop("the address answers, but not as a broker: $.failing")
         except Refused as why:
             outcome = NOT_JUDGED if member(why.answer, "answer") == "pattern" else NOT_SENT
             return Verdict(name, contract, played, outcome, None, str(why))
         except Stop as why:
-            self.broker.patience = 0
             return Verdict(name, contract, played, NOT_SENT, None, str(why))
         before = "" if said.is_new else "the same run sent it before"
         return judged(contract, played, said.failing, said.result, before)
