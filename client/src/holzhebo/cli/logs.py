@@ -10,6 +10,8 @@ from holzhebo.text import note, shown, tell
 
 # The page's desk.json, where the package of Debian has it.
 NAMES = "/etc/holzhebo/desk.json"
+# The fields of what is done in an environment; the log may not have the last ones.
+FIELDS = ("time", "team", "change", "pacticipant", "version", "instance")
 
 
 def who(args: Arguments) -> int:
@@ -34,7 +36,8 @@ def who(args: Arguments) -> int:
     if args.json:
         tell_json(rows)
     elif args.format is not None:
-        tell_rows(args, rows)
+        fields = dict.fromkeys(FIELDS if args.environment is not None else (), "")
+        tell_rows(args, [{**fields, **it} for it in rows])
     if not args.log:
         note(f"the log that is there begins at {shown(first)}" if first else "the log that is there has no request")
     return DONE
