@@ -103,6 +103,24 @@ def test_header_file(fleet: Server, client: Client, room: str) -> None:
         same("a file of something else", done, Ended(3, "", "holzhebo: wrong: line 2 is no header, as name: value\n"))
 
 
+def test_addresses_and_headers_of_any_letters(fleet: Server, client: Client, room: str) -> None:
+    """Where the provider says that it is ready, where its states are set, and what is sent with each request."""
+    with open(f"{room}/headers", "w", encoding="utf-8") as it:
+        it.write("X-Shop: \u2192\n")
+    seen: List[Any] = []
+
+    def keeps(it: Asked) -> Reply:
+        seen.append((it.path, it.headers["x-shop"].encode("latin-1").decode()))
+        return Reply(headers=JSON_TYPE, body=BOOK_TEXT)
+
+    publish_book(fleet, "10", one(states=STATE))
+    with Serving(keeps) as peer:
+        more = ["--header-file", "headers", "--ready", f"{peer.url}/\u00e9?q=\u00fc", "--states-url", f"{peer.url}/\u00e0"]
+        same("it passes", verified(client, f"{peer.url}/\u00ea", *more)[0], 0)
+    wanted = ["/%C3%A9?q=%C3%BC", "/%C3%A0", "/%C3%AA/1"]
+    same("what is asked", seen, [(path, "\u2192") for path in wanted])
+
+
 def files_of(room: str) -> List[str]:
     return [f"kept/{it}" for it in os.listdir(f"{room}/kept")] + ["junit.xml"]
 

@@ -1,9 +1,11 @@
 """Named brokers, doctor, formats, the names of the Pact Broker's client; and the library."""
 import json, os, re
+from typing import List
 import pytest
 
 from holzhebo.api import Broker, NotPermitted, Refused, Stop
-from tests.client.tools import CLIENT, PYTHON, Client
+from tests.client.flaky import EMPTY
+from tests.client.tools import CLIENT, PYTHON, Asked, Client, Reply, Serving
 from tests.process import Server, ran, text_of
 from tests.wire import OFFICE, same
 from tests.world import BLUE, RED, pact
@@ -29,6 +31,20 @@ def test_named_brokers(fleet: Server, client: Client, room: str) -> None:
     ):
         done = ran([*PYTHON, CLIENT, *words], env=env, cwd=room)
         same(f"{words}: {done.errors}", done.status, status)
+
+
+def test_an_address_of_any_letters(room: str) -> None:
+    """They are sent as escapes; those that are written so stay."""
+    asked: List[str] = []
+
+    def keeps(it: Asked) -> Reply:
+        asked.append(it.path)
+        return Reply(body=json.dumps(EMPTY).encode())
+
+    with Serving(keeps) as it:
+        done = Client(room, f"{it.url}/br\u00f6ker a/%C3%A9/").run("red", "status", "live")
+    same("status", (done.status, done.errors), (0, ""))
+    same("what is asked", asked, ["/br%C3%B6ker%20a/%C3%A9/environments/live"])
 
 
 def test_doctor(fleet: Server, client: Client) -> None:

@@ -205,6 +205,17 @@ def test_logs_that_were_rotated(room: str) -> None:
     same("metrics are of the newest", '_total{method="POST",status="200"} 1\n' in who("metrics")[0], True)
 
 
+def test_a_damaged_log(room: str) -> None:
+    """It is said which, and why."""
+    whole = gzip.compress(line_of("2026-11-01T02:00:00+00:00", "1").encode() * 100)
+    for name, content in ("cut", whole[:-20]), ("other", whole[:12] + b"\xff" * 20), ("none", b"no gzip"):
+        with open(f"{room}/{name}.gz", "wb") as it:
+            it.write(content)
+        for words in ["who", "live"], ["metrics"]:
+            status, _, errors = piped([*words, "--log", f"{name}.gz"], b"", room)
+            same(f"{words} {name}", (status, errors.startswith(f"holzhebo: {name}.gz can't be read: ")), (3, True))
+
+
 def test_a_half_written_file(room: str) -> None:
     """--output is there at once, or not at all."""
     status, _, _ = piped(["metrics", "--log", f"{HERE}/proxy.log", "--output", "broker.prom"], b"", room)

@@ -141,8 +141,9 @@ def test_a_version_isn_t_left_out(fleet: Server, client: Client, room: str) -> N
     same("version 2", (done.status, "pact 4" in done.output), (1, True))
 
 
-def test_a_fraction_in_an_example(fleet: Server, client: Client, room: str) -> None:
-    write(room, "a.json", priced("19.99"))
+@pytest.mark.parametrize("price", ["19.99", "1e-99999999999999999999"])
+def test_a_fraction_in_an_example(price: str, fleet: Server, client: Client, room: str) -> None:
+    write(room, "a.json", priced(price))
     done = client.run("red", "publish", "7", "a.json")
     same("refused", (done.status, "pact 6.1  $.interactions[0].response.body.price" in done.output), (1, True))
 

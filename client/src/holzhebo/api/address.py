@@ -18,11 +18,20 @@ class Address:
         parts = urllib.parse.urlsplit(text)
         self.is_https, self.host = parts.scheme == "https", parts.hostname or ""
         self.port = parts.port or (443 if self.is_https else 80)
-        self.path, self.query = parts.path, parts.query
+        self.path, self.query = in_path(parts.path), in_query(parts.query)
         self.is_loopback = LOOPBACK.fullmatch(self.host) is not None
 
     def name(self) -> str:
         return named(self.host, self.port)
+
+
+def in_path(text: str) -> str:
+    """A path as a request has it: other letters are written as escapes, and escapes stay."""
+    return urllib.parse.quote(text, safe="/%:@!$&'()*+,;=~-._", errors="surrogateescape")
+
+
+def in_query(text: str) -> str:
+    return urllib.parse.quote(text, safe="/%:@!$&'()*+,;=~-._?[]", errors="surrogateescape")
 
 
 def named(host: str, port: int) -> str:

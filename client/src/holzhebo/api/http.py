@@ -45,6 +45,10 @@ class Request(NamedTuple):
     headers: Dict[str, str]
     body: Optional[bytes]
 
+    def in_utf_8(self) -> Dict[str, str]:
+        """The headers, with a letter for each byte of UTF-8, as http.client sends them."""
+        return {key: it.encode("utf-8", "surrogatepass").decode("latin-1") for key, it in self.headers.items()}
+
 
 class Response(http.client.HTTPResponse):
     """An answer, after the hints that may come before it: those of a status from 102 to 199."""
@@ -211,7 +215,7 @@ def exchange_on(line: http.client.HTTPConnection, request: Request, seconds: flo
         try:
             if line.sock is None:
                 connect(line)
-            line.request(request.method, request.target, request.body, request.headers)
+            line.request(request.method, request.target, request.body, request.in_utf_8())
             answer = line.getresponse()
             has_head = True
             if answer.headers.get_content_type() == "text/event-stream":

@@ -1,7 +1,7 @@
 """What of a pact file is sent: what the broker keeps, so that what it doesn't keep can't make it refuse the file."""
 import json, re, secrets
-from decimal import Decimal
-from typing import List, Tuple
+from decimal import Decimal, InvalidOperation
+from typing import List, Optional, Tuple
 
 from holzhebo.faults import Json
 from holzhebo.pact.json import NotJson, NotWhole, below, children, member, read_json
@@ -79,13 +79,23 @@ def has_broken(value: Json) -> bool:
 def written_plainly(value: Json, path: str, said: List[str]) -> Json:
     """The value with a whole number that is written otherwise, as 20.0 or 2E+1, in its digits."""
     if isinstance(value, NotWhole):
-        number = Decimal(value.text)
-        if number == number.to_integral_value() and -(2**63) <= number < 2**64 and abs(number.adjusted()) < 30:
-            said.append(f"{path} is {int(number)} and not {value.text}")
-            return int(number)
-        return value
+        number = whole_of(value.text)
+        if number is None:
+            return value
+        said.append(f"{path} is {number} and not {value.text}")
+        return number
     if isinstance(value, dict):
         return {key: written_plainly(it, below(path, key), said) for key, it in value.items()}
     if isinstance(value, list):
         return [written_plainly(it, f"{path}[{at}]", said) for at, it in enumerate(value)]
     return value
+
+
+def whole_of(text: str) -> Optional[int]:
+    """The number that a text is, if it is a whole one that the broker takes."""
+    try:
+        number = Decimal(text)
+    except InvalidOperation:  # its exponent is longer than any that counts
+        return None
+    is_whole = number == number.to_integral_value() and -(2**63) <= number < 2**64 and abs(number.adjusted()) < 30
+    return int(number) if is_whole else None

@@ -1,5 +1,5 @@
 """The proxy's log: a line of JSON for each request."""
-import contextlib, datetime, glob, gzip, json, os, re, sys, urllib.parse
+import contextlib, datetime, glob, gzip, json, os, re, sys, urllib.parse, zlib
 from typing import BinaryIO, Dict, Iterator, List, NamedTuple, Optional, cast
 
 from holzhebo.faults import Stop
@@ -76,7 +76,7 @@ def requests_of(paths: List[str]) -> Iterator[Logged]:
                         yield logged(line)
                     except (ValueError, LookupError, TypeError, AttributeError, OverflowError, RecursionError):
                         note(f"{shown(path)}: not a line of the proxy: {short(line.rstrip())}")
-        except (OSError, EOFError) as why:
+        except (OSError, EOFError, zlib.error) as why:
             raise Stop(f"{shown(path)} can't be read: {getattr(why, 'strerror', None) or why}") from None
 
 

@@ -2,7 +2,7 @@
 import json, re, urllib.parse
 from typing import Dict, Iterator, Optional
 
-from holzhebo.api.address import Address
+from holzhebo.api.address import Address, in_path, in_query
 from holzhebo.api.http import Request
 from holzhebo.faults import Json
 from holzhebo.pact.faults import is_header_value
@@ -13,7 +13,6 @@ class Unplayable(Exception):
     """Why a request can't be played, or a reply can't be recorded."""
 
 
-IN_PATH, IN_QUERY = "/%:@!$&'()*+,;=~-._", "/%:@!$&'()*+,;=~-._?[]"
 OWN_HEADERS = ("content-length", "transfer-encoding", "connection")
 BINARY = re.compile(r"(image|audio|video|font)/.*|application/(octet-stream|pdf|zip|gzip|protobuf|x-protobuf|grpc.*)")
 NEEDS = {"ProviderState": "values injected from states", "MockServerURL": "the address of a mock server"}
@@ -26,7 +25,7 @@ def segment(text: str) -> str:
 def query_of(query: Json) -> str:
     """A query as the pact has it: a text, or lists of values by name."""
     if isinstance(query, str):
-        return urllib.parse.quote(query.lstrip("?"), safe=IN_QUERY)
+        return in_query(query.lstrip("?"))
     if not isinstance(query, dict):
         raise Unplayable("its query is no text and no object")
     pairs = [(key, it) for key, values in query.items() for it in (values if isinstance(values, list) else [values])]
@@ -100,11 +99,10 @@ def request_of(interaction: Json, base: Address, own: Dict[str, str]) -> Request
         raise Unplayable("its method isn't one")
     if not isinstance(path, str) or not path.startswith("/"):
         raise Unplayable("its path isn't one")
-    target = base.path.rstrip("/") + urllib.parse.quote(path, safe=IN_PATH)
+    target = base.path.rstrip("/") + in_path(path)
     query = query_of(request["query"]) if request.get("query") else ""
     headers = headers_of(request.get("headers") or {})
     body = body_of(request, headers)
     names = {ascii_lower(it) for it in own}
     headers = {**{key: it for key, it in headers.items() if ascii_lower(key) not in names}, **own}
-    sent = {key: it.encode("utf-8", "surrogatepass").decode("latin-1") for key, it in headers.items()}
-    return Request(method.upper(), f"{target}?{query}" if query else target, sent, body)
+    return Request(method.upper(), f"{target}?{query}" if query else target, headers, body)
