@@ -107,7 +107,7 @@ def instance(parser: Parser) -> None:
 
 def deploy(parser: Parser) -> None:
     names(parser, "pacticipant", "version", "environment")
-    text = "Then record that the version is no longer in this instance"
+    text = "Then record that the version is no longer in this other instance"
     parser.add_argument("--then-undeploy", metavar="NAME", type=str, help=text)
     instance(parser)
     asks(parser)
@@ -185,8 +185,8 @@ Example: holzhebo verify --provider stock --version "$(git rev-parse HEAD)" --ur
 Status 0: all passed. Status 1: a contract failed. Status 3: a contract couldn't be judged, or the command be done, or
 this client finds surely otherwise than the broker says."""),
     Command("check", "Says where recorded replies differ from a contract", check, "verify:check", """\
-It needs no broker. With --program the verdict is that of `broker check`; without it, it is this client's own reading of
-the rules.
+It needs no broker, and reads the pact file as publish would send it. With --program the verdict is that of `broker
+check`; without it, it is this client's own reading of the rules.
 
 Example: holzhebo check got/shop-0123.pact.json got/shop-0123.replies.json
 

@@ -8,7 +8,7 @@ def logs(parser: Parser) -> None:
 
 
 def output(parser: Parser) -> None:
-    parser.add_argument("--output", metavar="FILE", help="Put it in the place of this file at once")
+    parser.add_argument("--output", metavar="FILE", help="Put it in the place of this file at once, or into a pipe")
 
 
 def who(parser: Parser) -> None:

@@ -45,7 +45,7 @@ class Reports:
             self.write(f"{name}.pact.json", contract.text)
             self.write(f"{name}.replies.json", json.dumps({"replies": replies_of(played)}, ensure_ascii=False))
 
-    def tell(self, verdicts: List[Verdict], ended_by: str) -> None:
+    def end(self, verdicts: List[Verdict], ended_by: str) -> None:
         if self.args.junit is not None:
             from holzhebo.verify.junit import junit
 
@@ -64,7 +64,7 @@ def verify(args: Arguments) -> int:
         ended_by = str(why)
         raise
     finally:
-        reports.tell(verdicts, ended_by)
+        reports.end(verdicts, ended_by)
     return status if reports.are_whole else status or UNDONE
 
 
