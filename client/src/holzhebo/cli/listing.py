@@ -23,15 +23,12 @@ def status(args: Arguments) -> int:
     if not args.environment:
         broker.knows_token()
         tell('{"answer":"known"}' if args.json else "the broker answers, and knows the token")
-    texts = []
     for environment in args.environment:
         said = broker.environment(environment)
         if args.json:
             tell_answer(broker)
-        else:
-            texts.append(text_of(args, said))
-    if any(texts):
-        tell("\n".join(it for it in texts if it))
+        elif text := text_of(args, said):
+            tell(text)
     return DONE
 
 

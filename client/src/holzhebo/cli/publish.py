@@ -13,7 +13,7 @@ from holzhebo.pact.json import NotJson, member, read_json
 from holzhebo.pact.plain import plain
 from holzhebo.pact.program import Program, program_at, with_first
 from holzhebo.pact.rules import is_surely_refused
-from holzhebo.text import counted, shown, tell
+from holzhebo.text import counted, note, shown, tell
 
 
 def tell_findings(found: Findings, indent: str = "") -> None:
@@ -61,9 +61,13 @@ def sent_of(path: str, as_it_is: bool) -> Tuple[bytes, List[str]]:
 def explain(args: Arguments) -> int:
     if args.replies is not None and len(set(args.pact)) != 1:
         raise Stop("--replies are to one pact file", status=USAGE)
-    program, files, has_fault = program_at(args.program), {}, False
-    given = {path: sent_of(path, args.as_it_is) for path in dict.fromkeys(args.pact)}
-    for path, (content, left_out) in given.items():
+    program, files, has_fault, paths = program_at(args.program), {}, False, list(dict.fromkeys(args.pact))
+    for path in paths:
+        try:
+            content, left_out = sent_of(path, args.as_it_is)
+        except Stop as why:
+            note(str(why))
+            continue
         found = found_in(content, program)
         files[path] = findings_json(found, left_out)
         has_fault = has_fault or bool(found.faults)
@@ -73,8 +77,9 @@ def explain(args: Arguments) -> int:
             tell_left_out(left_out, "  ")
     if args.json:
         tell_json(files)
-    if args.replies is None or has_fault:
-        return NO if has_fault else DONE
+    status = NO if has_fault else UNDONE if len(files) < len(paths) else DONE
+    if args.replies is None or status != DONE:
+        return status
     from holzhebo.cli.verify import check_content
 
     return check_content(args, path, content)
