@@ -47,7 +47,7 @@ export function stepsOf(from, to, gone = []) {
 // What is known
 
 /** Collects faults: those of two versions by their pair, those of absent providers by the consumer; each once. Those of
- * services that go are by the version that calls them. */
+ * services that go are by the version of another service that calls them. */
 class Faults {
   bad = new Map();
   absent = new Map();
@@ -69,8 +69,8 @@ export class Changed extends Error {}
 /** The faults of each step's version with what is in the other environment, and with the other steps' versions, which
  * are all in the first: two answers of the gate a step. A strict environment needs the matrix too, if the first isn't
  * strict: a pass that is only claimed is no fault there. Of services that go the first has nothing, so what calls them
- * is what its gate says of each version that comes, stays or is replaced. Nothing is asked if the gate of the other one
- * is open. */
+ * is what its gate says of each version that comes, stays, is replaced or ends. Nothing is asked if the gate of the
+ * other one is open. */
 export async function faultsOf(steps, from, to, { gate, matrix }, kept = [], gone = []) {
   const found = new Faults();
   if (!to.gated) return found;
@@ -97,10 +97,10 @@ export async function faultsOf(steps, from, to, { gate, matrix }, kept = [], gon
     const it = { consumer, consumerVersion, kind: 'claimed', provider, providerVersion };
     if (row.success && row.evidence === 'claimed' && isBetween(it)) found.add(it);
   }
-  const stay = gone.length > 0 ? once([...news, ...kept, ...comes.map(it => it.old).filter(Boolean)]) : [];
+  const stay = gone.length > 0 ? once([...news, ...kept, ...steps.map(it => it.old).filter(Boolean)]) : [];
   const answers = await Promise.all(stay.map(it => gate(it.pacticipant, it.version, from.environment)));
-  const calls = ({ faults }) => faults.filter(it => gone.includes(it.provider));
-  stay.forEach((it, at) => found.without.set(idOf(it), calls(answers[at])));
+  const calls = ({ provider }, it) => gone.includes(provider) && provider !== it.pacticipant;
+  stay.forEach((it, at) => found.without.set(idOf(it), answers[at].faults.filter(fault => calls(fault, it))));
   return found;
 }
 
@@ -116,18 +116,18 @@ export const MOST_SPLITS = 500, FEW_SPLITS = 50;
  * refused by the gate; it counts as refused if what is there afterwards calls it. */
 export class Plan {
   constructor({ steps, kept, faults }) {
-    const between = (it, other) => (it.ends || !other ? [] : faults.bad.get(pairOf(it, other)) ?? []);
+    const between = (it, other) => (it.ends ? [] : faults.bad.get(pairOf(it, other)) ?? []);
     const calls = (version, it) => faults.without.get(idOf(version))?.filter(each => each.provider === it.pacticipant);
     const without = (version, it) => (it.ends ? calls(version, it) ?? [] : []);
     const ends = (one, other) => (one.ends === other.ends ? [] : [...without(one, other), ...without(other, one)]);
     const clashes = (one, other) => (one.ends || other.ends ? ends(one, other) : between(one, other));
-    const isBefore = (one, other) => one.ends && other.old && !other.ends;
-    const needs = (one, other) => (isBefore(one, other) ? without(other.old, one) : between(one, other.old));
+    const beside = (it, other) => [...between(it, other), ...without(other, it)];
+    const needs = (one, other) => (other.old ? beside(one, other.old) : []);
     const table = of => steps.map(it => new Map(steps.map((other, y) => [y, of(it, other)])
       .filter(([, found]) => found.length > 0)));
     const stays = [...new Map(kept.map(it => [idOf(it), it])).values()];
     Object.assign(this, { steps, all: steps.map((_, x) => x) });
-    this.fixed = steps.map(it => stays.flatMap(other => [...between(it, other), ...without(other, it)]));
+    this.fixed = steps.map(it => stays.flatMap(other => beside(it, other)));
     this.clash = table(clashes);
     this.first = table(needs);
     this.touched = this.all.map(x => this.all.filter(y => this.clash[x].has(y) || this.first[x].has(y)));

@@ -59,6 +59,12 @@ class Model:
                 found.append({**side, "kind": kind, "provider": provider[0], "providerVersion": provider[1]})
         return found
 
+    def without(self, service: str, versions: set[tuple[str, str]]) -> list[Json]:
+        """The faults of these versions if nothing of this service were there, which isn't their own."""
+        absent = {"kind": "absent", "provider": service, "providerVersion": None}
+        calls = [it for it in sorted(versions) if (it, service) in self.contracts and it[0] != service]
+        return [{"consumer": it[0], "consumerVersion": it[1], **absent} for it in calls]
+
     @staticmethod
     def kind(latest: tuple[bool, str] | None, strict: bool) -> str:
         """Why this result isn't good; or nothing."""

@@ -41,8 +41,26 @@ def plays(fleet: Fleet, model: Model, plan: Any, order: Iterable[int]) -> bool:
 
 
 def do(fleet: Fleet, state: Model, plan: Any, x: int) -> int:
+    """The status of a step; 409 also if a plan doesn't have it, since somebody would be there without what goes."""
     step = plan.steps[x]
+    if refusals(fleet, state, step):
+        return 409
     return state.put(fleet.target, step.how, (step.new[0], step.new[1]), step.instance)
+
+
+def refusals(fleet: Fleet, state: Model, step: Any) -> list[Json]:
+    """The faults of a step now. A service goes as a whole: nobody that calls it is there once one of its places has
+    ended, and nobody comes afterwards."""
+    version, there = (step.new[0], step.new[1]), state.environments[fleet.target]
+    if not there.gated:
+        return []
+    if step.ends:
+        return state.without(version[0], there.there())
+    places = {*there.deployed, *there.released}
+    at = [(it.service, it.version if it.how == "release" else it.instance) for it in fleet.there]
+    ended = {place[0] for place in at if place not in places}
+    missed = [fault for service in sorted(ended) for fault in state.without(service, {version})]
+    return state.faults(version, fleet.target) + missed
 
 
 def states(fleet: Fleet, model: Model, plan: Any, subject: Subject) -> dict[frozenset[int], Model]:
@@ -52,9 +70,7 @@ def states(fleet: Fleet, model: Model, plan: Any, subject: Subject) -> dict[froz
     for done in waiting:
         for x in sorted({*plan.all} - done):
             state = found[done].copy()
-            gated, new = state.environments[fleet.target].gated, plan.steps[x].new
-            version = new[0], new[1]
-            faults = {subject.steps.fault_of(it) for it in state.faults(version, fleet.target)} if gated else set()
+            faults = {subject.steps.fault_of(it) for it in refusals(fleet, state, plan.steps[x])}
             same(f"the faults of {x} after {set(done)}", {*plan.faults(x, set(done))}, faults)
             if do(fleet, state, plan, x) == 200 and done | {x} not in found:
                 found[done | {x}] = state
@@ -73,8 +89,8 @@ def by_after(plan: Any, order: list[int], choose: Callable[[list[int]], int]) ->
 def by_the_model(subject: Subject, seed: int) -> dict[str, int]:
     """All that a plan says of a fleet; gives what it was, to be counted."""
     fleet = Fleet(seed)
-    model = fleet.model()
-    plan = subject.plan_of(model, fleet)
+    model, gone = fleet.model(), going(fleet)
+    plan = subject.plan_of(model, fleet, gone)
     order, is_sure = plan.largest()
     reached = states(fleet, model, plan, subject)
     left = [x for x in plan.all if x not in order]
@@ -87,16 +103,26 @@ def by_the_model(subject: Subject, seed: int) -> dict[str, int]:
         same(f"the largest part with {x}", len(instead), max((len(it) for it in reached if x in it), default=0))
         same("its order", plays(fleet, model, plan, instead), True)
     reasons(plan)
+    afterwards(fleet, reached[frozenset(order)], gone)
     if left and len(plan.all) <= 4:
         for each in itertools.permutations(plan.all):
             same(f"the order {each}", plays(fleet, model, plan, each), False)
     needs_order = not left and any(plan.faults(x, set()) for x in plan.all)
     return {
+        "goes": len(gone) > 0,
+        "several go": len(gone) > 1,
         "plan": not left,
         "needs an order": needs_order,
         "circle": len(plan.circles()) > 0,
         "greedy is smaller": len(plan.order(plan.all)) < len(order),
     }
+
+
+def afterwards(fleet: Fleet, state: Model, gone: Sequence[str]) -> None:
+    """Nobody that is there then calls what is gone."""
+    there = state.environments[fleet.target]
+    faults = [it for each in there.there() for it in state.faults(each, fleet.target)] if there.gated else []
+    same("what is gone and called", {it["provider"] for it in faults if it["kind"] == "absent"} & {*gone}, set())
 
 
 def reasons(plan: Any) -> None:
@@ -136,39 +162,13 @@ def has_order(plan: Any, mended: set[Any]) -> bool:
     return frozenset(plan.all) in seen
 
 
-def by_going(subject: Subject, seed: int) -> tuple[bool, bool]:
-    """A fleet of which a service goes, if one can: what is done in order is permitted, and nobody in what is there
-    afterwards lacks it; what is left out would lack it, or be lacked. Whether one goes, and whether all can be done."""
-    fleet = Fleet(seed)
-    model = fleet.model()
-    names = {it.service for it in fleet.there} - {it.service for it in fleet.here}
-    if not names:
-        return False, False
-    gone = fleet.dice.choice(sorted(names))
-    plan = subject.plan_of(model, fleet, [gone])
-    order, _ = plan.largest()
-    state = model.copy()
-    for x in by_after(plan, order, fleet.dice.choice):
-        same(f"step {x}", do(fleet, state, plan, x), 200)
-    ended = {x for x in plan.all if plan.steps[x].ends}
-    same("what ends", {plan.steps[x].new.pacticipant for x in ended}, {gone})
-    if ended <= {*order} and state.environments[fleet.target].gated:
-        there = state.environments[fleet.target].there()
-        lacks = [it for it in there for fault in state.faults(it, fleet.target) if fault["provider"] == gone]
-        same("who calls what is gone", lacks, [])
-    for x in ended - {*order}:
-        waits = {*plan.clash[x]} & {*order} or {*plan.first[x]} - {*order}
-        same("why it can't go", bool(plan.fixed[x] or waits), True)
-    return True, len(order) == len(plan.all)
-
-
 # The page's code by it
 
 
 def going(fleet: Fleet) -> list[str]:
-    """The service that goes, in every other fleet of which one can."""
+    """The services that go: all that can, if several can, or in every other fleet."""
     names = sorted({it.service for it in fleet.there} - {it.service for it in fleet.here})
-    return names[:1] if len(fleet.there) % 2 else []
+    return names if len(names) > 1 or len(fleet.there) % 2 else []
 
 
 def questions(subject: Subject, fleet: Fleet, model: Model) -> Json:

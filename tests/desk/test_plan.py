@@ -9,7 +9,7 @@ from typing import Any
 import pytest
 
 from tests.desk.plan_fleets import Fleet, put
-from tests.desk.plan_tries import TOP, Subject, by_going, by_node, by_the_model, by_the_page, going, same
+from tests.desk.plan_tries import TOP, Subject, by_node, by_the_model, by_the_page, going, same
 from tests.process import Server, text_of
 from tests.wire import all_of, answers_in, request
 
@@ -35,14 +35,7 @@ def test_by_a_model_of_the_gate(subject: Subject) -> None:
     same("kinds of fleets that are too few", few, {})
 
 
-LEAST = {"plan": 200, "needs an order": 50, "circle": 50, "greedy is smaller": 2}
-
-
-def test_a_service_goes(subject: Subject) -> None:
-    """Ending it is a step, before which and after which the others are permitted."""
-    tried = [by_going(subject, seed) for seed in range(1, 1001)]
-    goes = [is_whole for is_there, is_whole in tried if is_there]
-    same("whether both kinds are among these", (len(goes) > 100, 20 < sum(goes) < len(goes)), (True, True))
+LEAST = {"plan": 200, "needs an order": 50, "circle": 50, "greedy is smaller": 2, "goes": 100, "several go": 30}
 
 
 @pytest.mark.needs("node")
@@ -60,8 +53,8 @@ PYTHON = {
     "no matrix for claims": ("plan_steps", 'if is_strict and "strict" not in source:', "if False:"),
     "claimed is a fault everywhere": ("plan_steps", 'if is_strict or it.kind != "claimed"]', "]"),
     "new with new isn't looked at": ("plan", "return self.between(one, [other.new])", "return []"),
-    "old ones aren't looked at": ("plan", "else self.between(one, [other.old])\n", "else []\n"),
-    "what stays isn't looked at": ("plan", "return self.between(step, kept) + ended", "return ended"),
+    "old ones aren't looked at": ("plan", "if other.old else", "if other.old and one.ends else"),
+    "what stays isn't looked at": ("plan", "stays(it, kept) for", "stays(it, kept if it.ends else []) for"),
     "absent ones aren't looked at": ("plan", "if not done.intersection(ys))\n", "if False)\n"),
     "absent ones never come": ("plan", "if not done.intersection(ys))\n", "if True)\n"),
     "releases don't stay": (
@@ -98,12 +91,11 @@ PYTHON = {
         "                if not ready:\n                    stuck = more\n",
         "                if not ready:\n",
     ),
-    "who calls what goes isn't seen": ("plan", "return self.without(other.old, one) if one.ends else", "return"),
-    "what goes is missed by nobody": (
-        "plan",
-        "return self.between(step, kept) + ended",
-        "return self.between(step, kept)",
-    ),
+    "who calls what goes isn't seen": ("plan", "if other.old else", "if other.old and not one.ends else"),
+    "an end waits for no end": ("plan", "if other.old else", "if other.old and not (one.ends and other.ends) else"),
+    "what goes is missed by nobody": ("plan", "stays(it, kept) for", "stays(it, [] if it.ends else kept) for"),
+    "what goes waits for its own callers": ("plan_steps", "in found if each.provider != it", "in found if it"),
+    "what ends isn't asked for": ("plan_steps", "in steps if it.old)]", "in steps if it.old and not it.ends)]"),
     "what comes calls what goes": ("plan", "if one.ends != other.ends else []", "if False else []"),
     "an open environment is asked": ("plan_steps", 'if target["gated"] else []\n    bad', "\n    bad"),
 }
@@ -121,7 +113,7 @@ def test_a_wrong_plan_is_seen(name: str, room: str) -> None:
     with open(f"{room}/{package}/{file}.py", "w", encoding="utf-8") as it:
         it.write(text.replace(old, new))
     wrong = Subject(room, package)
-    assert is_seen(lambda seed: (by_the_model(wrong, seed), by_going(wrong, seed)))
+    assert is_seen(lambda seed: by_the_model(wrong, seed))
 
 
 def is_seen(trial: Callable[[int], Any]) -> bool:
@@ -143,10 +135,13 @@ SCRIPT = {
     "no claims of the matrix": ("to.strict && !from.strict ? all(it => matrix", "false ? all(it => matrix"),
     "an open environment is asked": ("  if (!to.gated) return found;\n", ""),
     "new with new isn't looked at": ("ends(one, other) : between(one, other));", "ends(one, other) : []);"),
-    "old ones aren't looked at": (": between(one, other.old));", ": []);"),
-    "what stays isn't looked at": ("[...between(it, other), ...without(other, it)]", "without(other, it)"),
-    "what goes is missed by nobody": ("[...between(it, other), ...without(other, it)]", "between(it, other)"),
-    "who calls what goes isn't seen": ("? without(other.old, one) :", "? [] :"),
+    "old ones aren't looked at": ("(other.old ? beside", "(other.old && one.ends ? beside"),
+    "what stays isn't looked at": ("flatMap(other => beside(it, other))", "flatMap(other => without(other, it))"),
+    "what goes is missed by nobody": ("flatMap(other => beside(it, other))", "flatMap(other => between(it, other))"),
+    "who calls what goes isn't seen": ("(other.old ? beside", "(other.old && !one.ends ? beside"),
+    "an end waits for no end": ("(other.old ? beside", "(other.old && !(one.ends && other.ends) ? beside"),
+    "what goes waits for its own callers": (" && provider !== it.pacticipant;", ";"),
+    "what ends isn't asked for": ("...steps.map(it => it.old)", "...comes.map(it => it.old)"),
     "what comes calls what goes": ("[...without(one, other), ...without(other, one)]", "[]"),
     "what goes stays": ("steps.set(it.place, { ...it, old: it, how: ENDS[it.how], ends: true });", ";"),
     "greedy for the largest": (

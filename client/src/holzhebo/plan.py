@@ -49,10 +49,8 @@ class Plan:
         return self.between(one, [other.new])
 
     def needs(self, one: Step, other: Step) -> List[Fault]:
-        """Why the other has to be done first."""
-        if other.old is None or other.ends:
-            return self.between(one, [other.old] if other.old else [])
-        return self.without(other.old, one) if one.ends else self.between(one, [other.old])
+        """Why the other has to be done first: what it replaces or ends stays until then."""
+        return self.with_what_stays(one, [other.old] if other.old else [])
 
     def table(self, of: Callable[[Step, Step], List[Fault]], step: Step) -> Dict[int, List[Fault]]:
         found = {y: of(step, other) for y, other in enumerate(self.steps)}

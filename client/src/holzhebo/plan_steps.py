@@ -10,7 +10,7 @@ versions, since all of these are in FROM. Whether FROM is gated doesn't matter. 
 that is only claimed is no fault in FROM, and the matrix of each step's version says which are. desk/plan.js is the
 same for the page."""
 import concurrent.futures
-from typing import Dict, FrozenSet, Iterable, List, NamedTuple, Optional, Protocol, Sequence, Tuple
+from typing import Dict, FrozenSet, Iterable, List, NamedTuple, Optional, Protocol, Sequence, Set, Tuple
 from urllib.parse import quote, urlencode
 
 from holzhebo.faults import Json, Stop
@@ -68,7 +68,7 @@ class Situation(NamedTuple):
     """All that a plan depends on. `kept` is in TO and no step replaces it. `bad` has the faults of two versions, if
     there are any, of which one is a step's and the other a step's or in TO now. `absent` has the faults of providers
     that a step's version calls and of which nothing is in TO now; `without` those of services that go, for each version
-    that a step brings or replaces, or that stays."""
+    that a step brings, replaces or ends, or that stays."""
 
     source: str
     target: str
@@ -78,6 +78,11 @@ class Situation(NamedTuple):
     bad: Dict[FrozenSet[Version], List[Fault]]
     absent: Dict[Version, List[Fault]]
     without: Dict[Version, List[Fault]]
+
+    @property
+    def gone(self) -> Set[str]:
+        """The services that go."""
+        return {it.new.pacticipant for it in self.steps if it.ends}
 
 
 # What differs
@@ -176,9 +181,11 @@ def faults_of(asks: Asks, source: Json, target: Json, news: Sequence[Version]) -
 def without_of(
     asks: Asks, source: Json, versions: Sequence[Version], gone: Sequence[str]
 ) -> Dict[Version, List[Fault]]:
-    """Which of these versions call a service that goes: FROM has nothing of it, so that it is absent there."""
+    """Which of these versions call a service that goes, but for their own: FROM has nothing of it, so that it is absent
+    there."""
     answers = gate_of(asks, versions if gone else [], source["environment"])
-    return {it: [each for each in faults if each.provider in gone] for it, faults in zip(versions, answers)}
+    calls = [[it for it in faults if it.provider in gone] for faults in answers]
+    return {it: [each for each in found if each.provider != it.pacticipant] for it, found in zip(versions, calls)}
 
 
 def looked_at(asks: Asks, source: Json, target: Json, without: Sequence[str], gone: Sequence[str]) -> Situation:
@@ -192,7 +199,7 @@ def looked_at(asks: Asks, source: Json, target: Json, without: Sequence[str], go
             absent.setdefault(it.consumer, []).append(it)
         else:
             bad.setdefault(frozenset(it.sides()), []).append(it)
-    stay = list(dict.fromkeys([*news, *(it for it, _ in kept), *(it.old for it in steps if it.old and not it.ends)]))
+    stay = list(dict.fromkeys([*news, *(it for it, _ in kept), *(it.old for it in steps if it.old)]))
     calls = without_of(asks, source, stay, gone if target["gated"] else [])
     return Situation(source["environment"], target["environment"], target["gated"], steps, kept, bad, absent, calls)
 

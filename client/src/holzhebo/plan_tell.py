@@ -1,9 +1,9 @@
 """What a plan says: in lines for a terminal, or as JSON."""
 import re
-from typing import Any, Dict, Iterable, List, Set
+from typing import Any, Container, Dict, Iterable, List, Set
 
 from holzhebo.faults import Json
-from holzhebo.gate.sentences import FAULTS, GONE
+from holzhebo.gate.sentences import FAULTS, GONE, Told
 
 from .plan import Plan
 from .plan_steps import Fault, Step, Version
@@ -13,9 +13,14 @@ LAST = "This is as the broker answers now. Each step is judged again as it is re
 HASH, DIGITS = re.compile("[0-9a-f]{20,}"), 8
 
 
-def actors(fault: Fault) -> List[str]:
+def told(fault: Fault, gone: Container[str]) -> Told:
+    """What is said of a fault, if these services go."""
+    return GONE if fault.kind == "absent" and fault.provider in gone else FAULTS[fault.kind]
+
+
+def actors(fault: Fault, gone: Container[str] = ()) -> List[str]:
     """The services whose teams can act."""
-    return [{"consumer": fault.consumer.pacticipant, "provider": fault.provider}[it] for it in FAULTS[fault.kind].by]
+    return [{"consumer": fault.consumer.pacticipant, "provider": fault.provider}[it] for it in told(fault, gone).by]
 
 
 def printable(text: object) -> str:
@@ -30,7 +35,7 @@ class Teller:
         self.source, self.target = printable(plan.situation.source), printable(plan.situation.target)
         self.kept = {it for it, _ in plan.situation.kept}
         self.versions = self.kept | {it for step in plan.steps for it in (step.new, step.old) if it}
-        self.gone = {it.new.pacticipant for it in plan.steps if it.ends}
+        self.gone = plan.situation.gone
 
     def short(self, it: Version) -> str:
         """A version; of a hash 8 digits, or as many as it takes to tell it from others of the service."""
@@ -56,11 +61,11 @@ class Teller:
     def sentence(self, fault: Fault) -> str:
         one, other = fault.sides()
         names = {"provider": printable(fault.provider), "environment": self.target}
-        told = GONE if fault.kind == "absent" and fault.provider in self.gone else FAULTS[fault.kind]
+        said = told(fault, self.gone)
         stays = [it for it in (one, other) if it in self.kept]
         way_out = [f"; or take {self.name(it)} out of {self.target}" for it in stays]
-        so = told.so.format(**names, one=self.name(one), other=self.name(other))
-        return f"{so}: {told.act}" + "".join(way_out)
+        so = said.so.format(**names, one=self.name(one), other=self.name(other))
+        return f"{so}: {said.act}" + "".join(way_out)
 
     def team(self, service: str) -> str:
         contact = self.contacts.get(service)
@@ -107,14 +112,10 @@ class Teller:
     def acts(self) -> List[str]:
         """Whose turn it is."""
         said, necessary = [], self.plan.necessary()
-        for service in sorted({actor for fault in necessary for actor in self.actors(fault)}):
+        for service in sorted({actor for fault in necessary for actor in actors(fault, self.gone)}):
             said += ["", f"To act: the team of {self.team(service)}"]
-            said += [f"      {self.sentence(fault)}" for fault in necessary if service in self.actors(fault)]
+            said += [f"      {self.sentence(fault)}" for fault in necessary if service in actors(fault, self.gone)]
         return said
-
-    def actors(self, fault: Fault) -> List[str]:
-        is_gone = fault.kind == "absent" and fault.provider in self.gone
-        return [fault.consumer.pacticipant] if is_gone else actors(fault)
 
     def circles(self) -> List[str]:
         said: List[str] = []
@@ -122,7 +123,7 @@ class Teller:
             names = self.names([x for x, _ in circle], " and ")
             said += ["", f"None of {names} can go first, as another instance neither.", "One of these is enough:"]
             for _, fault in circle:
-                said.append(f"  the team of {' or '.join(self.team(it) for it in actors(fault))}")
+                said.append(f"  the team of {' or '.join(self.team(it) for it in actors(fault, self.gone))}")
                 said.append(f"      {self.sentence(fault)}")
         return said
 
@@ -131,6 +132,11 @@ def as_json(plan: Plan) -> Json:
     """The same as an object; `without` are the steps of the order, from 1, without which a step that is left may go."""
     order, is_sure = plan.largest()
     done: Set[int] = {*order}
+
+    def fault_as_json(it: Fault) -> Json:
+        names = {"consumer": it.consumer.pacticipant, "consumerVersion": it.consumer.version, "kind": it.kind}
+        act = actors(it, plan.situation.gone)
+        return {**names, "provider": it.provider, "providerVersion": it.provider_version, "act": act}
 
     def step(x: int) -> Json:
         it = plan.steps[x]
@@ -153,8 +159,3 @@ def as_json(plan: Plan) -> Json:
         "necessary": [fault_as_json(it) for it in plan.necessary()],
         "circles": [[fault_as_json(it) for _, it in circle] for circle in plan.circles()],
     }
-
-
-def fault_as_json(it: Fault) -> Json:
-    names = {"consumer": it.consumer.pacticipant, "consumerVersion": it.consumer.version, "kind": it.kind}
-    return {**names, "provider": it.provider, "providerVersion": it.provider_version, "act": actors(it)}
