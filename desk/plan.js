@@ -26,15 +26,18 @@ export function placed(all) {
 const ENDS = { deploy: 'undeploy', release: 'end-support' };
 
 /** What the other environment hasn't, with what it replaces there, and the end of what goes; and what stays there. What
- * is only released there is released. */
+ * is only released there is released, and what is there counts as released if it stays: a place that the first
+ * environment has with another version is taken from it. */
 export function stepsOf(from, to, gone = []) {
-  const there = placed(to), at = new Map(there.map(it => [it.place, it])), has = new Set(there.map(idOf));
+  const there = placed(to), at = new Map(there.map(it => [it.place, it]));
+  const here = new Map(placed(from).map(it => [it.place, it.version]));
+  const stays = new Set(there.filter(it => (here.get(it.place) ?? it.version) === it.version).map(idOf));
   const known = how => new Set(there.filter(it => it.how === how).map(it => it.pacticipant));
   const deployed = known('deploy'), released = known('release'), steps = new Map();
   for (const it of placed(from)) {
     const isRelease = it.how === 'release' || released.has(it.pacticipant) && !deployed.has(it.pacticipant);
     const place = isRelease ? key('release', it.pacticipant, it.version) : it.place, old = at.get(place);
-    if (isRelease ? has.has(idOf(it)) : old?.version === it.version) continue;
+    if (isRelease ? stays.has(idOf(it)) : old?.version === it.version) continue;
     const step = { pacticipant: it.pacticipant, version: it.version, old: isRelease ? undefined : old };
     steps.set(place, { ...step, how: isRelease ? 'release' : 'deploy', instance: isRelease ? '' : it.instance });
   }

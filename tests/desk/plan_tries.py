@@ -103,7 +103,10 @@ def by_the_model(subject: Subject, seed: int) -> dict[str, int]:
         same(f"the largest part with {x}", len(instead), max((len(it) for it in reached if x in it), default=0))
         same("its order", plays(fleet, model, plan, instead), True)
     reasons(plan)
-    afterwards(fleet, reached[frozenset(order)], gone)
+    afterwards(fleet, reached[frozenset(order)], {plan.steps[x].new for x in order if not plan.steps[x].ends}, gone)
+    if not left:
+        two = (reached[frozenset(order)].listing(it) for it in (fleet.source, fleet.target))
+        same("what is left to do", subject.steps.steps_of(*two, (), gone)[0], [])
     if left and len(plan.all) <= 4:
         for each in itertools.permutations(plan.all):
             same(f"the order {each}", plays(fleet, model, plan, each), False)
@@ -118,11 +121,14 @@ def by_the_model(subject: Subject, seed: int) -> dict[str, int]:
     }
 
 
-def afterwards(fleet: Fleet, state: Model, gone: Sequence[str]) -> None:
-    """Nobody that is there then calls what is gone."""
-    there = state.environments[fleet.target]
-    faults = [it for each in there.there() for it in state.faults(each, fleet.target)] if there.gated else []
-    same("what is gone and called", {it["provider"] for it in faults if it["kind"] == "absent"} & {*gone}, set())
+def afterwards(fleet: Fleet, state: Model, brought: set[tuple[str, str]], gone: Sequence[str]) -> None:
+    """The gate would take again what was brought, and nobody that is there calls what is gone."""
+    it = state.environments[fleet.target]
+    if it.gated:
+        faults = {each: state.faults(each, fleet.target) for each in it.there()}
+        same("what is refused afterwards", [each for each in brought if faults[each]], [])
+        absent = {why["provider"] for found in faults.values() for why in found if why["kind"] == "absent"}
+        same("what is gone and called", absent & {*gone}, set())
 
 
 def reasons(plan: Any) -> None:

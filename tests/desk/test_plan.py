@@ -96,6 +96,7 @@ PYTHON = {
     "what goes is missed by nobody": ("plan", "stays(it, kept) for", "stays(it, [] if it.ends else kept) for"),
     "what goes waits for its own callers": ("plan_steps", "in found if each.provider != it", "in found if it"),
     "what ends isn't asked for": ("plan_steps", "in steps if it.old)]", "in steps if it.old and not it.ends)]"),
+    "a release counts where it doesn't stay": ("plan_steps", "if new not in stays:", "if new not in there.values():"),
     "what comes calls what goes": ("plan", "if one.ends != other.ends else []", "if False else []"),
     "an open environment is asked": ("plan_steps", 'if target["gated"] else []\n    bad', "\n    bad"),
 }
@@ -142,6 +143,7 @@ SCRIPT = {
     "an end waits for no end": ("(other.old ? beside", "(other.old && !(one.ends && other.ends) ? beside"),
     "what goes waits for its own callers": (" && provider !== it.pacticipant;", ";"),
     "what ends isn't asked for": ("...steps.map(it => it.old)", "...comes.map(it => it.old)"),
+    "a release counts where it doesn't stay": ("(here.get(it.place) ?? it.version) === it.version", "true"),
     "what comes calls what goes": ("[...without(one, other), ...without(other, one)]", "[]"),
     "what goes stays": ("steps.set(it.place, { ...it, old: it, how: ENDS[it.how], ends: true });", ";"),
     "greedy for the largest": (

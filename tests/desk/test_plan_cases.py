@@ -1,4 +1,4 @@
-"""Plans of a few small fleets, by hand: services that go and call one another."""
+"""Plans of a few small fleets, by hand: services that go and call one another, and a release whose place is taken."""
 from __future__ import annotations
 
 from typing import Any
@@ -106,3 +106,25 @@ def test_who_acts_for_what_goes() -> None:
     here, there, calls, gone, _ = GOING["one is still called"]
     necessary: list[Any] = as_json(planned(fleet(here, there, calls), *gone))["necessary"]
     same("as JSON", [(it["consumer"], it["provider"], it["act"]) for it in necessary], [("shop", "pay", ["shop"])])
+
+
+def test_a_release_whose_place_is_taken() -> None:
+    """Web 4 is deployed in live, where web 5 replaces it, so that its release is a step, which stock 2 doesn't suit."""
+    calls = {("web", "4", "stock"): {"1": True, "2": False}, ("web", "5", "stock"): {"1": True, "2": True}}
+    model = fleet({"web": "5", "stock": "2"}, {"web": "4", "stock": "1"}, calls)
+    model.environments["staging"].released.add(("web", "4"))
+    fails = "stock 2 fails the contract of web 4, by its latest result: one of them has to change; then a result that "
+    same(
+        "lines",
+        said(planned(model)),
+        "From staging to live: 2 of 3 may go, 2 now, 0 after others; 1 may not go with them.\n"
+        "\nIn this order:\n"
+        "   1  deploy web 5 for 4  now\n"
+        "   2  release web 4       now\n"
+        "\nNot with them, until somebody acts:\n"
+        "      deploy stock 2 for 1  may go without web 4\n"
+        "\nTo act: the team of stock\n"
+        f"      {fails}passes is needed\n"
+        "\nTo act: the team of web\n"
+        f"      {fails}passes is needed",
+    )

@@ -98,14 +98,16 @@ def places_of(listing: Json) -> Dict[Tuple[str, str, str, str], Version]:
 def steps_of(
     source: Json, target: Json, without: Sequence[str] = (), gone: Sequence[str] = ()
 ) -> Tuple[List[Step], List[Tuple[Version, str]]]:
-    """The steps, and what of TO no step replaces, with its instance. What TO only releases is released there."""
-    there, steps = places_of(target), {}
+    """The steps, and what of TO no step replaces, with its instance. What TO only releases is released there, and what
+    is there counts as released if it stays: a place that FROM has with another version is taken from it."""
+    here, there, steps = places_of(source), places_of(target), {}
+    stays = {it for place, it in there.items() if here.get(place, it) == it}
     deployed = {place[1] for place in there if place[0] == "deploy"}
     released = {place[1] for place in there if place[0] == "release"}
-    for (how, service, instance, _), new in places_of(source).items():
+    for (how, service, instance, _), new in here.items():
         if how == "release" or service in released - deployed:
             place = ("release", service, "", new.version)
-            if new not in there.values():
+            if new not in stays:
                 steps[place] = Step("release", new, "", None)
         elif there.get(("deploy", service, instance, "")) != new:
             place = ("deploy", service, instance, "")
