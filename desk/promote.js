@@ -97,10 +97,12 @@ class Teller {
 
   ordered() {
     const { plan, order } = this;
-    const item = x => {
+    const item = (x, at) => {
       const after = plan.after(x, order).map(y => order.indexOf(y) + 1);
       const when = after.length ? tag(`after ${after.join(', ')}`) : tag('✓ now', 'yes');
-      return line(this.words(x), this.step(x), ' ', when);
+      const it = line(this.words(x), this.step(x), ' ', when);
+      it.value = at + 1; // it stays so if a filter hides others
+      return it;
     };
     const title = this.left.length ? 'The others may go in this order' : 'It may go in this order';
     const unsure = this.isSure ? '' : el('p', { class: 'act unsure' }, UNSURE);

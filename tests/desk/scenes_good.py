@@ -7,7 +7,7 @@ from holzhebo.api import Lack
 from holzhebo.api.shapes import shaped
 from holzhebo.gate.sentences import FAULTS, sentence_of
 from tests.desk.browser import Browser
-from tests.desk.seen import Served, WHEN, cells, leaves, settled, shows, signs_in, text, texts
+from tests.desk.seen import Served, WHEN, cells, filters, leaves, settled, shows, signs_in, text, texts
 from tests.desk.shown import (
     ASKED, BOARD, BUILDS, CALLED, CHANGED, LIVE, MATRIX, PROMOTED, READ, RESULTS, STOCK, STRICT, TICKET, TODAY,
     UNRESULTED, WHO, WITH_WHO,
@@ -95,6 +95,10 @@ def promote(page: Browser, world: World) -> None:
         same(f"{two}: the order", texts(page, "ol.steps > li"), order)
         stays = [it for it in texts(page, "main > .act") if it.startswith("Only")]
         same(f"{two}: what stays", stays, [only] if only else [])
+    shows(page, "promote/staging/dev")
+    filters(page, "blue")
+    numbers = "[...document.querySelectorAll('ol.steps > li:not([hidden])')].map(it => [it.value, it.innerText])"
+    same("the number of the second, if it is filtered", page.js(numbers), [[2, "stock 1.0 for 2.0 ✓ now"]])
     shows(page, "promote/live/staging")
     page.js("[...document.querySelectorAll('main a')].find(it => it.innerText === 'it goes').click()")
     page.wait("document.querySelectorAll('ol.steps > li').length === 2", "the end of pay")
@@ -162,7 +166,7 @@ def refused_only(page: Browser, world: World) -> None:
     rows = "[...document.querySelectorAll('tbody tr:not([hidden]) th')].map(it => it.innerText)"
     page.js("document.getElementById('only').click()")
     same("only refused", page.js(rows), ["shop", "stock"])
-    page.js("const it = document.getElementById('filter'); it.value = 'stock'; it.dispatchEvent(new Event('input'))")
+    filters(page, "stock")
     same("and of stock", page.js(rows), ["stock"])
     place = page.js("getComputedStyle(document.querySelector('thead th')).position")
     same("whether the heads stay", place, "sticky")

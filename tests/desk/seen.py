@@ -54,6 +54,12 @@ def cells(page: Browser) -> list[list[str]]:
     return rows
 
 
+def filters(page: Browser, words: str) -> None:
+    """Types these words into the view's filter."""
+    field = "document.getElementById('filter')"
+    page.js(f"{field}.value = {json.dumps(words)}; {field}.dispatchEvent(new Event('input'))")
+
+
 def signs_in(page: Browser, world: Served, token: str) -> None:
     page.go("about:blank")
     page.go(world.url)

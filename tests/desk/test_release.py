@@ -11,7 +11,7 @@ from tests.desk import sixty
 from tests.desk.browser import Browser
 from tests.desk.plan_tries import Subject
 from tests.desk.scenes import requests_are_right
-from tests.desk.seen import shows, signs_in, texts
+from tests.desk.seen import filters, shows, signs_in, texts
 from tests.desk.sixty import CONTACTS, DIFFERENT, ENVIRONMENTS, SERVICES, number
 from tests.desk.world import READER, World, write
 from tests.process import TOP, Server, run, text_of
@@ -126,10 +126,7 @@ def test_short_and_whole(page: Browser, world: Sixty) -> None:
     whole = number(SERVICES[0], "new")
     short = page.js("document.querySelector('.steps .short').textContent.length")
     same("digits", short, 8)
-    page.js(
-        f"const field = document.getElementById('filter'); field.value = {json.dumps(whole)};"
-        " field.dispatchEvent(new Event('input'))"
-    )
+    filters(page, whole)
     left = texts(page, ".steps > li:not([hidden])")
     same("found by all digits", [it.split(" for ")[0] for it in left], [f"{SERVICES[0]} {whole[:8]}"])
     copied = page.js(
