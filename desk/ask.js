@@ -23,12 +23,16 @@ export function forgetToken() {
 export const mayAsk = () => token !== '' || isSignedIn;
 export const hasToken = () => token !== '';
 
+/** Gives up the questions of the view that is there. */
+export function end() {
+  leaving.abort();
+}
+
 /** Begins the questions of a view; those of the one before are given up. */
 export function begin(told) {
-  leaving.abort();
+  end();
   leaving = new AbortController();
   [asked, answered, since, progress] = [0, 0, null, told];
-  return leaving.signal;
 }
 
 export const askedSince = () => since;
@@ -54,14 +58,16 @@ async function inTurn(work) {
   }
 }
 
-/** What comes of a GET. Cookies go along only where no token is typed, as where a proxy signs everybody in. */
-async function fetched(path, headers, credentials = 'same-origin') {
-  const left = leaving.signal, how = { method: 'GET', headers, cache: 'no-store', credentials, redirect: 'error' };
+/** What comes of a GET of the view with this signal. Cookies go along only where no token is typed, as where a proxy
+ * signs everybody in. */
+async function fetched(path, left = leaving.signal, headers = {}) {
+  if (left.aborted) throw new Failure(say`This view was left.`);
+  const credentials = headers.authorization ? 'omit' : 'same-origin';
+  const how = { method: 'GET', headers, cache: 'no-store', credentials, redirect: 'error' };
   const stop = new AbortController(), give = () => stop.abort();
   left.addEventListener('abort', give);
   const clock = setTimeout(give, PATIENCE);
   try {
-    if (left.aborted) throw new Failure(say`This view was left.`);
     const reply = await fetch(path, { ...how, signal: stop.signal });
     return { status: reply.status, text: await reply.text() };
   } catch {
@@ -93,7 +99,7 @@ async function answerTo(path, names) {
   const mine = leaving.signal, headers = token ? { authorization: 'Bearer ' + token } : {};
   asked += 1;
   since ??= new Date();
-  const { status, text } = await inTurn(() => fetched(path, headers, token ? 'omit' : 'same-origin'));
+  const { status, text } = await inTurn(() => fetched(path, mine, headers));
   if (mine !== leaving.signal) throw new Failure(say`This view was left.`);
   answered += 1;
   progress(answered, asked);
@@ -172,7 +178,7 @@ export async function contractOf(provider, consumer, version) {
 
 /** What desk.json says: the environments, whom to call for a service, where builds are, whether the proxy signs in. */
 export async function settings() {
-  const { status, text } = await fetched('desk.json', {}), found = parsed(text) ?? {};
+  const { status, text } = await fetched('desk.json'), found = parsed(text) ?? {};
   const { environments, contacts, builds, signedIn, who } = found;
   if (status === 401 || status === 403) throw new Failure(say`You aren’t signed in any more: load this page again.`);
   if (status !== 200 || !Array.isArray(environments) || !environments.every(it => typeof it === 'string')) {
@@ -188,7 +194,7 @@ export async function settings() {
 export async function whoDid({ who }, environment) {
   if (who !== true) return [];
   const name = encodeURIComponent(encodeURIComponent(environment));
-  const { status, text } = await fetched(`who-${name}.json`, {}), found = parsed(text);
+  const { status, text } = await fetched(`who-${name}.json`), found = parsed(text);
   const line = { change: TEXT, pacticipant: TEXT, version: TEXT, instance: TEXT, team: TEXT, time: TEXT };
   return status === 200 && has({ found }, { found: [line] }) ? found : [];
 }

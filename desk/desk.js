@@ -1,6 +1,6 @@
 // The broker's answers as a page. Each request is a GET. A view is whole or isn't there: from the moment a question is
 // asked until its answer has come, no earlier one is shown; only marks of the board come into their places one by one.
-import { Failure, askedSince, begin, forgetToken, hasToken, mayAsk, settings, takeToken, waits } from './ask.js';
+import { Failure, askedSince, begin, end, forgetToken, hasToken, mayAsk, settings, takeToken, waits } from './ask.js';
 import { board, environment } from './board.js';
 import { contract } from './contract.js';
 import { question } from './gate.js';
@@ -114,6 +114,7 @@ async function show(failure) {
     if (mine === turn && isAsked) view.append(times(), savings(view));
   } catch (it) {
     if (mine !== turn) return;
+    end();
     if (it.status === 401) forgetToken();
     view.replaceChildren(...trouble(failureOf(it)).flat(Infinity));
     placed(view);

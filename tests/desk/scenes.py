@@ -8,8 +8,8 @@ from collections.abc import Callable
 from tests.desk.browser import Answer, Browser, Unseen
 from tests.desk.scenes_good import board, contract, environment, matrix, none_yet, pasted, promote, put_by, questions
 from tests.desk.scenes_good import refused_only, saved, wording
-from tests.desk.scenes_look import forgotten, keyboard, looks, old, overtaken
-from tests.desk.scenes_bad import hostile, others, stopped, unknown
+from tests.desk.scenes_look import forgotten, given_up, keyboard, looks, old, overtaken
+from tests.desk.scenes_bad import hostile, others, revoked, stopped, unknown
 from tests.desk.world import World
 from tests.wire import Wrong
 
@@ -65,11 +65,12 @@ GOOD: list[Scene] = [board, questions, matrix, environment, promote, contract]
 
 
 SCENES: list[Scene] = [
-    *GOOD, wording, pasted, refused_only, saved, overtaken, old, keyboard, looks, forgotten, hostile, none_yet,
+    *GOOD, wording, pasted, refused_only, saved, overtaken, given_up, old, keyboard, looks, forgotten,
+    hostile, none_yet,
 ]
 
 
-FAILURES: list[Scene] = [unknown, others, stopped, put_by]
+FAILURES: list[Scene] = [unknown, others, revoked, stopped, put_by]
 
 
 def tried(page: Browser, world: World, scenes: list[Scene]) -> None:

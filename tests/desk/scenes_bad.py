@@ -1,9 +1,10 @@
 """Scenes in which something fails, or somebody has chosen names that mislead."""
 from __future__ import annotations
 
-import json, shutil
+import base64, contextlib, json, shutil
 
-from tests.desk.browser import Browser
+from tests.desk.browser import Browser, Unseen
+from tests.desk.scenes_look import SOON, holding
 from tests.desk.seen import again, alone, cells, leaves, settled, shows, signs_in, text, texts
 from tests.desk.shown import INSTEAD, LONG, MARKUP, SLASH, TURNED, WITHOUT
 from tests.desk.world import DENIED, READER, RED, World, stub, write
@@ -43,6 +44,21 @@ def others(page: Browser, world: World) -> None:
     same(
         "no token", text(page, "main [role=alert]"), "This isn’t a token: it has 16 to 128 letters, digits and -._~+/=."
     )
+
+
+def revoked(page: Browser, world: World) -> None:
+    """Once the broker doesn't know a token any more, it isn't asked with it, but for what was next."""
+    signs_in(page, world, READER)
+    with holding(page, "*/can-i-deploy?*") as held:
+        page.js("location.hash = '#/board/today'")
+        page.until(lambda: len(held()) == 6, "six requests that are held")
+        denied = base64.b64encode(DENIED.encode()).decode()
+        for it in held()[:6]:
+            with contextlib.suppress(Unseen):  # after the first one the others are given up
+                page.call("Fetch.fulfillRequest", requestId=it, responseCode=401, body=denied)
+        page.wait("document.activeElement.id === 'token'", "the field for a token")
+        page.js(SOON)
+        same(f"whether {len(held())} requests of the board are too many", len(held()) > 7, False)
 
 
 def stopped(page: Browser, world: World) -> None:

@@ -2,6 +2,7 @@
 from __future__ import annotations
 
 import contextlib, time
+from collections.abc import Callable, Iterator
 
 from tests.desk.browser import Browser, Unseen
 from tests.desk.seen import leaves, settled, shows, signs_in, text, texts
@@ -9,24 +10,49 @@ from tests.desk.world import READER, World
 from tests.wire import same
 
 
+# A while in which what still waits would be asked.
+SOON = "new Promise(done => setTimeout(done, 300))"
+
+
+@contextlib.contextmanager
+def holding(page: Browser, addresses: str) -> Iterator[Callable[[], list[str]]]:
+    """Holds the requests to such addresses; gives those that are held, or were."""
+    before = len(page.events)
+    page.call("Fetch.enable", patterns=[{"urlPattern": addresses}])
+    try:
+        yield lambda: [it["params"]["requestId"] for it in page.events[before:] if it["method"] == "Fetch.requestPaused"]
+    finally:
+        page.call("Fetch.disable")
+
+
 def overtaken(page: Browser, world: World) -> None:
     """A question that is left is given up, and what still comes of it doesn't take the place of the later's answer."""
     signs_in(page, world, READER)
-    page.call("Fetch.enable", patterns=[{"urlPattern": "*/can-i-deploy?pacticipant=shop*"}])
-    page.js("location.hash = '#/ask/shop/1.4/live'")
-    page.wait("document.querySelector('.waits')", "a question under way")
-    page.until(lambda: any(it["method"] == "Fetch.requestPaused" for it in page.events), "a request that is held")
-    held = [it["params"]["requestId"] for it in page.events if it["method"] == "Fetch.requestPaused"]
-    same("while it is asked", text(page, "main"), "Asking the broker …")
-    shows(page, "ask/web/6/live")
-    page.until(lambda: any(it["method"] == "Network.loadingFailed" for it in page.events), "a request that is given up")
-    for it in held:
-        with contextlib.suppress(Unseen):  # the browser knows none of them any more
-            page.call("Fetch.continueRequest", requestId=it)
-    page.call("Fetch.disable")
+    with holding(page, "*/can-i-deploy?pacticipant=shop*") as held:
+        page.js("location.hash = '#/ask/shop/1.4/live'")
+        page.wait("document.querySelector('.waits')", "a question under way")
+        page.until(lambda: len(held()) > 0, "a request that is held")
+        same("while it is asked", text(page, "main"), "Asking the broker …")
+        shows(page, "ask/web/6/live")
+        lost = "Network.loadingFailed"
+        page.until(lambda: any(it["method"] == lost for it in page.events), "a request that is given up")
+        for it in held():
+            with contextlib.suppress(Unseen):  # the browser knows none of them any more
+                page.call("Fetch.continueRequest", requestId=it)
     page.js("fetch('desk.json').then(it => it.text())")
     time.sleep(0.3)
     same("the later question's verdict", texts(page, ".verdict"), ["✓ web 6 may go to live."])
+
+
+def given_up(page: Browser, world: World) -> None:
+    """Of a view that is left, what waits for its turn isn't asked any more."""
+    signs_in(page, world, READER)
+    with holding(page, "*/can-i-deploy?*") as held:
+        page.js("location.hash = '#/board/today'")
+        page.until(lambda: len(held()) == 6, "six requests that are held")
+        shows(page, "environment/live")
+        page.js(SOON)
+        same("requests of the board that is left", len(held()), 6)
 
 
 def old(page: Browser, world: World) -> None:
