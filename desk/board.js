@@ -26,7 +26,8 @@ export async function listings(names) {
   return Promise.all(names.map(one));
 }
 
-/** What the gate says now of a version that is there: whether it would be refused, and how that is shown. */
+/** What the gate says now of a version that is there: whether it would be refused, or nothing if this token may not ask
+ * that; and how it is shown. */
 async function today(service, number, environment) {
   try {
     const { faults, permitted } = await canDeploy(service, number, environment);
@@ -34,7 +35,7 @@ async function today(service, number, environment) {
     const text = (permitted ? '' : '✕ refused today, ') + count(faults.length, 'fault');
     return [!permitted, link(tag(text, permitted ? '' : 'no'), 'ask', service, number, environment)];
   } catch (failure) {
-    if (failure.status === 403) return [false, tag('not shown to this token')];
+    if (failure.status === 403) return [null, tag('not shown to this token')];
     throw failure;
   }
 }
@@ -68,20 +69,23 @@ function cell(all, service, others, marks) {
   return lines.length ? el('td', {}, lines) : el('td', { class: 'none' }, '–');
 }
 
-/** Puts each mark into its place as it is answered, and says how many are refused. */
-async function marked(marks, said) {
-  let answered = 0, refused = 0;
+/** Puts each mark into its place as it is answered, says how many are refused, and has the row looked at again. */
+async function marked(marks, said, look) {
+  let answered = 0, refused = 0, hidden = 0;
   const tell = () => {
     const left = answered < marks.length ? ` (${answered} of ${count(marks.length, 'answer')} so far)` : '';
-    said.textContent = `${refused} of ${marks.length} refused today${left}.`;
+    const more = hidden ? `; ${hidden} not shown to this token` : '';
+    said.textContent = `${refused} of ${marks.length - hidden} refused today${left}${more}.`;
   };
   tell();
   await Promise.all(marks.map(async ({ service, version, environment, place }) => {
-    const [isRefused, mark] = await today(service, version, environment);
+    const [isRefused, mark] = await today(service, version, environment), row = place.closest('tr');
     place.replaceChildren(mark);
     answered += 1;
     refused += isRefused ? 1 : 0;
-    if (isRefused) place.closest('tr').dataset.refused = '';
+    hidden += isRefused === null ? 1 : 0;
+    if (isRefused) row.dataset.refused = '';
+    look([row]);
     tell();
   }));
 }
@@ -123,7 +127,7 @@ export async function board(settings, which) {
   const tools = el('div', { class: 'tools' }, sieve.node, asks ? only.node : '');
   const nodes = [heading('What is where'), asks ? said : '', tools, lacks, grid, el('p', {}, turned), next,
     since(all.map(it => it.who))];
-  return asks ? { nodes, later: marked(marks, said) } : nodes;
+  return asks ? { nodes, later: marked(marks, said, sieve.apply) } : nodes;
 }
 
 export async function environment(settings, name) {

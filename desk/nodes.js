@@ -110,7 +110,8 @@ export function choice(id, values, value) {
   return it;
 }
 
-/** A field by whose text only the rows or lines that have it are shown, with what else hides them. */
+/** A field by whose text only the rows or lines that have it are shown, with what else hides them; `apply` looks at all
+ * of them again, or at some that have changed. */
 export function filter(parts, { rows, holders = '', hides = () => false, hint }) {
   const all = parts.flatMap(it => [...it.querySelectorAll(rows)]), said = el('small', { role: 'status' });
   const outer = holders ? parts.flatMap(it => [it, ...it.querySelectorAll(holders)]) : [];
@@ -119,13 +120,13 @@ export function filter(parts, { rows, holders = '', hides = () => false, hint })
   const team = it => it.closest('.todo')?.querySelector('h4').textContent ?? '';
   const wholes = it => [...it.querySelectorAll('.short')].map(each => each.dataset.whole);
   const words = it => [it.textContent, it.dataset.words ?? '', team(it), ...wholes(it)].join(' ').toLowerCase();
-  const apply = () => {
+  const apply = (some = all) => {
     const wanted = field.value.toLowerCase();
-    for (const it of all) it.hidden = hides(it) || !words(it).includes(wanted);
+    for (const it of some) it.hidden = hides(it) || !words(it).includes(wanted);
     for (const it of outer) it.hidden = !it.querySelector(`:is(${rows}):not([hidden])`);
     const left = all.filter(it => !it.hidden).length;
     said.textContent = left < all.length ? `${left} of ${count(all.length, 'line')}` : '';
   };
-  field.addEventListener('input', apply);
+  field.addEventListener('input', () => apply());
   return { node: el('div', { class: 'filter' }, el('label', {}, 'filter', field), said), apply };
 }

@@ -38,6 +38,7 @@ def others(page: Browser, world: World) -> None:
     alone(page, "403", "This token may not ask that: only the service’s own team, or the office, may.")
     shows(page, "board/today")
     same("another team's mark", cells(page)[1], ["pay", "7 not shown to this token", "7 not shown to this token", "–"])
+    same("how much", texts(page, ".summary"), ["1 of 7 refused today; 6 not shown to this token."])
     signs_in(page, world, "unknown-token-00001")
     same("401", text(page, "main [role=alert]"), "The broker doesn’t know this token.")
     signs_in(page, world, "short")

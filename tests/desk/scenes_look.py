@@ -5,7 +5,7 @@ import contextlib, time
 from collections.abc import Callable, Iterator
 
 from tests.desk.browser import Browser, Unseen
-from tests.desk.seen import leaves, settled, shows, signs_in, text, texts
+from tests.desk.seen import filters, leaves, settled, shows, signs_in, text, texts
 from tests.desk.world import READER, World
 from tests.wire import same
 
@@ -53,6 +53,23 @@ def given_up(page: Browser, world: World) -> None:
         shows(page, "environment/live")
         page.js(SOON)
         same("requests of the board that is left", len(held()), 6)
+
+
+def late(page: Browser, world: World) -> None:
+    """A mark that comes late is looked at by the box and the filter, as those before it."""
+    signs_in(page, world, READER)
+    rows = "[...document.querySelectorAll('tbody tr:not([hidden]) th')].map(it => it.innerText)"
+    with holding(page, "*/can-i-deploy?pacticipant=stock&version=1.1&*") as held:
+        page.js("location.hash = '#/board/today'")
+        sofar = "1 of 13 refused today (12 of 13 answers so far)."
+        page.wait(f"document.querySelector('.summary')?.innerText === {sofar!r}", "all answers but one")
+        page.js("document.getElementById('only').click()")
+        filters(page, "✕ refused")
+        same("only refused, so far", page.js(rows), ["shop"])
+        page.call("Fetch.continueRequest", requestId=held()[0])
+        settled(page)
+        same("only refused", page.js(rows), ["shop", "stock"])
+    same("how much", text(page, ".summary"), "2 of 13 refused today.")
 
 
 def old(page: Browser, world: World) -> None:
