@@ -126,6 +126,9 @@ function refusal(status, answer, names) {
   if (status === 403) return say`This token may not ask that: only the service’s own team, or the office, may.`;
   if (what === 'version') return say`The broker has no version ${names.version} of ${names.pacticipant}.`;
   if (what === 'contract') return say`${names.consumer} ${names.version} has no contract with ${names.provider}.`;
+  if (what === 'pacticipant' && names.provider !== undefined) {
+    return say`The broker has no pacticipant ${names.provider}, or none called ${names.consumer}.`;
+  }
   if (names[what] !== undefined) return [`The broker has no ${what} `, named(names[what]), '.'];
   if (status === 404) return say`The broker has no such route: this page isn’t for what is at this address.`;
   if (status === 422) return say`The broker can’t read the question: one of its words isn’t a name.`;

@@ -148,7 +148,9 @@ async function since({ environments }, provider, consumer, number) {
   return links.length ? el('p', {}, 'What changed since: ', links) : '';
 }
 
+/** The latest results for the contract, or that this token isn't shown any. */
 function results(rows, provider) {
+  if (rows === null) return el('p', {}, UNSHOWN);
   const mine = rows.filter(it => it.provider === provider && it.success !== null);
   mine.sort((one, it) => it.result - one.result);
   if (mine.length === 0) return el('p', {}, 'No version of ', named(provider), ' has a result for it.');
@@ -159,6 +161,7 @@ function results(rows, provider) {
 }
 
 const MOST_RESULTS = 12;
+const UNSHOWN = 'Not shown to this token: only the consumer’s team, or the office, may ask.';
 const KNOWN = 'The broker keeps whether a result passed, and not which interactions failed: the build that sent it '
   + 'says that.';
 
@@ -168,7 +171,7 @@ export async function contract(settings, provider, consumer, number, old) {
   if (!(provider && consumer && number)) return [heading('A contract'), words];
   const [text, before] = await Promise.all([number, old].map(it => it && contractOf(provider, consumer, it)));
   const it = { pacticipant: consumer, version: number }, { rows } = await matrixOf(consumer, number).catch(failure => {
-    if (failure.status === 403) return { rows: [] };
+    if (failure.status === 403) return { rows: null };
     throw failure;
   });
   const top = [heading('The contract of ', version(consumer, number), ' with ', named(provider)), words];

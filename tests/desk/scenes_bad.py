@@ -7,7 +7,7 @@ from tests.desk.browser import Browser, Unseen
 from tests.desk.scenes_look import SOON, holding
 from tests.desk.seen import again, alone, cells, leaves, settled, shows, signs_in, text, texts
 from tests.desk.shown import INSTEAD, LONG, MARKUP, SLASH, TURNED, WITHOUT
-from tests.desk.world import DENIED, READER, RED, World, stub, write
+from tests.desk.world import BLUE, DENIED, READER, RED, World, stub, write
 from tests.process import TOP
 from tests.wire import OFFICE, same
 
@@ -22,6 +22,8 @@ def asks_in_vain(page: Browser, what: str, view: str, sentence: str) -> None:
 def unknown(page: Browser, world: World) -> None:
     asks_in_vain(page, "404 version", "ask/shop/9.9/live", "The broker has no version 9.9 of shop.")
     asks_in_vain(page, "404 pacticipant", "matrix/shp/1.4", "The broker has no pacticipant shp.")
+    neither = "The broker has no pacticipant nobody, or none called shop."
+    asks_in_vain(page, "404 pacticipant of two", "contract/nobody/shop/1.4", neither)
     asks_in_vain(page, "404 environment", "ask/shop/1.4/lve", "The broker has no environment lve.")
     asks_in_vain(page, "a name of dots", "environment/..", "No browser can ask for an environment called ...")
     asks_in_vain(page, "422", "ask/shop/%0a/live", "The broker can’t read the question: one of its words isn’t a name.")
@@ -39,6 +41,10 @@ def others(page: Browser, world: World) -> None:
     shows(page, "board/today")
     same("another team's mark", cells(page)[1], ["pay", "7 not shown to this token", "7 not shown to this token", "–"])
     same("how much", texts(page, ".summary"), ["1 of 7 refused today; 6 not shown to this token."])
+    signs_in(page, world, BLUE)
+    shows(page, "contract/stock/shop/1.4")
+    unshown = "Not shown to this token: only the consumer’s team, or the office, may ask."
+    same("results of a contract of two teams", texts(page, "h3 + p"), [unshown])
     signs_in(page, world, "unknown-token-00001")
     same("401", text(page, "main [role=alert]"), "The broker doesn’t know this token.")
     signs_in(page, world, "short")
