@@ -48,15 +48,23 @@ export function versionsAmong(all) {
   return (pacticipant, number) => version(pacticipant, number, [...numbers.get(pacticipant) ?? []]);
 }
 
+// What is shown by less than it is, but for what a filter hides or what is folded.
+const SHORT = '.short:not([hidden] *, details:not([open]) > p *)';
+
 /** What is copied of a page is whole, where it shows less. */
 export function copied(event) {
   const chosen = document.getSelection();
   if (!chosen || chosen.isCollapsed) return;
-  const part = chosen.getRangeAt(0).cloneContents(), shorts = part.querySelectorAll('.short');
+  const part = chosen.getRangeAt(0).cloneContents(), shorts = part.querySelectorAll(SHORT);
   const around = chosen.getRangeAt(0).commonAncestorContainer, inside = around.parentElement?.closest('.short');
   if (shorts.length === 0 && !inside) return;
-  let text = inside && shorts.length === 0 ? inside.dataset.whole : chosen.toString();
-  for (const it of shorts) text = text.replace(it.textContent, () => it.dataset.whole);
+  let text = inside && shorts.length === 0 ? inside.dataset.whole : chosen.toString(), at = 0;
+  for (const { textContent: short, dataset: { whole } } of shorts) {
+    const from = text.indexOf(short, at);
+    if (short === '' || from < 0) continue;
+    at = from + whole.length;
+    text = text.slice(0, from) + whole + text.slice(from + short.length);
+  }
   event.clipboardData.setData('text/plain', text);
   event.preventDefault();
 }

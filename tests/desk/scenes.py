@@ -8,7 +8,7 @@ from collections.abc import Callable
 from tests.desk.browser import Answer, Browser, Unseen
 from tests.desk.scenes_good import board, contract, environment, matrix, none_yet, pasted, promote, put_by, questions
 from tests.desk.scenes_good import refused_only, saved, wording
-from tests.desk.scenes_look import forgotten, given_up, keyboard, late, looks, old, overtaken
+from tests.desk.scenes_look import copied, forgotten, given_up, keyboard, late, looks, old, overtaken
 from tests.desk.scenes_bad import hostile, others, revoked, stopped, unknown
 from tests.desk.world import World
 from tests.wire import Wrong
@@ -65,7 +65,7 @@ GOOD: list[Scene] = [board, questions, matrix, environment, promote, contract]
 
 
 SCENES: list[Scene] = [
-    *GOOD, wording, pasted, refused_only, late, saved, overtaken, given_up, old, keyboard, looks, forgotten,
+    *GOOD, wording, pasted, refused_only, late, saved, copied, overtaken, given_up, old, keyboard, looks, forgotten,
     hostile, none_yet,
 ]
 

@@ -1,7 +1,7 @@
 """Scenes of how the page of desk/ looks, how it is used by keys, and what it keeps."""
 from __future__ import annotations
 
-import contextlib, time
+import contextlib, json, time
 from collections.abc import Callable, Iterator
 
 from tests.desk.browser import Browser, Unseen
@@ -106,6 +106,32 @@ def keyboard(page: Browser, world: World) -> None:
     same("the verdict by keys", texts(page, ".verdict"), ["✕ shop 1.4 may not go to live."])
     same("its address", page.js("location.hash"), "#/ask/shop/1.4/live")
     same("where the keyboard is", page.js("document.activeElement.tagName"), "H2")
+
+
+def copied(page: Browser, world: World) -> None:
+    """Each version that is copied is whole, also if it is there twice; not one after which the copy begins, one that a
+    filter hides, or one that is folded."""
+    signs_in(page, world, READER)
+    one, other = "12345678" * 5, "9abcdef0" * 5
+    lines = [[one, " and ", one], [other], [one, " beside ", other], [one], [other, " and ", one]]
+    wanted = f" and {one}\n\n{one} beside {other}\n\nmore\n{other} and {one}"
+    same("copied", page.js(COPIED % json.dumps(lines)), wanted)
+
+
+# What is copied of these lines from after the first version, if the second line is hidden and the fourth folded.
+COPIED = """import('/desk/nodes.js').then(({ el, numbered }) => {
+  const lines = %s.map(line => el('p', {}, line.map(it => (it.startsWith(' ') ? it : numbered(it)))));
+  lines[1].hidden = true;
+  lines[3] = el('details', {}, el('summary', {}, 'more'), lines[3]);
+  const box = el('div', {}, lines), range = document.createRange(), data = new DataTransfer();
+  document.getElementById('view').append(box);
+  range.selectNodeContents(box);
+  range.setStart(box.querySelector('.short').firstChild, 8);
+  getSelection().removeAllRanges();
+  getSelection().addRange(range);
+  document.dispatchEvent(new ClipboardEvent('copy', { clipboardData: data, bubbles: true, cancelable: true }));
+  return data.getData('text/plain');
+})"""
 
 
 VIEWS = [
