@@ -43,12 +43,13 @@ def test_by_its_key(world: World, room: str) -> None:
     """Whoever has the key gets what the broker answers to GETs; nobody else, and nothing else."""
     shown = world.server.ask("GET", "/environments/live")
     with served(world.server.url, room) as (port, key, process):
-        cookie = f"Cookie: a=b; desk={key}"
+        cookie = f"Cookie: a=b; desk-{port}={key}"
         status, fields, _ = asks(port, f"GET /desk/?{key}")
-        same("the address", (status, fields["location"], fields["set-cookie"]), (302, "/desk/", OWN.format(key)))
+        same("the address", (status, fields["location"], fields["set-cookie"]), (302, "/desk/", OWN.format(port, key)))
         same("the listing", asks(port, LISTING, cookie)[::2], (shown.status, shown.body))
         same("with another token", asks(port, LISTING, cookie, by(RED))[::2], (shown.status, shown.body))
-        for other in "", f"Cookie: desk={key}x", f"Cookie: desk={key[:-1]}", "Cookie: desk=", f"Cookie: other={key}":
+        own = f"Cookie: desk-{port}"
+        for other in "", f"{own}={key}x", f"{own}={key[:-1]}", f"{own}=", f"{own}1={key}", f"Cookie: desk={key}":
             for ask in LISTING, "GET /desk/", "GET /desk/desk.json", f"GET /desk/?{key}x":
                 same(f"{ask} with {other}", asks(port, ask, other or "X: y")[0], 403)
         for method in "PUT", "POST", "DELETE", "HEAD", "OPTIONS":
@@ -68,7 +69,7 @@ def test_by_its_key(world: World, room: str) -> None:
         same("its command line has the token or the key", (OFFICE in words, key in words), (False, False))
 
 
-OWN = "desk={}; Path=/; HttpOnly; SameSite=Strict"
+OWN = "desk-{}={}; Path=/; HttpOnly; SameSite=Strict"
 
 
 def test_a_host_in_brackets(room: str) -> None:
@@ -83,7 +84,7 @@ def test_a_host_in_brackets(room: str) -> None:
 
     with line, served(f"http://[::1]:{line.getsockname()[1]}", room) as (port, key, _):
         threading.Thread(target=answer, daemon=True).start()
-        same("the listing", asks(port, LISTING, f"Cookie: desk={key}")[::2], (200, "shown"))
+        same("the listing", asks(port, LISTING, f"Cookie: desk-{port}={key}")[::2], (200, "shown"))
 
 
 def test_in_a_browser(world: World, room: str) -> None:
@@ -94,6 +95,19 @@ def test_in_a_browser(world: World, room: str) -> None:
         same("the board", cells(page), BOARD)
         same("where", page.js("location.href"), f"http://127.0.0.1:{port}/desk/")
         same("a field for a token", page.js("document.querySelectorAll('.secret').length"), 0)
+
+
+def test_two_in_a_browser(world: World, room: str) -> None:
+    """Pages at two ports keep their keys beside each other."""
+    with served(world.server.url, room) as (port, key, _), served(world.server.url, room) as (other, theirs, _):
+        with Browser(room) as page:
+            page.go(f"http://127.0.0.1:{port}/desk/?{key}")
+            page.go(f"http://127.0.0.1:{other}/desk/?{theirs}")
+            for each in port, other:
+                page.go(f"http://127.0.0.1:{each}/desk/")
+                same(f"whether the page at {each} is there", page.js("document.title").endswith("Release desk"), True)
+                settled(page)
+                same(f"the board at {each}", cells(page), BOARD)
 
 
 def test_its_words(world: World, room: str) -> None:
