@@ -57,18 +57,19 @@ function moment(it) {
   return `${date} ${[it.getHours(), it.getMinutes(), it.getSeconds()].map(two).join(':')} ${zone}`;
 }
 
-/** When it was answered; and once that is long ago, that it was. */
+/** When it was answered; and once that is long ago, that it was: above the view, where only the minutes change, so that
+ * the keyboard may stay there. */
 function times() {
   const first = askedSince() ?? new Date(), last = new Date();
   const long = last - first > 2000 ? `${moment(first)} to ${moment(last).slice(11)}` : moment(last);
   const it = el('p', { class: 'when' }, `As the broker answered at ${long}.`);
+  const ago = el('span', {}), old = el('p', { class: 'old', role: 'status' }, ago, ' ', again());
   clearInterval(clock);
   clock = setInterval(() => {
-    const minutes = Math.floor((Date.now() - last) / 60000);
+    const minutes = Math.floor((Date.now() - last) / 60000), said = `This was asked ${minutes} minutes ago.`;
     if (minutes < OLD) return;
-    const old = el('p', { class: 'old', role: 'status' }, `This was asked ${minutes} minutes ago. `, again());
-    page('view').querySelector('.old')?.remove();
-    page('view').prepend(old);
+    if (ago.textContent !== said) ago.textContent = said;
+    if (!old.isConnected) page('view').prepend(old);
   }, 5000);
   return it;
 }
