@@ -10,11 +10,13 @@ something is wrong; if it is killed, NEW.part may be left, which the next run re
 import contextlib, os, struct, subprocess, sys
 
 PAGE, RESERVED, SUM = 4096, 20, 8
+# Ended by its first fault, and without ~/.sqliterc of who calls it, which may change what it prints.
+ALONE = ["-batch", "-init", "/dev/null", "-bail"]
 
 
 def sqlite3(file, *words):
     """What sqlite3 prints for these lines over the file."""
-    done = subprocess.run(["sqlite3", "-bail", file, *words], capture_output=True, text=True, check=False)
+    done = subprocess.run(["sqlite3", *ALONE, file, *words], capture_output=True, text=True, check=False)
     if done.returncode or done.stderr:
         sys.exit(f"sqlite3 over {file}: {done.stderr.strip()}")
     return done.stdout

@@ -158,7 +158,7 @@ fi
 # it opens.
 rows() {
   copy_pair "$part" "$room/a.db"
-  sqlite3 -bail "$room/a.db" .dump | sha256sum > "$1"
+  sql "$room/a.db" .dump | sha256sum > "$1"
   rm -f -- "$room/a.db"*
 }
 
@@ -183,7 +183,7 @@ fold() {
     if serve_once $((20000 + RANDOM % 12000)); then return; fi
     case $(cat "$room/said") in
       listen) ;;
-      'open 3.'*) sqlite3 -bail "$part" 'PRAGMA wal_checkpoint(TRUNCATE)' > /dev/null && return ;;
+      'open 3.'*) sql "$part" 'PRAGMA wal_checkpoint(TRUNCATE)' > /dev/null && return ;;
       *) break ;;
     esac
   done

@@ -14,6 +14,9 @@ whole_path() {
   printf '%s\n' "${folder%/}/$(basename -- "$1")"
 }
 
+# sqlite3, ended by its first fault, and without ~/.sqliterc of who calls it, which may change what it prints.
+sql() { sqlite3 -batch -init /dev/null -bail "$@"; }
+
 # lock FILE: waits until no other of these scripts works on FILE, for as long as one may take. The lock is that of the
 # folder of FILE, by descriptor 9. A script that calls another one hands it on, and the other one has it then.
 lock() {

@@ -45,8 +45,8 @@ case $said in
   *) fail "the broker doesn't open $copy: $said" ;;
 esac
 lend "$room/b.db"
-said=$(sqlite3 -bail "$room/b.db" 'PRAGMA integrity_check; PRAGMA foreign_key_check' 2>&1) || true
+said=$(sql "$room/b.db" 'PRAGMA integrity_check; PRAGMA foreign_key_check' 2>&1) || true
 [ "$said" = ok ] || fail "$copy isn't sound: $said"
-sqlite3 "$room/b.db" "SELECT 'format ' || format || ' with ' || n || iif(n = 1, ' contract', ' contracts')
+sql "$room/b.db" "SELECT 'format ' || format || ' with ' || n || iif(n = 1, ' contract', ' contracts')
   FROM meta, (SELECT count(*) AS n FROM contracts)"
 exit $ended

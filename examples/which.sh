@@ -5,12 +5,13 @@
 # Usage: which.sh PROGRAM FILE USER     as root; USER is that of the service
 # As ExecStopPost of a unit it says nothing unless the service ended with status 3.
 set -u
+. "$(dirname -- "$0")/common.sh"
 program=${1:?the path of the program broker} f=${2:?the file of the broker} user=${3:?the user of the service}
 [ "${EXIT_STATUS-3}" = 3 ] || exit 0
 as_user() { runuser -u "$user" -- "$@"; }
 # What a database declares: objects by type and name, columns with their types.
 declared() {
-  sqlite3 -bail "$1" "SELECT type || ' ' || name FROM sqlite_master WHERE name NOT LIKE 'sqlite_%'
+  sql "$1" "SELECT type || ' ' || name FROM sqlite_master WHERE name NOT LIKE 'sqlite_%'
     UNION ALL SELECT 'column ' || m.name || '.' || c.name || ' ' || c.type
     FROM sqlite_master m JOIN pragma_table_info(m.name) c WHERE m.type = 'table'" 2>&1 | sort
 }
