@@ -26,8 +26,8 @@ copy=${3:?the file to make}
 broker=${4-}
 need sqlite3 "$program"
 [ -f "$file" ] || fail "$file isn't there"
-file=$(readlink -f -- "$file")
-copy=$(whole_path "$copy")
+file=$(real_path "$file")
+copy=$(real_path "$copy")
 folder=$(dirname -- "$file")
 umask 077
 lock "$file"

@@ -7,12 +7,9 @@ need() {
   for tool; do command -v "$tool" > /dev/null || fail "$tool isn't installed"; done
 }
 
-# The whole path of a file that may not be there yet: so a name that begins with - is no option of anything.
-whole_path() {
-  local folder
-  folder=$(cd -- "$(dirname -- "$1")" && pwd -P) || fail "$(dirname -- "$1") isn't a folder"
-  printf '%s\n' "${folder%/}/$(basename -- "$1")"
-}
+# The whole path of a file or folder, which may not be there yet, without links: a log is beside its file, and not
+# beside a link to that. So a name that begins with - is no option of anything either.
+real_path() { readlink -f -- "$1" || fail "the folder of $1 isn't there"; }
 
 # sqlite3, ended by its first fault, and without ~/.sqliterc of who calls it, which may change what it prints.
 sql() { sqlite3 -batch -init /dev/null -bail "$@"; }

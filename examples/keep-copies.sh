@@ -16,17 +16,20 @@ keep=${4:?how many copies to keep}
 [[ $keep =~ ^[1-9][0-9]*$ ]] || fail "$keep isn't a number of copies"
 [ -d "$folder" ] || fail "$folder isn't a folder"
 [ -f "$file" ] || fail "$file isn't there"
-lock "$(readlink -f -- "$file")"
+file=$(real_path "$file")
+folder=$(real_path "$folder")
+lock "$file"
 for left in "$folder"/broker-*Z.db*.part.??????; do remove_left "$left"; done
 while new=broker-$(today).db && [ -e "$folder/$new" ]; do sleep 0.1; done
 limit=$(most "$file")
 timeout --foreground -k 60 "$limit" "$(dirname -- "$0")/backup.sh" "$program" "$file" "$folder/$new" ${5+"$5"} ||
   fail "there is no new copy: backup.sh ended with $? (124: it was ended after $limit seconds)"
 
+found=$(copies "$folder")
 later=() earlier=()
 while IFS= read -r copy; do
   if [[ $(date_of "$copy") > $(date_of "$new") ]]; then later+=("$copy"); else earlier+=("$copy"); fi
-done < <(copies "$folder")
+done <<< "$found"
 # The new one is the last of those that aren't later.
 over=$((${#earlier[@]} - keep))
 for copy in "${earlier[@]:0:$((over > 0 ? over : 0))}"; do rm -f -- "$folder/$copy" "$folder/$copy-wal"; done

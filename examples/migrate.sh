@@ -9,7 +9,8 @@ program=${1:?the path of the program broker}
 file=${2:?the file of the broker}
 copy=${3:?the file to keep a copy in}
 [ -f "$file" ] || fail "$file isn't there"
-lock "$(readlink -f -- "$file")"
+file=$(real_path "$file")
+lock "$file"
 "$(dirname -- "$0")/backup.sh" "$program" "$file" "$copy"
 "$program" migrate --file "$file"
 echo "$file is migrated"

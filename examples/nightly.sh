@@ -14,6 +14,7 @@ folder=${3:?the folder of the copies}
 keep=${4:?how many copies to keep}
 report=${5:?the page}
 here=$(dirname -- "$0")
+folder=$(real_path "$folder")
 "$here/keep-copies.sh" "$program" "$file" "$folder" "$keep" ${6+"$6"}
 mapfile -t newest < <(copies "$folder" | tail -n 2 | tac)
 copy=$folder/${newest[0]}

@@ -16,7 +16,8 @@ file=${3:?the file of the broker}
 service=${4-}
 url=${5-http://127.0.0.1:9292}
 need curl sqlite3 "$program"
-file=$(readlink -f -- "$file")
+copy=$(real_path "$copy")
+file=$(real_path "$file")
 folder=$(dirname -- "$file")
 name=$(basename -- "$file")
 [ -d "$folder" ] || fail "$folder isn't a folder"

@@ -19,6 +19,7 @@ other=${5:?the address of the first machine}
 url=${6-http://127.0.0.1:9292}
 refuse() { fail "nothing is changed: $*"; }
 [ -d "$folder" ] || refuse "$folder isn't a folder"
+folder=$(real_path "$folder")
 [[ $other =~ ^(https?)://(\[([0-9a-fA-F:.]+)\]|([A-Za-z0-9._-]+))(:([0-9]{1,5}))?/?$ ]] ||
   refuse "$other isn't an address as https://first.example.org"
 host=${BASH_REMATCH[3]}${BASH_REMATCH[4]} port=${BASH_REMATCH[6]}

@@ -2,15 +2,16 @@
 # Tests a backup of a broker's file, as backup.sh and restore.sh do: the program opens a copy of it, which reads every
 # page, and sqlite3 finds another copy sound. The backup stays as it is. Says how much is in it.
 # Usage: test-copy.sh PROGRAM COPY
-# Needs sqlite3 (the Debian package sqlite3), and beside COPY as much room as it takes. Ends with 0 if COPY is sound,
-# with 2 if it is sound but of a format that this program doesn't serve, and else with 1.
+# Needs sqlite3 (the Debian package sqlite3), and as much room as COPY takes: beside it, or if that is read-only, as a
+# snapshot, in TMPDIR (/var/tmp if it isn't set). Ends with 0 if COPY is sound, with 2 if it is sound but of a format that
+# this program doesn't serve, and else with 1.
 set -eu
 . "$(dirname -- "$0")/common.sh"
 program=${1:?the path of the program broker}
 copy=${2:?the backup}
 need sqlite3 "$program"
 [ -f "$copy" ] || fail "$copy isn't there"
-copy=$(whole_path "$copy")
+copy=$(real_path "$copy")
 umask 077
 
 copying='' room=''
@@ -23,7 +24,9 @@ clean_up() {
   [ "$ended" -le 2 ] || exit 1
 }
 trap clean_up EXIT
-make_room "$copy.test"
+beside=$(dirname -- "$copy")
+[ -w "$beside" ] || beside=${TMPDIR:-/var/tmp}
+make_room "$beside/$(basename -- "$copy").test"
 
 # A copy to open, since who opens one may write to it: the file, and its log if it has one.
 lend() {

@@ -8,6 +8,7 @@ set -u
 . "$(dirname -- "$0")/common.sh"
 program=${1:?the path of the program broker} f=${2:?the file of the broker} user=${3:?the user of the service}
 [ "${EXIT_STATUS-3}" = 3 ] || exit 0
+f=$(real_path "$f" 2> /dev/null) || f=$2
 as_user() { runuser -u "$user" -- "$@"; }
 # What a database declares: objects by type and name, columns with their types.
 declared() {

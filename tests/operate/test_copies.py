@@ -7,7 +7,7 @@ import pytest
 from tests.operate.scripts import await_halt, edited, goes_on, keep, keep_words, names, set_clock
 from tests.operate.service import Service, only, read
 from tests.players.files import statements
-from tests.process import run
+from tests.process import TOP, run
 from tests.wire import same
 from tests.world import RED
 
@@ -110,6 +110,17 @@ def test_linked_folder(service: Service) -> None:
         set_clock(service, f"2026-11-28T{hour}0000Z")
         keep(service, 2, 0, link)
     same("the copies", names(service), [f"broker-2026-11-28T{it}0000Z.db" for it in ("02", "03")])
+
+
+def test_named_like_an_option(service: Service) -> None:
+    """A folder whose name begins with - is cleared as any other, and a page is made of what is in it."""
+    os.mkdir(f"{service.room}/-x", 0o700)
+    words = [f"{TOP}/examples/nightly.sh", service.program, service.file, "-x", "2", "-page", "broker"]
+    for hour in "01", "02", "03":
+        set_clock(service, f"2026-11-28T{hour}0000Z")
+        run(["env", "-C", service.room, *words], 0, service.env)
+    only(f"{service.room}/-x", [f"broker-2026-11-28T{it}0000Z.db" for it in ("02", "03")])
+    assert read(f"{service.room}/-page").startswith("<!"), "no page is made"
 
 
 SLOW = """#!/bin/sh

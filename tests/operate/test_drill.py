@@ -1,7 +1,7 @@
 """The drill: a broker's file is backed up while it is served, lost, and restored, by the scripts of examples/. Its file
 has rows in the log as it is copied; the copy has to be one file with page sums that answers as the broker did. Then the
 file is lost with its log, or a bit of it flips, and examples/restore.sh has to bring back every answer. With a damaged
-copy, or without the service, it has to change nothing."""
+copy, or without the service, it has to change nothing. A copy may be a snapshot: two files, on a disk that takes nothing."""
 import os, shutil, stat
 import pytest
 from tests.operate.service import Service, content, flip, only
@@ -112,6 +112,37 @@ def test_two_files(service: Service) -> None:
     said = service.restore(copy)
     assert f"3 of these are in {service.folder}: remove those that nobody needs\n" in said, said
     same("kept, with a log each but after a clean end", [len(it) for it in service.kept()], [2, 2, 2])
+
+
+def test_linked_copy(service: Service) -> None:
+    """A copy with its log may be named by a link, as to the latest of many: it has the same rows by that name."""
+    after, link = service.answers(), f"{service.room}/latest.db"
+    service.lose_power()
+    os.mkdir(f"{service.room}/snapshot")
+    for end in "", "-wal":
+        shutil.copy(service.file + end, f"{service.room}/snapshot/broker.db{end}")
+    os.symlink("snapshot/broker.db", link)
+    same("test-copy.sh", service.script("test-copy.sh", service.program, link), "format 2 with 3 contracts\n")
+    service.restore(link)
+    same("the answers", service.answers(), after)
+
+
+READ_ONLY = 'mount --bind "$0" "$0"; mount -o remount,bind,ro "$0"; exec "$@"'
+
+
+@pytest.mark.root
+@pytest.mark.needs("unshare")
+def test_disk_that_takes_nothing(service: Service) -> None:
+    """A copy on a disk that is only read, as a snapshot of it: it is tested elsewhere, where nothing is left."""
+    before, copy = service.answers(), service.backup("copy.db")
+    service.do("POST", "/environments/live/deployments", RED, DEPLOYMENT)
+    elsewhere = f"{service.room}/elsewhere"
+    os.mkdir(elsewhere, 0o700)
+    words = ["unshare", "--mount", "bash", "-euc", READ_ONLY, os.path.dirname(copy), *service.restore_words(copy)]
+    run(words, 0, {**service.env, "TMPDIR": elsewhere})
+    same("the answers", service.answers(), before)
+    only(os.path.dirname(copy), ["copy.db"])
+    only(elsewhere, [])
 
 
 def test_open_disk(service: Service) -> None:

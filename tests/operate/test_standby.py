@@ -7,7 +7,7 @@ import datetime, json, os, re, shutil, socket, tempfile, threading, time
 from collections.abc import Iterator
 import pytest
 from tests.operate.service import Service, content, flip
-from tests.process import free_port, run
+from tests.process import TOP, free_port, run
 from tests.wire import Wrong, same
 from tests.world import RED
 
@@ -123,6 +123,16 @@ def test_date_to_come(service: Service, second: Service) -> None:
     refuses(service, second, "a copy with a date to come")
     os.remove(f"{second.room}/backup/broker-2099-01-01T000000Z.db")
     take_over(service, second)
+
+
+def test_folder_like_an_option(service: Service, second: Service) -> None:
+    keep(service, 3)
+    before = service.answers()
+    service.lose_power()
+    shutil.copytree(f"{service.room}/backup", f"{second.room}/-x")
+    words = [f"{TOP}/examples/take-over.sh", second.program, "-x", second.file, "broker", service.url, second.url]
+    run(["env", "-C", second.room, *words], 0, second.env)
+    same("the answers of the second machine", second.answers(), before)
 
 
 def line(moment: datetime.datetime, method: str, path: str, body: str) -> str:

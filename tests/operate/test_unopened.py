@@ -120,6 +120,19 @@ def test_linked(file: str, folder: str, open_program: str) -> None:
     named(file, open_program, "linked")
 
 
+def test_by_a_link(file: str, folder: str, open_room: str, open_program: str) -> None:
+    """A file that is named by a link has its log, its folder and its names where it is itself."""
+    os.symlink(file, f"{open_room}/link.db")
+    words = ["examples/which.sh", open_program, f"{open_room}/link.db", "nobody"]
+    os.link(file, f"{folder}/second.db")
+    same("with a second name", run(words).split(" ")[:2], ["linked:", file])
+    with open(f"{file}-wal", "w", encoding="ascii"):
+        os.chmod(f"{file}-wal", 0o600)
+        os.chown(f"{file}-wal", 0, 0)
+    said = f"forbidden: nobody may not read and write {file}, its log and their folder\n"
+    same("with a log that is root's", run(words), said)
+
+
 @pytest.mark.parametrize("kind", ["fifo", "dangling link", "folder"])
 def test_odd_log(file: str, open_program: str, kind: str) -> None:
     log = f"{file}-wal"
