@@ -6,8 +6,9 @@
 Needs sqlite3 (the Debian package), which copies the rows into pages that keep eight bytes free. This script then writes
 into each page its sum, as SQLite's extension cksumvfs computes it. Stop the service first, make a backup, and serve NEW
 in the place of FILE only when `broker can-i-deploy` over it answers as over FILE. Ends with 1 and without NEW if
-something is wrong; if it is killed, NEW.part may be left, which the next run removes."""
-import contextlib, os, struct, subprocess, sys
+something is wrong; if it is killed, NEW.part may be left, which the next run removes. One at a time works in a folder,
+and the others wait."""
+import contextlib, fcntl, os, struct, subprocess, sys
 
 PAGE, RESERVED, SUM = 4096, 20, 8
 # Ended by its first fault, and without ~/.sqliterc of who calls it, which may change what it prints.
@@ -53,10 +54,17 @@ def make(old, new):
         os.fsync(it.fileno())
 
 
+def wait_for_others(folder):
+    """The lock of the folder, as the scripts beside this one have it while they work there; until this one ends."""
+    with contextlib.suppress(OSError):
+        fcntl.flock(os.open(folder, os.O_RDONLY), fcntl.LOCK_EX)
+
+
 def main():
     if len(sys.argv) != 3:
         sys.exit("usage: add-sums.py FILE NEW")
-    old, new = sys.argv[1:]
+    old, new = map(os.path.abspath, sys.argv[1:])
+    wait_for_others(os.path.dirname(new))
     if not os.path.isfile(old) or os.path.exists(new):
         sys.exit(f"{old} isn't there, or {new} is there already")
     os.umask(0o077)

@@ -15,12 +15,13 @@ keep=${4:?how many copies to keep}
 report=${5:?the page}
 here=$(dirname -- "$0")
 folder=$(real_path "$folder")
+umask 077
 "$here/keep-copies.sh" "$program" "$file" "$folder" "$keep" ${6+"$6"}
 mapfile -t newest < <(copies "$folder" | tail -n 2 | tac)
 copy=$folder/${newest[0]}
 
-part='' room=''
-clean_up() { rm -rf -- ${part:+"$part"} ${room:+"$room"}; }
+room=''
+clean_up() { [ -z "$room" ] || rm -rf -- "$room"; }
 trap clean_up EXIT
 trap 'clean_up; exit 1' HUP INT TERM
 # Of another copy, since who opens a file may write beside it.
@@ -30,10 +31,9 @@ cp -- "$copy" "$room/a.db"
 said=$(timeout --foreground "$(most "$file")" "$program" audit --file "$room/a.db" 2>&1) ||
   { echo "the audit of $copy ends with $?: $said" >&2; ended=1; }
 rm -rf -- "$room"
-room=''
 
-part=$(mktemp -- "$report.part.XXXXXX")
-timeout --foreground "$(most "$file")" "$here/../tools/report" "${newest[@]/#/$folder/}" > "$part" ||
+make_room "$report"
+timeout --foreground "$(most "$file")" "$here/../tools/report" "${newest[@]/#/$folder/}" > "$room/page" ||
   fail "there is no new page: the report of ${newest[0]} isn't made"
-mv -- "$part" "$report"
+mv -- "$room/page" "$report"
 exit "$ended"

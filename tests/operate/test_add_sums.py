@@ -1,9 +1,11 @@
 """examples/add-sums.py: a copy with page sums of a file that has none answers as that does; and it is whole, or not there,
 if the disk becomes full or the script is killed."""
 import os
+from concurrent.futures import ThreadPoolExecutor, wait
 import pytest
 from tests.operate.test_examples import asked
 from tests.process import TOP, Server, ran, run
+from tests.proxy import await_that
 from tests.wire import same
 
 pytestmark = pytest.mark.needs("sqlite3")
@@ -39,6 +41,34 @@ def test_with_sums(program: str, old: str, room: str) -> None:
 @pytest.mark.parametrize("words", [[], ["old.db"], ["old.db", "new.db", "more"]], ids=len)
 def test_words(words: list[str]) -> None:
     same("how it ends", ran([f"{TOP}/examples/add-sums.py", *words]), (1, "", "usage: add-sums.py FILE NEW\n"))
+
+
+HALTED = """#!/bin/sh
+case "$*" in *VACUUM*)
+  if mkdir {room}/begun 2> /dev/null; then while [ ! -e {room}/seen ]; do sleep 0.01; done; fi ;;
+esac
+exec /usr/bin/sqlite3 "$@"
+"""
+
+
+def test_two_at_once(old: str, room: str) -> None:
+    """One makes the copy; the other one waits for it, and finds it there."""
+    os.mkdir(f"{room}/bin")
+    with open(f"{room}/bin/sqlite3", "w", encoding="utf-8") as it:
+        it.write(HALTED.format(room=room))
+    os.chmod(f"{room}/bin/sqlite3", 0o755)
+    words, env = [f"{TOP}/examples/add-sums.py", old, f"{room}/new.db"], {"PATH": f"{room}/bin:{os.environ['PATH']}"}
+    with ThreadPoolExecutor(2) as workers:
+        one = workers.submit(ran, words, env={**os.environ, **env})
+        await_that(lambda: os.path.exists(f"{room}/begun") or one.done(), "the first one works")
+        other = workers.submit(ran, words, env={**os.environ, **env})
+        wait([other], 2)
+        with open(f"{room}/seen", "w", encoding="ascii"):
+            pass
+        ended = [one.result(), other.result()]
+    said = f"{old} isn't there, or {room}/new.db is there already\n"
+    same("how they end", [(it.status, it.errors) for it in ended], [(0, ""), (1, said)])
+    same("the rows of both", *(run(["sqlite3", "-bail", it, ".dump"]) for it in (old, f"{room}/new.db")))
 
 
 @pytest.mark.needs("strace")

@@ -7,6 +7,7 @@ from tests.operate.halts import halted, halting
 from tests.operate.scripts import HALT, await_halt, goes_on, keep, keep_words, names, quick
 from tests.operate.service import Service, only, read
 from tests.process import ran, run
+from tests.proxy import await_that
 from tests.wire import same
 from tests.world import RED
 
@@ -78,6 +79,24 @@ def sleeping(service: Service) -> list[int]:
         except OSError:
             pass
     return found
+
+
+def test_killed_at_the_page(service: Service) -> None:
+    """By signal 9, as nightly.sh makes its page: what is left is removed by the next run, and the page is there."""
+    page, report = f"{service.room}/report.html", f"{service.room}/tools/report"
+    words = [f"{quick(service)}/nightly.sh", *keep_words(service)[1:-1], page, "broker"]
+    os.mkdir(os.path.dirname(report))
+    for text, status in (HALT.format(room=service.room), -signal.SIGKILL), ("#!/bin/sh\necho done\n", 0):
+        with open(report, "w", encoding="ascii") as it:
+            it.write(text)
+        os.chmod(report, 0o755)
+        with subprocess.Popen(words, env={**os.environ, **service.env}, start_new_session=True) as night:
+            if status:
+                await_that(lambda: os.path.exists(f"{service.room}/halted") or night.poll() is not None, "it is begun")
+                os.killpg(night.pid, signal.SIGKILL)
+            same("how it ends", night.wait(60), status)
+    same("the page", read(page), "done\n")
+    same("what is left", [it for it in os.listdir(service.room) if it.startswith("report.html.")], [])
 
 
 def test_left(service: Service) -> None:
