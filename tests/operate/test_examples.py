@@ -258,3 +258,27 @@ def test_service(program: str, room: str) -> None:
             server.process.send_signal(ending)
             server.wait()
     same("Restart", unit("Restart"), ["always"])
+
+
+EAST, BERLIN, HELSINKI = "EST5EDT,M3.2.0,M11.1.0", "CET-1CEST,M3.5.0,M10.5.0/3", "EET-2EEST,M3.5.0/3,M10.5.0/4"
+# A day before a night in which the clock is put forward or back, and that night with the next one.
+NIGHTS = [
+    (EAST, "2027-03-13", ["2027-03-14", "2027-03-15"]),
+    (EAST, "2027-11-06", ["2027-11-07", "2027-11-08"]),
+    (BERLIN, "2027-03-27", ["2027-03-28", "2027-03-29"]),
+    (BERLIN, "2027-10-30", ["2027-10-31", "2027-11-01"]),
+    (HELSINKI, "2027-03-27", ["2027-03-28", "2027-03-29"]),
+    (HELSINKI, "2027-10-30", ["2027-10-31", "2027-11-01"]),
+]
+
+
+@pytest.mark.needs("systemd-analyze")
+@pytest.mark.parametrize("timer", ["nightly", "restart"])
+def test_each_night(timer: str) -> None:
+    """What a timer does each night it does once, also in a night in which the clock is put forward or back."""
+    times = re.findall(r"(?m)^OnCalendar=(.*)$", text_of(f"examples/broker-{timer}.timer"))
+    for clock, day, nights in NIGHTS:
+        words = ["systemd-analyze", "calendar", f"--base-time={day} 12:00:00", "--iterations=2", *times]
+        said = run(words, env={"TZ": clock})
+        found = re.findall(r"(?m)^ *(?:Next elapse|Iter\. #2): \w+ (\S+)", said)
+        same(f"the nights of {clock} after {day}", found, nights)
