@@ -174,6 +174,7 @@ def test_limited(front: Front) -> None:
     if set(statuses) != {200, 429} or statuses.count(200) < WAITING or took < 0.9 * longest or other > 0.75 * longest:
         said = f"{statuses.count(200)} of {len(statuses)} are answered 200 in {took:.1f} s"
         raise Wrong(f"{said}, and another address after {other:.1f} s")
+    same("whether nginx's own log has a line for each", "limiting" in front.log("errors"), False)
 
 
 # More than the 1,024 connections that this nginx has.
@@ -218,10 +219,13 @@ def test_slow_bodies(front: Front) -> None:
 
 
 def test_log_is_small(front: Front) -> None:
-    """What callers without a token send as bodies isn't in the log, nor a path that no broker takes."""
+    """What callers without a token send as bodies isn't in the log, nor a path or a method that no broker takes."""
     for _ in range(5):
         with contextlib.suppress(OSError, http.client.HTTPException):
             among("a long path", front.exchange(front.message(b"accept: */*", f"GET /{'x' * 200_000}")), [400, 414, 431])
+        # A quotation mark is written as two bytes.
+        among("a path to be escaped", shown(front.ask("GET", "/environments/" + '"' * 8_000, None)), [401])
+        among("a long method", shown(front.ask("X" * 8_000, LIVE, None)), [400, 405, 501])
         among("a long body", shown(front.ask("POST", "/environments/x", None, "\x01" * 9_000)), [401, 405])
         among("a longer one", shown(front.ask("POST", "/environments/x/deployments", None, "\x01" * 9_000)), [401])
     await_that(lambda: len(re.findall('"POST"', front.log("log"))) >= 10, "the log has each")

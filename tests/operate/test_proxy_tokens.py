@@ -1,7 +1,7 @@
 """Tokens at the proxies of examples/, nginx and Caddy. One leaks: with the lines of docs/OPERATING.md no spelling lets
 it in, the new one is answered, and so is each token that is like the leaked one; so too for a token that only reads,
 and for the office's. Who changed what is said by the log and `holzhebo who`."""
-import json, os, re, time
+import json, os, re, signal, time
 import pytest
 from tests.operate.front import ALIKE, CLIENT, DENIED, FOLDED, LATEST, LEAKED, NAME, NEW, READER, UNREAD
 from tests.operate.front import Front, Shown, among, asked, shown, who
@@ -12,6 +12,7 @@ from tests.world import BLUE, RED, pact
 
 pytestmark = pytest.mark.needs("openssl")
 LIVE = "/environments/live"
+DEPLOYMENT = b'{"pacticipant":"shop","version":"1"}'
 
 
 def lines_for(front: Front) -> list[str]:
@@ -258,14 +259,37 @@ def test_who(front: Front) -> None:
     same("those that were denied", counted["requests"]['method="POST",status="403"'], refused)
 
 
-def test_capital_letters(front: Front, fleet: Server) -> None:
-    """A host in capital letters hides no change: it is in the log, or it isn't made."""
-    body = b'{"pacticipant":"shop","version":"1"}'
-    message = front.message(f"authorization: Bearer {RED}".encode(), "POST /environments/live/deployments", body)
+def test_client_that_is_gone(front: Front, fleet: Server) -> None:
+    """A change whose client didn't wait for the answer, as the broker was paused for a backup, is done and in the log."""
+    message = front.message(f"authorization: Bearer {RED}".encode(), f"POST {LIVE}/deployments", DEPLOYMENT)
     before = shown(fleet.ask("GET", LIVE, RED))
-    status, _ = front.exchange(message.replace(NAME.encode(), b"Broker.EXAMPLE.org"))
+    fleet.process.send_signal(signal.SIGSTOP)
+    try:
+        with front.open() as peer:
+            peer.sendall(message)
+            time.sleep(1)
+        time.sleep(0.5)
+    finally:
+        fleet.process.send_signal(signal.SIGCONT)
+    await_that(lambda: front.log("log").count("\n") > 0, "the log has it")
+    same("whether it is done", shown(fleet.ask("GET", LIVE, RED)) != before, True)
+    same("who", who(front, "live"), ["red deployments shop 1"])
+
+
+@pytest.mark.parametrize("old, new, of_nginx, of_caddy", [
+    pytest.param(NAME, "Broker.EXAMPLE.org", 200, 421, id="capital letters"),
+    pytest.param("POST /", f"POST http://{'x' * 2000}@AT/", 400, 200, id="a name before the host"),
+    # Of the letters, of two bytes, the thousandth byte of the target is the first one.
+    pytest.param("deployments ", "deployments?" + 600 * "\u00e9" + " ", 200, 200, id="more than is logged"),
+])
+def test_spelled(front: Front, fleet: Server, old: str, new: str, of_nginx: int, of_caddy: int) -> None:
+    """However a request is written, and as long as it may be, it hides no change: that is in the log, or isn't made."""
+    message = front.message(f"authorization: Bearer {RED}".encode(), f"POST {LIVE}/deployments", DEPLOYMENT)
+    before, wanted = shown(fleet.ask("GET", LIVE, RED)), of_nginx if front.end else of_caddy
+    other = new.replace("AT", f"{NAME}:{front.proxy.port}")
+    status, _ = front.exchange(message.replace(old.encode(), other.encode()))
     is_made = shown(fleet.ask("GET", LIVE, RED)) != before
-    same("whether it is made", (status, is_made), (200, True) if front.end else (421, False))
+    same("whether it is made", (status, is_made), (wanted, wanted == 200))
     if is_made:
         await_that(lambda: front.log("log").count("\n") > 0, "the log has it")
         same("who", who(front, "live"), ["red deployments shop 1"])
