@@ -55,13 +55,14 @@ def lines(program: str) -> str:
 
 
 def tried(machine: Machine, program: str, text: str, *folders: str, seconds: float = 180) -> str:
-    """What the lines of Install, and then this text, print on a machine of their own, which has these folders too."""
+    """What the lines of Install, and then this text, print on a machine of their own, which has these folders too:
+    without the digest of the client, which each build has of its own."""
     clean = "userdel broker 2> /dev/null || true\nrm -rf /var/lib/broker /usr/local/*/broker\n"
     whole = f"export HOME=/root\ncd {TOP}\n{clean}{lines(program)}{text}"
     status, output, errors = machine(whole, [TOP, os.path.dirname(program), *folders], seconds)
     if status:
         raise Wrong(f"the lines end with {status}: {output}{errors}")
-    return output
+    return re.sub(r"(?m)^[0-9a-f]{64}(?=  )", "DIGEST", output)
 
 
 @pytest.mark.root
@@ -119,6 +120,60 @@ def block(name: str, begin: str) -> str:
     texts = [str(one or two) for one, two in blocks]
     text, = [it for it in texts if it.strip().startswith(begin)]
     return text
+
+
+# The lines of Install again, as somebody pastes them into a shell that goes on after a fault.
+AGAIN = r"""
+echo '{"environments":["live"]}' > /usr/local/share/broker/desk/desk.json
+cat > /root/again << 'END'
+@LINES@
+END
+echo "== again"
+bash /root/again 2> /dev/null
+echo "== then"
+holzhebo environment later
+cat /usr/local/share/broker/desk/desk.json
+"""
+SAID_AGAIN = """DIGEST  /usr/local/bin/holzhebo
+{"answer":"no route"}known  environment live
+known  team red
+known  pacticipant shop
+known  grant for live
+"""
+
+
+@pytest.mark.root
+@pytest.mark.needs("curl", "ip", "openssl", "unshare")
+def test_installed_again(machine: Machine, program: str) -> None:
+    """As after a fault, or for an upgrade: the office is known by the same token, and the page's settings stay."""
+    output = tried(machine, program, AGAIN.replace("@LINES@", lines(program)))
+    _, again, then = re.split(r"(?m)^== .*\n", output)
+    same("what they print", again, SAID_AGAIN)
+    same("what is there", then, 'new  environment later\n{"environments":["live"]}\n')
+
+
+# Where the lines are that make a proxy's files of tokens: the page or recipe, and the folder of these files.
+TOKEN_FILES = {"docs/CLUSTER.md": "/etc/nginx", "examples/nginx.conf": "/etc/nginx", "examples/Caddyfile": "/etc/caddy"}
+
+
+@pytest.mark.root
+@pytest.mark.needs("caddy")
+@pytest.mark.parametrize("page", TOKEN_FILES)
+def test_files_of_tokens(room: str, page: str) -> None:
+    """The lines that make a proxy's files of tokens keep those that are there, as of another machine."""
+    folder = TOKEN_FILES[page]
+    found = re.findall(rf"(?m)^(?:#|  ) +((?:\[ -e|echo) .*{folder}/broker-.*)$", text_of(page))
+    words = ["bash", "-c", "\n".join(found).replace(folder, room)]
+    names = "broker-teams", "broker-tokens"
+    run(words)
+    same("the files", sorted(os.listdir(room)), [*names])
+    for name in names:
+        with open(f"{room}/{name}", "a", encoding="ascii") as it:
+            it.write(f'"{name}";\n')
+    run(words)
+    for name in names:
+        same(f"the lines of {name}", [it[:1] for it in text_of(f"{room}/{name}").splitlines()], ["#", '"'])
+        same(f"who may read {name}", os.stat(f"{room}/{name}").st_mode & 0o7, 0)
 
 
 CARRIED = r"""
