@@ -83,7 +83,10 @@ class Build:
             env = {**workflow["env"], **step.get("env", {}), "GITHUB_ENV": kept, **given}
             if os.path.exists(kept):
                 with open(kept, encoding="utf-8") as file:
-                    env.update(re.findall(r"(?m)^(.*?)=(.*)$", file.read()))
+                    rows = [it.partition("=") for it in file.read().splitlines()]
+                same(f"lines for the next step that aren't NAME=VALUE, which end a build ({step['run']})",
+                     [it for it in rows if not it[1]], [])
+                env.update((name, value) for name, _, value in rows)
             texts = {key: str(it) for key, it in env.items() if "." not in key}
             env = {key: re.sub(r"\$\{\{ (\S+) \}\}", lambda it: given[str(it[1])], it) for key, it in texts.items()}
             status = self.lines(shell_of(step), step["run"], env)
@@ -217,6 +220,23 @@ def test_one_outcome_a_contract(fleet: Server, client: Client, room: str) -> Non
         same("the build", build.jenkins(BLUE, **given, FAILS="a spoon"), [0, 0, 0, 1, 1])
     rows = json.loads(fleet.ask("GET", "/matrix?pacticipant=stock&version=k1", BLUE).body)["rows"]
     same("what is claimed", [(it["consumer"], it["success"]) for it in rows], [("shop", False), ("web", True)])
+
+
+def test_the_version_that_is_live(fleet: Server, client: Client, room: str) -> None:
+    """A contract is verified with what is deployed without a name; not with what is released there too, or a canary."""
+    fleet.do("PUT", "/pacts/provider/stock/consumer/shop/version/c1", RED, pact("a spoon"))
+    client.done("blue", "register", "stock", "0.9")
+    client.done("blue", "release", "stock", "0.9", "live")
+    client.done("blue", "register", "stock", "1.1")
+    client.done("blue", "deploy", "stock", "1.1", "live", "--instance", "canary")
+    with Stock({"GET /": Reply()}) as stock:
+        build = Build(room, client, stock)
+        given = {"inputs.consumer": "shop", "inputs.version": "c1", "GITHUB_RUN_ID": "7", "GITHUB_RUN_ATTEMPT": "1"}
+        same("GitHub's", build.github("contract.yml", BLUE, given), 0)
+        job = {"CONSUMER": "shop", "CONSUMER_VERSION": "c1", "CI_JOB_ID": "1"}
+        same("GitLab's", build.gitlab("contract", BLUE, **job), 0)
+    rows = json.loads(fleet.ask("GET", "/matrix?pacticipant=shop&version=c1", RED).body)["rows"]
+    same("verified with", [(it["providerVersion"], it["success"]) for it in rows if it["result"]], [("1", True)])
 
 
 def test_a_client_that_fails_in_a_pipe(fleet: Server, client: Client, room: str) -> None:
