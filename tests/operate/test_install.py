@@ -179,33 +179,51 @@ def test_files_of_tokens(room: str, page: str) -> None:
 CARRIED = r"""
 install -d -m 700 /backup
 export HOLZHEBO_TOKEN_FILE=/root/red.token
-for version in $(seq 40); do client/holzhebo register shop $version --branch main > /dev/null; done
-client/holzhebo deploy shop 3 live > /dev/null
-say() { client/holzhebo status live; }
+for version in $(seq 40); do holzhebo register shop $version --branch main > /dev/null; done
+holzhebo deploy shop 3 live > /dev/null
+say() { holzhebo status live; }
+rows() { sqlite3 "$1" 'SELECT count(*), min(version), max(number) FROM versions'; }
+later=$(date -d '180 days' +%F)
 say > /root/before
-export HOLZHEBO_TOKEN_FILE=/root/office-token
-%s
+cat > /root/lines << 'END'
+@LINES@
+END
+bash /root/lines
 echo "== carried"
-say | cmp - /root/before && stat -c %%U /var/lib/broker/broker.db
-sqlite3 /backup/carried.db 'SELECT count(*), min(version), max(number) FROM versions'
-client/holzhebo environment later > /dev/null
-%s
+say | cmp - /root/before && stat -c %U /var/lib/broker/broker.db
+rows /backup/carried-$(date +%F).db
+holzhebo register shop 41 --branch main
+echo "== on the same day"
+bash /root/lines 2> /dev/null || echo "ended with $?"
+say | cmp - /root/before && holzhebo register shop 41 --branch main
+echo "== later"
+{ echo "date() { command date -d '180 days' \"\$@\"; }"; cat /root/lines; } | bash > /dev/null
+say | cmp - /root/before && holzhebo register shop 41 --branch main
+rows /backup/carried-$later.db
+export HOLZHEBO_TOKEN_FILE=/root/office-token
+holzhebo environment later > /dev/null
 echo "== back"
-say | cmp - /root/before && client/holzhebo environment later
+@BACK@
+say | cmp - /root/before && holzhebo environment later
 """
 
 
 @pytest.mark.root
 @pytest.mark.needs("curl", "ip", "openssl", "sqlite3", "unshare")
 def test_years(machine: Machine, program: str) -> None:
-    """The lines of a quiet hour, and those that go back."""
+    """The lines of a quiet hour, in a shell that goes on after a fault; again on that day and half a year later, with
+    what was sent meanwhile; and those that go back."""
     one, other = block("Years", "systemctl stop broker"), block("Years", "examples/restore.sh")
-    output = tried(machine, program, CARRIED % (one, other))
+    back = re.sub(r"\d{4}-\d\d-\d\d", "$later", other)
+    output = tried(machine, program, CARRIED.replace("@LINES@", one).replace("@BACK@", back))
     parts = re.split(r"(?m)^== (.*)\n", output)
-    found = dict(zip(parts[1::2], parts[2::2]))
+    found = {name: text.splitlines() for name, text in zip(parts[1::2], parts[2::2])}
     # The last twenty, and the one that is deployed.
-    same("carried", found["carried"].split("\n")[:2], ["broker", "21|21|21"])
-    same("back", found["back"], "new  environment later\n")
+    same("carried", found["carried"], ["broker", "21|21|21", "shop 41 is new"])
+    same("on the same day", found["on the same day"], ["ended with 1", "shop 41 is known"])
+    same("later", found["later"], ["shop 41 is known", "21|22|21"])
+    last = ["/var/lib/broker/broker.db is restored, and broker serves it", "new  environment later"]
+    same("back", found["back"][-2:], last)
 
 
 # The unit
