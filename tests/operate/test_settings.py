@@ -1,12 +1,11 @@
-"""The scripts of examples/ for somebody whose sqlite3 prints otherwise, by the settings in his ~/.sqliterc: they say the
-same. sqlite3 finds his home in the list of users, whatever HOME says, so they are run where that has another one."""
+"""The scripts of examples/ for somebody with settings of his own, by which sqlite3 prints otherwise and curl asks a proxy:
+they say the same. sqlite3 finds his home in the list of users, so they are run where that has another one."""
 import re
 import pytest
-from tests.process import run, text_of
+from tests.process import Server, run, text_of
 from tests.wire import same
 from tests.world import fleet_file
 
-pytestmark = [pytest.mark.root, pytest.mark.needs("runuser", "sqlite3", "unshare")]
 APART = 'mount --bind "$0" /etc/passwd; exec "$@"'
 SETTINGS = ".headers on\n.mode column\n"
 DROPPED = "CREATE VIEW report AS SELECT 1; DROP INDEX contents_by_digest;"
@@ -27,7 +26,9 @@ def said_by(users: str, *words: str) -> str:
     return run(["unshare", "--mount", "bash", "-euc", APART, users, *words])
 
 
-def test_settings(program: str, room: str, users: str) -> None:
+@pytest.mark.root
+@pytest.mark.needs("runuser", "sqlite3", "unshare")
+def test_of_sqlite3(program: str, room: str, users: str) -> None:
     file, copy, plain = fleet_file(program, room), f"{room}/copy.db", f"{room}/plain.db"
     said = said_by(users, "examples/backup.sh", program, file, copy)
     same("backup.sh, by test-copy.sh", said, f"{copy} holds format 2 with 3 contracts\n")
@@ -37,3 +38,13 @@ def test_settings(program: str, room: str, users: str) -> None:
     run(["sqlite3", "-bail", plain, DROPPED])
     lines = ["it has also: view report", "it lacks: index contents_by_digest"]
     same("which.sh", sorted(said_by(users, "examples/which.sh", program, plain, "root").splitlines()[:-1]), lines)
+
+
+@pytest.mark.needs("curl")
+def test_of_curl(server: Server, room: str) -> None:
+    with open(f"{room}/.curlrc", "w", encoding="ascii") as it:
+        it.write("fail\ninclude\nwrite-out = none\nproxy = http://127.0.0.1:1\n")
+    script = text_of("examples/cluster/serves").replace("127.0.0.1:9292", f"127.0.0.1:{server.port}")
+    run(["sh", "-c", script], env={"HOME": room, "http_proxy": "http://127.0.0.1:1"})
+    server.stop()
+    run(["sh", "-c", script], 1)
