@@ -3,8 +3,8 @@
 # page, and sqlite3 finds another copy sound. The backup stays as it is. Says how much is in it.
 # Usage: test-copy.sh PROGRAM COPY
 # Needs sqlite3 (the Debian package sqlite3), and as much room as COPY takes: beside it, or if that is read-only, as a
-# snapshot, in TMPDIR (/var/tmp if it isn't set). Ends with 0 if COPY is sound, with 2 if it is sound but of a format that
-# this program doesn't serve, and else with 1.
+# snapshot, in TMPDIR (/var/tmp if it isn't set). Ends with 0 if COPY is sound, with 2 if it is sound but of a format
+# that this program doesn't serve, and else with 1.
 set -eu
 . "$(dirname -- "$0")/common.sh"
 program=${1:?the path of the program broker}

@@ -1,7 +1,7 @@
 """The drill: a broker's file is backed up while it is served, lost, and restored, by the scripts of examples/. Its file
 has rows in the log as it is copied; the copy has to be one file with page sums that answers as the broker did. Then the
 file is lost with its log, or a bit of it flips, and examples/restore.sh has to bring back every answer. With a damaged
-copy, or without the service, it has to change nothing. A copy may be a snapshot: two files, on a disk that takes nothing."""
+copy, or without the service, it has to change nothing. A copy may be two files, or on a disk that takes nothing."""
 import os, shutil, stat
 import pytest
 from tests.operate.service import Service, content, flip, only

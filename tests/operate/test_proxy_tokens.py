@@ -260,7 +260,7 @@ def test_who(front: Front) -> None:
 
 
 def test_client_that_is_gone(front: Front, fleet: Server) -> None:
-    """A change whose client didn't wait for the answer, as the broker was paused for a backup, is done and in the log."""
+    """A change whose client didn't wait for the answer, as of a broker that is paused, is done and in the log."""
     message = front.message(f"authorization: Bearer {RED}".encode(), f"POST {LIVE}/deployments", DEPLOYMENT)
     before = shown(fleet.ask("GET", LIVE, RED))
     fleet.process.send_signal(signal.SIGSTOP)

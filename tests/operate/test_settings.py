@@ -1,5 +1,5 @@
-"""The scripts of examples/ for somebody with settings of his own, by which sqlite3 prints otherwise and curl asks a proxy:
-they say the same. sqlite3 finds his home in the list of users, so they are run where that has another one."""
+"""The scripts of examples/ for somebody with settings of his own, by which sqlite3 prints otherwise and curl asks a
+proxy: they say the same. sqlite3 finds his home in the list of users, so they are run where that has another one."""
 import re
 import pytest
 from tests.process import Server, run, text_of
@@ -32,6 +32,8 @@ def test_of_sqlite3(program: str, room: str, users: str) -> None:
     file, copy, plain = fleet_file(program, room), f"{room}/copy.db", f"{room}/plain.db"
     said = said_by(users, "examples/backup.sh", program, file, copy)
     same("backup.sh, by test-copy.sh", said, f"{copy} holds format 2 with 3 contracts\n")
+    said = said_by(users, "script", "-qec", f"examples/test-copy.sh {program} {copy}", "/dev/null")
+    same("at a terminal", said.replace("^D\b\b", ""), "format 2 with 3 contracts\n")
     run(["sqlite3", "-bail", plain], text=run(["sqlite3", "-bail", copy, ".dump"]))
     said = said_by(users, "examples/add-sums.py", plain, f"{room}/sums.db")
     same("add-sums.py", said, f"{room}/sums.db holds the rows of {plain}, with sums\n")
