@@ -120,12 +120,15 @@ def test_without_sums(old: str) -> None:
 
 
 def test_files_beside(old: str) -> None:
-    """A new file that is there, newer rows in a log, and a file that a program has open."""
+    """A new file that is there, newer rows in a log, also beside what a link leads to, and a file that is in use."""
     folder = os.path.dirname(old)
+    link = f"{folder}/link.db"
+    os.symlink("old.db", link)
     for size, name in (1, "new.db"), (4152, "old.db-wal"), (100_000, "old.db-wal"), (1, "old.db-journal"):
         with open(f"{folder}/{name}", "wb") as it:
             it.write(b"x" * size)
         refused(f"{size} bytes in {name}", old)
+        refused(f"{size} bytes in {name}, by a link", link)
         os.remove(f"{folder}/{name}")
     with open(f"{folder}/old.db-wal", "wb") as it:
         it.write(b"x" * 41)

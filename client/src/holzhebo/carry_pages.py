@@ -24,7 +24,8 @@ def page_sum(page: bytes) -> bytes:
 
 def test_copy(path: str) -> bytes:
     """The two bytes of the header that say how the copy is written, if it is one with right sums that nobody uses."""
-    for log, least in (f"{path}-wal", FRAME), (f"{path}-journal", 1):
+    real = os.path.realpath(path)
+    for log, least in (f"{real}-wal", FRAME), (f"{real}-journal", 1):
         if os.path.exists(log) and os.path.getsize(log) >= least:
             raise Refused(f"{log} has newer rows: make a copy by examples/backup.sh")
     with open(path, "rb") as it:

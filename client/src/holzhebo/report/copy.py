@@ -86,10 +86,10 @@ class Copy:
     """A copy of a broker's file."""
 
     def __init__(self, path: str, room: str) -> None:
-        self.path = path
-        self.base = sqlite3.connect(place_of(path, room), uri=True, isolation_level=None)
-        self.made, self.is_dated = made_at(path)
-        self.size = sum(os.path.getsize(path + end) for end in ("", "-wal") if os.path.exists(path + end))
+        self.path, real = path, os.path.realpath(path)
+        self.base = sqlite3.connect(place_of(real, room), uri=True, isolation_level=None)
+        self.made, self.is_dated = made_at(real)
+        self.size = sum(os.path.getsize(real + end) for end in ("", "-wal") if os.path.exists(real + end))
         self.test()
         owners = self.rows("SELECT name, team FROM pacticipants ORDER BY name")
         self.owners = {str(name): str(team) for name, team in owners}
