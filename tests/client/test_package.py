@@ -174,7 +174,7 @@ def has_the_page(client: Shipped, room: str) -> None:
         assert process.stdout
         key = process.stdout.readline().decode().strip().partition("?")[2]
         for name in os.listdir(f"{TOP}/desk"):
-            address = urllib.request.Request(f"http://127.0.0.1:{port}/desk/{name}", headers={"cookie": f"desk={key}"})
+            address = urllib.request.Request(f"http://127.0.0.1:{port}/desk/{name}", headers={"cookie": f"desk-{port}={key}"})
             with urllib.request.urlopen(address) as got, open(f"{TOP}/desk/{name}", "rb") as it:
                 same(name, name == "desk.json" or got.read() == it.read(), True)
         process.terminate()
