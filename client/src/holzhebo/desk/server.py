@@ -227,11 +227,12 @@ class Desk(socketserver.ThreadingTCPServer):
         if not self.is_there():
             raise Refused(502, "The broker isn't there yet, or no longer.")
         line, target = line_to(self.broker, ANSWER_TIME, self.way), self.broker.path.rstrip("/") + request.target
-        asked = by_way(Asked("GET", target, {"connection": "close"}, None), self.broker, self.way)
+        asked = by_way(Asked("GET", target, {}, None), self.broker, self.way)
         try:
             line.putrequest(asked.method, asked.target, skip_accept_encoding=True)
             for name, it in [*asked.headers.items(), *(("authorization", it) for it in self.fields_for(request))]:
                 line.putheader(name, it)
+            line.putheader("connection", "close")
             line.endheaders()
             return whole(line.getresponse())
         except socket.timeout:
