@@ -37,12 +37,12 @@ class Sixty(World):
         same(
             "the limits of the recipe",
             [it.split()[0] for it in limits],
-            ["limit_req_zone", "limit_req", "limit_req_status"],
+            ["limit_req_zone", "limit_req", "limit_req_status", "limit_req_log_level"],
         )
         recipe = text_of("examples/desk-nginx.conf").replace("127.0.0.1:9393", f"127.0.0.1:{self.nginx.port}")
         recipe = recipe.replace("127.0.0.1:9292", f"127.0.0.1:{self.server.port}")
         recipe = recipe.replace("/usr/local/share/broker/desk", self.page)
-        recipe = recipe.replace("location / {", f"location / {{ {limits[1]} {limits[2]}")
+        recipe = recipe.replace("location / {", f"location / {{ {' '.join(limits[1:])}")
         assert isinstance(self.nginx, Nginx)
         self.nginx.start(f"{limits[0]}\n{recipe}")
 

@@ -116,9 +116,9 @@ def test_service(machine: Machine, program: str, room: str) -> None:
     of which one was rotated; and the lines of docs/OPERATING.md for cron."""
     with open(f"{TOP}/docs/OPERATING.md", encoding="utf-8") as it:
         (places, line), = re.findall(r"(?m)^((?: +[A-Z]+=.*\n)+) +\* \* \* \* \* root (holzhebo metrics .*)$", it.read())
-    # What cron gives to sh: the words after = as they are, and nothing of its own surroundings.
+    # What cron gives to sh: the words after = as they are, its umask, and nothing of its own surroundings.
     given = " ".join(f"'{it.strip()}'" for it in places.splitlines())
-    cron = f"env -i PATH=/usr/bin:/bin {given} sh -c '{line}'"
+    cron = f"env -i PATH=/usr/bin:/bin {given} sh -c 'umask 022; {line}'"
     output = tried(machine, program, LINES.replace("@CRON@", cron), room)
     parts = re.split(r"(?m)^== (.*)\n", output)
     found = dict(zip(parts[1::2], parts[2::2]))

@@ -223,8 +223,8 @@ def test_log_is_small(front: Front) -> None:
     for _ in range(5):
         with contextlib.suppress(OSError, http.client.HTTPException):
             among("a long path", front.exchange(front.message(b"accept: */*", f"GET /{'x' * 200_000}")), [400, 414, 431])
-        # A quotation mark is written as two bytes.
-        among("a path to be escaped", shown(front.ask("GET", "/environments/" + '"' * 8_000, None)), [401])
+        # A quotation mark is written as two bytes, and Caddy hands it on as three: more than the broker takes.
+        among("a path to be escaped", shown(front.ask("GET", "/environments/" + '"' * 8_000, None)), [401, 431])
         among("a long method", shown(front.ask("X" * 8_000, LIVE, None)), [400, 405, 501])
         among("a long body", shown(front.ask("POST", "/environments/x", None, "\x01" * 9_000)), [401, 405])
         among("a longer one", shown(front.ask("POST", "/environments/x/deployments", None, "\x01" * 9_000)), [401])
