@@ -58,6 +58,8 @@ def test_the_page(program: str, room: str) -> None:
     earlier, now = two_copies(program, room)
     text = page_of(now, earlier)
     found = Page(text).sections
+    os.symlink("now.db", f"{room}/link.db")
+    same("by a link, whose log is beside the file", Page(page_of(f"{room}/link.db", earlier)).sections, found)
     for title, lines in WANTED.items():
         same(title, found.get(title), lines)
     since = [lines for title, lines in found.items() if title.startswith("Since the copy")]
