@@ -1,5 +1,5 @@
-"""The ledger of wrong bodies, wrong-bodies/refused.tsv: which function and which sentence refused each, and what that
-rests on. A line has the edit, the sum, the function, the sentence and the kit, parted by tabs.
+"""The ledger of mutants, wrong-bodies/refused.tsv: which function and which sentence refused each, and what that rests
+on. A line has the edit, the sum, the function, the sentence and the kit, parted by tabs.
 
 The sum is that of all on which a refusal rests: the edit, the sources of its crate, what crates below it promise, the
 judge, and the logic of the kit. An edit whose line has today's sum isn't tried again, but for those that are drawn:

@@ -1,9 +1,9 @@
 """What the gate took when it was last measured: ci/times.tsv.
 
 A line has a name, a kind, the seconds that it took, the seconds of the processors, the most memory of a process in MB
-(of the whole, of all that ran), how many wrong bodies were tried (of `./build`, how many crates were proved), in how
-many checks, and the date. The kinds are the `proof` of a crate, its wrong `bodies`, and the whole, `./build` or
-`./test`, whose name is the number of processors."""
+(of the whole, of all that ran), how many mutants were tried (of `./build`, how many crates were proved), in how many
+checks, and the date. The kinds are the `proof` of a crate, its `mutants`, and the whole, `./build` or `./test`, whose
+name is the number of processors."""
 import datetime, os
 from collections import namedtuple
 
@@ -15,7 +15,7 @@ Row = namedtuple("Row", "elapsed seconds memory count checks date", defaults=[0,
 
 def measured():
     """The rows of each kind, by their names."""
-    found = {"proof": {}, "bodies": {}, "./build": {}, "./test": {}}
+    found = {"proof": {}, "mutants": {}, "./build": {}, "./test": {}}
     with open(MEASURED, encoding="utf-8") as it:
         for name, kind, *numbers, date in (row.split("\t") for row in it.read().splitlines()):
             found[kind][name] = Row(*map(int, numbers), date)

@@ -2,12 +2,12 @@
 import argparse, collections, filecmp, os, re, subprocess, sys, threading, time
 
 import ledger, measured
-from bodies import Sample, Tries, left_of, tasks_of, unconfirmed, waits_of
 from build import COMPILERS, OUT, PROGRAM, USUAL, Build
 from definitions import TOP
 from edits import edits_of, in_gate, kept
 from kit import free, processors, version
 from lanes import Lanes, Task
+from mutation import Sample, Tries, left_of, tasks_of, unconfirmed, waits_of
 from pytests import OnProgram
 from rooms import Kept, below, files_in, listed
 
@@ -24,12 +24,12 @@ STATIC = {
     "the calls that READMEs list": ["ci/readmes"],
     "the calls that callers are promised": ["ci/calls"],
     "the table of times": ["ci/times"],
-    "the edits can be made": ["ci/wrong-bodies", "--read"],
+    "the edits can be made": ["ci/mutants", "--read"],
     "the judge, the ledger and what is kept": ["ci/trials"],
 }
 # What needs a kit.
 VERDICT, BUILT, SAME, LINES = "rt ci", "./build", "./build beside rt ci", "the command lines of documents"
-BODIES, SAMPLE = "wrong bodies of ", "by rt must-fail, one of "
+MUTANTS, SAMPLE = "mutants of ", "by rt must-fail, one of "
 # How much of why a part failed is said once more at the end, in letters.
 WIDEST = 1000
 # What a check of `rt ci` may still grow to while it goes on beside the others, in bytes.
@@ -114,14 +114,14 @@ class Verdict(threading.Thread):
 
 
 class OnKit:
-    """The parts that need a kit, side by side: `rt ci`; what ./build does; and wrong bodies, over the libraries that it
+    """The parts that need a kit, side by side: `rt ci`; what ./build does; and mutants, over the libraries that it
     makes."""
 
     def __init__(self, suite, names):
         self.suite, self.names, self.store = suite, names, Kept()
-        self.bodies = [Tries(self.store, it, left_of(it, suite.given.anew)) for it in self.crates(BODIES)]
+        self.mutants = [Tries(self.store, it, left_of(it, suite.given.anew)) for it in self.crates(MUTANTS)]
         self.samples = [Sample(self.store, it) for it in self.crates(SAMPLE)]
-        tried = {*self.crates(BODIES), *self.crates(SAMPLE)}
+        tried = {*self.crates(MUTANTS), *self.crates(SAMPLE)}
         wanted = {it for name in tried for it in (*below(name), name) if it in below(PROGRAM)}
         self.build = Build(self.store, [*sorted(wanted), *([PROGRAM] if BUILT in names or SAME in names else [])])
 
@@ -130,10 +130,10 @@ class OnKit:
 
     def tasks(self):
         builds = self.build.tasks()
-        tasks = {**builds, **tasks_of(self.bodies, builds)}
-        for it in self.bodies:
-            key = "bodies", it.name
-            tasks[key] = tasks[key]._replace(call=lambda _, it=it: self.try_bodies(it))
+        tasks = {**builds, **tasks_of(self.mutants, builds)}
+        for it in self.mutants:
+            key = "mutants", it.name
+            tasks[key] = tasks[key]._replace(call=lambda _, it=it: self.try_mutants(it))
         for it in self.samples:
             call = lambda _, it=it: self.try_sample(it)
             took, waits = self.build.took.get(it.name, USUAL), waits_of(it.name, builds)
@@ -142,7 +142,7 @@ class OnKit:
             tasks["lines", ""] = Task([], 0, 2 << 30, lambda _: self.suite.script(LINES, ["ci/commands"]), yields=True)
         return tasks
 
-    def try_bodies(self, tries):
+    def try_mutants(self, tries):
         tries.run()
         name, recorded = tries.name, self.suite.given.record
         spared = len(edits_of(name)) - len(tries.edits)
@@ -151,9 +151,9 @@ class OnKit:
         if recorded:
             with self.suite.printing:
                 ledger.write(tries.lines())
-                measured.record({} if spared else {("bodies", name): tries.row()})
+                measured.record({} if spared else {("mutants", name): tries.row()})
         said = f"{len(tries.refused)} refused, {spared} by the ledger; {tries.checks} checks, {tries.seconds:.0f} s"
-        return self.suite.tell("FAILED" if wrong else "ok", BODIES + name, "; ".join(wrong) or said)
+        return self.suite.tell("FAILED" if wrong else "ok", MUTANTS + name, "; ".join(wrong) or said)
 
     def try_sample(self, sample):
         well, name = sample.run(), SAMPLE + sample.name
@@ -175,7 +175,7 @@ class OnKit:
             self.compare()
         if self.suite.given.record:
             measured.record({("proof", name): row for name, row in self.build.rows.items()})
-        self.suite.memory, self.suite.tried = lanes.memory, sum(len(it.edits) for it in self.bodies)
+        self.suite.memory, self.suite.tried = lanes.memory, sum(len(it.edits) for it in self.mutants)
         for it in [it for it in self.names if it not in self.suite.ends]:
             self.suite.tell("FAILED", it, "NOT TRIED: what it needs isn't proved, or it stopped in the middle")
 
@@ -222,7 +222,7 @@ def words_given():
     read.add_argument("--program", metavar="PATH", type=os.path.abspath, help="only what tries this built program")
     read.add_argument("-k", metavar="WORD", help="only the parts and the tests that have WORD in their names")
     read.add_argument("--list", action="store_true", help="the names of the parts")
-    read.add_argument("--anew", action="store_true", help="tries also the wrong bodies that the ledger has")
+    read.add_argument("--anew", action="store_true", help="tries also the mutants that the ledger has")
     read.add_argument("--record", action="store_true", help="writes the ledger, and what the parts took, into the tree")
     read.add_argument("--allow-not-run", action="store_true", help="what can't be run is skipped, and doesn't fail")
     return read.parse_known_args()
@@ -236,7 +236,7 @@ def main():
     only_tests = bool(given.program or more)
     on_program = OnProgram(suite, given.program or f"{OUT}/{PROGRAM}", more)
     static = dict(list(STATIC.items())[: 1 if only_tests else None])
-    by_crate = [kind + it for kind in (BODIES, SAMPLE) for it in kept()]
+    by_crate = [kind + it for kind in (MUTANTS, SAMPLE) for it in kept()]
     on_kit = [] if only_tests else [VERDICT, BUILT, SAME, LINES, *by_crate]
     chosen = suite.chosen([*static, *on_kit])
     if given.list:

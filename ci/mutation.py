@@ -1,4 +1,4 @@
-"""Tries wrong bodies: edits that the contracts of their crates have to refuse.
+"""Tries mutants: bodies that an edit makes wrong, and that the contracts of their crates have to refuse.
 
 As many are tried in one check as are in different functions, and only these functions are checked, over the contracts
 of those that they call, which are taken as proved, by a hole in the place of each proof: the proofs are tried apart.
@@ -59,7 +59,7 @@ class Tries:
 
     def lose(self, edit, why):
         self.lost[edit] = why
-        print(f"wrong bodies: {ledger.name_of(edit)}: {why}", flush=True)
+        print(f"mutants: {ledger.name_of(edit)}: {why}", flush=True)
 
     def tell_refused(self, edit, functions, said):
         """Notes by which function and sentence it is refused: its own function's, if that says so."""
@@ -182,9 +182,9 @@ def waits_of(name, builds):
 
 def tasks_of(tries, builds):
     """What of the lanes tries these, the dearest first."""
-    took = measured()["bodies"]
+    took = measured()["mutants"]
     return {
-        ("bodies", it.name): Task(
+        ("mutants", it.name): Task(
             waits_of(it.name, builds),
             took.get(it.name, USUAL).elapsed * len(it.edits) / max(took.get(it.name, USUAL).count, 1),
             took.get(it.name, USUAL).memory << 20,
@@ -196,7 +196,7 @@ def tasks_of(tries, builds):
 
 
 class Sample:
-    """One wrong body of a crate, drawn by the commit, that the kit's own judge has to refuse too: `rt must-fail`, in a
+    """One mutant of a crate, drawn by the commit, that the kit's own judge has to refuse too: `rt must-fail`, in a
     room of its own."""
 
     def __init__(self, kept, name):

@@ -1,8 +1,8 @@
-"""The rules of wrong bodies and of callers.
+"""The rules of mutants and of callers.
 
-- Each public function has a wrong body: an edit changes its own body, or that of a private function that nothing but it
+- Each public function has a mutant: an edit changes its own body, or that of a private function that nothing but it
   reaches. wrong-bodies/WITHOUT has the others. A law, which gives nothing back and changes nothing, needs none.
-- An edit of a wrong body changes files of src/ alone, so that a contract refuses it. One of a definition is in
+- An edit that makes a mutant changes files of src/ alone, so that a contract refuses it. One of a definition is in
   wrong-definitions/, and changes files of specs/ alone.
 - Only the crates of KIT have edits in must-fail/, which `rt ci` proves once more for them; all others are in
   wrong-bodies/.
@@ -33,7 +33,7 @@ def in_must_fail(crates):
     for it in crates:
         has = bool(in_gate(it.name))
         if has != (it.name in KIT):
-            yield f"crates/{it.name}/must-fail: it has {'an' if has else 'no'} edit, against ci/rules/bodies.py"
+            yield f"crates/{it.name}/must-fail: it has {'an' if has else 'no'} edit, against ci/rules/mutants.py"
 
 
 def turned(crate):
@@ -84,7 +84,7 @@ def reached(begun, called, without=None):
     return found
 
 
-def without_wrong_body(crate):
+def without_mutant(crate):
     """The public functions for which no edit changes their own body or one that nothing else reaches."""
     called = {it: called_by(it, crate.functions) for it in crate.functions}
     public = [it for it in crate.functions if crate.is_public(it) and not it.is_law]
@@ -134,7 +134,7 @@ def uncalled(product, checks):
 def faults(product, checks):
     yield from in_wrong_files()
     yield from in_must_fail(product + checks)
-    lacking = ((crate, it) for crate in product for it in without_wrong_body(crate))
-    yield from against("wrong-bodies/WITHOUT", lacking, "has no wrong body", "has one")
+    lacking = ((crate, it) for crate in product for it in without_mutant(crate))
+    yield from against("wrong-bodies/WITHOUT", lacking, "has no mutant", "has one")
     lacking = uncalled(product, checks)
     yield from against("ci/UNCALLED", lacking, "is called by no other crate of the product", "is called")
