@@ -1,5 +1,8 @@
 //! Trees of values, weights, the rule that is chosen, and what matchers hold of.
-use pact_rules::{Path, RuleFault, RuleTable, Step, holds, weight};
+ghost use Rattle.std.specs.Prelude.{IfOk};
+ghost use Rattle.pact_rules.specs.Walks.{WasStarted};
+
+use pact_rules::{Alive, Path, PathFault, RuleFault, RuleTable, Step, holds, weight};
 use pact_trees::{Tree, TreeFault, tree_of};
 use serde_json::Value;
 use std::alloc::Global;
@@ -98,6 +101,53 @@ fn kinds(rt: HostRuntime) -> Result<(), Fail> {
     Ok(())
 }
 
+/// Texts of paths; for each the text of what is read, and why nothing is.
+const PATHS: [(&str, &str, Option<PathFault>); 7] = [
+    ("$['it em'][007]", "$.it em[7]", None),
+    ("$['a.b'].*", "$['a.b'][*]", None),
+    ("$", "$", None),
+    ("item", "", Some(PathFault::NoRoot)),
+    ("$.a..b", "", Some(PathFault::BadToken(3))),
+    ("$.", "", Some(PathFault::BadToken(1))),
+    ("$[1234567890]", "", Some(PathFault::BadToken(1))),
+];
+
+#[test]
+fn paths(rt: HostRuntime) -> Result<(), Fail> {
+    for (text, wanted, why) in PATHS {
+        match Path::read(rt.alloc(), text) {
+            Ok(path) => {
+                let plain = path.text(rt.alloc())?;
+                assert_eq!(rt; plain.as_str(), wanted, "{text}");
+                assert_eq!(rt; why, None, "{text}");
+            },
+            Err(fault) => assert_eq!(rt; Some(fault), why, "{text}"),
+        }
+    }
+    Ok(())
+}
+
+/// How often there is `.a` behind the root, and what that path weighs at as many keys; 0 if it has too many tokens.
+const LONG_PATHS: [(usize, u64); 4] = [(0, 2), (59, 1 << 60), (60, 2305843009213693952), (61, 0)];
+
+#[test]
+fn long_paths(rt: HostRuntime) -> Result<(), Fail> {
+    for (count, wanted) in LONG_PATHS {
+        let alloc = rt.alloc();
+        let tokens = ".a".repeat(alloc, count)?;
+        let text = format!(in alloc; "${tokens}")?;
+        let keys = vec![in alloc; "a"; count]?;
+        let steps = location(alloc, &keys)?;
+        let weighs = match Path::read(alloc, text.as_str()) {
+            Ok(path) => weight(&path, &steps),
+            Err(PathFault::TooManyTokens) => 0,
+            Err(_) => 1,
+        };
+        assert_eq!(rt; weighs, wanted, "{count} tokens");
+    }
+    Ok(())
+}
+
 /// What each path weighs at `$.item1.level[1].id`.
 const WEIGHTS: [(&str, u64); 11] = [
     ("$", 2),
@@ -164,6 +214,63 @@ fn choices(rt: HostRuntime) -> Result<(), Fail> {
         let text = path_chosen(rt.alloc(), rules, words)?;
         assert_eq!(rt; text.as_str(), wanted);
     }
+    Ok(())
+}
+
+const ALONG: &str =
+    "{\"body\":{\"$.item1.level\":{\"matchers\":[{\"match\":\"type\"}]},\"$.item1.level[*]\":{\"matchers\":[{\"match\":\"type\"}]},\"$.*.level[*].id\":{\"matchers\":[{\"match\":\"type\"}]}}}";
+
+/// The walk after the step of this word.
+fn stepped(alloc: Global, table: &RuleTable, alive: &Alive, word: &str) -> Result<Alive, Fail>
+    requires { WasStarted table.now alive.now }
+    ensures { IfOk result (WasStarted table.now) }
+{
+    let step = match word.parse::<u64>() {
+        Ok(index) => Step::Index(index),
+        Err(_) => Step::Key(String::from_str(alloc, word)?),
+    };
+    Ok(alive.step(alloc, table, &step)?)
+}
+
+/// The path that is chosen where the walk is, and whether that is its own place: as `path (own)`.
+fn seen(alloc: Global, table: &RuleTable, alive: &Alive) -> Result<String, Fail>
+    requires { WasStarted table.now alive.now }
+{
+    let own = alive.own_place(table);
+    match alive.chosen(table) {
+        Some(index) => {
+            let path = table.path(index).text(alloc)?;
+            Ok(format!(in alloc; "{path} {own}")?)
+        },
+        None => Ok(format!(in alloc; "none {own}")?),
+    }
+}
+
+/// The rule that a walk chooses is that of `choose` at the steps taken.
+#[test]
+fn walk(rt: HostRuntime) -> Result<(), Fail> {
+    let alloc = rt.alloc();
+    let table = table(alloc, ALONG)?;
+    let root = table.start(alloc)?;
+    assert_eq!(rt; seen(alloc, &table, &root)?.as_str(), "none false");
+    let item = stepped(alloc, &table, &root, "item1")?;
+    assert_eq!(rt; seen(alloc, &table, &item)?.as_str(), "none false");
+    let level = stepped(alloc, &table, &item, "level")?;
+    assert_eq!(rt; seen(alloc, &table, &level)?.as_str(), "$.item1.level true");
+    let first = stepped(alloc, &table, &level, "1")?;
+    assert_eq!(rt;
+        seen(alloc, &table, &first)?.as_str(),
+        "$.item1.level[*] true"
+    );
+    let id = stepped(alloc, &table, &first, "id")?;
+    assert_eq!(rt; seen(alloc, &table, &id)?.as_str(), "$[*].level[*].id true");
+    let below = stepped(alloc, &table, &id, "x")?;
+    assert_eq!(rt;
+        seen(alloc, &table, &below)?.as_str(),
+        "$[*].level[*].id false"
+    );
+    let other = stepped(alloc, &table, &root, "item2")?;
+    assert_eq!(rt; seen(alloc, &table, &other)?.as_str(), "none false");
     Ok(())
 }
 
