@@ -127,7 +127,7 @@ fn paths(rt: HostRuntime) -> Result<(), Fail> {
     Ok(())
 }
 
-/// How often there is `.a` behind the root, and what that path weighs at as many keys; 0 if it has too many tokens.
+/// How often `.a` follows the root, and what that path weighs at as many keys; 0 if it has too many tokens.
 const LONG_PATHS: [(usize, u64); 4] = [(0, 2), (59, 1 << 60), (60, 2305843009213693952), (61, 0)];
 
 #[test]
@@ -232,7 +232,7 @@ fn stepped(alloc: Global, table: &RuleTable, alive: &Alive, word: &str) -> Resul
     Ok(alive.step(alloc, table, &step)?)
 }
 
-/// The path that is chosen where the walk is, and whether that is its own place: as `path (own)`.
+/// What the walk chooses after these steps: the path, and true if it ends here.
 fn seen(alloc: Global, table: &RuleTable, alive: &Alive) -> Result<String, Fail>
     requires { WasStarted table.now alive.now }
 {
