@@ -197,13 +197,14 @@ def fault(it: Any) -> list[Any]:
 
 
 class Counted:
-    """The model, with how often it was asked."""
+    """The model, with what it was asked. Several threads ask at once, so this is a list: += might lose one."""
 
     def __init__(self, model: Model) -> None:
-        self.model, self.asked = model, 0
+        self.model, self.asked = model, list[str]()
 
     def get(self, target: str) -> Json:
-        self.asked += not target.startswith("/environments/")
+        if not target.startswith("/environments/"):
+            self.asked.append(target)
         return self.model.get(target)
 
 
@@ -217,7 +218,7 @@ def said(subject: Subject, fleet: Fleet, model: Model) -> Json:
         "kept": [[*it, instance] for it, instance in plan.situation.kept],
         "order": order,
         "isSure": is_sure,
-        "asked": counted.asked,
+        "asked": len(counted.asked),
         "after": [plan.after(x, order) for x in order],
         "instead": [plan.largest(x)[0] for x in plan.all if x not in order],
         "now": [[fault(it) for it in plan.faults(x, set())] for x in plan.all],
