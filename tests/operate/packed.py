@@ -4,10 +4,13 @@ import pytest
 from tests.process import run, text_of
 from tests.wire import same
 
+# By which the package is the same each time.
+MOMENT = {"SOURCE_DATE_EPOCH": "1700000000"}
+
 
 def packed(program: str, folder: str) -> str:
     """The path of the package, made in this folder."""
-    run(["packaging/deb", program, folder], env={"SOURCE_DATE_EPOCH": "1700000000"})
+    run(["packaging/deb", program, folder], env=MOMENT)
     name, = os.listdir(folder)
     same("its name", name, f"holzhebo_{version_of(program)}_amd64.deb")
     return f"{folder}/{name}"

@@ -1,7 +1,7 @@
 """What is in the package of packaging/deb: read by lintian, the Python that it needs, the files that it names."""
-import glob, os, re
+import glob, os, re, shutil
 import pytest
-from tests.operate.packed import packages, packed  # the first is a fixture
+from tests.operate.packed import MOMENT, packages  # the last is a fixture
 from tests.process import TOP, bytes_of, ran, run, text_of
 from tests.wire import same
 
@@ -10,8 +10,11 @@ pytestmark = [pytest.mark.first, pytest.mark.needs("dh_python3", "dpkg-deb"), py
 
 
 def test_made_again(program: str, packages: str, room: str) -> None:
-    """It is the same file, and has the program byte for byte."""
-    same("the package", bytes_of(packed(program, room)) == bytes_of(f"{packages}/new.deb"), True)
+    """It is the same file, beside the program if no folder is said, and has the program byte for byte."""
+    shutil.copy(program, f"{room}/broker")
+    run(["env", "-C", room, f"{TOP}/packaging/deb", "broker"], env=MOMENT)
+    made, = glob.glob(f"{room}/*.deb")
+    same("the package", bytes_of(made) == bytes_of(f"{packages}/new.deb"), True)
     same("the program in it", bytes_of(f"{packages}/tree/usr/bin/broker") == bytes_of(program), True)
 
 
