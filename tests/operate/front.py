@@ -200,13 +200,14 @@ class Caddy(Front):
     def start(self, broker: str) -> None:
         self.proxy = proxy.Caddy(self.room)
         own = f"\tbind 127.0.0.1\n\ttls {self.room}/cert.pem {self.room}/key.pem"
-        changes = {f"{NAME} {{": f"https://{NAME}:{self.proxy.port} {{\n{own}", "127.0.0.1:9292": broker}
+        changes = {f"{NAME} {{": f"{NAME} {{\n{own}", "127.0.0.1:9292": broker}
         changes["/etc/caddy/broker-tokens"] = f"{self.room}/tokens"
         changes["/etc/caddy/broker-teams"] = f"{self.room}/teams"
         changes["/var/log/caddy/broker.log"] = f"{self.room}/log"
         for name in "reader?", "build?", "des?":
             changes[f"/etc/caddy/broker-{name}"] = f"{self.room}/broker-{name}"
-        admin = f"unix/{self.room}/admin.sock\n\tauto_https disable_redirects"
+        # The port is said here, and not with the name, by which Caddy finds the log.
+        admin = f"unix/{self.room}/admin.sock\n\tauto_https disable_redirects\n\thttps_port {self.proxy.port}"
         self.proxy.start(self.changed("Caddyfile", {**changes, "unix//var/lib/caddy/admin.sock": admin}))
 
     def reload(self) -> None:

@@ -279,6 +279,7 @@ def test_client_that_is_gone(front: Front, fleet: Server) -> None:
 @pytest.mark.parametrize("old, new, of_nginx, of_caddy", [
     pytest.param(NAME, "Broker.EXAMPLE.org", 200, 421, id="capital letters"),
     pytest.param("POST /", f"POST http://{'x' * 2000}@AT/", 400, 200, id="a name before the host"),
+    pytest.param(f"{NAME}:PORT", f"[{NAME}]", 200, 421, id="brackets"),
     # Of the letters, of two bytes, the thousandth byte of the target is the first one.
     pytest.param("deployments ", "deployments?" + 600 * "\u00e9" + " ", 200, 200, id="more than is logged"),
 ])
@@ -286,7 +287,7 @@ def test_spelled(front: Front, fleet: Server, old: str, new: str, of_nginx: int,
     """However a request is written, and as long as it may be, it hides no change: that is in the log, or isn't made."""
     message = front.message(f"authorization: Bearer {RED}".encode(), f"POST {LIVE}/deployments", DEPLOYMENT)
     before, wanted = shown(fleet.ask("GET", LIVE, RED)), of_nginx if front.end else of_caddy
-    other = new.replace("AT", f"{NAME}:{front.proxy.port}")
+    old, other = old.replace("PORT", str(front.proxy.port)), new.replace("AT", f"{NAME}:{front.proxy.port}")
     status, _ = front.exchange(message.replace(old.encode(), other.encode()))
     is_made = shown(fleet.ask("GET", LIVE, RED)) != before
     same("whether it is made", (status, is_made), (wanted, wanted == 200))
