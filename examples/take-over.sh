@@ -33,5 +33,8 @@ copy=$(copies "$folder" | tail -n 1)
 [ -n "$copy" ] || refuse "there is no copy in $folder"
 made=$(date_of "$copy")
 [[ ! $made > $(today) ]] || refuse "$copy has a date to come: set the clock, or rename it if it isn't the newest"
-"$(dirname -- "$0")/restore.sh" "$program" "$folder/$copy" "$file" "$service" "$url"
+"$(dirname -- "$0")/restore.sh" "$program" "$folder/$copy" "$file" "$service" "$url" ||
+  fail "if $copy can't be served, as one that was being fetched, move it away: then the one before it is the newest"
+systemctl is-enabled --quiet "$service" ||
+  echo "$service isn't started with this machine: systemctl enable $service"
 echo "send again what was changed since $(sed -E 's/(..)(..)Z$/:\1:\2+00:00/' <<< "$made")"

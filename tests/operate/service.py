@@ -11,6 +11,7 @@ SYSTEMCTL = """#!/bin/sh
 pid=$(cat {room}/pid)
 case "$*" in
   "cat broker") ;;
+  "is-enabled --quiet broker") [ -e {room}/enabled ] ;;
   "show --property MainPID --value broker") echo "$pid" ;;
   "show --property ActiveState --value broker") if [ -e "/proc/$pid/exe" ]; then echo active; else echo inactive; fi ;;
   "kill --signal STOP broker") kill -s STOP "$pid" ;;

@@ -7,7 +7,7 @@ import datetime, json, os, re, shutil, socket, tempfile, threading, time
 from collections.abc import Iterator
 import pytest
 from tests.operate.service import Service, content, flip
-from tests.process import TOP, free_port, run
+from tests.process import TOP, free_port, ran, run
 from tests.wire import Wrong, same
 from tests.world import RED
 
@@ -68,6 +68,25 @@ def refuses(first: Service, second: Service, why: str, other: str | None = None,
     take_over(first, second, 1, other, **env)
     same(f"the second machine's files with {why}", content(second.folder) == before, True)
     same(f"whether the second machine serves with {why}", second.is_served(), False)
+
+
+def test_cut_off(service: Service, second: Service) -> None:
+    """The first machine is lost as its newest copy is fetched: it is said what to do, and then the one before is taken."""
+    before = service.answers()
+    keep(service, 3)
+    service.do("POST", "/environments/live/deployments", RED, DEPLOYMENT)
+    keep(service, 3)
+    fetch(service, second)
+    service.lose_power()
+    newest = f"{second.room}/backup/{copies(second)[-1]}"
+    os.truncate(newest, os.path.getsize(newest) // 2)
+    words = ["examples/take-over.sh", second.program, f"{second.room}/backup", second.file, "broker", service.url]
+    ended = ran([*words, second.url], env={**os.environ, **second.env})
+    said = f"if {copies(second)[-1]} can't be served, as one that was being fetched, move it away: "
+    same("how it ends", (ended.status, said in ended.errors.splitlines()[-1]), (1, True))
+    os.rename(newest, f"{second.room}/cut-off.db")
+    take_over(service, second)
+    same("the answers of the second machine", second.answers(), before)
 
 
 def test_refused(service: Service, second: Service) -> None:
@@ -158,7 +177,8 @@ def test_taken_over(service: Service, second: Service) -> None:
     if at_copy == last:
         raise Wrong("the change isn't in the answers")
     service.lose_power()
-    said = take_over(service, second).rstrip("\n").split("\n")[-1]
+    *_, start, said = take_over(service, second).rstrip("\n").split("\n")
+    same("what is said of the next start", start, "broker isn't started with this machine: systemctl enable broker")
     same("the answers of the second machine", second.answers(), at_copy)
     since = re.fullmatch(r"send again what was changed since (\d{4}-\d\d-\d\dT\d\d:\d\d:\d\d\+00:00)", said)
     if not since:
@@ -168,3 +188,12 @@ def test_taken_over(service: Service, second: Service) -> None:
     same("changes to send again", [len(again), "/environments/live/deployments" in again[0]], [1, True])
     second.do("POST", "/environments/live/deployments", RED, DEPLOYMENT)
     same("the answers once it is sent again", second.answers(), last)
+
+
+def test_enabled(service: Service, second: Service) -> None:
+    keep(service, 3)
+    fetch(service, second)
+    service.lose_power()
+    with open(f"{second.room}/enabled", "w", encoding="ascii"):
+        pass
+    same("whether that is said", "systemctl enable" in take_over(service, second), False)
