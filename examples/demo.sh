@@ -19,12 +19,14 @@ trap 'rm -rf "$room"' EXIT
 for caller in office-token-0001 red-team-token-0001 blue-team-token-0001; do
   printf 'authorization: Bearer %s\n' "$caller" > "$room/${caller%%-*}"
 done
+# Who calls it may have settings of curl, or a proxy.
+alone=(-q --noproxy '*')
 how=(-s --retry 50 --retry-connrefused --retry-delay 1)
 
 # ask STATUS CALLER METHOD PATH [BODY]: one request, which has to be answered with the status; the answer is in $answer
 ask() {
   local status=$1 caller=$2 method=$3 path=$4
-  answer=$(printf %s "${5-}" | curl "${how[@]}" -w '\n%{http_code}' -X "$method" -H @"$room/$caller" \
+  answer=$(printf %s "${5-}" | curl "${alone[@]}" "${how[@]}" -w '\n%{http_code}' -X "$method" -H @"$room/$caller" \
     --data-binary @- "$url/$path") || { echo "there is no answer from $url" >&2; exit 1; }
   how=(-sS)
   if [ "${answer##*$'\n'}" != "$status" ]; then

@@ -14,10 +14,10 @@ pact=pacts/provider/stock/consumer/shop/version/1
 wait=(--retry 50 --retry-connrefused --retry-delay 1)
 
 # ask TOKEN METHOD PATH [BODY]: one request and its answer. The token, and a body, which may have one too, go to curl by
-# files, since the words of a command line are seen by others on the machine.
+# files, since the words of a command line are seen by others on the machine; and to no proxy.
 ask() {
   echo "$2 /$3 ${4-}"
-  curl -sS ${wait+"${wait[@]}"} -X "$2" -H @<(printf 'authorization: Bearer %s\n' "$1") \
+  curl -q -sS --noproxy '*' ${wait+"${wait[@]}"} -X "$2" -H @<(printf 'authorization: Bearer %s\n' "$1") \
     --data-binary @<(printf %s "${4-}") "$url/$3"
   echo
   unset wait

@@ -1,13 +1,14 @@
 """The scripts of examples/ for somebody with settings of his own, by which sqlite3 prints otherwise and curl asks a
 proxy: they say the same. sqlite3 finds his home in the list of users, so they are run where that has another one."""
-import re
+import os, re
 import pytest
 from tests.process import Server, run, text_of
 from tests.wire import same
-from tests.world import fleet_file
+from tests.world import DONE, fleet_file, new_file
 
 APART = 'mount --bind "$0" /etc/passwd; exec "$@"'
 SETTINGS = ".headers on\n.mode column\n"
+DEPLOYMENT = 'environments/live/deployments {"pacticipant":"shop","version":"1"}'
 DROPPED = "CREATE VIEW report AS SELECT 1; DROP INDEX contents_by_digest;"
 
 
@@ -43,10 +44,17 @@ def test_of_sqlite3(program: str, room: str, users: str) -> None:
 
 
 @pytest.mark.needs("curl")
-def test_of_curl(server: Server, room: str) -> None:
+def test_of_curl(program: str, room: str) -> None:
     with open(f"{room}/.curlrc", "w", encoding="ascii") as it:
         it.write("fail\ninclude\nwrite-out = none\nproxy = http://127.0.0.1:1\n")
-    script = text_of("examples/cluster/serves").replace("127.0.0.1:9292", f"127.0.0.1:{server.port}")
-    run(["sh", "-c", script], env={"HOME": room, "http_proxy": "http://127.0.0.1:1"})
-    server.stop()
-    run(["sh", "-c", script], 1)
+    env = {"HOME": room, "http_proxy": "http://127.0.0.1:1"}
+    with Server(program, new_file(program, room)) as server:
+        said = run(["examples/one-deployment.sh", server.url], env=env).splitlines()
+        same("one-deployment.sh", said[-2:], ["POST /" + DEPLOYMENT, DONE])
+        script = text_of("examples/cluster/serves").replace("127.0.0.1:9292", f"127.0.0.1:{server.port}")
+        run(["sh", "-c", script], env=env)
+        server.stop()
+        run(["sh", "-c", script], 1, env)
+    os.mkdir(f"{room}/demo")
+    with Server(program, new_file(program, f"{room}/demo")) as server:
+        run(["examples/demo.sh", server.url], env=env)
