@@ -77,3 +77,10 @@ def is_read(own: Address, peer: Address) -> bool:
     """Whether a process has read all that has come to this socket, or it is there no more."""
     found = socket_at(own, peer)
     return found is None or found.state == LISTENS or found.unread == 0
+
+
+def has_come(port: int) -> bool:
+    """Whether a connection to this port has bytes that nobody has read, also one that isn't accepted yet."""
+    with open("/proc/net/tcp", encoding="ascii") as it:
+        rows = [line.split(None, 5) for line in it]
+    return any(row[1].endswith(f":{port:04X}") and row[3] == "01" and int(row[4][9:], 16) for row in rows[1:])

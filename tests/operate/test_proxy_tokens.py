@@ -5,6 +5,7 @@ import json, os, re, signal, time
 import pytest
 from tests.operate.front import ALIKE, CLIENT, DENIED, FOLDED, LATEST, LEAKED, NAME, NEW, READER, UNREAD
 from tests.operate.front import Front, Shown, among, asked, shown, who
+from tests.kernel import has_come
 from tests.process import Server, run, text_of
 from tests.proxy import await_that
 from tests.wire import OFFICE, same
@@ -267,7 +268,7 @@ def test_client_that_is_gone(front: Front, fleet: Server) -> None:
     try:
         with front.open() as peer:
             peer.sendall(message)
-            time.sleep(1)
+            await_that(lambda: has_come(fleet.port), "the broker is asked")
         time.sleep(0.5)
     finally:
         fleet.process.send_signal(signal.SIGCONT)
@@ -278,8 +279,8 @@ def test_client_that_is_gone(front: Front, fleet: Server) -> None:
 
 @pytest.mark.parametrize("old, new, of_nginx, of_caddy", [
     pytest.param(NAME, "Broker.EXAMPLE.org", 200, 421, id="capital letters"),
-    pytest.param("POST /", f"POST http://{'x' * 2000}@AT/", 400, 200, id="a name before the host"),
     pytest.param(f"{NAME}:PORT", f"[{NAME}]", 200, 421, id="brackets"),
+    pytest.param("POST /", f"POST http://{'x' * 2000}@AT/", 400, 200, id="a name before the host"),
     # Of the letters, of two bytes, the thousandth byte of the target is the first one.
     pytest.param("deployments ", "deployments?" + 600 * "\u00e9" + " ", 200, 200, id="more than is logged"),
 ])
