@@ -18,7 +18,7 @@ MADE = """
 echo
 cd /var/lib/broker
 stat -c '%n %U %G %a' . broker.db /usr/local/bin/broker /root/office-token /root/red.token /usr/local/bin/holzhebo
-stat -c '%n %U %G %a' /usr/local/share/broker/desk/index.html /backup/nightly
+stat -L -c '%n %U %G %a' /usr/local/share/broker/desk/index.html /usr/local/share/broker/desk/holzhebo /backup/nightly
 /usr/local/share/broker/tools/report --help | head -n 1
 getent passwd broker | cut -d: -f6-
 systemd-analyze verify /etc/systemd/system/broker.service 2>&1
@@ -38,6 +38,7 @@ broker.db broker broker 600
 /root/red.token root root 600
 /usr/local/bin/holzhebo root root 755
 /usr/local/share/broker/desk/index.html root root 644
+/usr/local/share/broker/desk/holzhebo root root 755
 /backup/nightly root root 700
 usage: holzhebo report [-h] [--names FILE] [--output FILE] [--json]
 /var/lib/broker:/usr/sbin/nologin
