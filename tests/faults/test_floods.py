@@ -6,7 +6,7 @@ from collections.abc import Iterator
 from typing import NamedTuple
 import pytest
 from tests.broker.parts import former_file
-from tests.process import Server, ran
+from tests.process import Server, ran, slowness
 from tests.wire import request, same
 from tests.world import RED, pact
 
@@ -165,7 +165,7 @@ class Flood(threading.Thread):
 def ask(port: int, question: bytes) -> float:
     """Asks on a connection of its own, and tells how long the answer took."""
     began = time.monotonic()
-    with socket.create_connection(("127.0.0.1", port), 2 * MOST) as it:
+    with socket.create_connection(("127.0.0.1", port), 4 * MOST) as it:
         it.sendall(question)
         text = it.recv(65536)
     same("the answer", text[: len(ANSWER)], ANSWER)
@@ -236,8 +236,10 @@ def filled(program: str, tmp_path_factory: pytest.TempPathFactory) -> Iterator[S
 
 @pytest.mark.parametrize("name", LONG)
 def test_each_answer_comes_in_time_beside_long_ones(filled: Server, name: str) -> None:
+    """Its own work is much of this, for which it may take longer if others slow the machine down."""
     kind, most = LONG[name]
-    assert held_up(filled, kind) <= most
+    longest = held_up(filled, kind)
+    assert longest <= most or longest <= most * slowness(time.monotonic)
 
 
 # All but the last byte of a request that is as large as one may be.
