@@ -226,8 +226,9 @@ def test_log_is_small(front: Front) -> None:
         among("a long port of the host", front.exchange(far), [400, 421])
         with contextlib.suppress(OSError, http.client.HTTPException):
             among("a long path", front.exchange(front.message(b"accept: */*", f"GET /{'x' * 200_000}")), [400, 414, 431])
-        # A quotation mark is written as two bytes, and Caddy hands it on as three: more than the broker takes.
-        among("a path to be escaped", shown(front.ask("GET", "/environments/" + '"' * 8_000, None)), [401, 431])
+        # A quotation mark is written as two bytes, and Caddy hands it on as three: more than the broker takes. It is 502
+        # if the broker has refused it and closed before Caddy has sent it all.
+        among("a path to be escaped", shown(front.ask("GET", "/environments/" + '"' * 8_000, None)), [401, 431, 502])
         among("a long method", shown(front.ask("X" * 8_000, LIVE, None)), [400, 405, 501])
         among("a long body", shown(front.ask("POST", "/environments/x", None, "\x01" * 9_000)), [401, 405])
         among("a longer one", shown(front.ask("POST", "/environments/x/deployments", None, "\x01" * 9_000)), [401])
