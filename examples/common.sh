@@ -51,8 +51,14 @@ as_owner() {
   fi
 }
 
-# The lock that a broker, or sqlite3, has on an open file.
-is_open() { [ -e "$1" ] && grep -q ":$(stat -c %i -- "$1") 10737418" /proc/locks; }
+# The lock that a broker, or sqlite3, has on an open file: by the number of the file system, as the kernel's list of
+# mounts has it too, and of the file there. Files of two file systems may have one number.
+is_open() {
+  local disk=:
+  [ -e "$1" ] || return 1
+  disk=$(findmnt -n -o MAJ:MIN -T "$1" | awk -F : '{ printf " %02x:%02x:", $1, $2; exit }') || disk=:
+  grep -q "${disk:-:}$(stat -c %i -- "$1") 10737418" /proc/locks
+}
 
 # patience FILE: how many seconds an opening of it may take on a machine with much other work: it takes longer as the
 # file grows, a second of a processor for each 8 to 50 MB. By this these scripts, and so the units, wait for an opening,

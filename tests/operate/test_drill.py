@@ -5,7 +5,7 @@ copy, or without the service, it has to change nothing. A copy may be two files,
 import os, shutil, stat
 import pytest
 from tests.operate.service import Service, content, flip, only
-from tests.process import TOP, Server, run
+from tests.process import TOP, Server, free_port, run
 from tests.wire import same
 from tests.world import RED
 
@@ -153,3 +153,29 @@ def test_open_disk(service: Service) -> None:
         words = ["backup.sh", service.program, service.file, name, "broker"]
         run(["env", "-C", f"{service.room}/link", f"{TOP}/examples/{words[0]}", *words[1:]], 0, service.env)
     only(f"{service.room}/backup", names)
+
+
+# Two disks whose files have the same numbers, as those of two brokers that have each a disk of its own; one is served.
+TWO_DISKS = """cd "$0"
+for it in one two; do
+  mkdir $it
+  mount -t tmpfs none $it
+  "$1" init --file $it/broker.db --office-token office-token-0001
+done
+[ "$(stat -c %i one/broker.db)" = "$(stat -c %i two/broker.db)" ]
+"$1" serve --file one/broker.db --listen "127.0.0.1:$2" --connections 1000 &
+trap "kill $!" EXIT
+until curl -q -s --noproxy '*' "http://127.0.0.1:$2/" > /dev/null; do sleep 0.05; done
+if "$3/backup.sh" "$1" one/broker.db one.db 2> said; then exit 1; fi
+cat said
+"$3/backup.sh" "$1" two/broker.db two.db
+"""
+
+
+@pytest.mark.root
+@pytest.mark.needs("unshare")
+def test_two_disks(program: str, room: str) -> None:
+    """Whether a file is in use is asked of this file, and not of one that has its number on another disk."""
+    words = ["unshare", "--mount", "bash", "-euc", TWO_DISKS, room, program, str(free_port()), f"{TOP}/examples"]
+    said = f"{room}/one/broker.db is in use: stop the service, or say which process serves it\n"
+    same("what is said", run(words), f"{said}{room}/two.db holds format 2 with 0 contracts\n")
