@@ -200,7 +200,7 @@ def test_each_answer_comes_in_time(server: Server, name: str) -> None:
 def test_each_answer_comes_in_time_by_few_descriptors(program: str, broker_file: str) -> None:
     """Beside more silent peers than the process may have open: 64 that wait, one that is served by two, the file and its
     log, the streams and where it listens are 72."""
-    with Server(program, broker_file, limits=[(resource.RLIMIT_NOFILE, 80)]) as server:
+    with Server(program, broker_file, limits=[(resource.RLIMIT_NOFILE, 72)]) as server:
         assert held_up(server, Kind(100)) <= MOST
 
 
