@@ -2,7 +2,7 @@
 import json, os, re
 from typing import Any, List, Tuple
 import pytest
-from tests.client.flaky import FlakyBroker, flaky  # the fixture
+from tests.client.flaky import MANY, FlakyBroker, flaky  # the fixture
 from tests.client.tools import Client
 from tests.process import Ended, Server, ran
 from tests.wire import OFFICE, same
@@ -59,13 +59,15 @@ def test_the_rest_of_a_version(flaky: FlakyBroker, room: str) -> None:
         same("all are said", outcomes, [("a.json", "new"), ("b.json", "not sent"), ("c.json", "new")])
 
 
+@pytest.mark.parametrize("status", [0, 502, MANY])
 @pytest.mark.parametrize("words", [("publish", "7"), ("result", "1", "pass", "--run", "7")], ids="publish result".split())
-def test_a_broker_that_goes(words: Tuple[str, ...], flaky: FlakyBroker, room: str) -> None:
-    """It closes at the second file and at all after it: what was stored is said, and the third one is tried once."""
+def test_a_broker_that_goes(words: Tuple[str, ...], status: int, flaky: FlakyBroker, room: str) -> None:
+    """It closes at the second file and at all after it, or a proxy answers: what was stored is said, and the third one
+    is tried once."""
     metadata = {"holzhebo": {"consumerVersion": "1"}}
     texts = {name: json.loads(pact(name).replace("stock", name)) for name in ("a", "b", "c")}
     files = [write(room, f"{name}.json", {"metadata": metadata, **it}) for name, it in texts.items()]
-    flaky.set([200] + [0] * 50)
+    flaky.set([200] + [status] * 50)
     done = Client(room, flaky.url).run("red", *words, *files, "--patience", "2", "--json")
     outcomes = [it.get("outcome", it.get("answer")) for it in json.loads(done.output)]
     new = "new" if words[0] == "publish" else "done"

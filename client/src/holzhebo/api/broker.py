@@ -128,13 +128,12 @@ class Broker:
 
     @contextlib.contextmanager
     def one_of_several(self) -> Iterator[None]:
-        """For one request of several: after one that nobody answers, the others are tried once each."""
+        """For one request of several: after one that nobody answers, or only a proxy, each other is tried once."""
         try:
             yield
-        except Refused:
-            raise
-        except Stop:
-            self.patience = 0
+        except Stop as why:
+            if not isinstance(why, Refused) or why.http_status in policy.BY_A_PROXY:
+                self.patience = 0
             raise
 
     def close(self) -> None:

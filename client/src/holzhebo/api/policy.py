@@ -5,6 +5,8 @@ from holzhebo.api.http import Answer, NoAnswer
 
 FIRST_PAUSE, LONGEST_PAUSE = 0.1, 5.0
 GATEWAY = (502, 503, 504)  # what a proxy answers while it doesn't reach the broker
+MANY = 429  # and what, if too much is asked
+BY_A_PROXY = (*GATEWAY, MANY)
 
 
 def may_repeat(is_idempotent: bool, answer: Optional[Answer], why: Optional[NoAnswer]) -> bool:
@@ -12,12 +14,12 @@ def may_repeat(is_idempotent: bool, answer: Optional[Answer], why: Optional[NoAn
     proxy refused it for now, nothing can count twice."""
     if why is not None:
         return not why.was_sent or is_idempotent and why.is_closed
-    return answer is not None and (answer.status == 429 or is_idempotent and answer.status in GATEWAY)
+    return answer is not None and (answer.status == MANY or is_idempotent and answer.status in GATEWAY)
 
 
 def may_have_arrived(answer: Optional[Answer], why: Optional[NoAnswer]) -> bool:
     """Whether an attempt that is repeated may have done what it asks for."""
-    return why.was_sent if why is not None else answer is not None and answer.status != 429
+    return why.was_sent if why is not None else answer is not None and answer.status != MANY
 
 
 def pause_before(number: int, answer: Optional[Answer]) -> float:
