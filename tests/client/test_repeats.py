@@ -220,6 +220,29 @@ def test_a_deployment_that_is_lost_twice(flaky: FlakyBroker, room: str) -> None:
     same("shop 3 stays", (done.status, flaky.count), (3, 2))
 
 
+@pytest.mark.parametrize("words", [("deploy", "shop", "2", "live"), ("undeploy", "shop", "1", "live"), RESULT], ids=str)
+def test_a_change_that_nobody_answers(words: Words, flaky: FlakyBroker, room: str) -> None:
+    """That it may have been done is said."""
+    with_file(room)
+    flaky.set([0] * 100, there=BEFORE)
+    done = Client(room, flaky.url).run("red", *words, "--patience", "0.5")
+    said = "the broker closes without an answer; whether it took the request is not known"
+    same("the end", (done.status, done.errors.splitlines()[-1]), (3, f"holzhebo: {said}"))
+
+
+def test_a_deployment_and_a_broker_that_is_gone(flaky: FlakyBroker, room: str) -> None:
+    """It is said too if nobody answers the look at what is there."""
+
+    def goes() -> None:
+        flaky.shutdown()
+        flaky.server_close()
+
+    flaky.set([0], there=BEFORE, meanwhile=goes)
+    done = Client(room, flaky.url).run("red", "deploy", "shop", "2", "live", "--patience", "0.5")
+    said = "whether shop 2 was deployed isn't known; the broker refuses the connection"
+    same("the end", (done.status, done.errors.splitlines()[-1]), (3, f"holzhebo: {said}"))
+
+
 def test_another_deployment_isn_t_undone(fleet: Server, client: Client) -> None:
     """The answer of shop 1 is lost at a proxy, another build deploys shop 3; the first one doesn't put shop 1 back."""
     with Losing(fleet) as proxy:

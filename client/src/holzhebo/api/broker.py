@@ -96,8 +96,8 @@ class Broker:
                 self.last = answer._replace(was_repeated=arrived or answer.was_repeated)
                 return self.last
             if not goes_on:
-                is_open = why is not None and why.was_sent and not is_idempotent
-                raise Stop(f"the broker {why}{'; whether it took the result is not known' if is_open else ''}")
+                is_open = method == "POST" and (arrived or policy.may_have_arrived(answer, why))
+                raise Stop(f"the broker {why}{'; whether it took the request is not known' if is_open else ''}")
             if number == 1:
                 said = why or f"answers {answer and answer.status}"
                 note(f"the broker {said}, and is asked again for up to {self.patience:g} seconds")
@@ -239,12 +239,15 @@ class Broker:
         """Asks the gate, and records a deployment if it permits it; else `NotPermitted`. If an attempt has no answer,
         it is repeated only if nothing else was deployed in this instance meanwhile."""
         before = self.environment(environment).version_in(pacticipant, instance)
+        unknown = f"whether {pacticipant} {version} was deployed isn't known"
 
         def look() -> None:
-            now = self.environment(environment).version_in(pacticipant, instance)
+            try:
+                now = self.environment(environment).version_in(pacticipant, instance)
+            except Stop as why:
+                raise Stop(f"{unknown}; {why}", why.answer) from None
             if now not in (before, version):
-                other = f"{pacticipant} {now}" if now is not None else "nothing"
-                raise Stop(f"whether {pacticipant} {version} was deployed isn't known; meanwhile {other} is there")
+                raise Stop(f"{unknown}; meanwhile {f'{pacticipant} {now}' if now is not None else 'nothing'} is there")
 
         body = {"pacticipant": pacticipant, "version": version, **({"instance": instance} if instance else {})}
         return self.change("deployments", environment, body, look=look)
