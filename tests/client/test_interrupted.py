@@ -1,12 +1,12 @@
 """Builds that are cancelled: the client is ended in the middle of what it does, and says what was done."""
-import json, os, re, signal, subprocess, time, xml.etree.ElementTree
+import json, re, signal, subprocess, time, xml.etree.ElementTree
 from collections.abc import Callable
 from typing import Any, List, NamedTuple
 import pytest
 from tests.client.books import publish_book
-from tests.client.flaky import FlakyBroker, flaky  # the fixture
+from tests.client.flaky import EMPTY, FlakyBroker, flaky  # the fixture
 from tests.client.peers import JSON_TYPE, BOOK_TEXT, one
-from tests.client.tools import CLIENT, PYTHON, Client, Reply, Stock, secret, sound
+from tests.client.tools import CLIENT, PYTHON, Asked, Client, Reply, Serving, Stock, secret, sound
 from tests.process import Server
 from tests.wire import Wrong, same
 from tests.world import pact
@@ -15,6 +15,8 @@ __all__ = ["flaky"]
 # How a build ends what it has started, and the status: as a shell has it of one that the signal ends.
 SIGNALS = {"SIGTERM": (signal.SIGTERM, 143), "SIGINT": (signal.SIGINT, 130)}
 by_each = pytest.mark.parametrize("name", SIGNALS)
+# How many seconds an answer takes for which nobody waits.
+WHILE = 20
 
 
 def as_usual() -> None:
@@ -97,17 +99,36 @@ def test_a_report_that_can_t_be_written(name: str, fleet: Server, client: Client
 @by_each
 @pytest.mark.parametrize("jobs", ["1", "2"])
 def test_verify(jobs: str, name: str, fleet: Server, client: Client, room: str) -> None:
-    """Ended while the provider answers the second contract: JUnit has the first one, and that it was interrupted, before
-    the provider has answered."""
+    """Ended while the provider answers the second contract: JUnit has the first one, and that it was interrupted.
+    Nobody waits for the provider's answer."""
     publish_book(fleet, "10", one())
     publish_book(fleet, "11", one(request={"path": "/2"}))
     right = Reply(headers=JSON_TYPE, body=BOOK_TEXT)
-    with Stock({"GET /1": right, "GET /2": right._replace(wait=5)}) as stock:
+    with Stock({"GET /1": right, "GET /2": right._replace(wait=WHILE)}) as stock:
         words = ["verify", "--provider", "stock", "--version", "p1", "--url", stock.url, "--junit", "junit.xml"]
         words += ["--contract", "shop", "10", "--contract", "shop", "11", "--jobs", jobs]
         status, output, moment = ended(name, client, "blue", words, lambda: len(stock.asked) == 2)
-    same("the report doesn't wait for the answer", os.path.getmtime(f"{room}/junit.xml") - moment < 4, True)
+        same("whether it ends at once", time.time() - moment < WHILE / 2, True)
     same("status, and the first one", (status, output.split(",")[0]), (SIGNALS[name][1], "shop 10 (named): passed"))
     suites = xml.etree.ElementTree.parse(f"{room}/junit.xml").getroot()
     same("suites", [it.get("name") for it in suites], ["shop 10", "holzhebo verify"])
     same("why", [it.get("message") for it in suites.iter("error")], ["it was interrupted"])
+
+
+@by_each
+def test_plan(name: str, room: str) -> None:
+    """Ended while several questions are under way: nobody waits for their answers."""
+    asked: List[str] = []
+
+    def answers(it: Asked) -> Reply:
+        asked.append(it.path)
+        environment = it.path.split("/")[-1]
+        there = [{"pacticipant": one, "version": environment, "instance": ""} for one in ("shop", "stock")]
+        said: Any = {**EMPTY, "environment": environment, "deployed": there}
+        return Reply(body=json.dumps(said).encode(), wait=0 if it.path.startswith("/environments/") else WHILE)
+
+    with Serving(answers) as it:
+        words = ["plan", "staging", "live"]
+        status, output, moment = ended(name, Client(room, it.url), "office", words, lambda: len(asked) == 4)
+        same("whether it ends at once", time.time() - moment < WHILE / 2, True)
+    same("status", (status, output), (SIGNALS[name][1], ""))

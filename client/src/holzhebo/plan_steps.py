@@ -9,11 +9,11 @@ what is in TO now, and its absent providers; can-i-deploy to FROM has each bad p
 versions, since all of these are in FROM. Whether FROM is gated doesn't matter. If TO is strict and FROM isn't, a pass
 that is only claimed is no fault in FROM, and the matrix of each step's version says which are. desk/plan.js is the
 same for the page."""
-import concurrent.futures
-from typing import Dict, FrozenSet, Iterable, List, NamedTuple, Optional, Protocol, Sequence, Set, Tuple
+from typing import Dict, FrozenSet, List, NamedTuple, Optional, Protocol, Sequence, Set, Tuple
 from urllib.parse import quote, urlencode
 
 from holzhebo.faults import Json, Stop
+from holzhebo.threads import in_threads
 
 # How many questions are asked at once, and how often it is begun again if something changes meanwhile.
 AT_ONCE, TRIES = 6, 3
@@ -137,10 +137,9 @@ def listing_of(asks: Asks, environment: str) -> Json:
     return asks.get("/environments/" + quote(environment, safe=""))
 
 
-def all_of(asks: Asks, targets: Iterable[str]) -> List[Json]:
+def all_of(asks: Asks, targets: Sequence[str]) -> List[Json]:
     """The answers in order, six asked at once."""
-    with concurrent.futures.ThreadPoolExecutor(AT_ONCE) as pool:
-        return list(pool.map(asks.get, targets))
+    return in_threads(AT_ONCE, asks.get, targets)
 
 
 def fault_of(it: Json) -> Fault:

@@ -1,7 +1,6 @@
 """Plays contracts against a provider, and has the replies judged. What fails for one contract doesn't stop the
 others."""
 import json
-from concurrent.futures import ThreadPoolExecutor
 from typing import Callable, Iterator, List, NamedTuple, Optional
 
 from holzhebo.api import Broker, Refused, Stop
@@ -9,6 +8,7 @@ from holzhebo.api.sentences import member
 from holzhebo.faults import DONE, NO, UNDONE, Json
 from holzhebo.pact.program import Program
 from holzhebo.text import counted, shown
+from holzhebo.threads import in_threads
 from holzhebo.verify.contracts import Contract, run_of
 from holzhebo.verify.differs import explained
 from holzhebo.verify.provider import NOT_PLAYED, Played, Provider
@@ -74,11 +74,7 @@ class Session:
         beside = [at for at in range(len(interactions)) if at not in alone]
         play: Callable[[int], Played] = lambda at: self.provider.play(contract, interactions[at])
         found = {at: play(at) for at in alone}
-        workers = ThreadPoolExecutor(max(1, self.jobs))
-        try:
-            found.update(zip(beside, workers.map(play, beside)))
-        finally:  # what ends the run doesn't wait for them
-            workers.shutdown(wait=False, cancel_futures=True)
+        found.update(zip(beside, in_threads(self.jobs, play, beside)))
         return self.provider.settled([found[at] for at in range(len(interactions))])
 
     def verdict(self, contract: Contract, played: List[Played]) -> Verdict:
