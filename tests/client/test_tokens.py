@@ -78,6 +78,10 @@ def test_https(flaky: FlakyBroker, room: str) -> None:
     same("a known one", client.run("red", *words, SSL_CERT_FILE=f"{room}/cert.pem").status, 0)
     same("one that is named", client.run("red", *words, "--cacert", "cert.pem").status, 0)
     same("no file of it", client.run("red", *words, "--cacert", "nowhere").status, 3)
+    os.makedirs(f"{room}/.config/holzhebo")
+    with open(f"{room}/.config/holzhebo/config.ini", "w", encoding="utf-8") as it:
+        it.write(f"[live]\nurl = {client.url}\ncacert = ~/cert.pem\n")
+    same("one that the configuration names", client.run("red", *words, "--broker", "live").status, 0)
     once = " ".join([*PYTHON, CLIENT, *words, "--cacert", "<(cat cert.pem)"])
     same("one that is read once", ran(["bash", "-c", once], cwd=room, env=client.env("red")).status, 0)
 

@@ -48,9 +48,14 @@ def url_and_config(args: Arguments) -> "tuple[str, Dict[str, str]]":
     return url, config
 
 
+def file_in(config: Dict[str, str], key: str) -> Optional[str]:
+    """A file that the configuration names, perhaps by ~."""
+    return os.path.expanduser(config[key]) if key in config else None
+
+
 def token_of(args: Arguments, config: Dict[str, str]) -> str:
     """The caller's token, from a file or from the environment."""
-    own = os.path.expanduser(config["token-file"]) if "token-file" in config else None
+    own = file_in(config, "token-file")
     path = args.token_file or (None if args.broker and own else environ("HOLZHEBO_TOKEN_FILE")) or own
     text = read_text(path) if path else environ("HOLZHEBO_TOKEN", "PACT_BROKER_TOKEN")
     if not text.strip():
@@ -71,7 +76,7 @@ def brokers_of(args: Arguments) -> Callable[[], Broker]:
     """What makes the broker, with a connection of its own each time. Files are read now and not again, since one of a
     shell's <(..) can be read only once."""
     url, config = url_and_config(args)
-    cacert = args.cacert or config.get("cacert") or os.environ.get("HOLZHEBO_CACERT")
+    cacert = args.cacert or file_in(config, "cacert") or os.environ.get("HOLZHEBO_CACERT")
     is_plain = args.plain or config.get("plain") == "yes" or os.environ.get("HOLZHEBO_PLAIN") == "1"
     way = Way(cacert, proxy_of(Address(url)))
     token, patience = token_of(args, config), patience_of(args, config)
