@@ -39,6 +39,10 @@ class NoAnswer(Exception):
         self.was_sent, self.is_closed, self.is_limit = was_sent, is_closed, is_limit
 
 
+class Untrusted(NoAnswer):
+    """The certificate of the other side isn't trusted: nothing was sent, and it is no use to try it again."""
+
+
 class Request(NamedTuple):
     method: str
     target: str
@@ -200,6 +204,8 @@ def connect(line: http.client.HTTPConnection) -> None:
         is_left.set()
         raise NoAnswer(f"doesn't answer within {line.timeout:g} seconds", False)
     why = ended[0]
+    if isinstance(why, ssl.SSLCertVerificationError):
+        raise Untrusted(reason(why), False) from None
     if isinstance(why, (OSError, http.client.HTTPException, UnicodeError)):
         is_refused = isinstance(why, ConnectionRefusedError)
         raise NoAnswer("refuses the connection" if is_refused else reason(why), False) from None

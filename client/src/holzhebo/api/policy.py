@@ -1,7 +1,7 @@
 """What may be sent again, and when."""
 from typing import Optional
 
-from holzhebo.api.http import Answer, NoAnswer
+from holzhebo.api.http import Answer, NoAnswer, Untrusted
 
 FIRST_PAUSE, LONGEST_PAUSE = 0.1, 5.0
 GATEWAY = (502, 503, 504)  # what a proxy answers while it doesn't reach the broker
@@ -13,7 +13,7 @@ def may_repeat(is_idempotent: bool, answer: Optional[Answer], why: Optional[NoAn
     """Whether a request may be sent again after this answer, or after this end without one. If nothing was sent, or a
     proxy refused it for now, nothing can count twice."""
     if why is not None:
-        return not why.was_sent or is_idempotent and why.is_closed
+        return not isinstance(why, Untrusted) and (not why.was_sent or is_idempotent and why.is_closed)
     return answer is not None and (answer.status == MANY or is_idempotent and answer.status in GATEWAY)
 
 
