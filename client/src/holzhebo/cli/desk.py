@@ -2,11 +2,12 @@
 import contextlib, json, signal
 from typing import Any, Optional
 
+from holzhebo.api.http import line_to
 from holzhebo.cli.context import broker_of
 from holzhebo.cli.parser import Arguments
 from holzhebo.desk.own import Own
 from holzhebo.desk.page import page_of
-from holzhebo.desk.server import HOST
+from holzhebo.desk.server import ANSWER_TIME, HOST
 from holzhebo.faults import DONE, Stop
 from holzhebo.text import shown, tell
 
@@ -27,8 +28,7 @@ def names_of(path: Optional[str], usual: bytes) -> bytes:
 def desk(args: Arguments) -> int:
     files, broker = page_of(args.page), broker_of(args)
     names, way = names_of(args.names, files["desk.json"]), broker.line.way
-    if broker.address.is_https:
-        way.context()
+    line_to(broker.address, ANSWER_TIME, way)  # what is wrong with the way is said before anybody asks
     try:
         it = Own(args.page_port, files, broker.address, way, broker.headers["authorization"])
     except OSError as why:
