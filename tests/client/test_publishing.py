@@ -2,8 +2,8 @@
 import json, os, re
 from typing import Any, List, Tuple
 import pytest
-from tests.client.flaky import MANY, FlakyBroker, flaky  # the fixture
-from tests.client.tools import Client
+from tests.client.flaky import EMPTY, MANY, FlakyBroker, flaky  # the fixture
+from tests.client.tools import Asked, Client, Reply, Serving
 from tests.process import Ended, Server, ran
 from tests.wire import OFFICE, same
 from tests.world import BLUE, RED, pact
@@ -74,6 +74,24 @@ def test_a_broker_that_goes(words: Tuple[str, ...], status: int, flaky: FlakyBro
     same("status, and what is said", (done.status, outcomes), (3, [new, "not sent", "not sent"]))
     tries = [flaky.bodies.count(it) for it in dict.fromkeys(flaky.bodies)]
     same("the first, the second and the third", (tries[0], tries[1] > 1, tries[2:]), (1, True, [1]))
+
+
+def test_contracts_behind_a_proxy(room: str) -> None:
+    """A proxy that doesn't reach the broker is waited for once, and not for each contract that is looked for."""
+    asked: List[str] = []
+    there: Any = [{"pacticipant": it, "version": "1", "instance": ""} for it in ("a", "b", "c")]
+    said = {"/environments/live": {**EMPTY, "deployed": there}, "/matrix": {"answer": "unknown", "what": "version"}}
+
+    def answers(it: Asked) -> Reply:
+        asked.append(it.path.partition("?")[0])
+        body = said.get(asked[-1])
+        return Reply(502 if body is None else 404 if asked[-1] == "/matrix" else 200, body=json.dumps(body).encode())
+
+    with Serving(answers) as it:
+        words = ["fetch", "--provider", "stock", "--for", "live", "--into", "got", "--patience", "2"]
+        done = Client(room, it.url).run("blue", *words)
+    tries = [asked.count(f"/pacts/provider/stock/consumer/{it}/version/1") for it in ("a", "b", "c")]
+    same("status, and how often", (done.status, tries[0] > 1, tries[1:]), (3, True, [1, 1]))
 
 
 def test_a_misspelt_name(fleet: Server, client: Client, room: str) -> None:

@@ -53,10 +53,11 @@ class Search:
     def add(self, consumer: str, version: Optional[str], branch: Optional[str], place: str) -> bool:
         """The contract of this version, or the newest of this branch, if there is one."""
         try:
-            if version is not None:
-                text = self.broker.contract(consumer, version, self.provider)
-            else:
-                text = self.broker.newest_contract(consumer, branch or "", self.provider)
+            with self.broker.one_of_several():
+                if version is not None:
+                    text = self.broker.contract(consumer, version, self.provider)
+                else:
+                    text = self.broker.newest_contract(consumer, branch or "", self.provider)
         except Refused as why:
             if why.is_unknown("contract"):
                 return False
