@@ -77,6 +77,21 @@ def test_doctor(fleet: Server, client: Client) -> None:
     same("a token that isn't known", (done.status, "wrong  token" in done.output), (3, True))
 
 
+def test_doctor_behind_a_proxy(room: str) -> None:
+    """A proxy that doesn't reach the broker is waited for once: within 2 seconds after 0.1, 0.3, 0.7 and 1.5."""
+    asked: List[str] = []
+
+    def answers(it: Asked) -> Reply:
+        asked.append(it.path)
+        return Reply(502, (), b"")
+
+    with Serving(answers) as it:
+        done = Client(room, it.url).run("red", "doctor", "shop", "--patience", "2")
+    rows = [it.split() for it in done.output.splitlines()]
+    same("status, and the end", (done.status, rows[-1][:2]), (3, ["wrong", "token"]))
+    same("whether it is asked for longer", len(asked) > 5, False)
+
+
 def test_the_names_of_the_pact_broker_s_client(fleet: Server, client: Client, room: str) -> None:
     with open(f"{room}/a.json", "w", encoding="utf-8") as it:
         it.write(pact("a book"))

@@ -35,18 +35,26 @@ def look(args: Arguments, rows: List[Row]) -> None:
     rows.append(("ok", "address", f"{url}{source}"))
     rows.append(("ok", "way", f"by the proxy {named(proxy.host, proxy.port)}" if proxy else "no proxy"))
     kind = "https, by a certificate that is trusted" if address.is_https else "http, which others on the way can read"
-    answer = broker.ask("GET", "/environments/-")
+    token = token_row(broker)
     rows.append(("ok" if address.is_https or address.is_loopback else "wrong", "connection", kind))
-    rows.append(clock(answer.headers.get("date")))
-    try:
-        broker.knows_token()
-    except Stop as why:
-        rows.append(("wrong", "token", str(why)))
+    rows.append(clock(broker.last.headers.get("date") if broker.last else None))
+    rows.append(token)
+    if token[0] == "wrong":
         return
-    rows.append(("ok", "token", "the broker knows it"))
     rows.extend(known(broker, it) for it in args.pacticipant)
     for it in args.environment:
         rows.extend(there(broker, it, args.pacticipant))
+
+
+def token_row(broker: Broker) -> Row:
+    """Whether the broker knows the token, if anybody answers."""
+    try:
+        broker.knows_token()
+    except Stop as why:
+        if broker.last is None:
+            raise
+        return "wrong", "token", str(why)
+    return "ok", "token", "the broker knows it"
 
 
 def clock(date: Optional[str]) -> Row:
