@@ -220,14 +220,15 @@ def test_a_deployment_that_is_lost_twice(flaky: FlakyBroker, room: str) -> None:
     same("shop 3 stays", (done.status, flaky.count), (3, 2))
 
 
+@pytest.mark.parametrize("status, said", [(0, "closes without an answer"), (504, "answers 504")])
 @pytest.mark.parametrize("words", [("deploy", "shop", "2", "live"), ("undeploy", "shop", "1", "live"), RESULT], ids=str)
-def test_a_change_that_nobody_answers(words: Words, flaky: FlakyBroker, room: str) -> None:
+def test_a_change_that_nobody_answers(words: Words, status: int, said: str, flaky: FlakyBroker, room: str) -> None:
     """That it may have been done is said."""
     with_file(room)
-    flaky.set([0] * 100, there=BEFORE)
+    flaky.set([status] * 100, there=BEFORE)
     done = Client(room, flaky.url).run("red", *words, "--patience", "0.5")
-    said = "the broker closes without an answer; whether it took the request is not known"
-    same("the end", (done.status, done.errors.splitlines()[-1]), (3, f"holzhebo: {said}"))
+    end = f"holzhebo: the broker {said}; whether it took the request is not known"
+    same("the end", (done.status, done.errors.splitlines()[-1]), (3, end))
 
 
 def test_a_deployment_and_a_broker_that_is_gone(flaky: FlakyBroker, room: str) -> None:

@@ -5,7 +5,7 @@ from typing import Any, Callable, Iterator, List, Optional, Tuple, Type, TypeVar
 from holzhebo.api import answers, policy
 from holzhebo.api.address import Address, Way
 from holzhebo.api.http import Answer, Line, NoAnswer, Request
-from holzhebo.api.sentences import Names, member, sentence_of
+from holzhebo.api.sentences import NOT_KNOWN, Names, member, sentence_of
 from holzhebo.api.shapes import BadShape, shaped
 from holzhebo.faults import Json, Stop
 from holzhebo.text import note
@@ -92,12 +92,12 @@ class Broker:
             answer, why = self.attempt(request, is_once)
             pause = policy.pause_before(number, answer)
             goes_on = policy.may_repeat(is_idempotent, answer, why) and time.monotonic() + pause <= ends
+            is_open = method == "POST" and (arrived or policy.may_have_arrived(answer, why))
             if answer is not None and not goes_on:
-                self.last = answer._replace(was_repeated=arrived or answer.was_repeated)
+                self.last = answer._replace(was_repeated=arrived or answer.was_repeated, is_open=is_open)
                 return self.last
             if not goes_on:
-                is_open = method == "POST" and (arrived or policy.may_have_arrived(answer, why))
-                raise Stop(f"the broker {why}{'; whether it took the request is not known' if is_open else ''}")
+                raise Stop(f"the broker {why}{NOT_KNOWN if is_open else ''}")
             if number == 1:
                 said = why or f"answers {answer and answer.status}"
                 note(f"the broker {said}, and is asked again for up to {self.patience:g} seconds")

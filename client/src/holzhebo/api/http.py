@@ -10,12 +10,14 @@ MOST_BYTES = 1048576
 
 
 class Answer(NamedTuple):
-    """An answer; `was_repeated` if an earlier attempt may have arrived too."""
+    """An answer; `was_repeated` if an earlier attempt may have arrived too; `is_open` if it was a POST, and an attempt of
+    it may have arrived."""
 
     status: int
     headers: http.client.HTTPMessage
     content: bytes
     was_repeated: bool = False
+    is_open: bool = False
 
     def json(self) -> Json:
         """What the body says, None if it isn't JSON."""

@@ -2,6 +2,7 @@
 from typing import Dict, List, Optional
 
 from holzhebo.api.http import Answer
+from holzhebo.api.policy import GATEWAY
 from holzhebo.faults import Json
 from holzhebo.text import shown
 
@@ -33,6 +34,7 @@ UNKNOWN = {
 }
 
 
+NOT_KNOWN = "; whether it took the request is not known"
 # Of replies that weren't judged: a pattern of the contract, or what it is looked for in, is too large.
 PATTERN = "too much work for patterns"
 
@@ -77,5 +79,7 @@ def sentence_of(answer: Answer, names: Optional[Names] = None) -> str:
     if 300 <= answer.status < 400:
         return f"the address redirects to {shown(answer.headers.get('location'))}: give that one"
     if answer.status == 429:
-        return "the proxy before the broker gets too many requests from here"
-    return f"the broker answers {answer.status}{f': {shown(word)}' if isinstance(word, str) else ''}"
+        return f"the proxy before the broker gets too many requests from here{NOT_KNOWN if answer.is_open else ''}"
+    if isinstance(word, str):
+        return f"the broker answers {answer.status}: {shown(word)}"
+    return f"the broker answers {answer.status}{NOT_KNOWN if answer.is_open and answer.status in GATEWAY else ''}"
