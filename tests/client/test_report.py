@@ -58,8 +58,10 @@ def test_the_page(program: str, room: str) -> None:
     earlier, now = two_copies(program, room)
     text = page_of(now, earlier)
     found = Page(text).sections
-    os.symlink("now.db", f"{room}/link.db")
-    same("by a link, whose log is beside the file", Page(page_of(f"{room}/link.db", earlier)).sections, found)
+    for name in "earlier", "now":
+        os.symlink(f"{name}.db", f"{room}/{name}-link.db")
+    linked = page_of(f"{room}/now-link.db", f"{room}/earlier-link.db")
+    same("by links, whose logs are beside the files", Page(linked).sections, found)
     for title, lines in WANTED.items():
         same(title, found.get(title), lines)
     since = [lines for title, lines in found.items() if title.startswith("Since the copy")]

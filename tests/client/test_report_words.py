@@ -27,6 +27,12 @@ def test_its_numbers(program: str, room: str) -> None:
     for name in "broker-2026-11-27T02:00:00Z.db", "broker-2026-11-27T020000Z.db":
         dated = copied(now, f"{room}/{name}")
         same(name, "The copy of 2026-11-27 02:00:00 UTC." in page_of(dated), True)
+        links = [f"{room}/newest.db", f"{room}/links/{name}"]
+        os.makedirs(f"{room}/links", exist_ok=True)
+        for link, to in zip(links, (dated, now)):
+            os.symlink(to, link)
+            same(f"{link} to {to}", "The copy of 2026-11-27 02:00:00 UTC." in page_of(link), True)
+            os.remove(link)
     os.utime(now, (86400, 86400))
     same("a file without a day", "The copy, whose file is of 1970-01-02 00:00:00 UTC." in page_of(now), True)
 

@@ -136,6 +136,9 @@ def test_file_and_copies(service: Service) -> None:
     found = measured(*words)
     same("the sources", found["measured"], dict.fromkeys(["log", "file", "copies", "gate"], True))
     same("the bytes", found["fileBytes"], size)
+    os.symlink(service.file, f"{service.room}/link.db")
+    linked = measured("--log", EMPTY, "--file", f"{service.room}/link.db")
+    same("the bytes by a link, whose log is beside the file", linked["fileBytes"], size)
     age = time.time() - found["copyTimestampSeconds"]
     assert 7195 < age < 7260, age
     grown = (os.path.getsize(second) - os.path.getsize(first)) / (8 * 3600)

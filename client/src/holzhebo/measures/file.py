@@ -23,7 +23,7 @@ class Kept(NamedTuple):
 
 def size_of(path: str) -> int:
     """The bytes of a file with those of its log."""
-    log = f"{path}-wal"
+    log = f"{os.path.realpath(path)}-wal"
     return os.path.getsize(path) + (os.path.getsize(log) if os.path.exists(log) else 0)
 
 

@@ -72,9 +72,9 @@ DATE = re.compile(r"(\d{4}-\d{2}-\d{2}T\d{2}):?(\d{2}):?(\d{2})Z")
 
 
 def made_at(path: str) -> Tuple[float, bool]:
-    """When a copy was made: by the date in its name, as examples/keep-copies.sh gives it; else the time of the file,
-    which is another one if it was fetched from elsewhere."""
-    found = DATE.search(os.path.basename(path))
+    """When a copy was made: by the date in its name, as examples/keep-copies.sh gives it, or in that of the file to
+    which it leads; else the time of the file, which is another one if it was fetched from elsewhere."""
+    found = DATE.search(os.path.basename(path)) or DATE.search(os.path.basename(os.path.realpath(path)))
     if found:
         with contextlib.suppress(ValueError):
             it = datetime.datetime.strptime(f"{found[1]}:{found[2]}:{found[3]}+0000", "%Y-%m-%dT%H:%M:%S%z")
@@ -86,10 +86,11 @@ class Copy:
     """A copy of a broker's file."""
 
     def __init__(self, path: str, room: str) -> None:
-        self.path, real = path, os.path.realpath(path)
-        self.base = sqlite3.connect(place_of(real, room), uri=True, isolation_level=None)
-        self.made, self.is_dated = made_at(real)
-        self.size = sum(os.path.getsize(real + end) for end in ("", "-wal") if os.path.exists(real + end))
+        self.path, self.real = path, os.path.realpath(path)
+        self.base = sqlite3.connect(place_of(self.real, room), uri=True, isolation_level=None)
+        self.made, self.is_dated = made_at(path)
+        files = [self.real + end for end in ("", "-wal")]
+        self.size = sum(os.path.getsize(it) for it in files if os.path.exists(it))
         self.test()
         owners = self.rows("SELECT name, team FROM pacticipants ORDER BY name")
         self.owners = {str(name): str(team) for name, team in owners}

@@ -91,7 +91,7 @@ STAYING = "teams", "pacticipants", "versions", "branches", "environments", "cont
 
 def attach(copy: Copy, earlier: Copy, room: str) -> None:
     """Makes the earlier copy's tables known to the statements on the later one."""
-    copy.base.execute("ATTACH ? AS earlier", [place_of(earlier.path, room)])
+    copy.base.execute("ATTACH ? AS earlier", [place_of(earlier.real, room)])
     lost = [it for it in STAYING if copy.rows(f"SELECT * FROM earlier.{it} EXCEPT SELECT * FROM main.{it} LIMIT 1")]
     if lost or copy.office != earlier.office:
         raise Refused(f"{earlier.path} isn't an earlier copy of the same broker as {copy.path}")
