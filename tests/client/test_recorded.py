@@ -97,16 +97,15 @@ def test_what_it_answers(name: str, fleet: Server, client: Client) -> None:
 
 
 def test_what_was_left_out(fleet: Server, client: Client) -> None:
-    """Members that nobody asks for and the broker can't take are named, in the table and in JSON."""
+    """Members that nobody asks for and the broker can't take are named, in JSON, and in the table as a terminal may get
+    them."""
     publish_book(fleet, "10", one())
-    with Stock({"GET /1": Reply(headers=JSON_TYPE, body=b'{"id":1,"price":19.99,"at":{"lat":52.5}}')}) as stock:
+    with Stock({"GET /1": book(b'"price":19.99,"at":{"lat":52.5},"\\u001bc":0.5')}) as stock:
         told = verified(client, stock.url)[1]
         output = client.done("blue", *words(stock.url, "p2"))
-    same("in JSON", told["played"][0]["leftOut"], ["$.price", "$.at"])
-    wanted = (
-        "  left out, since the contract doesn't ask for it and the broker can't take it: a book: $.price; a book: $.at"
-    )
-    same("in the table", output.split("\n")[2], wanted)
+    same("in JSON", told["played"][0]["leftOut"], ["$.price", "$.at", "$.\x1bc"])
+    wanted = "  left out, since the contract doesn't ask for it and the broker can't take it: a book: $.price; a book: "
+    same("in the table", output.split("\n")[2], wanted + "$.at; a book: $.\\u{1b}c")
 
 
 def test_a_fraction_that_is_asked_for(fleet: Server, client: Client) -> None:

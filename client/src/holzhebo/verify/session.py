@@ -138,7 +138,7 @@ def status_of(verdicts: List[Verdict]) -> int:
 
 def left_out(verdict: Verdict) -> List[str]:
     """The places of bodies that were left out of what is recorded."""
-    return [f"{shown(it.interaction['description'])}: {path}" for it in verdict.played for path in it.gone]
+    return [shown(f"{it.interaction['description']}: {path}") for it in verdict.played for path in it.gone]
 
 
 def verdict_json(verdict: Verdict) -> Json:
