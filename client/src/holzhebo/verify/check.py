@@ -2,7 +2,7 @@
 from typing import Dict, List, Tuple
 
 from holzhebo.faults import Json, Stop
-from holzhebo.pact.faults import findings_of, is_header_value, key_of, normal_interaction
+from holzhebo.pact.faults import findings_of, key_of, normal_interaction, wrong_header
 from holzhebo.pact.json import NotJson, is_whole, member, numbers_not_whole, read_json, too_deep
 from holzhebo.pact.rules import is_surely_refused
 from holzhebo.text import short, shown
@@ -56,9 +56,8 @@ def untaken_in(file: Json) -> List[str]:
 
 
 def is_response(response: Json) -> bool:
-    headers = member(response, "headers")
-    texts = isinstance(headers, dict) and all(is_header_value(it) for it in headers.values())
-    return is_whole(member(response, "status")) and (headers is None or texts)
+    status = member(response, "status")
+    return is_whole(status) and 100 <= status <= 999 and wrong_header(member(response, "headers")) is None
 
 
 def paired(interactions: List[Json], replies: Dict[Key, Json]) -> List[Tuple[Json, Json]]:
