@@ -2,6 +2,8 @@
 import gzip, json, os, stat, threading
 from typing import List, Tuple
 import pytest
+from holzhebo.api import Stop
+from holzhebo.files import replace_file
 from tests.client.flaky import FlakyBroker, flaky  # the fixture
 from tests.client.tools import CLIENT, PYTHON, Client, told
 from tests.process import TOP, Ended, Server, bytes_of, ran, run, text_of
@@ -252,6 +254,24 @@ def test_the_rights_of_an_output(room: str) -> None:
         told([*PYTHON, CLIENT, *METRICS, f"name-{mode}"], cwd=room, umask=0o022)
         same(f"of {mode:o}", about(f"{room}/old"), (mode, other, os.getegid()))
         same("it is written", text_of(f"{room}/old").endswith(LAST), True)
+
+
+def test_an_output_of_another_user(room: str, monkeypatch: pytest.MonkeyPatch) -> None:
+    """Whoever may replace a file, and not give one to its owner, makes it his own with the same rights. One that has to
+    keep its owner stays as it is."""
+
+    def refuses(*_: object) -> None:
+        raise PermissionError(1, "Operation not permitted")
+
+    start(f"{room}/old", "old\n")
+    os.chmod(f"{room}/old", 0o604)
+    monkeypatch.setattr(os, "fchown", refuses)
+    with pytest.raises(Stop, match="old can't be written: Operation not permitted"):
+        replace_file(f"{room}/old", b"lost\n", True)
+    same("it stays", text_of(f"{room}/old"), "old\n")
+    replace_file(f"{room}/old", b"new\n")
+    same("it is replaced", (text_of(f"{room}/old"), about(f"{room}/old")[0]), ("new\n", 0o604))
+    same("what is left", [it for it in os.listdir(room) if it.startswith(".old")], [])
 
 
 def test_an_output_that_is_no_file(room: str) -> None:

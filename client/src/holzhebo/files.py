@@ -31,14 +31,14 @@ def write_file(path: str, text: str) -> None:
         raise Stop(f"{shown(path)} can't be written: {getattr(why, 'strerror', None) or why}") from None
 
 
-def replace_file(path: str, content: bytes) -> None:
-    """Puts a file in the place of this one at once: who reads sees the old one or the new one. It has the owner and the
-    rights of the one that is there. A name that leads to another file stays, and that one is replaced; what is no file,
-    as a pipe or a device, is written into."""
+def replace_file(path: str, content: bytes, keeps_owner: bool = False) -> None:
+    """Puts a file in the place of this one at once: who reads sees the old one or the new one. It has the rights of the
+    one that is there, and its owner, if this user may give it to that one or it has to keep it. A name that leads to
+    another file stays, and that one is replaced; what is no file, as a pipe or a device, is written into."""
     try:
         there = os.stat(path) if os.path.exists(path) else None
         if there is None or stat.S_ISREG(there.st_mode):
-            put_at(os.path.realpath(path), content, there)
+            put_at(os.path.realpath(path), content, there, keeps_owner)
         else:
             with open(path, "wb") as it:
                 it.write(content)
@@ -46,13 +46,13 @@ def replace_file(path: str, content: bytes) -> None:
         raise Stop(f"{shown(path)} can't be written: {why.strerror}") from None
 
 
-def put_at(place: str, content: bytes, like: Optional[os.stat_result]) -> None:
+def put_at(place: str, content: bytes, like: Optional[os.stat_result], keeps_owner: bool) -> None:
     """Puts a file there, with the owner and the rights of this one, or with those of a new one."""
     descriptor, part = tempfile.mkstemp(dir=os.path.dirname(place), prefix=f".{os.path.basename(place)}.")
     try:
         with open(descriptor, "wb") as it:
             if like is not None:
-                os.fchown(descriptor, like.st_uid, like.st_gid)
+                give(descriptor, like, keeps_owner)
             os.fchmod(descriptor, stat.S_IMODE(like.st_mode) if like is not None else 0o666 & ~umask())
             it.write(content)
             it.flush()
@@ -61,6 +61,15 @@ def put_at(place: str, content: bytes, like: Optional[os.stat_result]) -> None:
     finally:
         with contextlib.suppress(OSError):
             os.unlink(part)
+
+
+def give(descriptor: int, like: os.stat_result, has_to: bool) -> None:
+    """Gives a file to the owner and the group of this one, if this user may."""
+    try:
+        os.fchown(descriptor, like.st_uid, like.st_gid)
+    except PermissionError:
+        if has_to:
+            raise
 
 
 def umask() -> int:

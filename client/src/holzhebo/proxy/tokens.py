@@ -48,7 +48,7 @@ def alone_with(path: str) -> Iterator[None]:
 def rewrite(path: str, change: Callable[[Lines], Lines]) -> None:
     """Writes the lines of a file again. It is replaced at once, and keeps its owner and its rights."""
     text = "".join(f"{line}\n" for line in change(lines_of(path)))
-    replace_file(path, text.encode("utf-8", "surrogateescape"))
+    replace_file(path, text.encode("utf-8", "surrogateescape"), True)
 
 
 def with_places(lines: Lines, places: Dict[str, str], is_caddy: bool) -> Lines:
