@@ -26,11 +26,12 @@ def as_usual() -> None:
 
 
 class Ended(NamedTuple):
-    """How it ended: its status, its output, and when it was told to end."""
+    """How it ended: its status, its output, when it was told to end, and what it wrote on standard error."""
 
     status: int
     output: str
     moment: float
+    errors: str
 
 
 def ended(name: str, client: Client, caller: str, words: List[str], is_time: Callable[[], bool]) -> Ended:
@@ -48,7 +49,7 @@ def ended(name: str, client: Client, caller: str, words: List[str], is_time: Cal
     output, errors = process.communicate(timeout=30)
     secret(output + errors)
     sound(errors)
-    return Ended(process.returncode, output, moment)
+    return Ended(process.returncode, output, moment, errors)
 
 
 @by_each
@@ -60,7 +61,7 @@ def test_publish(name: str, more: List[str], flaky: FlakyBroker, room: str) -> N
             file.write(pact(it).replace("stock", it))
     flaky.set([200, 200, 200], meanwhile=lambda: time.sleep(3 if flaky.count == 2 else 0))
     words = ["publish", "7", "a.json", "b.json", "c.json", *more]
-    status, output, _ = ended(name, Client(room, flaky.url), "red", words, lambda: flaky.count == 2)
+    status, output, *_ = ended(name, Client(room, flaky.url), "red", words, lambda: flaky.count == 2)
     same("status", status, SIGNALS[name][1])
     if more:
         told = [(it["outcome"], it["path"]) for it in json.loads(output)]
@@ -79,10 +80,20 @@ def test_result(name: str, flaky: FlakyBroker, room: str) -> None:
             file.write(json.dumps({"metadata": metadata, **json.loads(pact(it))}))
     flaky.set([200, 200, 200], meanwhile=lambda: time.sleep(3 if flaky.count == 2 else 0))
     words = ["result", "1", "pass", "a.json", "b.json", "c.json", "--run", "7", "--json"]
-    status, output, _ = ended(name, Client(room, flaky.url), "blue", words, lambda: flaky.count == 2)
+    status, output, *_ = ended(name, Client(room, flaky.url), "blue", words, lambda: flaky.count == 2)
     left = [{"answer": "not known", "file": "b.json"}, {"answer": "not sent", "file": "c.json"}]
     wanted = [{"answer": "done", "result": 1}, *({**it, "why": "it was interrupted"} for it in left)]
     same("status and what was done", (status, json.loads(output)), (SIGNALS[name][1], wanted))
+
+
+@by_each
+@pytest.mark.parametrize("command", ["deploy", "undeploy", "release", "end-support"])
+def test_a_change(command: str, name: str, flaky: FlakyBroker, room: str) -> None:
+    """Ended while it is on its way: nobody knows whether it is done."""
+    flaky.set([200], meanwhile=lambda: time.sleep(3))
+    done = ended(name, Client(room, flaky.url), "red", [command, "shop", "2", "live"], lambda: flaky.count == 1)
+    said = "holzhebo: shop 2, live: it was interrupted, and whether the broker took it is not known\n"
+    same("how it ends", (done.status, done.output, done.errors), (SIGNALS[name][1], "", said))
 
 
 @by_each
@@ -107,7 +118,7 @@ def test_verify(jobs: str, name: str, fleet: Server, client: Client, room: str) 
     with Stock({"GET /1": right, "GET /2": right._replace(wait=WHILE)}) as stock:
         words = ["verify", "--provider", "stock", "--version", "p1", "--url", stock.url, "--junit", "junit.xml"]
         words += ["--contract", "shop", "10", "--contract", "shop", "11", "--jobs", jobs]
-        status, output, moment = ended(name, client, "blue", words, lambda: len(stock.asked) == 2)
+        status, output, moment, _ = ended(name, client, "blue", words, lambda: len(stock.asked) == 2)
         same("whether it ends at once", time.time() - moment < WHILE / 2, True)
     same("status, and the first one", (status, output.split(",")[0]), (SIGNALS[name][1], "shop 10 (named): passed"))
     suites = xml.etree.ElementTree.parse(f"{room}/junit.xml").getroot()
@@ -129,6 +140,6 @@ def test_plan(name: str, room: str) -> None:
 
     with Serving(answers) as it:
         words = ["plan", "staging", "live"]
-        status, output, moment = ended(name, Client(room, it.url), "office", words, lambda: len(asked) == 4)
+        status, output, moment, _ = ended(name, Client(room, it.url), "office", words, lambda: len(asked) == 4)
         same("whether it ends at once", time.time() - moment < WHILE / 2, True)
     same("status", (status, output), (SIGNALS[name][1], ""))

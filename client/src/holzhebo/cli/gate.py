@@ -1,6 +1,6 @@
 """can-i-deploy, deploy, undeploy, release and end-support."""
-import time
-from typing import List, Optional
+import contextlib, time
+from typing import Iterator, List, Optional
 
 from holzhebo.api import Broker, Lack, NotPermitted, Permission
 from holzhebo.cli.context import broker_of
@@ -65,6 +65,15 @@ class Change:
     def place(self, instance: Optional[str]) -> str:
         return shown(self.environment) + (f", instance {shown(instance)}" if instance else "")
 
+    @contextlib.contextmanager
+    def on_its_way(self, place: str) -> Iterator[None]:
+        """While a change is on its way: if it is interrupted then, nobody knows whether it is done."""
+        try:
+            yield
+        except (KeyboardInterrupt, SystemExit):
+            note(f"{self.what}, {place}: it was interrupted, and whether the broker took it is not known")
+            raise
+
     def told(self, sentence: str, place: str) -> None:
         if self.args.json:
             tell_answer(self.broker)
@@ -82,7 +91,8 @@ class Change:
     def deploy(self, instance: Optional[str]) -> Optional[bool]:
         """Whether it is new; None if the gate refuses it."""
         try:
-            said = self.broker.deploy(self.pacticipant, self.version, self.environment, instance or "")
+            with self.on_its_way(self.place(instance)):
+                said = self.broker.deploy(self.pacticipant, self.version, self.environment, instance or "")
         except NotPermitted as why:
             self.refused(why, self.place(instance))
             return None
@@ -91,7 +101,8 @@ class Change:
 
     def undeploy(self, instance: Optional[str], may_be_gone: bool) -> None:
         one = (self.pacticipant, self.version, self.environment, instance or "")
-        self.broker.undeploy(*one, may_be_gone=may_be_gone)
+        with self.on_its_way(self.place(instance)):
+            self.broker.undeploy(*one, may_be_gone=may_be_gone)
         self.told("is no longer deployed in", self.place(instance))
 
 
@@ -127,7 +138,8 @@ def record_undeployment(args: Arguments) -> int:
 def release(args: Arguments) -> int:
     it = Change(args, named(args, "pacticipant", "version", "environment"))
     try:
-        said = it.broker.release(it.pacticipant, it.version, it.environment)
+        with it.on_its_way(it.place(None)):
+            said = it.broker.release(it.pacticipant, it.version, it.environment)
     except NotPermitted as why:
         return it.refused(why, it.place(None))
     it.told("is released in" if said.is_new else "was released already in", it.place(None))
@@ -136,6 +148,7 @@ def release(args: Arguments) -> int:
 
 def end_support(args: Arguments) -> int:
     it = Change(args, named(args, "pacticipant", "version", "environment"))
-    it.broker.end_support(it.pacticipant, it.version, it.environment)
+    with it.on_its_way(it.place(None)):
+        it.broker.end_support(it.pacticipant, it.version, it.environment)
     it.told("is no longer released in", it.place(None))
     return DONE
