@@ -20,6 +20,8 @@ cd /var/lib/broker
 stat -c '%n %U %G %a' . broker.db /usr/local/bin/broker /root/office-token /root/red.token /usr/local/bin/holzhebo
 stat -L -c '%n %U %G %a' /usr/local/share/broker/desk/index.html /usr/local/share/broker/desk/holzhebo /backup/nightly
 /usr/local/share/broker/tools/report --help | head -n 1
+# the one file that the proxy gives to builds: the client, and anybody may read it
+runuser -u nobody -- cmp /usr/local/share/broker/desk/holzhebo /usr/local/bin/holzhebo && echo 'one client'
 getent passwd broker | cut -d: -f6-
 systemd-analyze verify /etc/systemd/system/broker.service 2>&1
 systemctl is-enabled broker
@@ -41,6 +43,7 @@ broker.db broker broker 600
 /usr/local/share/broker/desk/holzhebo root root 755
 /backup/nightly root root 700
 usage: holzhebo report [-h] [--names FILE] [--output FILE] [--json]
+one client
 /var/lib/broker:/usr/sbin/nologin
 enabled
 active
