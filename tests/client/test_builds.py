@@ -2,8 +2,9 @@
 listens. The client is the one file, which a server in the place of the proxy has under /desk/holzhebo."""
 import concurrent.futures, contextlib, functools, json, os, re, shlex, sys
 from typing import Any, Callable, Dict, List
+import pytest
 from tests.client.tools import CLIENT, PYTHON, TOKENS, Client, Reply, Stock, told
-from tests.process import TOP, Server, ran, run
+from tests.process import TOP, Server, ran, run, text_of
 from tests.wire import OFFICE, Wrong, same
 from tests.world import BLUE, RED, pact
 
@@ -237,6 +238,30 @@ def test_the_version_that_is_live(fleet: Server, client: Client, room: str) -> N
         same("GitLab's", build.gitlab("contract", BLUE, **job), 0)
     rows = json.loads(fleet.ask("GET", "/matrix?pacticipant=shop&version=c1", RED).body)["rows"]
     same("verified with", [(it["providerVersion"], it["success"]) for it in rows if it["result"]], [("1", True)])
+
+
+@pytest.mark.needs("git")
+def test_the_version_of_a_branch(fleet: Server, client: Client, room: str) -> None:
+    """What the newest commit of a consumer's main branch has published gets a result, by the words of docs/BUILDS.md;
+    also beside another branch whose name ends as that one's. A commit that has published nothing ends with 3."""
+    words, = re.findall(r"`(--contract shop \"\$\(git [^`]*)`", text_of("docs/BUILDS.md"))
+    git = ["git", "-C", room, "-c", "user.name=shop", "-c", "user.email=shop@example.org"]
+    run([*git, "init", "-q", "-b", "main"])
+    run([*git, "commit", "-q", "--allow-empty", "-m", "one"])
+    run([*git, "branch", "old/main"])
+    run([*git, "commit", "-q", "--allow-empty", "-m", "another"])
+    commit = run([*git, "rev-parse", "HEAD"]).strip()
+    with Stock({"GET /": Reply()}) as stock:
+        line = f"{shlex.join([*PYTHON, CLIENT])} verify --provider stock --version v1 --url {stock.url} {words}"
+        asked = ["bash", "-eo", "pipefail", "-c", line.replace("URL", shlex.quote(room))]
+        env = client.env("blue")
+        same("before it has published", told(asked, env=env).status, 3)
+        fleet.do("PUT", f"/pacts/provider/stock/consumer/shop/version/{commit}", RED, pact("a spoon"))
+        same("then", told(asked, env=env).status, 0)
+        other = line.replace("URL", shlex.quote(f"{room}/none"))
+        same("a repository that isn't there", told(["bash", "-c", other], env=env).status, 2)
+    rows = json.loads(fleet.ask("GET", f"/matrix?pacticipant=shop&version={commit}", RED).body)["rows"]
+    same("the result", [(it["providerVersion"], it["success"]) for it in rows if it["result"]], [("v1", True)])
 
 
 def test_a_client_that_fails_in_a_pipe(fleet: Server, client: Client, room: str) -> None:
