@@ -17,11 +17,12 @@ export const providerOf = (it, name = version) =>
 export const contractLink = (it, text = 'the contract') =>
   link(text, 'contract', it.provider, it.consumer, it.consumerVersion);
 
-/** For each kind of fault: what is so, what to do, and the sign of the drawing. */
+/** For each kind of fault: what is so, what to do, the sign of the drawing; and `more`, which a plan leaves out. */
 export const REASONS = {
   absent: {
     so: (it, name, there) => say`${consumerOf(it, name)} calls ${it.provider}, of which no version is in ${there}.`,
     act: 'deploy a version of it there first.', sign: '– not there',
+    more: () => [' ', link('Promote', 'promote'), ' on the page, or holzhebo plan FROM TO, says which may go.'],
   },
   missing: {
     so: (it, name) => say`${providerOf(it, name)} has no result for the contract of ${consumerOf(it, name)}.`,
@@ -43,10 +44,10 @@ export const contactOf = (service, contacts) =>
   (contacts.has(service) ? [' (', named(String(contacts.get(service))), ')'] : []);
 
 function reason(fault, there, contacts, name) {
-  const { so, act } = REASONS[fault.kind];
+  const { so, act, more = () => '' } = REASONS[fault.kind];
   const team = it => ['the team of ', named(it), contactOf(it, contacts)];
   const teams = actors(fault).flatMap((it, at) => [at ? ' and ' : '', team(it)]);
-  const todo = el('p', { class: 'act' }, 'To act: ', teams, ': ', act, ' ', contractLink(fault));
+  const todo = el('p', { class: 'act' }, 'To act: ', teams, ': ', act, more(), ' ', contractLink(fault));
   return el('li', {}, tag(fault.kind, 'no'), ' ', so(fault, name, there), todo);
 }
 

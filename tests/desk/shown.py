@@ -20,7 +20,8 @@ CHANGE = "one of them has to change; then a result that passes is needed."
 VERIFY = "verify the contract, and send the result. the contract"
 ABSENT = (
     "absent shop 1.4 calls pay, of which no version is in live."
-    " To act: the team of pay (blue): deploy a version of it there first. the contract"
+    " To act: the team of pay (blue): deploy a version of it there first."
+    " Promote on the page, or holzhebo plan FROM TO, says which may go. the contract"
 )
 FAILED = (
     "failed stock 1.0 fails the contract of shop 1.4, by its latest result. To act: the team of shop (red) and the"

@@ -7,17 +7,20 @@ from holzhebo.text import shown
 
 
 class Told(NamedTuple):
-    """What is so, what has to be done, and whose team can do it: that of the consumer or of the provider."""
+    """What is so, what has to be done, and whose team can do it: that of the consumer or of the provider. A plan leaves
+    `more` out."""
 
     so: str
     act: str
     by: Tuple[str, ...] = ("provider",)
+    more: str = ""
 
 
 FAULTS: Dict[str, Told] = {
     "absent": Told(
         "{one} calls {provider}, of which no version is in {environment}",
         "deploy a version of it there first",
+        more=" Promote on the page, or holzhebo plan FROM TO, says which may go.",
     ),
     "missing": Told(
         "{other} has no result for the contract of {one}",
@@ -47,7 +50,7 @@ def sentence_of(lack: Lack, environment: str) -> str:
     sides = {"consumer": shown(lack.consumer), "provider": shown(lack.provider)}
     if lack.kind not in FAULTS:
         return f"{shown(one)} and {sides['provider']}: {shown(lack.kind)}. See docs/DEFINITIONS.md."
-    so, act, by = FAULTS[lack.kind]
+    so, act, by, more = FAULTS[lack.kind]
     teams = " and ".join(f"the team of {sides[it]}" for it in by)
     names = {"one": shown(one), "other": shown(other), "environment": shown(environment)}
-    return f"{so.format(**sides, **names)}. To act: {teams}: {act}."
+    return f"{so.format(**sides, **names)}. To act: {teams}: {act}.{more}"
