@@ -23,6 +23,13 @@ done
 alone=(-q --noproxy '*')
 how=(-s --retry 50 --retry-connrefused --retry-delay 1)
 
+# No token is sent to what doesn't answer as a broker does.
+said=$(curl -q --noproxy '*' "${how[@]}" -w '\n%{http_code}' "$url/") || true
+if [[ $said != *'{"answer":"no route"}'$'\n404' ]]; then
+  echo "no broker answers at $url" >&2
+  exit 1
+fi
+
 # ask STATUS CALLER METHOD PATH [BODY]: one request, which has to be answered with the status; the answer is in $answer
 ask() {
   local status=$1 caller=$2 method=$3 path=$4
