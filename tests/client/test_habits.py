@@ -33,6 +33,38 @@ def test_named_brokers(fleet: Server, client: Client, room: str) -> None:
         same(f"{words}: {done.errors}", done.status, status)
 
 
+def test_tokens_by_service(fleet: Server, client: Client, room: str) -> None:
+    """A change of what is deployed takes the service's token of the folder, and nothing else does."""
+    for folder in "tokens", ".config/holzhebo":
+        os.makedirs(f"{room}/{folder}")
+    for service, team in {"stock": "blue", "shop": "red", "a%2Fb": "red", "mail": "nobody"}.items():
+        os.symlink(f"../{team}.token", f"{room}/tokens/{service}.token")
+    with open(f"{room}/.config/holzhebo/config.ini", "w", encoding="utf-8") as it:
+        it.write(f"[live]\nurl = {fleet.url}\ntoken-file = ~/office.token\ntokens = ~/tokens\n")
+    for name in "a/b", "mail", "web":
+        fleet.do("PUT", f"/pacticipants/{name.replace('/', '%2F')}", OFFICE, '{"team":"red"}')
+    for name in "a%2Fb", "web":
+        fleet.do("PUT", f"/pacticipants/{name}/versions/1", RED)
+    env = {**client.env("red"), "HOLZHEBO_BROKER": "live", "HOLZHEBO_TOKEN_FILE": ""}
+    no_token = f"holzhebo: {room}/tokens/web.token can't be read: No such file or directory\n"
+    for words, status, errors in (
+        ("undeploy stock 1 live", 0, ""),
+        ("deploy stock 1 live", 0, ""),
+        ("release a/b 1 live", 0, ""),
+        ("end-support a/b 1 live", 0, ""),
+        ("record-deployment --pacticipant stock --version 1 --environment live", 0, ""),
+        ("record-undeployment stock live", 0, ""),
+        # the office's: it may ask for every service
+        ("can-i-deploy stock 1 live", 0, ""),
+        ("matrix web 1", 0, ""),
+        ("deploy mail 1 live", 3, "holzhebo: the broker doesn't know this token\n"),
+        ("deploy web 1 live", 3, no_token),
+        ("deploy web 1 live --token-file red.token", 0, ""),
+    ):
+        done = ran([*PYTHON, CLIENT, *words.split()], env=env, cwd=room)
+        same(words, (done.status, done.errors), (status, errors))
+
+
 def test_an_address_of_any_letters(room: str) -> None:
     """They are sent as escapes; those that are written so stay."""
     asked: List[str] = []

@@ -3,7 +3,7 @@ import atexit, os, re
 from typing import Callable, Dict, List, Optional, Sequence
 
 from holzhebo.api.address import Address, Way, proxy_of
-from holzhebo.api.broker import Broker
+from holzhebo.api.broker import Broker, segment
 from holzhebo.api.token import token_in
 from holzhebo.cli.parser import Arguments, environ
 from holzhebo.faults import USAGE, Json, Stop
@@ -32,7 +32,7 @@ def config_of(name: Optional[str]) -> Dict[str, str]:
     name = name or found.get("holzhebo", "default", fallback=None)
     if name is None or not found.has_section(name):
         return {}
-    known = {"url", "token-file", "cacert", "plain", "patience"}
+    known = {"url", "token-file", "tokens", "cacert", "plain", "patience"}
     unknown = sorted(set(found[name]) - known)
     if unknown:
         raise Stop(f"{shown(path)}: [{shown(name)}] has {shown(unknown[0])}, and not {', '.join(sorted(known))}")
@@ -72,13 +72,16 @@ def patience_of(args: Arguments, config: Dict[str, str]) -> float:
     return float(text)
 
 
-def brokers_of(args: Arguments) -> Callable[[], Broker]:
-    """What makes the broker, with a connection of its own each time. Files are read now and not again, since one of a
-    shell's <(..) can be read only once."""
+def brokers_of(args: Arguments, owned: Optional[str] = None) -> Callable[[], Broker]:
+    """What makes the broker, with a connection of its own each time. For what only the owner of a pacticipant may do,
+    the token is that of the pacticipant, if the configuration has a folder of these. Files are read now and not again,
+    since one of a shell's <(..) can be read only once."""
     url, config = url_and_config(args)
     cacert = args.cacert or file_in(config, "cacert") or os.environ.get("HOLZHEBO_CACERT")
     is_plain = args.plain or config.get("plain") == "yes" or os.environ.get("HOLZHEBO_PLAIN") == "1"
     way = Way(cacert, proxy_of(Address(url)))
+    if owned is not None and "tokens" in config:
+        config["token-file"] = os.path.join(config["tokens"], f"{segment(owned)}.token")
     token, patience = token_of(args, config), patience_of(args, config)
 
     def made() -> Broker:
@@ -89,8 +92,8 @@ def brokers_of(args: Arguments) -> Callable[[], Broker]:
     return made
 
 
-def broker_of(args: Arguments) -> Broker:
-    return brokers_of(args)()
+def broker_of(args: Arguments, owned: Optional[str] = None) -> Broker:
+    return brokers_of(args, owned)()
 
 
 # Lists

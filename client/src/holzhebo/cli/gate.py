@@ -58,7 +58,7 @@ class Change:
     """A change of what a version does in an environment, and how it is reported."""
 
     def __init__(self, args: Arguments, words: "List[str]", broker: Optional[Broker] = None) -> None:
-        self.args, self.broker = args, broker or broker_of(args)
+        self.args, self.broker = args, broker or broker_of(args, words[0])
         self.pacticipant, self.version, self.environment = words
         self.what = f"{shown(self.pacticipant)} {shown(self.version)}"
 
@@ -127,7 +127,7 @@ def undeploy(args: Arguments) -> int:
 def record_undeployment(args: Arguments) -> int:
     """As the Pact Broker's client does, without a version: of what is deployed in the instance."""
     pacticipant, environment = named(args, "pacticipant", "environment")
-    broker = broker_of(args)
+    broker = broker_of(args, pacticipant)
     found = broker.environment(environment).version_in(pacticipant, args.instance or "")
     if found is None:
         raise Stop(f"no version of {shown(pacticipant)} is deployed there in this instance")
