@@ -2,7 +2,7 @@
 by the broker itself, names keep their escapes, a body of the limit passes and a larger one doesn't, slow clients hold
 up nobody, and a broker that isn't there is 502 until it is there again. What one address can do to the others is
 little, and what is in the log. No line of a log has a token (conftest.py)."""
-import contextlib, http.client, re, socket, threading, time
+import contextlib, http.client, re, socket, ssl, threading, time
 from collections.abc import Sequence
 import pytest
 from tests import proxy
@@ -110,6 +110,12 @@ def test_page_by_itself(nginx: proxy.Nginx) -> None:
     same("nginx's warnings", [it for it in nginx.log("errors").splitlines() if "[warn]" in it], [])
 
 
+def is_answered(front: Front) -> bool:
+    with contextlib.suppress(OSError, http.client.HTTPException):
+        return front.ask("GET", LIVE, RED).status == 200
+    return False
+
+
 def another_is_answered(front: Front, most: float, peers: Sequence[socket.socket]) -> None:
     """Within so many seconds, beside these."""
     began = time.monotonic()
@@ -179,6 +185,35 @@ def test_limited(front: Front) -> None:
 
 # More than the 1,024 connections that this nginx has.
 SLOW = 1200
+# What a head may take, with the beginning of TLS.
+HEADS = 5
+
+
+@pytest.mark.timing
+def test_slow_heads(front: Front) -> None:
+    """One address without a token begins heads, and TLS, and sends no more, on more connections than nginx has for all.
+    Each is closed in time, and then another address is answered, by Caddy at once."""
+    half = front.message(b"authorization: Bearer x", "GET /environments/live")[:60]
+    with contextlib.ExitStack() as held:
+        peers = []
+        for number in range(2 * SLOW):
+            with contextlib.suppress(OSError):
+                peer = held.enter_context((front.plain if number % 10 else front.open)("127.0.0.3"))
+                peer.sendall(b"\x16\x03\x01" if number % 10 else half)
+                peers.append(peer)
+            if number > SLOW and number % 10 == 0 and not (isinstance(front, Nginx) and is_answered(front)):
+                break
+        else:
+            raise Wrong("nginx always has a connection left")
+        began = time.monotonic()
+        await_that(lambda: is_answered(front), "another address is answered")
+        took = time.monotonic() - began
+        for peer in peers:
+            with contextlib.suppress(ConnectionError, ssl.SSLError):
+                same("what is sent to who never ends a head", peer.recv(1000), b"")
+        closed = time.monotonic() - began
+    if took > (HEADS + 2 if isinstance(front, Nginx) else 2) or closed > HEADS + 2:
+        raise Wrong(f"another address waits {took:.1f} s, and the last head is open for {closed:.1f} s")
 
 
 @pytest.mark.timing
