@@ -38,7 +38,8 @@ elif [ "$(head -c 15 -- "$f")" != "SQLite format 3" ]; then echo "foreign: $f is
 else
   words=(--token 0000000000000000 --pacticipant none --version none --to-environment none)
   case $(as_user "$program" can-i-deploy --file "$f" "${words[@]}" 2>&1) in
-    '{"answer":'*) echo "sound: $f is opened now; look at the limits of the service, as its memory and open files" ;;
+    '{"answer":'*) echo "sound: $f is opened now; after the line listen see by ss -ltnp who has the port, else" \
+      "look at the limits of the service, as its memory and open files" ;;
     file) echo "damaged: restore the latest backup of $f, and look for errors of the disk" ;;
     'open 5') echo "damaged: the database fails while $f is opened: look for errors of the disk, and for room on it" ;;
     *'open 3.'*) echo "older: $f is of another format, which docs/OPERATING.md has under An older file" ;;

@@ -1,6 +1,6 @@
 """A file that the program doesn't open, with the line `file`: missing, in use, forbidden, foreign, linked, damaged, or
 with an odd log. examples/which.sh has to say which of them it is, as the user `nobody`, and so has the journal."""
-import os, pwd, subprocess
+import os, pwd, re, socket, subprocess
 import pytest
 from tests.process import Server, bytes_of, free_port, ran, run
 from tests.wire import OFFICE, same
@@ -31,9 +31,9 @@ def file(folder: str, open_program: str) -> str:
     return it
 
 
-def refused(file: str, program: str, line: str = "file\n") -> None:
-    """The program, as nobody, doesn't open it."""
-    listen = f"127.0.0.1:{free_port()}"
+def refused(file: str, program: str, line: str = "file\n", port: int = 0) -> None:
+    """The program, as nobody, doesn't open it, or isn't let to this port."""
+    listen = f"127.0.0.1:{port or free_port()}"
     words = as_nobody("timeout", "60", program, "serve", "--file", file, "--listen", listen, "--connections", "1")
     it = subprocess.run(words, capture_output=True, text=True, check=False)
     same(f"serve of {file}", (it.returncode, it.stderr), (3, line))
@@ -150,6 +150,16 @@ def test_odd_log(file: str, open_program: str, kind: str) -> None:
 def test_sound(file: str, open_program: str) -> None:
     """A file that wasn't opened for another reason, as too few descriptors."""
     named(file, open_program, "sound")
+
+
+def test_listen(file: str, open_program: str) -> None:
+    """Its port is another account's: the sentence has the command that says whose."""
+    with socket.create_server(("127.0.0.1", 0)) as taken:
+        refused(file, open_program, "listen\n", taken.getsockname()[1])
+        said = run(["examples/which.sh", open_program, file, "nobody"])
+        command = re.findall("after the line listen see by (.*) who has the port", said)
+        pattern = rf"127\.0\.0\.1:{taken.getsockname()[1]} .*pid={os.getpid()},"
+        assert re.search(pattern, run(command[0].split())), said
 
 
 def test_another_database(file: str, open_program: str) -> None:
