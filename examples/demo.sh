@@ -24,7 +24,7 @@ alone=(-q --noproxy '*')
 how=(-s --retry 50 --retry-connrefused --retry-delay 1)
 
 # No token is sent to what doesn't answer as a broker does.
-said=$(curl -q --noproxy '*' "${how[@]}" -w '\n%{http_code}' "$url/") || true
+said=$(curl "${alone[@]}" "${how[@]}" -w '\n%{http_code}' "$url/") || true
 if [[ $said != *'{"answer":"no route"}'$'\n404' ]]; then
   echo "no broker answers at $url" >&2
   exit 1
