@@ -51,7 +51,7 @@ def pytest_configure(config: pytest.Config) -> None:
 
 
 def pytest_itemcollected(item: pytest.Item) -> None:
-    """There is one machine at a time: the files of two may have one number, and the scripts look for locks by it."""
+    """There is one machine at a time, since each runs a systemd and much else."""
     if "machine" in getattr(item, "fixturenames", ()):
         item.add_marker(pytest.mark.xdist_group("machine"))
 
